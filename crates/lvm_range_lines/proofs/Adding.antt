@@ -1,5 +1,5 @@
 -- A range that is posted.
-use Rattle.std.proofs.Common.{◌≡◌, ◌≤◌, ◌<◌, ◌+◌, ◌*◌, ◌-◌, ◌/◌, ◌++◌, ℕ, List, [], ◌∷◌, Option, Some, None, length, refl, sym, ◌∙◌, ap, subst, arith}
+use Rattle.std.proofs.Common.{◌≡◌, ◌≤◌, ◌<◌, ◌+◌, ◌++◌, ℕ, List, [], ◌∷◌, Option, Some, None, length, refl, sym, ◌∙◌, ap, subst, arith}
 use Rattle.std.specs.Prelude.{MatchOption, Result, Ok, Err, vec_capacity, vec_len}
 use Rattle.std.specs.Global.{Vec}
 use Rattle.std.proofs.lemmas.List.{length-append}
@@ -24,11 +24,11 @@ use Rattle.lvm_stage.specs.Ends.{EndsUnasked}
 use Rattle.lvm_stage.specs.Moments.{OfRequests}
 use Rattle.lvm_stage.specs.Replies.{most_refusals}
 use Rattle.lvm_stage.specs.Stages.{HaveRooms, IsBetweenStage, IsCarried, IsFitting, state_in}
-use Rattle.lvm_stage.specs.State.{ArePosted, State}
+use Rattle.lvm_stage.specs.State.{ArePosted}
 use Rattle.lvm_stage.proofs.Posting.{posts_need}
 use Rattle.lvm_range_lines.specs.Leaving.{KeepsPosts, serving}
 use Rattle.lvm_range_lines.specs.Requests.{AsksByName, PostDoes, Posted, There, post_of}
-use Rattle.lvm_range_lines.proofs.Ending.{RunsTo, carried_ends}
+use Rattle.lvm_range_lines.proofs.Ending.{carried_ends}
 use Rattle.lvm_range_lines.proofs.Naming.{IsTaken, taken_so}
 use Rattle.lvm_range_lines.proofs.Posting.{asked_behind, posted_behind}
 

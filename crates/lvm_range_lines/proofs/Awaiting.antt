@@ -1,5 +1,5 @@
 -- Turns until each post has landed.
-use Rattle.std.proofs.Common.{◌≡◌, ◌≤◌, ◌<◌, ◌+◌, ◌-◌, ℕ, zero, suc, List, Option, Some, None, length, get_or, refl, sym, ◌∙◌, ap, subst, arith, below_more}
+use Rattle.std.proofs.Common.{◌≡◌, ◌≤◌, ◌<◌, ◌+◌, ◌-◌, ℕ, List, Some, None, length, get_or, refl, sym, ◌∙◌, subst, arith, below_more}
 use Rattle.std.specs.Prelude.{Result, Ok, Err}
 use Rattle.std.proofs.lemmas.List.{get_or_default}
 use Rattle.lvm_disk.specs.Counts.{RoseBy}
@@ -7,17 +7,16 @@ use Rattle.lvm_disk.specs.Paths.{Path, Here, Then}
 use Rattle.lvm_disk.proofs.Paths.{append-path}
 use Rattle.lvm_disk.proofs.Rising.{rose_by_none}
 use Rattle.lvm_session.specs.State.{State as Session}
-use Rattle.lvm_driver.specs.Drains.{IsAny, IsTurn}
+use Rattle.lvm_driver.specs.Drains.{IsAny}
 use Rattle.lvm_running.specs.Running.{RunsOn}
 use Rattle.lvm_running.proofs.Running.{runs_both, runs_none}
-use Rattle.lvm_posts.specs.declared.asked.Asked.{Asked}
 use Rattle.lvm_posts.specs.declared.posts.Post.{Post}
 use Rattle.lvm_ranges.specs.declared.landing.Stuck.{Stuck}
 use Rattle.lvm_ranges.specs.Keeping.{KeepsTable}
 use Rattle.lvm_ranges.specs.Landing.{AwaitEnds, HaveLanded, IsUnfinished, TurnsFor}
 use Rattle.lvm_ranges.proofs.Tables.{table_same, table_then}
 use Rattle.lvm_range_lines.specs.Taking.{AwaitsPost, AwaitsPosts, HasLanded, IsGone, IsInVain}
-use Rattle.lvm_range_lines.specs.Waiting.{AllHaveLanded, IsAwaited, TurnsForPosts}
+use Rattle.lvm_range_lines.specs.Waiting.{IsAwaited, TurnsForPosts}
 
 pub no_wait : (left waits : ℕ) → RoseBy (left - left) waits waits
 no_wait left waits = let none : 0 ≡ left - left = omega arith in subst (λ n. RoseBy n waits waits) none (rose_by_none waits)

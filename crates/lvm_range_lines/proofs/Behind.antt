@@ -4,11 +4,11 @@ use Rattle.std.specs.Prelude.{count_by}
 use Rattle.std.specs.Global.{Vec}
 use Rattle.lvm_disk.specs.Device.{Device}
 use Rattle.lvm_vol.specs.Facts.{Fact}
-use Rattle.lvm_vol.specs.Log.{Log, is_open}
+use Rattle.lvm_vol.specs.Log.{Log}
 use Rattle.lvm_kept.specs.Moments.{Moment}
-use Rattle.lvm_steps.specs.Moments.{Begins, Keeps}
+use Rattle.lvm_steps.specs.Moments.{Keeps}
 use Rattle.lvm_steps.specs.Requests.{at}
-use Rattle.lvm_core.specs.Leaves.{EntersVolumes, is_of_volume}
+use Rattle.lvm_core.specs.Leaves.{is_of_volume}
 use Rattle.lvm_core.specs.Sound.{HaveAllLanded}
 use Rattle.lvm_keeps.proofs.Lists.{count_cons}
 use Rattle.lvm_session.specs.State.{Core, State as Session}
@@ -19,9 +19,7 @@ use Rattle.lvm_tie.specs.Spares.{LeavesDescriptors}
 use Rattle.lvm_posts.specs.declared.posts.Post.{Post}
 use Rattle.lvm_posts.specs.Posts.{takings}
 use Rattle.lvm_stage.specs.declared.holder.Holder.TheVariants as holder
-use Rattle.lvm_stage.specs.declared.reply.Refusal.TheVariants as refusal
 use Rattle.lvm_stage.specs.declared.reply.Reply.{Reply}
-use Rattle.lvm_stage.specs.declared.reply.Reply.TheVariants as reply
 use Rattle.lvm_stage.specs.declared.stage.Stage.{Stage}
 use Rattle.lvm_tie_commands.specs.Standing.{StandsAfter}
 use Rattle.lvm_stage.specs.Moments.{GoesOn, HasBegunHeld, IsAlone, OfRequests}
@@ -30,7 +28,7 @@ use Rattle.lvm_stage.specs.Stages.{HaveRooms, IsFitting, history_in, session_in,
 use Rattle.lvm_stage.specs.State.{ArePosted, IsOnBetween, StandsAlone, State}
 use Rattle.lvm_range_lines.specs.declared.answers.Answers.{Answers}
 use Rattle.lvm_range_lines.specs.Answers.{Gathers, Tells, TellsAll, TellsNone}
-use Rattle.lvm_range_lines.specs.Refusals.{Ending, refusals_in}
+use Rattle.lvm_range_lines.specs.Refusals.{Ending}
 use Rattle.lvm_range_lines.specs.Taking.{GathersGone, KeepsLater, WaitsBehind}
 use Rattle.lvm_range_lines.specs.Waiting.{NoGone, NoPost, OneGone, OnePost, TakesGone, TakesPosts, WaitsOff}
 use Rattle.lvm_range_lines.proofs.Texts.{refusals_most}
@@ -90,7 +88,7 @@ module _ {S : Type 0} (device : S → Device) (run : ℕ) (old : State) (closed 
   behind_goes = record {
     keeps = λ timely alone began span stands. (
       subst (Keeps run began) (moment_is (history_in stage).facts) (subst (λ r. Keeps r began (at (device (shelf_in closed)) (history_in stage).facts)) (sym run_is)
-      (waits.keeps began (subst (λ r. Keeps r began (at (device (shelf_in closed)) (history_in closed).facts)) run_is (goes.keeps timely (alone_mid alone) began span stands).0))),
+          (waits.keeps began (subst (λ r. Keeps r began (at (device (shelf_in closed)) (history_in closed).facts)) run_is (goes.keeps timely (alone_mid alone) began span stands).0))),
       λ ok past begins. subst (λ (o : Option Core). IfSome o (λ (c : Core). StandsAlone (device (shelf_in stage)) c → StandsAfter past (device (shelf_in stage)) c)) (sym waits.off) tt,
     );
     timely = λ ok timely. let t = goes.timely heard timely in record {

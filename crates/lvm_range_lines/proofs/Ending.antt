@@ -1,5 +1,5 @@
 -- What a line leaves that has run the session of a group with volumes.
-use Rattle.std.proofs.Common.{◌≡◌, ◌≢◌, ◌<◌, ◌≤◌, ◌+◌, ◌^◌, ℕ, true, List, [], Option, Some, None, length, map, refl, sym, ◌∙◌, ap, subst, arith}
+use Rattle.std.proofs.Common.{◌≡◌, ◌≢◌, ◌<◌, ◌≤◌, ◌+◌, ◌^◌, ℕ, true, List, [], Some, None, length, refl, sym, ◌∙◌, ap, subst, arith}
 use Rattle.std.specs.Global.{Vec}
 use Rattle.std.proofs.lemmas.List.{length-map}
 use Rattle.lvm_num.specs.declared.descriptor.Descriptor.{Descriptor}
@@ -18,7 +18,7 @@ use Rattle.lvm_session.specs.declared.open.Power.TheVariants as power
 use Rattle.lvm_session.specs.Causes.{is_over}
 use Rattle.lvm_session.specs.Sound.{IsLit, IsSound, is_dark}
 use Rattle.lvm_tie.specs.Tied.{moment_of}
-use Rattle.lvm_session.specs.State.{Core, State as Session, votes_there}
+use Rattle.lvm_session.specs.State.{Core, votes_there}
 use Rattle.lvm_driver.specs.Answers.{state_of}
 use Rattle.lvm_running.specs.Running.{RunsOn}
 use Rattle.lvm_running.proofs.Running.{stays_unstuck}
@@ -34,11 +34,11 @@ use Rattle.lvm_stage.specs.declared.stage.Stage.{Stage}
 use Rattle.lvm_stage.specs.Ends.{EndsUnasked}
 use Rattle.lvm_stage.specs.Moments.{GoesOn, OfRequests}
 use Rattle.lvm_stage.specs.Replies.{most_refusals}
-use Rattle.lvm_stage.specs.Stages.{HaveRooms, IsBetweenStage, IsCarried, IsClosed, IsEnded, IsFitting, IsOfKind, history_in, moment_in, posts_ended, session_in, session_of, shelf_in, state_in}
+use Rattle.lvm_stage.specs.Stages.{HaveRooms, IsBetweenStage, IsCarried, IsClosed, IsEnded, IsFitting, IsOfKind, history_in, moment_in, posts_ended, session_of, shelf_in, state_in}
 use Rattle.lvm_stage.specs.State.{ArePosted, IsOnBetween, IsTimely, State, without_facts}
 use Rattle.lvm_stage.proofs.Posting.{end_posts}
 use Rattle.lvm_stage.proofs.Running.{IsRun, before_end, later_end, over_goes, run_goes, spanned}
-use Rattle.lvm_range_lines.specs.Leaving.{GoesOnWith, IsOverWith, Leaves, LeavesBy, serving}
+use Rattle.lvm_range_lines.specs.Leaving.{IsOverWith, Leaves, LeavesBy, serving}
 
 -- ---- as states
 

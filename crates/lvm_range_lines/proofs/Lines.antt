@@ -27,7 +27,6 @@ use Rattle.lvm_ranges.specs.declared.refusal.AskRangeFault.{AskRangeFault}
 use Rattle.lvm_ranges.specs.Finishing.{FinishGives, Finished, WasStuck}
 use Rattle.lvm_ranges.specs.Keeping.{KeepsOthers}
 use Rattle.lvm_ranges.specs.Landing.{IsUnfinished}
-use Rattle.lvm_stage.specs.declared.reply.Refusal.TheVariants as refusal
 use Rattle.lvm_stage.specs.declared.reply.Reply.{Reply}
 use Rattle.lvm_stage.specs.declared.reply.Reply.TheVariants as reply
 use Rattle.lvm_stage.specs.declared.stage.Stage.{Stage}
@@ -37,7 +36,7 @@ use Rattle.lvm_stage.specs.Replies.{InFull, Shows, WithoutMemory, most_refusals}
 use Rattle.lvm_stage.specs.Stages.{HaveRooms, IsBetweenStage, IsCarried, IsFitting, state_in}
 use Rattle.lvm_stage.specs.State.{ArePosted, State}
 use Rattle.lvm_stage.proofs.Running.{over_landed}
-use Rattle.lvm_range_lines.specs.Leaving.{EndsBy, FailsIf, KeepsPosts, StageEndsBy, StageFailsIf, Waited, serving, session_over}
+use Rattle.lvm_range_lines.specs.Leaving.{EndsBy, FailsIf, KeepsPosts, StageEndsBy, StageFailsIf, Waited, serving}
 use Rattle.lvm_range_lines.specs.Refusals.{Ending, ending_of, is_stuck, range_refusal, reply_of}
 use Rattle.lvm_range_lines.specs.Requests.{AsksByName, EndsWell, Fails, Finishes, IsFinished, NoMemory, OnVolume, ShowsBlocks, ShowsThem, There}
 use Rattle.lvm_range_lines.proofs.Ending.{RunsTo, carried_ends, carried_leaves, ended_is_over, stuck_ends, unstuck}

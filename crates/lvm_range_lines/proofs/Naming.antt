@@ -1,13 +1,12 @@
 -- Ranges of volumes that are asked for by name.
-use Rattle.std.proofs.Common.{◌≡◌, ◌<◌, ◌≤◌, ℕ, List, [], Option, Some, None, IfSome, refl, sym, ◌∙◌, ap, subst, arith}
-use Rattle.std.specs.Prelude.{Contains, MatchOption, Result, Ok, Err, IfOk}
+use Rattle.std.proofs.Common.{◌≡◌, ℕ, List, [], Option, Some, None, ap, subst, arith}
+use Rattle.std.specs.Prelude.{Contains, MatchOption, Result, Ok, Err}
 use Rattle.lvm_num.specs.declared.descriptor.LvRow.{LvRow}
 use Rattle.lvm_core.specs.Looking.{HasNoVolume, IsNumberOf}
 use Rattle.lvm_session.specs.State.{Core}
 use Rattle.lvm_posts.specs.declared.asked.Asked.{Asked}
 use Rattle.lvm_ranges.specs.declared.refusal.AskRangeFault.{AskRangeFault}
 use Rattle.lvm_ranges.specs.Asking.{AskRangeGives, Asks, range_fault}
-use Rattle.lvm_stage.specs.declared.reply.Refusal.{Refusal}
 use Rattle.lvm_range_lines.specs.Requests.{AsksByName, HasNone, Refuses, Takes}
 
 -- where there is no volume none has the name

@@ -1,6 +1,6 @@
 -- A range that isn't asked for.
-use Rattle.std.proofs.Common.{◌≡◌, ◌≤◌, ◌+◌, ℕ, List, Option, Some, None, length, refl, sym, ◌∙◌, ap, subst, arith}
-use Rattle.std.specs.Prelude.{Result, Ok, Err}
+use Rattle.std.proofs.Common.{◌≡◌, ◌≤◌, ℕ, List, Option, refl, sym, ◌∙◌, ap, subst, arith}
+use Rattle.std.specs.Prelude.{Err}
 use Rattle.std.specs.Global.{Vec}
 use Rattle.lvm_disk.specs.Device.{Device}
 use Rattle.lvm_vol.specs.Log.{Log}
@@ -10,7 +10,6 @@ use Rattle.lvm_session.specs.Sound.{IsSound}
 use Rattle.lvm_session.specs.State.{Core, state}
 use Rattle.lvm_driver.specs.Answers.{state_of}
 use Rattle.lvm_running.specs.Running.{RunsOn}
-use Rattle.lvm_posts.specs.declared.asked.Asked.{Asked}
 use Rattle.lvm_posts.specs.declared.posts.Post.{Post}
 use Rattle.lvm_ranges.specs.Asking.{AskRangeGives}
 use Rattle.lvm_stage.specs.declared.reply.Refusal.{Refusal}
@@ -52,11 +51,14 @@ module _ {S : Type 0} (device : S → Device) (first : S × Core) (posts : Vec P
     where
       by : AsksByName name write at count first.1 mid.1 (Err why) → (mid.1 ≡ first.1) × ((last : ℕ) → state_in device stage last ≡ state_in device (serving first posts bytes) last → OnVolume name (Happens (state_in device (serving first posts bytes) last) (state_in device stage last) answer) (state_in device (serving first posts bytes) last) (state_in device stage last) answer)
       by (HasNone none same says) = (same, λ last unchanged. NotThere first.1 refl none (is ∙ (let e : why ≡ refusal.NoVolume = cc says in ap reply.Refused e), unchanged))
-      by (Refuses lv fault named gives same says) = (same, λ last unchanged. There first.1 lv refl named (not_asked (state_in device (serving first posts bytes) last) (state_in device stage last) answer first.1 lv (record {
-        why = fault;
-        gives = subst (λ (core : Core). AskRangeGives write lv at count first.1 core (Err fault)) same gives;
-        refused = (is ∙ (let e : why ≡ ask_refusal fault = cc says in ap reply.Refused e), unchanged);
-      })))
+      by (Refuses lv fault named gives same says) = (
+        same,
+        λ last unchanged. There first.1 lv refl named (not_asked (state_in device (serving first posts bytes) last) (state_in device stage last) answer first.1 lv (record {
+          why = fault;
+          gives = subst (λ (core : Core). AskRangeGives write lv at count first.1 core (Err fault)) same gives;
+          refused = (is ∙ (let e : why ≡ ask_refusal fault = cc says in ap reply.Refused e), unchanged);
+        })),
+      )
       by (Takes lv asked named gives says) = absurd (cc says)
 
   to : RunsTo device first mid

@@ -1,11 +1,10 @@
 -- `wait` where no session is on, or one without volumes.
-use Rattle.std.proofs.Common.{◌≡◌, ◌≢◌, ◌<◌, ◌≤◌, ◌+◌, ◌^◌, ℕ, List, [], ◌∷◌, Option, Some, None, length, refl, sym, ◌∙◌, ap, subst, arith}
+use Rattle.std.proofs.Common.{◌≡◌, ◌<◌, ◌≤◌, ◌+◌, ◌^◌, ℕ, List, [], ◌∷◌, Option, Some, None, length, refl, sym, ◌∙◌, ap, subst, arith}
 use Rattle.std.specs.Global.{Vec}
 use Rattle.lvm_disk.specs.Device.{Device}
 use Rattle.lvm_vol.specs.Facts.{Fact, Begun, Landed, Taken, Making, Made, Split, Removing, Removed, Cut, On, begun}
 use Rattle.lvm_vol.specs.Log.{Log}
 use Rattle.lvm_vol.specs.Order.{Ordered}
-use Rattle.lvm_steps.specs.Moments.{Begins}
 use Rattle.lvm_steps.specs.Requests.{at}
 use Rattle.lvm_session.specs.State.{Core, State as Session, state}
 use Rattle.lvm_session.specs.Sound.{IsSound}
@@ -14,13 +13,11 @@ use Rattle.lvm_driver.specs.Answers.{state_of}
 use Rattle.lvm_running.specs.Running.{RunsOn}
 use Rattle.lvm_posts.specs.declared.posts.Post.{Post}
 use Rattle.lvm_tie_commands.specs.Standing.{StandsAfter}
-use Rattle.lvm_stage.specs.declared.holder.Holder.TheVariants as holder
 use Rattle.lvm_stage.specs.declared.reply.Reply.{Reply}
 use Rattle.lvm_stage.specs.declared.reply.Reply.TheVariants as reply
 use Rattle.lvm_stage.specs.declared.stage.Stage.{Stage}
 use Rattle.lvm_stage.specs.Ends.{EndsUnasked}
 use Rattle.lvm_stage.specs.Moments.{GoesOn, OfRequests}
-use Rattle.lvm_stage.specs.Replies.{most_refusals}
 use Rattle.lvm_stage.specs.Stages.{HaveRooms, IsBetweenStage, IsFitting, history_in, session_in, shelf_in, state_in}
 use Rattle.lvm_stage.specs.State.{ArePosted, IsOnBetween, State, without_facts}
 use Rattle.lvm_stage.proofs.Going.{still_goes}

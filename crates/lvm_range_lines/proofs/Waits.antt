@@ -1,6 +1,5 @@
 -- What `wait` leaves of a session that was on.
-use Rattle.std.proofs.Common.{◌≡◌, ◌<◌, ◌≤◌, ◌+◌, ◌-◌, ◌^◌, ℕ, true, List, [], Option, Some, None, length, refl, sym, ◌∙◌, ap, subst, arith}
-use Rattle.std.specs.Prelude.{Result, Ok, Err}
+use Rattle.std.proofs.Common.{◌≡◌, ◌≤◌, ◌+◌, ℕ, true, List, [], Option, Some, length, refl, sym, ◌∙◌, ap, subst, arith}
 use Rattle.std.specs.Global.{Vec}
 use Rattle.lvm_disk.specs.Device.{Device}
 use Rattle.lvm_disk.specs.Paths.{Path}
@@ -11,7 +10,7 @@ use Rattle.lvm_session.specs.declared.open.Power.{Power}
 use Rattle.lvm_session.specs.declared.open.Power.TheVariants as power
 use Rattle.lvm_session.specs.Causes.{is_over}
 use Rattle.lvm_session.specs.Sound.{IsSound}
-use Rattle.lvm_session.specs.State.{Core, State as Session}
+use Rattle.lvm_session.specs.State.{Core}
 use Rattle.lvm_driver.specs.Answers.{state_of}
 use Rattle.lvm_driver.specs.Drains.{IsAny}
 use Rattle.lvm_ranges.proofs.Answering.{answered_for}
@@ -25,15 +24,15 @@ use Rattle.lvm_stage.specs.declared.stage.Stage.{Stage}
 use Rattle.lvm_stage.specs.Ends.{EndsUnasked}
 use Rattle.lvm_stage.specs.Moments.{GoesOn, OfRequests}
 use Rattle.lvm_stage.specs.Replies.{IsStuck, most_refusals}
-use Rattle.lvm_stage.specs.Stages.{HaveRooms, IsBetweenStage, IsCarried, IsEnded, IsFitting, history_in, session_in, shelf_in, state_in}
+use Rattle.lvm_stage.specs.Stages.{HaveRooms, IsBetweenStage, IsCarried, IsEnded, IsFitting, history_in, shelf_in, state_in}
 use Rattle.lvm_stage.specs.State.{ArePosted, State, without_facts}
 use Rattle.lvm_stage.proofs.Running.{over_goes}
 use Rattle.lvm_range_lines.specs.Leaving.{GoesOnWith, Waited, serving}
-use Rattle.lvm_range_lines.specs.Taking.{GoesBehind, IsClosedBehind, LandedEnds, WaitsBehind}
+use Rattle.lvm_range_lines.specs.Taking.{GoesBehind, IsClosedBehind, LandedEnds}
 use Rattle.lvm_range_lines.specs.Waiting.{AllHaveLanded, Awaits, Goes, InVain, IsAwaited, Over, TurnsForPosts, WaitDoes, WaitEnds}
 use Rattle.lvm_range_lines.proofs.Behind.{behind_goes, posts_few, waits_off}
 use Rattle.lvm_range_lines.proofs.Ending.{RunsTo, carried_ends, closed_orders, ended_is_over, its, stuck_ends, unstuck}
-use Rattle.lvm_range_lines.proofs.Landed.{long_ended, over_by, posted_ended}
+use Rattle.lvm_range_lines.proofs.Landed.{long_ended, posted_ended}
 use Rattle.lvm_range_lines.proofs.Lines.{unfinished_on}
 
 -- no posts are left

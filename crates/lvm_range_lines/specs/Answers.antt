@@ -1,5 +1,5 @@
 -- The lines of posts, while they are gathered.
-use Rattle.std.specs.Prelude.{◌≡◌, ◌++◌, ℕ, List, Option, IfSome, String, codes}
+use Rattle.std.specs.Prelude.{◌≡◌, ◌++◌, List, Option, IfSome, String, codes}
 use Rattle.std.specs.Global.{Global}
 use Rattle.std.specs.String.{string_bytes}
 use Rattle.lvm_stage.specs.declared.reply.Refusal.TheVariants as refusal

@@ -1,7 +1,6 @@
 -- What a line does that asks for a range of a volume.
 use Rattle.std.specs.Prelude.{◌≡◌, ◌∷◌, ◌++◌, ℕ, [], List, Option, Some, None, Result, Ok, Err}
 use Rattle.lvm_num.specs.Buffer.{Sector}
-use Rattle.lvm_vol.specs.Log.{Log}
 use Rattle.lvm_core.specs.Looking.{IsNumberOf, HasNoVolume}
 use Rattle.lvm_session.specs.Sound.{IsSound}
 use Rattle.lvm_session.specs.State.{Core, State as Session}

@@ -103,13 +103,7 @@ fn post_on<S: Shelf>(
 }
 
 /// Asks for a range of a volume to be written, the first block filled with the word; `wait` answers it.
-pub fn do_post<S: Shelf>(
-    stage: Stage<S>,
-    name: Name,
-    at: u64,
-    count: u32,
-    word: u64,
-) -> Answered<S>
+pub fn do_post<S: Shelf>(stage: Stage<S>, name: Name, at: u64, count: u32, word: u64) -> Answered<S>
     requires fits { IsFitting stage }
     requires between { IsBetweenStage S.device stage }
     requires some { 1 ≤ count }
@@ -229,13 +223,7 @@ fn wr_on<S: Shelf>(
 }
 
 /// Writes a range of a volume, the first block filled with the word.
-pub fn do_wr<S: Shelf>(
-    stage: Stage<S>,
-    name: Name,
-    at: u64,
-    count: u32,
-    word: u64,
-) -> Answered<S>
+pub fn do_wr<S: Shelf>(stage: Stage<S>, name: Name, at: u64, count: u32, word: u64) -> Answered<S>
     requires fits { IsFitting stage }
     requires between { IsBetweenStage S.device stage }
     requires some { 1 ≤ count }

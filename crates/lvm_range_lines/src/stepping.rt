@@ -32,12 +32,7 @@ fn step_reply<S: Shelf>(driver: &Driver<S>, moved: u32, how: Turned) -> Reply
 }
 
 // Makes turns of a session that is on.
-fn step_on<S: Shelf>(
-    driver: Driver<S>,
-    posts: Vec<Post>,
-    bytes: Vec<u8>,
-    turns: u32,
-) -> Answered<S>
+fn step_on<S: Shelf>(driver: Driver<S>, posts: Vec<Post>, bytes: Vec<u8>, turns: u32) -> Answered<S>
     requires fits { IsFitting (serving driver posts bytes) }
     requires between { IsBetweenStage S.device (serving driver posts bytes) }
     ensures { EndsUnasked S.device (λ _. StepDoes turns) ⊥ OfRequests (serving driver posts bytes) result.stage result.reply }

@@ -173,10 +173,7 @@ fn take_at_rest<S: Shelf>(
 }
 
 // Takes the answer of a post while a session is on: of that session, or of one that is gone.
-fn take_one<S: Shelf>(
-    driver: Driver<S>,
-    post: &Post,
-) -> (Driver<S>, Result<(), RangeFault>)
+fn take_one<S: Shelf>(driver: Driver<S>, post: &Post) -> (Driver<S>, Result<(), RangeFault>)
     requires on { driver.1.power ≡ power.On }
     requires posted { IsPosted driver.1.history.facts (Some driver.1) post.now }
     requires landed { post.now.ended ≡ None → HaveLanded post.now.asked (state_of S.device driver) }

@@ -1,5 +1,5 @@
-use Rattle.std.proofs.Common.{◌≡◌, ℕ, List, Some, None, Option, IfSome, refl, sym, ◌∙◌, ap, subst}
-use Rattle.std.specs.Prelude.{IfNone, Result, Ok, Err}
+use Rattle.std.proofs.Common.{refl, ap, subst}
+use Rattle.std.specs.Prelude.{Result, Err}
 use Rattle.lvm_num.specs.declared.descriptor.Descriptor.{Descriptor}
 use Rattle.lvm_core.specs.Looking.{HasNoVolume, IsNumberOf}
 use Rattle.lvm_posts.specs.declared.asked.Asked.{Asked}

@@ -1,4 +1,4 @@
-use Rattle.std.proofs.Common.{◌≡◌, ℕ, sym, ◌∙◌, ap, subst}
+use Rattle.std.proofs.Common.{sym, ◌∙◌, ap, subst}
 use Rattle.std.specs.Prelude.{Result}
 use Rattle.lvm_posts.specs.declared.fault.RangeFault.{RangeFault}
 use Rattle.lvm_stage.specs.declared.reply.Reply.{Reply}

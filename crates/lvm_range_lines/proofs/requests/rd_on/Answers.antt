@@ -1,10 +1,7 @@
-use Rattle.std.proofs.Common.{◌≡◌, ◌≤◌, ℕ, Some, None, refl, sym, ◌∙◌, subst, arith}
+use Rattle.std.proofs.Common.{◌≡◌, None, refl, sym, ◌∙◌, subst}
 use Rattle.lvm_session.specs.declared.open.Power.TheVariants as power
 use Rattle.lvm_driver.specs.Answers.{state_of}
-use Rattle.lvm_stage.specs.declared.reply.Reply.{Reply}
-use Rattle.lvm_stage.specs.declared.reply.Reply.TheVariants as reply
 use Rattle.lvm_stage.specs.declared.stage.Stage.{Stage}
-use Rattle.lvm_stage.specs.Replies.{most_refusals}
 use Rattle.lvm_stage.specs.Stages.{HaveRooms, IsCarried}
 use Rattle.lvm_range_lines.specs.Requests.{AsksByName, Finishes, NotBegun, ShowsBlocks}
 use Rattle.std.specs.Prelude.{Result}

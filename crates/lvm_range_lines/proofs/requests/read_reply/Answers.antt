@@ -1,4 +1,4 @@
-use Rattle.std.proofs.Common.{◌≡◌, ◌-◌, ℕ, refl, subst}
+use Rattle.std.proofs.Common.{◌-◌, subst}
 use Rattle.std.specs.Prelude.{Result}
 use Rattle.lvm_disk.specs.Counts.{RoseBy}
 use Rattle.lvm_driver.specs.Answers.{state_of}
@@ -13,9 +13,11 @@ returns-in-Ok g c =
     let device = g.S.Shelf.device in
     let left = c.finish_range.new.patience.left in
     record {
-      finishes = (left,
+      finishes = (
+        left,
         subst (λ (r : Result (Unit {0}) RangeFault). FinishGives c.args.asked.now left (state_of device c.args.driver.now) (state_of device c.finish_range.new.driver) r) c.in-Ok.is c.finish_range.ensures.gives,
-        subst (λ n. RoseBy (n - left) (device c.args.driver.now.0).counts.waits (device c.finish_range.new.driver.0).counts.waits) c.whole-patience.ensures c.in-Ok.ensures.waited);
+        subst (λ n. RoseBy (n - left) (device c.args.driver.now.0).counts.waits (device c.finish_range.new.driver.0).counts.waits) c.whole-patience.ensures c.in-Ok.ensures.waited,
+      );
       others = c.in-Ok.ensures.others;
       runs = c.in-Ok.ensures.runs;
       reply = c.blocks_reply.ensures;
@@ -26,9 +28,11 @@ returns-in-Err g c =
     let device = g.S.Shelf.device in
     let left = c.finish_range.new.patience.left in
     record {
-      finishes = (left,
+      finishes = (
+        left,
         subst (λ (r : Result (Unit {0}) RangeFault). FinishGives c.args.asked.now left (state_of device c.args.driver.now) (state_of device c.finish_range.new.driver) r) c.in-Err.is c.finish_range.ensures.gives,
-        subst (λ n. RoseBy (n - left) (device c.args.driver.now.0).counts.waits (device c.finish_range.new.driver.0).counts.waits) c.whole-patience.ensures c.in-Err.ensures.waited);
+        subst (λ n. RoseBy (n - left) (device c.args.driver.now.0).counts.waits (device c.finish_range.new.driver.0).counts.waits) c.whole-patience.ensures c.in-Err.ensures.waited,
+      );
       others = c.in-Err.ensures.others;
       runs = c.in-Err.ensures.runs;
       reply = tt;

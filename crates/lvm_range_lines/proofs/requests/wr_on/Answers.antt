@@ -1,16 +1,15 @@
-use Rattle.std.proofs.Common.{◌≡◌, ◌≤◌, ℕ, Some, None, sym, ◌∙◌, subst, arith}
+use Rattle.std.proofs.Common.{◌≡◌, ◌≤◌, Some, sym, ◌∙◌, subst, arith}
 use Rattle.lvm_session.specs.declared.open.Power.TheVariants as power
-use Rattle.lvm_driver.specs.Answers.{state_of}
 use Rattle.lvm_stage.specs.declared.reply.Reply.{Reply}
 use Rattle.lvm_stage.specs.declared.reply.Reply.TheVariants as reply
 use Rattle.lvm_stage.specs.declared.stage.Stage.{Stage}
 use Rattle.lvm_stage.specs.Replies.{most_refusals}
 use Rattle.lvm_stage.specs.Stages.{HaveRooms, IsCarried}
-use Rattle.lvm_range_lines.specs.Requests.{AsksByName, Finishes, NotBegun, ShowsBlocks}
+use Rattle.lvm_range_lines.specs.Requests.{AsksByName, Finishes, NotBegun}
 use Rattle.std.specs.Prelude.{Result}
 use Rattle.lvm_posts.specs.declared.asked.Asked.{Asked}
 use Rattle.lvm_stage.specs.declared.reply.Refusal.{Refusal}
-use Rattle.lvm_range_lines.proofs.Lines.{blocks_few, finished_ends}
+use Rattle.lvm_range_lines.proofs.Lines.{finished_ends}
 use Rattle.lvm_range_lines.proofs.Refusing.{refusing_ends}
 use Rattle.lvm_range_lines.proofs.requests.wr_on.Goals as goal
 

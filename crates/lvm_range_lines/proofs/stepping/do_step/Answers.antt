@@ -1,8 +1,7 @@
-use Rattle.std.proofs.Common.{◌≡◌, ◌≤◌, ℕ, [], sym, ◌∙◌, ap, subst, arith}
+use Rattle.std.proofs.Common.{◌≤◌, sym, ap, subst, arith}
 use Rattle.lvm_stage.specs.declared.holder.Holder.TheVariants as holder
 use Rattle.lvm_stage.specs.declared.reply.Refusal.TheVariants as refusal
 use Rattle.lvm_stage.specs.declared.reply.Reply.{Reply}
-use Rattle.lvm_stage.specs.declared.reply.Reply.TheVariants as reply
 use Rattle.lvm_stage.specs.Replies.{most_refusals}
 use Rattle.lvm_stage.specs.Stages.{IsOfKind, session_of}
 use Rattle.lvm_range_lines.specs.Stepping.{NoStepWhileOff, NothingMoves, StepDoes}

@@ -1,4 +1,4 @@
-use Rattle.std.proofs.Common.{◌≡◌, ◌<◌, ◌^◌, ℕ, [], Some, None, length, refl, subst}
+use Rattle.std.proofs.Common.{◌<◌, ◌^◌, [], Some, None, length, refl, subst}
 use Rattle.lvm_vol.specs.Log.{Log}
 use Rattle.lvm_vol.specs.Order.{Ordered}
 use Rattle.lvm_stage.specs.declared.holder.Holder.TheVariants as holder

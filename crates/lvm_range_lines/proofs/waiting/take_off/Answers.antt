@@ -1,4 +1,4 @@
-use Rattle.std.proofs.Common.{◌≡◌, ℕ, Option, Some, None, sym, ◌∙◌, ap, arith}
+use Rattle.std.proofs.Common.{ℕ, Option, Some, None, sym, ◌∙◌, ap, arith}
 use Rattle.std.specs.Prelude.{unwrap_or}
 use Rattle.lvm_posts.specs.declared.posts.Post.{Post}
 use Rattle.lvm_range_lines.proofs.Takings.{few_refused, off_all, off_first, off_gone, off_more, off_posted}

@@ -1,5 +1,5 @@
 use Rattle.std.proofs.Common.{◌≡◌, ℕ, sym, ◌∙◌, ap, subst, Some}
-use Rattle.lvm_session.specs.State.{Core, State, state}
+use Rattle.lvm_session.specs.State.{Core, state}
 use Rattle.lvm_driver.specs.Answers.{state_of}
 use Rattle.lvm_running.specs.Running.{RunsOn}
 use Rattle.lvm_earlier.specs.Earlier.{with_taken}
@@ -25,7 +25,7 @@ returns-in-Some g c =
     let answered = answered_of core.history.facts (Some core) c.args.post.now votes c.in-Some.is c.requires.posted in
     let beside = stays_beside (state_of device c.args.driver) asked c.is_sound.ensures answered (gone_of core c.args.post.now votes c.in-Some.is c.requires.posted) in
     let same : state_of device c.take_earlier.result.0 ≡ state (device c.args.driver.0) (with_taken asked core) =
-        ap (λ (s : g.row.S.Denot). state (device s) c.take_earlier.result.0.1) made.shelf ∙ ap (λ (k : Core). state (device c.args.driver.0) k) made.core in
+    ap (λ (s : g.row.S.Denot). state (device s) c.take_earlier.result.0.1) made.shelf ∙ ap (λ (k : Core). state (device c.args.driver.0) k) made.core in
     record {
       takes = OfEarlier c.in-Some.have c.in-Some.total c.in-Some.is same made.ends;
       left = subst (λ (k : Core). LeavesOthers asked core k) (sym made.core) (earlier_leaves core asked answered);

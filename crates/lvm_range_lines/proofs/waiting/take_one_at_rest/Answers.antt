@@ -1,11 +1,11 @@
-use Rattle.std.proofs.Common.{◌≡◌, ◌+◌, ℕ, [], List, Option, Some, refl, sym, ◌∙◌, ap, subst}
+use Rattle.std.proofs.Common.{◌≡◌, ◌+◌, ℕ, List, Option, Some, sym, ◌∙◌, ap, subst}
 use Rattle.std.specs.Prelude.{unwrap_or}
 use Rattle.std.specs.List.{list_any}
 use Rattle.lvm_session.specs.declared.open.Open.{Open}
 use Rattle.lvm_session.specs.Calls.{is_asked}
 use Rattle.lvm_session.specs.Fields.{core_of}
 use Rattle.lvm_session.specs.Sound.{IsSound}
-use Rattle.lvm_session.specs.State.{Core, State, state}
+use Rattle.lvm_session.specs.State.{Core, state}
 use Rattle.lvm_driver.specs.Answers.{state_of}
 use Rattle.lvm_running.specs.Running.{RunsOn}
 use Rattle.lvm_earlier.specs.Earlier.{with_taken}
@@ -50,10 +50,10 @@ returns g c =
     let shelf_is : end.0 ≡ c.args.driver.0 = c.from_parts.ensures.shelf ∙ parts.shelf in
     let core_is : end.1 ≡ with_taken asked core = c.from_parts.ensures.core ∙ made.core ∙ ap (with_taken asked) parts.core in
     let same : state_of device end ≡ state (device c.args.driver.0) (with_taken asked core) =
-        ap (λ (s : g.row.S.Denot). state (device s) end.1) shelf_is ∙ ap (λ (k : Core). state (device c.args.driver.0) k) core_is in
+    ap (λ (s : g.row.S.Denot). state (device s) end.1) shelf_is ∙ ap (λ (k : Core). state (device c.args.driver.0) k) core_is in
     let ends : RangeEnds end.1.history.facts asked votes.0 votes.1 c.take_in-session.result.1 = subst (λ (k : Core). RangeEnds k.history.facts asked votes.0 votes.1 c.take_in-session.result.1) (sym c.from_parts.ensures.core) made.ends in
     let kept : StaysKept core.history end.1.history =
-        subst (λ (k : Core). StaysKept core.history k.history) (sym c.from_parts.ensures.core) (subst (λ (k : Core). StaysKept k.history (core_of c.take_in-session.result.0).history) parts.core made.keeps) in
+    subst (λ (k : Core). StaysKept core.history k.history) (sym c.from_parts.ensures.core) (subst (λ (k : Core). StaysKept k.history (core_of c.take_in-session.result.0).history) parts.core made.keeps) in
     record {
       takes = OfEarlier votes.0 votes.1 (gone.ended ∙ ap (λ (v : ℕ × ℕ). Some v) (sym votes_are)) same ends;
       left = subst (λ (k : Core). LeavesOthers asked core k) (sym core_is) (earlier_leaves core asked gone.answered);

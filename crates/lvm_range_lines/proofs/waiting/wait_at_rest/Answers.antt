@@ -1,5 +1,4 @@
-use Rattle.std.proofs.Common.{◌≡◌, ◌<◌, ◌^◌, ℕ, List, Option, Some, length, sym, ◌∙◌, ap, subst, arith}
-use Rattle.lvm_session.specs.State.{Core}
+use Rattle.std.proofs.Common.{◌<◌, ◌^◌, List, Some, length, sym, subst, arith}
 use Rattle.lvm_driver.specs.Answers.{state_of}
 use Rattle.lvm_posts.specs.declared.posts.Post.{Post}
 use Rattle.lvm_stage.specs.Stages.{HaveRooms}
@@ -31,7 +30,7 @@ returns g c =
     let end = c.take_at_rest-driver.result.0 in
     let taken = c.take_at_rest-driver.ensures in
     let rooms : HaveRooms first.1.history.room c.clear.new.self c.args.bytes =
-        record { for_posts = let low = c.requires.fits.rooms.for_posts in let same = c.clear.ensures.capacity in omega (arith, low, same); for_bytes = c.requires.fits.rooms.for_bytes } in
+    record { for_posts = let low = c.requires.fits.rooms.for_posts in let same = c.clear.ensures.capacity in omega (arith, low, same); for_bytes = c.requires.fits.rooms.for_bytes } in
     rest_ends device first c.args.posts c.args.bytes c.requires.fits c.requires.between end taken.enters taken.takes.endings
     (subst (λ (ps : List Post). TakesPosts (state_of device first) ps (state_of device end) taken.takes.endings) c.deref.ensures.value taken.takes.takes) taken.runs taken.sound
     c.clear.new.self c.clear.ensures.items rooms c.answered.result.stage c.answered.ensures.stage c.answered.result.reply

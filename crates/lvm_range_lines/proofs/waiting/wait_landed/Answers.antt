@@ -1,13 +1,9 @@
-use Rattle.std.proofs.Common.{◌≡◌, ◌<◌, ◌^◌, ℕ, true, List, [], Option, Some, length, sym, ◌∙◌, ap, subst, arith}
-use Rattle.lvm_session.specs.declared.open.Power.TheVariants as power
-use Rattle.lvm_session.specs.Causes.{is_over}
-use Rattle.lvm_session.specs.State.{Core}
+use Rattle.std.proofs.Common.{◌<◌, ◌^◌, List, Some, length, sym, ◌∙◌, subst, arith}
 use Rattle.lvm_driver.specs.Answers.{state_of}
 use Rattle.lvm_posts.specs.declared.posts.Post.{Post}
 use Rattle.lvm_stage.specs.Stages.{HaveRooms, IsFitting}
 use Rattle.lvm_stage.specs.State.{ArePosted}
 use Rattle.lvm_range_lines.specs.Answers.{Tells}
-use Rattle.lvm_range_lines.specs.Taking.{GoesBehind}
 use Rattle.lvm_range_lines.specs.Waiting.{AllHaveLanded, TakesPosts}
 use Rattle.lvm_range_lines.proofs.Landed.{closed_landed, few_ended, fits_ended, fits_on, goes_landed, not_on, over_by, posted_ended}
 use Rattle.lvm_range_lines.proofs.waiting.wait_landed.Goals as goal
@@ -46,7 +42,7 @@ returns-in-On g c =
     let end = c.take_on-driver.result.0 in
     let on = sym c.power.ensures.is ∙ c.in-On.is in
     let rooms : HaveRooms c.args.driver.1.history.room c.clear.new.self c.args.bytes =
-        record { for_posts = let low = c.requires.fits.rooms.for_posts in let same = c.clear.ensures.capacity in omega (arith, low, same); for_bytes = c.requires.fits.rooms.for_bytes } in
+    record { for_posts = let low = c.requires.fits.rooms.for_posts in let same = c.clear.ensures.capacity in omega (arith, low, same); for_bytes = c.requires.fits.rooms.for_bytes } in
     record {
       ends = goes_landed device c.args.driver c.args.posts c.args.bytes c.requires.fits c.args.driver.1.power on c.answered.result.stage c.answered.result.reply (record {
         end = end;

@@ -1,4 +1,4 @@
-use Rattle.std.proofs.Common.{◌≡◌, ◌-◌, ℕ, List, sym, ◌∙◌, subst}
+use Rattle.std.proofs.Common.{◌≡◌, ◌-◌, List, sym, ◌∙◌, subst}
 use Rattle.std.specs.Prelude.{All}
 use Rattle.lvm_disk.specs.Counts.{RoseBy}
 use Rattle.lvm_disk.specs.Paths.{Path}
