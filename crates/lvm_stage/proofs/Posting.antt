@@ -162,7 +162,7 @@ abbrev pub IsToldOf : List Fact → Option Core → Type 0
 IsToldOf facts on = IfSome on (λ core. AllByRecursion (IsAsked facts) core.requests)
 
 module _ (run : ℕ) (facts : List Fact) (on : Option Core) (ordered : Ordered run [] facts) (told : IsToldOf facts on) where
-  began : (p : Post) → IsPosted facts on p → (k : ℕ) → k < p.asked.pieces → is_some (asked facts (p.asked.first + k)) ≡ true
+  pub began : (p : Post) → IsPosted facts on p → (k : ℕ) → k < p.asked.pieces → is_some (asked facts (p.asked.first + k)) ≡ true
   began p its k less = by p.ended refl
     where
       in_table : (o : Option Core) → IsToldOf facts o → IsSomeAnd o (λ core. AreHeld core p.asked) → is_some (asked facts (p.asked.first + k)) ≡ true
