@@ -4,3 +4,4 @@ pub mod Open
 pub mod Bringing
 pub mod Refusing
 pub mod Judging
+pub mod Passing
