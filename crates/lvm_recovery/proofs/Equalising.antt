@@ -1,5 +1,5 @@
 -- What is kept while copies are made and notes emptied.
-use Rattle.std.proofs.Common.{◌≡◌, inl, inr, ℕ, List, Some, IsTrue, refl, sym, ◌∙◌, subst}
+use Rattle.std.proofs.Common.{◌≡◌, inl, inr, ℕ, List, Option, None, Some, Unit, tt, IfSome, IsTrue, refl, sym, ◌∙◌, subst}
 use Rattle.lvm_num.specs.declared.descriptor.Descriptor.{Descriptor}
 use Rattle.lvm_num.specs.declared.status.Status.{Status}
 use Rattle.lvm_num.specs.Buffer.{Buffer, Sector}
@@ -14,6 +14,7 @@ use Rattle.lvm_steps.specs.Moments.{StaysKept}
 use Rattle.lvm_write.specs.Notes.{empty_note_sector, NoteTold}
 use Rattle.lvm_write.specs.Written.{IsWriting}
 use Rattle.lvm_write.proofs.Writing.{told_at, both_at, changes_more}
+use Rattle.lvm_begin.proofs.Untold.{untold_kept}
 use Rattle.lvm_begin.specs.declared.begin.Begun.{Begun}
 use Rattle.lvm_begin.specs.declared.begin.Begun.TheVariants as begun
 use Rattle.lvm_recover.specs.Recopied.{IsFromFirst}
@@ -49,10 +50,20 @@ module _ (copies : List Recopy) (targets : Disks) (group : Descriptor) (status :
       (λ image left. told_at mid.media (λ media. (image : Image) → MayLeave now image → ChangesBy (IsOfNote targets (empty_note_sector epoch)) (image_of mid.sizes media) image) told.0 told.1 writing image left))
       path
 
+-- where the media is told and where it isn't
+by_told : {A : Type 0} {P : Device → Type 0} (old new : Device) → Path DeviceStep P old new → (A → Path DeviceStep (StaysKept old) old new) → IfSome old.media (λ (media : Media). A) → Path DeviceStep (StaysKept old) old new
+by_told {A = A} old new path kept may = by_media old.media refl may
+  where
+    by_media : (o : Option Media) → old.media ≡ o → IfSome o (λ (media : Media). A) → Path DeviceStep (StaysKept old) old new
+    by_media None none may = untold_kept old new none path
+    by_media (Some media) told may = kept may
+
 pub went_on_kept : (copies : List Recopy) (epoch : ℕ) (targets : Disks) (number before after : ℕ) (old new : Device) (result : Begun) → WentOn copies epoch targets number before after old new result → EqualisedStaysKept copies targets old new
-went_on_kept copies epoch targets number before after old new result on group status there it =
-    append-path (copying copies targets group status there old it on.mid on.copied.does.moments)
-    (emptying copies targets group status there old it number before on.between epoch on.buf on.mid new on.copied on.emptied.does.moments)
+went_on_kept copies epoch targets number before after old new result on group status there = by_told old new
+    (append-path (map-path (λ (d : Device). Unit {0}) (λ d p. tt) on.copied.does.moments) (map-path (λ (d : Device). Unit {0}) (λ d p. tt) on.emptied.does.moments))
+    (λ (it : MayEqualise copies targets group status there old). append-path (copying copies targets group status there old it on.mid on.copied.does.moments)
+    (emptying copies targets group status there old it number before on.between epoch on.buf on.mid new on.copied on.emptied.does.moments))
 
 pub stopped_kept : (copies : List Recopy) (targets : Disks) (number before after : ℕ) (old new : Device) (result : Begun) → StoppedCopying copies number before after old new result → EqualisedStaysKept copies targets old new
-stopped_kept copies targets number before after old new result stopped group status there it = copying copies targets group status there old it new stopped.copied.does.moments
+stopped_kept copies targets number before after old new result stopped group status there = by_told old new stopped.copied.does.moments
+    (λ (it : MayEqualise copies targets group status there old). copying copies targets group status there old it new stopped.copied.does.moments)

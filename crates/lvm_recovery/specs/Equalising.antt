@@ -1,5 +1,5 @@
 -- The copies of a group that comes on, and then the emptying of its notes.
-use Rattle.std.specs.Prelude.{◌≡◌, ◌⊎◌, ℕ, List, Some, IsTrue}
+use Rattle.std.specs.Prelude.{◌≡◌, ◌⊎◌, ℕ, List, Some, IsTrue, IfSome}
 use Rattle.lvm_num.specs.declared.descriptor.Descriptor.{Descriptor}
 use Rattle.lvm_num.specs.declared.status.Status.{Status}
 use Rattle.lvm_num.specs.Buffer.{Buffer}
@@ -42,4 +42,5 @@ pub record MayEqualise (copies : List Recopy) (targets : Disks) (group : Descrip
 
 -- then what was kept is kept at each moment of it, whatever becomes of it
 abbrev pub EqualisedStaysKept : List Recopy → Disks → Device → Device → Type 0
-EqualisedStaysKept copies targets old new = (group : Descriptor) (status : Status) (there : Disks) → MayEqualise copies targets group status there old → Path DeviceStep (StaysKept old) old new
+EqualisedStaysKept copies targets old new =
+    (group : Descriptor) (status : Status) (there : Disks) → IfSome old.media (λ media. MayEqualise copies targets group status there old) → Path DeviceStep (StaysKept old) old new

@@ -3,6 +3,7 @@
 
 mod copying;
 mod equal;
+mod forgetting;
 mod laws;
 mod plan;
 
