@@ -13,10 +13,6 @@ use Rattle.lvm_kept.specs.Recovered.{IsRecordRange}
 abbrev pub AreOfRecords : Contents → Disks → ℕ → List Range → Type 0
 AreOfRecords c disks id ranges = All (λ r. IsTrue (is_voter c disks id r.disk) × IsRecordRange r) ranges
 
--- no volume of the group has consistency
-abbrev pub HasNoConsistency : Descriptor → Type 0
-HasNoConsistency group = (row : LvRow) → IsOneOf group.lvs row → row.mode ≡ Off
-
 -- this holds of what the disks show at two moments and of the ranges that were written between them, where the media and the ranges are told
 abbrev pub WhereTold : Device → Device → (Contents → List Range → Contents → Type 0) → Type 0
 WhereTold old new P =
