@@ -95,7 +95,7 @@ module _ (old begun copied new : Contents) (ranges : List Range) (disks : Disks)
   same_block d s = ap (λ (c : Contents). c.block d s) is.emptied.rest
 
   block_was : (d s : ℕ) → begun.block d s ≡ old.block d s
-  block_was d s = ap (λ (f : ℕ → ℕ → Sector). f d s) is.restated.same_data
+  block_was d s = ap (λ (f : ℕ → ℕ → Sector). f d s) is.same_data
 
   -- the usable copies
   usable : (row : LvRow) (lp : ℕ) → IsOneOf group.lvs row → fresh_on there (Some next) row lp ≡ fresh old disks id row lp

@@ -27,6 +27,7 @@ use Rattle.lvm_begin.specs.Beginning.{Beginning, MayBeginAgain}
 use Rattle.lvm_varyon.specs.Found.{Found, HaveAnswered}
 use Rattle.lvm_next.specs.Next.{IsNextStatus}
 use Rattle.lvm_varyon.specs.Chosen.{answering, last_moment, MayComeOn, IsClockBack}
+use Rattle.lvm_next.specs.Restated.{Restated}
 use Rattle.lvm_recovery.specs.declared.copying.Recopy.{Recopy}
 use Rattle.lvm_recovery.specs.Planned.{ArePlanned}
 use Rattle.lvm_varyon.specs.Writing.{beginning, Writes, IsStillOut}
@@ -63,6 +64,12 @@ pub record ComesOn (old new : Device) (log : Log) (name : List ℕ) (moment : �
   pub spare : 1 ≤ spare_entries log
   pub written : HasWritten old new name moment (λ b copies read. IsEqualled b core.homes copies read new)
   pub first : IsFirst written.group written.next log moment room core
+
+-- What the disks then show, where that is told and the clock's moments rise.
+pub record IsRestated (old new : Device) (group : Descriptor) : Type 0 where
+  pub disks : Disks
+  pub answered : HaveAnswered old new disks
+  pub shows : (was is : Media) → old.media ≡ Some was → new.media ≡ Some is → Restated (contents_of (image_of old.sizes was)) (contents_of (image_of new.sizes is)) disks group
 
 -- A group without volumes in mode passive is recovered, by the disks that answered.
 pub record IsRecovered (old new : Device) (group : Descriptor) : Type 0 where
