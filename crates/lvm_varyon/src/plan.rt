@@ -109,7 +109,7 @@ fn copies_for(alloc: Global, survey: &Survey, choice: &Choice) -> Result<Rows<Re
     requires rows { AreRows survey.now }
     requires descriptor { IsValid choice.now.descriptor }
     requires status { IsValidStatus choice.now.status }
-    ensures { (stamp : Stamp) → IfOk result (λ copies. ArePlanned (surveyed survey.now) choice.now.descriptor (Some (record { stamp = stamp; value = choice.now.status })) (has choice.now.answering) copies.items) }
+    ensures { (stamp : Stamp) → IfOk result (λ copies. ArePlanned (surveyed survey.now) choice.now.descriptor (Some (record { stamp = stamp; value = choice.now.status })) (has choice.now.answering) copies) }
 {
     let named = named_by(alloc, survey, choice.answering)?;
     let table = StaleTable::from_status(alloc, &choice.status)?;
