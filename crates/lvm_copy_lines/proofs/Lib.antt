@@ -1,0 +1,7 @@
+pub mod Going
+pub mod Giving
+pub mod Marking
+pub mod Holding
+pub mod OfCopies
+pub mod Ending
+pub mod Lines
