@@ -45,12 +45,7 @@ fn hold<S: Shelf>(driver: Driver<S>, added: &[Pp]) -> Holder<S>
 }
 
 // The stage of a session that goes on behind a command.
-fn go_on<S: Shelf>(
-    driver: Driver<S>,
-    posts: Vec<Post>,
-    bytes: Vec<u8>,
-    added: &[Pp],
-) -> Stage<S>
+fn go_on<S: Shelf>(driver: Driver<S>, posts: Vec<Post>, bytes: Vec<u8>, added: &[Pp]) -> Stage<S>
     requires rows { HasItsRows driver.1.descriptor driver.1.origin.table }
     requires markable { All (IsMarkable driver.1.origin.table) added.now }
     requires may { MayServeWith added.now (state_of S.device driver) }
@@ -132,12 +127,7 @@ fn remove_copies<S: Shelf>(
 
 /// Gives the volume of the name in the group that is on further copies, until it has so many, if no request of the group
 /// is open. Turns are made first until nothing is under way, and the name is looked up then.
-pub fn do_mklvcopy<S: Shelf>(
-    alloc: Global,
-    stage: Stage<S>,
-    name: Name,
-    copies: u8,
-) -> Answered<S>
+pub fn do_mklvcopy<S: Shelf>(alloc: Global, stage: Stage<S>, name: Name, copies: u8) -> Answered<S>
     requires fits { IsFitting stage }
     requires between { IsBetweenStage S.device stage }
     ensures { EndsUnasked S.device (λ _. MklvcopyDoes name copies) ⊥ OfGroup stage result.stage result.reply }
@@ -168,12 +158,7 @@ pub fn do_mklvcopy<S: Shelf>(
 ///
 /// A span goes on with it where each logical partition keeps a fresh copy whose member shows the group. One that can't be
 /// reached is fresh too, by the status.
-pub fn do_rmlvcopy<S: Shelf>(
-    alloc: Global,
-    stage: Stage<S>,
-    name: Name,
-    copies: u8,
-) -> Answered<S>
+pub fn do_rmlvcopy<S: Shelf>(alloc: Global, stage: Stage<S>, name: Name, copies: u8) -> Answered<S>
     requires fits { IsFitting stage }
     requires between { IsBetweenStage S.device stage }
     ensures { EndsWhere S.device (λ _. RmlvcopyDoes name copies) (AtRestEach (KeepsShownOf name copies)) stage result.stage result.reply }
