@@ -1,5 +1,5 @@
 -- How the lines on copies end, with the premise and without one.
-use Rattle.std.proofs.Common.{◌≡◌, ℕ, [], List, sym, ◌∙◌, ap, subst}
+use Rattle.std.proofs.Common.{◌≡◌, ℕ, [], List, ◌∙◌, ap}
 use Rattle.lvm_disk.specs.Device.{Device, HasSectors}
 use Rattle.lvm_vol.specs.Log.{Log}
 use Rattle.lvm_session.specs.State.{Core, State as Session}

@@ -1,5 +1,5 @@
 -- What is known of a session behind `mklvcopy` and `rmlvcopy`, by their answers.
-use Rattle.std.proofs.Common.{◌≡◌, inl, inr, ℕ, List, true, false, Result, Ok, Err, refl, sym, ap, subst}
+use Rattle.std.proofs.Common.{◌≡◌, inl, inr, ℕ, List, false, Result, Ok, Err, sym, ap, subst}
 use Rattle.lvm_num.specs.declared.place.Pp.{Pp}
 use Rattle.lvm_vol.specs.Facts.{Fact}
 use Rattle.lvm_vol.specs.Log.{Log}

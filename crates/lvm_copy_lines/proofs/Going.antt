@@ -1,5 +1,5 @@
 -- Commands on copies: how states go on over them, under a premise.
-use Rattle.std.proofs.Common.{◌≡◌, ◌+◌, ◌≤◌, [], ℕ, List, true, false, Option, Some, None, IfSome, IfNone, length, get_or, refl, sym, ◌∙◌, ap, subst, arith}
+use Rattle.std.proofs.Common.{◌≡◌, ◌+◌, ◌≤◌, [], ℕ, List, true, false, Option, Some, None, IfSome, IfNone, length, get_or, sym, ◌∙◌, ap, subst, arith}
 use Rattle.std.specs.List.{list_any}
 use Rattle.std.proofs.lemmas.List.{length-map}
 use Rattle.lvm_num.specs.Votes.{total_votes}

@@ -1,10 +1,10 @@
 -- The partitions of added copies, in the status with which the session began.
-use Rattle.std.proofs.Common.{◌≡◌, ◌≢◌, ℕ, List, [], Some, sym, ap, subst, ◌∙◌}
+use Rattle.std.proofs.Common.{◌≡◌, ◌≢◌, ℕ, List, [], sym, ap, subst, ◌∙◌}
 use Rattle.std.specs.Prelude.{All}
 use Rattle.lvm_num.specs.declared.descriptor.Descriptor.{Descriptor}
 use Rattle.lvm_num.specs.declared.place.Pp.{Pp}
 use Rattle.lvm_num.specs.declared.status.Status.{Status}
-use Rattle.lvm_num.specs.Descriptor.{IsValid, volume_of}
+use Rattle.lvm_num.specs.Descriptor.{IsValid}
 use Rattle.lvm_status.specs.Calls.{IsMarkable}
 use Rattle.lvm_status.specs.Members.{HasItsRows}
 use Rattle.lvm_session.specs.State.{Core, State as Session, is_there}

@@ -1,5 +1,5 @@
 -- `mklvcopy` and `rmlvcopy` on the session of the group that is on, from the session that has come to rest.
-use Rattle.std.proofs.Common.{◌≡◌, ◌<◌, ◌^◌, ℕ, Bool, true, false, List, Option, refl, sym, ◌∙◌, ap, subst, Result}
+use Rattle.std.proofs.Common.{◌≡◌, ◌<◌, ◌^◌, ℕ, Bool, true, false, List, refl, sym, ◌∙◌, ap, subst, Result}
 use Rattle.lvm_num.specs.declared.place.Pp.{Pp}
 use Rattle.lvm_disk.specs.Device.{Device, HasSectors, IsReady}
 use Rattle.lvm_disk.proofs.Paths.{last-path}

@@ -1,5 +1,5 @@
 -- What the lines do that give a volume of the group that is on more copies, or leave it fewer.
-use Rattle.std.specs.Prelude.{◌≡◌, ◌≤◌, ℕ, Bool, true, false, List, Some, None, Result, Ok, Err}
+use Rattle.std.specs.Prelude.{◌≡◌, ◌≤◌, ℕ, Bool, false, List, Some, None, Result, Ok, Err}
 use Rattle.lvm_num.specs.declared.place.Pp.{Pp}
 use Rattle.lvm_disk.specs.Device.{IsReady}
 use Rattle.lvm_write.specs.Written.{KeepsShelf}

@@ -1,12 +1,11 @@
-use Rattle.std.proofs.Common.{◌≡◌, ◌∙◌, [], List, Result, Ok, Err, sym, ap, subst}
+use Rattle.std.proofs.Common.{List, Ok, Err, sym, subst}
 use Rattle.std.specs.Prelude.{All}
 use Rattle.lvm_num.specs.declared.place.Pp.{Pp}
 use Rattle.lvm_status.specs.Calls.{IsMarkable}
 use Rattle.lvm_session.specs.State.{State as Session}
 use Rattle.lvm_core.specs.State.{state_of}
 use Rattle.lvm_volume_plan.specs.declared.fault.GroupFault.{GroupFault}
-use Rattle.lvm_handover.specs.Serving.{IsCommanded}
-use Rattle.lvm_mirrors.specs.Mirrors.{MklvcopyGives, to_add}
+use Rattle.lvm_mirrors.specs.Mirrors.{to_add}
 use Rattle.lvm_tie_copies.specs.Serving.{MayServeWith}
 use Rattle.lvm_copy_lines.specs.Commands.{IsLeftOnWith}
 use Rattle.lvm_copy_lines.proofs.Carrying.{added_marks, added_may, added_rows, adding_fails, commanded_so}

@@ -8,7 +8,6 @@ use Rattle.lvm_driver.specs.Drains.{IsAny, IsTurn}
 use Rattle.lvm_posts.specs.Posts.{AreAnswered}
 use Rattle.lvm_mirrors.specs.Mirrors.{RmlvcopyGives, to_take}
 use Rattle.lvm_tie_copies.proofs.Taking.{rmlvcopy_goes_on}
-use Rattle.lvm_stage.specs.Ends.{EndsUnasked}
 use Rattle.lvm_stage.specs.Moments.{OfGroup}
 use Rattle.lvm_stage.specs.Stages.{open_in, session_in, shelf_in}
 use Rattle.lvm_stage.specs.declared.reply.Refusal.{Refusal}

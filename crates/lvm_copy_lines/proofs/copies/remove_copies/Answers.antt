@@ -1,8 +1,8 @@
-use Rattle.std.proofs.Common.{◌≡◌, [], List, Result, Ok, Err, sym, subst}
+use Rattle.std.proofs.Common.{[], Ok, Err, sym, subst}
 use Rattle.lvm_session.specs.State.{State as Session}
 use Rattle.lvm_core.specs.State.{state_of}
 use Rattle.lvm_volume_plan.specs.declared.fault.GroupFault.{GroupFault}
-use Rattle.lvm_mirrors.specs.Mirrors.{RmlvcopyGives, to_take}
+use Rattle.lvm_mirrors.specs.Mirrors.{to_take}
 use Rattle.lvm_copy_lines.specs.Commands.{IsLeftOnWith}
 use Rattle.lvm_copy_lines.proofs.Carrying.{commanded_so, removal_fails, removed_may, removed_rows}
 use Rattle.lvm_copy_lines.proofs.copies.remove_copies.Goals as goal
