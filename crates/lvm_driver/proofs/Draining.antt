@@ -14,7 +14,7 @@ use Rattle.lvm_session.specs.Left.{left_of}
 use Rattle.lvm_running.specs.Running.{RunsOn}
 use Rattle.lvm_running.proofs.Running.{runs_both, runs_none}
 use Rattle.lvm_turn_answers.specs.Telling.{TurnTells}
-use Rattle.lvm_driver.specs.Drains.{IsAny, IsDrained, IsTurn}
+use Rattle.lvm_driver.specs.Drains.{IsAny, IsDrained, IsTurn, LastWaits, NoTurn, OneMove, OneWait, TurnsWith}
 use Rattle.lvm_turn_answers.proofs.Stepping.{turn_counts}
 
 -- So far turns have been made, and the patience that is gone went with answers that nothing has ended.
@@ -24,6 +24,8 @@ pub record Goes (first now : State) (patience left : ℕ) : Type 0 where
   pub fewer : left ≤ patience
   pub waited : RoseBy (patience - left) first.device.counts.waits now.device.counts.waits
   pub runs : RunsOn first now
+  pub pays : TurnsWith first (patience - left) now
+  pub last : left ≡ 0 → LastWaits (patience - left) first now
 
 pub begins : (first : State) (patience : ℕ) → (first.core.power ≡ power.Stuck → ⊥) → Goes first first patience patience
 begins first patience unstuck = record {
@@ -32,6 +34,8 @@ begins first patience unstuck = record {
   fewer = omega arith;
   waited = let none : 0 ≡ patience - patience = omega arith in subst (λ n. RoseBy n first.device.counts.waits first.device.counts.waits) none (rose_by_none first.device.counts.waits);
   runs = runs_none first;
+  pays = let none : 0 ≡ patience - patience = omega arith in subst (λ n. TurnsWith first n first) none NoTurn;
+  last = λ none. let zero : patience - patience ≡ 0 = omega arith in inl (zero, refl);
 }
 
 none_out : (fs : List Flight) → length fs ≡ 0 → fs ≡ []
@@ -57,8 +61,16 @@ module _ (first old new : State) (patience left : ℕ) (so_far : Goes first old 
   pub runs_then : RunsOn old new → RunsOn first new
   runs_then runs = runs_both first old new so_far.runs runs
 
-  pub moved : TurnMakes old new turned.Moved → TurnTells old new turned.Moved → RunsOn old new → Goes first new patience left
-  moved made tells runs = record { runs = runs_then runs; turns = path turned.Moved made; unstuck = λ stuck. not_stuck (sym tells.power_is ∙ stuck); fewer = so_far.fewer; waited = waited_on turned.Moved made }
+  pub moved : TurnMakes old new turned.Moved → TurnTells old new turned.Moved → 1 ≤ left → RunsOn old new → Goes first new patience left
+  moved made tells some runs = record {
+    runs = runs_then runs;
+    turns = path turned.Moved made;
+    unstuck = λ stuck. not_stuck (sym tells.power_is ∙ stuck);
+    fewer = so_far.fewer;
+    waited = waited_on turned.Moved made;
+    pays = OneMove so_far.pays made;
+    last = λ none. absurd (omega (arith, some, none));
+  }
 
   pub waits : TurnMakes old new turned.Idle → TurnTells old new turned.Idle → (length new.device.flights ≡ 0 → ⊥) → 1 ≤ left → RunsOn old new → Goes first new patience (left - 1)
   waits made tells out some runs = record {
@@ -67,13 +79,16 @@ module _ (first old new : State) (patience left : ℕ) (so_far : Goes first old 
     unstuck = λ stuck. not_stuck (sym tells.power_is ∙ stuck);
     fewer = let few = so_far.fewer in omega (arith, few);
     waited = by (tells.idle.0 refl).still;
+    pays = subst (λ n. TurnsWith first n new) one_more (OneWait so_far.pays made);
+    last = λ none. inr (patience - left, sym one_more, old, so_far.pays, made);
   }
     where
+      one_more : patience - left + 1 ≡ patience - (left - 1)
+      one_more = let few = so_far.fewer in omega (arith, few, some)
+
       by : Finds old new ⊎ FindsNothing old new → RoseBy (patience - (left - 1)) first.device.counts.waits new.device.counts.waits
       by (inl finds) =
-          let few = so_far.fewer in
-          let more : patience - left + 1 ≡ patience - (left - 1) = omega (arith, few, some) in
-          subst (λ n. RoseBy n first.device.counts.waits new.device.counts.waits) more (rose_by_more so_far.waited finds.waits.waits)
+          subst (λ n. RoseBy n first.device.counts.waits new.device.counts.waits) one_more (rose_by_more so_far.waited finds.waits.waits)
       by (inr nothing) = absurd (out (ap (λ (s : State). length s.device.flights) nothing.is ∙ ap length nothing.idle))
 
   -- ---- the end

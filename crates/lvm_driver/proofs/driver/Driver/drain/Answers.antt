@@ -10,8 +10,9 @@ loop-patience-init g c = begins (state_of g.S.Shelf.device c.args.self.now) c.ar
 pub loop-patience-preserved-in-Moved : goal.loop-patience-preserved-in-Moved
 loop-patience-preserved-in-Moved g c =
     let device = g.S.Shelf.device in
+    let test = c.loop-patience-test.true in
     moved (state_of device c.args.self.now) (state_of device c.loop-patience.self) (state_of device c.turn.new.self) c.args.patience.now.left c.loop-patience.patience.left c.loop-patience.invariant
-    c.in-Moved.ensures.makes c.in-Moved.ensures.tells c.in-Moved.ensures.runs
+    c.in-Moved.ensures.makes c.in-Moved.ensures.tells (omega (arith, test)) c.in-Moved.ensures.runs
 
 pub loop-patience-preserved : goal.loop-patience-preserved
 loop-patience-preserved g c =
@@ -56,3 +57,17 @@ returns-then-flights-eq0-clause-ends g c =
     let none = c.if-flights-eq0.true in
     drained (state_of device c.args.self.now) (state_of device c.loop-patience.self) (state_of device c.turn.new.self) c.args.patience.now.left c.loop-patience.patience.left c.loop-patience.invariant
     c.in-Idle.ensures.tells (grind (arith, out, none))
+
+pub returns-in-Dark-clause-pays : goal.returns-in-Dark-clause-pays
+returns-in-Dark-clause-pays g c = (state_of g.S.Shelf.device c.loop-patience.self, c.loop-patience.invariant.pays, c.in-Dark.ensures.makes)
+
+pub returns-in-Off-clause-pays : goal.returns-in-Off-clause-pays
+returns-in-Off-clause-pays g c = (state_of g.S.Shelf.device c.loop-patience.self, c.loop-patience.invariant.pays, c.in-Off.ensures.makes)
+
+pub returns-then-flights-eq0-clause-pays : goal.returns-then-flights-eq0-clause-pays
+returns-then-flights-eq0-clause-pays g c = (state_of g.S.Shelf.device c.loop-patience.self, c.loop-patience.invariant.pays, c.in-Idle.ensures.makes)
+
+pub returns-clause-pays : goal.returns-clause-pays
+returns-clause-pays g c =
+    let test = c.loop-patience-test.false in
+    c.loop-patience.invariant.last (omega (arith, test))
