@@ -27,23 +27,32 @@ use Rattle.lvm_volumes.specs.Volumes.{MklvGives, RmlvGives, to_make, to_remove}
 
 -- ---- what is handed over
 
+-- of the same group, and the same volumes are dirty
+pub record SameRest (old new : Status) : Type 0 where
+  pub id : new.id ≡ old.id
+  pub big : new.big ≡ old.big
+  pub dirty : new.dirty ≡ old.dirty
+
 -- these partitions are stale too
 pub record MarksAdded (added : List Pp) (old new : Status) : Type 0 where
   pub stale : (p : Pp) → calls_stale new p ≡ (calls_stale old p || is_among added p)
   pub missing : SameMissing old new
   pub rows : (disk : ℕ) → has_row new disk ≡ has_row old disk
+  pub rest : SameRest old new
 
 -- these of its disks that are missing by another status are missing too
 pub record MarksMissing (members : List PvRow) (now old new : Status) : Type 0 where
   pub stale : SameStale old new
   pub missing : (disk : ℕ) → calls_missing new disk ≡ (calls_missing old disk || (list_any (λ (row : PvRow). row.disk == disk) members && calls_missing now disk))
   pub rows : (disk : ℕ) → has_row new disk ≡ has_row old disk
+  pub rest : SameRest old new
 
 -- these partitions are stale too, and these disks missing
 pub record MarksMore (added : List Pp) (gone : Disks) (old new : Status) : Type 0 where
   pub stale : (p : Pp) → calls_stale new p ≡ (calls_stale old p || is_among added p)
   pub missing : (disk : ℕ) → calls_missing new disk ≡ (calls_missing old disk || gone disk)
   pub rows : (disk : ℕ) → has_row new disk ≡ has_row old disk
+  pub rest : SameRest old new
 
 -- a member that is missing
 abbrev pub is_gone : Core → ℕ → Bool

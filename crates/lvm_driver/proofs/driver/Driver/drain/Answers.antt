@@ -62,7 +62,7 @@ pub returns-in-Dark-clause-pays : goal.returns-in-Dark-clause-pays
 returns-in-Dark-clause-pays g c = (state_of g.S.Shelf.device c.loop-patience.self, c.loop-patience.invariant.pays, c.in-Dark.ensures.makes)
 
 pub returns-in-Off-clause-pays : goal.returns-in-Off-clause-pays
-returns-in-Off-clause-pays g c = (state_of g.S.Shelf.device c.loop-patience.self, c.loop-patience.invariant.pays, c.in-Off.ensures.makes)
+returns-in-Off-clause-pays g c = rw c.went_off.ensures (state_of g.S.Shelf.device c.loop-patience.self, c.loop-patience.invariant.pays, c.in-Off.ensures.makes)
 
 pub returns-then-flights-eq0-clause-pays : goal.returns-then-flights-eq0-clause-pays
 returns-then-flights-eq0-clause-pays g c = (state_of g.S.Shelf.device c.loop-patience.self, c.loop-patience.invariant.pays, c.in-Idle.ensures.makes)
