@@ -1,3 +1,4 @@
+pub mod passed
 pub mod Cutting
 pub mod Darkness
 pub mod Ordering

@@ -8,19 +8,19 @@ use Rattle.lvm_vol.specs.Log.{Log}
 use Rattle.lvm_session.specs.State.{Core}
 use Rattle.lvm_posts.specs.declared.posts.Post.{Post}
 use Rattle.lvm_group_lines.specs.Groups.{VaryoffDoes, VariesOff}
-use Rattle.lvm_stage.specs.Asking.{EndsSession}
-use Rattle.lvm_stage.specs.Ends.{EndsUnasked}
-use Rattle.lvm_stage.specs.Moments.{Aside}
-use Rattle.lvm_stage.specs.Replies.{most_refusals}
-use Rattle.lvm_stage.specs.Stages.{GivesBack, HaveRooms, IsBetweenStage, IsFitting, IsOn, history_in, history_of, posts_ended, session_in, session_of, shelf_in, state_in}
-use Rattle.lvm_stage.specs.State.{without_facts}
-use Rattle.lvm_stage.specs.declared.holder.Holder.{Holder}
-use Rattle.lvm_stage.specs.declared.holder.Holder.TheVariants as holder
-use Rattle.lvm_stage.specs.declared.reply.Reply.{Reply}
-use Rattle.lvm_stage.specs.declared.reply.Reply.TheVariants as reply
-use Rattle.lvm_stage.specs.declared.stage.Stage.{Stage}
-use Rattle.lvm_stage.proofs.Ends.{unasked_as}
-use Rattle.lvm_stage.proofs.Going.{ended_goes}
+use Rattle.lvm_disk_lines.specs.passed.StageAsking.{EndsSession}
+use Rattle.lvm_disk_lines.specs.passed.StageEnds.{EndsUnasked}
+use Rattle.lvm_disk_lines.specs.passed.StageMoments.{Aside}
+use Rattle.lvm_disk_lines.specs.passed.StageReplies.{most_refusals}
+use Rattle.lvm_disk_lines.specs.passed.StageStages.{GivesBack, HaveRooms, IsBetweenStage, IsFitting, IsOn, history_in, history_of, posts_ended, session_in, session_of, shelf_in, state_in}
+use Rattle.lvm_disk_lines.specs.passed.StageState.{without_facts}
+use Rattle.lvm_disk_lines.specs.passed.StageHolderHolder.{Holder}
+use Rattle.lvm_disk_lines.specs.passed.StageHolderHolderTheVariants as holder
+use Rattle.lvm_disk_lines.specs.passed.StageReplyReply.{Reply}
+use Rattle.lvm_disk_lines.specs.passed.StageReplyReplyTheVariants as reply
+use Rattle.lvm_disk_lines.specs.passed.StageStageStage.{Stage}
+use Rattle.lvm_disk_lines.proofs.passed.StageEnds.{unasked_as}
+use Rattle.lvm_disk_lines.proofs.passed.StageGoing.{ended_goes}
 use Rattle.lvm_group_lines.proofs.Coming.{held}
 
 -- a session's history is its holder's

@@ -22,29 +22,29 @@ use Rattle.lvm_core.specs.Settled.{IsSettled as IsSettledCore}
 use Rattle.lvm_core.specs.Sound.{HaveAllLanded}
 use Rattle.lvm_core.specs.State.{state_of}
 use Rattle.lvm_session.specs.State.{Core, state}
-use Rattle.lvm_handover.specs.Beginning.{Serves}
-use Rattle.lvm_tie_commands.specs.Standing.{StandsAfter}
-use Rattle.lvm_tie_commands.proofs.Landed.{spans_follow}
+use Rattle.lvm_disk_lines.specs.passed.HandoverBeginning.{Serves}
+use Rattle.lvm_disk_lines.specs.passed.TieCommandsStanding.{StandsAfter}
+use Rattle.lvm_disk_lines.proofs.passed.TieCommandsLanded.{spans_follow}
 use Rattle.lvm_posts.specs.declared.posts.Post.{Post}
 use Rattle.lvm_posts.specs.Posts.{AreAnswered}
-use Rattle.lvm_quiesce.specs.Behind.{ClockIsAheadEach, IsAheadEach}
-use Rattle.lvm_quiesce.specs.Groups.{BringsOnEach, IsStartedEach}
-use Rattle.lvm_quiesce.proofs.Behind.{still_is_behind_each}
+use Rattle.lvm_disk_lines.specs.passed.QuiesceBehind.{ClockIsAheadEach, IsAheadEach}
+use Rattle.lvm_disk_lines.specs.passed.QuiesceGroups.{BringsOnEach, IsStartedEach}
+use Rattle.lvm_disk_lines.proofs.passed.QuiesceBehind.{still_is_behind_each}
 use Rattle.lvm_group_lines.specs.Groups.{IsHeldBy, IsLeftBy}
-use Rattle.lvm_stage.specs.Ends.{CommandEnds}
-use Rattle.lvm_stage.specs.Lighting.{IsRelit, refusal_of}
-use Rattle.lvm_stage.specs.Moments.{Aside, GoesOn, HasBegunHeld}
-use Rattle.lvm_stage.specs.Stages.{HaveRooms, IsBetweenStage, IsFitting, IsOfKind, history_of, session_of, shelf_of, state_in}
-use Rattle.lvm_stage.specs.State.{ArePosted, IsBetween, StandsAlone, State, without_facts}
-use Rattle.lvm_stage.specs.declared.holder.Holder.{Holder}
-use Rattle.lvm_stage.specs.declared.holder.Holder.TheVariants as holder
-use Rattle.lvm_stage.specs.declared.reply.Reply.{Reply}
-use Rattle.lvm_stage.specs.declared.reply.Reply.TheVariants as reply
-use Rattle.lvm_stage.specs.declared.stage.Stage.{Stage}
-use Rattle.lvm_stage.proofs.Going.{ahead_later}
-use Rattle.lvm_stage.proofs.Lighting.{Leaves, Rests, lit_up, ready_is_lit, still_leaves_descriptors}
-use Rattle.lvm_stage.proofs.Passive.{Bears, landed_bears, later_bears, open_more}
-use Rattle.lvm_stage.proofs.Posting.{LeavesAnswers, answered_bears, answered_on, off_posts, on_posts}
+use Rattle.lvm_disk_lines.specs.passed.StageEnds.{CommandEnds}
+use Rattle.lvm_disk_lines.specs.passed.StageLighting.{IsRelit, refusal_of}
+use Rattle.lvm_disk_lines.specs.passed.StageMoments.{Aside, GoesOn, HasBegunHeld}
+use Rattle.lvm_disk_lines.specs.passed.StageStages.{HaveRooms, IsBetweenStage, IsFitting, IsOfKind, history_of, session_of, shelf_of, state_in}
+use Rattle.lvm_disk_lines.specs.passed.StageState.{ArePosted, IsBetween, StandsAlone, State, without_facts}
+use Rattle.lvm_disk_lines.specs.passed.StageHolderHolder.{Holder}
+use Rattle.lvm_disk_lines.specs.passed.StageHolderHolderTheVariants as holder
+use Rattle.lvm_disk_lines.specs.passed.StageReplyReply.{Reply}
+use Rattle.lvm_disk_lines.specs.passed.StageReplyReplyTheVariants as reply
+use Rattle.lvm_disk_lines.specs.passed.StageStageStage.{Stage}
+use Rattle.lvm_disk_lines.proofs.passed.StageGoing.{ahead_later}
+use Rattle.lvm_disk_lines.proofs.passed.StageLighting.{Leaves, Rests, lit_up, ready_is_lit, still_leaves_descriptors}
+use Rattle.lvm_disk_lines.proofs.passed.StagePassive.{Bears, landed_bears, later_bears, open_more}
+use Rattle.lvm_disk_lines.proofs.passed.StagePosting.{LeavesAnswers, answered_bears, answered_on, off_posts, on_posts}
 
 -- ---- the clock
 

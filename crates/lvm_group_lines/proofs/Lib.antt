@@ -1,3 +1,4 @@
+pub mod passed
 pub mod Closing
 pub mod Coming
 pub mod Lines

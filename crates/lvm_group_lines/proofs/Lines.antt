@@ -11,15 +11,15 @@ use Rattle.lvm_core.specs.State.{state_of}
 use Rattle.lvm_session.specs.Sound.{IsSound}
 use Rattle.lvm_session.specs.State.{Core}
 use Rattle.lvm_session_start.specs.Beginning.{AreFaults}
-use Rattle.lvm_handover.specs.Beginning.{HasJustBegun, Serves}
+use Rattle.lvm_disk_lines.specs.passed.HandoverBeginning.{HasJustBegun, Serves}
 use Rattle.lvm_posts.specs.declared.posts.Post.{Post}
-use Rattle.lvm_quiesce.specs.Groups.{CauseRose, IsStartedEach}
+use Rattle.lvm_disk_lines.specs.passed.QuiesceGroups.{CauseRose, IsStartedEach}
 use Rattle.lvm_group_lines.specs.Groups.{Brings}
-use Rattle.lvm_stage.specs.Ends.{patience_of_line}
-use Rattle.lvm_stage.specs.Stages.{state_in}
-use Rattle.lvm_stage.specs.declared.holder.Holder.{Holder}
-use Rattle.lvm_stage.specs.declared.holder.Holder.TheVariants as holder
-use Rattle.lvm_stage.specs.declared.reply.Reply.{Reply}
+use Rattle.lvm_disk_lines.specs.passed.StageEnds.{patience_of_line}
+use Rattle.lvm_disk_lines.specs.passed.StageStages.{state_in}
+use Rattle.lvm_disk_lines.specs.passed.StageHolderHolder.{Holder}
+use Rattle.lvm_disk_lines.specs.passed.StageHolderHolderTheVariants as holder
+use Rattle.lvm_disk_lines.specs.passed.StageReplyReply.{Reply}
 use Rattle.lvm_group_lines.proofs.Coming.{Left, held}
 use Rattle.lvm_group_lines.proofs.Quieting.{device_outcome}
 

@@ -13,19 +13,19 @@ use Rattle.lvm_core.specs.declared.refused.Refused.{Refused}
 use Rattle.lvm_core.specs.Held.{StartsHeld}
 use Rattle.lvm_core.specs.State.{state_of}
 use Rattle.lvm_session.specs.State.{Core}
-use Rattle.lvm_handover.specs.Beginning.{HasJustBegun, IsHistory, Serves}
-use Rattle.lvm_handover.proofs.Beginning.{made_begins}
-use Rattle.lvm_tie_commands.specs.Standing.{StandsAfter}
-use Rattle.lvm_tie_commands.proofs.Beginning.{made_stands}
-use Rattle.lvm_group.specs.Made.{IsMade, Refuses, MkvgGives}
-use Rattle.lvm_group.specs.NewGroup.{MayBegin, NewGroup, RefusesFirst, given_up}
-use Rattle.lvm_quiesce.specs.Ends.{Quiesces}
-use Rattle.lvm_quiesce.specs.Groups.{MkvgOnceQuiet}
+use Rattle.lvm_disk_lines.specs.passed.HandoverBeginning.{HasJustBegun, IsHistory, Serves}
+use Rattle.lvm_disk_lines.proofs.passed.HandoverBeginning.{made_begins}
+use Rattle.lvm_disk_lines.specs.passed.TieCommandsStanding.{StandsAfter}
+use Rattle.lvm_disk_lines.proofs.passed.TieCommandsBeginning.{made_stands}
+use Rattle.lvm_disk_lines.specs.passed.GroupMade.{IsMade, Refuses, MkvgGives}
+use Rattle.lvm_disk_lines.specs.passed.GroupNewGroup.{MayBegin, NewGroup, RefusesFirst, given_up}
+use Rattle.lvm_disk_lines.specs.passed.QuiesceEnds.{Quiesces}
+use Rattle.lvm_disk_lines.specs.passed.QuiesceGroups.{MkvgOnceQuiet}
 use Rattle.lvm_group_lines.specs.Groups.{itself}
-use Rattle.lvm_stage.specs.State.{StandsAlone, without_facts}
-use Rattle.lvm_stage.proofs.Cuts.{cut_rooms}
-use Rattle.lvm_stage.proofs.Lighting.{Leaves, Rests}
-use Rattle.lvm_stage.proofs.Passive.{Bears, bears_cut, bears_given_up}
+use Rattle.lvm_disk_lines.specs.passed.StageState.{StandsAlone, without_facts}
+use Rattle.lvm_disk_lines.proofs.passed.StageCuts.{cut_rooms}
+use Rattle.lvm_disk_lines.proofs.passed.StageLighting.{Leaves, Rests}
+use Rattle.lvm_disk_lines.proofs.passed.StagePassive.{Bears, bears_cut, bears_given_up}
 use Rattle.lvm_group_lines.proofs.Coming.{CameOn, StayedOff, stays}
 use Rattle.lvm_group_lines.proofs.Quieting.{device_outcome, itself_once, on_once, quiet_orders, stayed_once}
 

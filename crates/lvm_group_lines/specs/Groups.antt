@@ -9,18 +9,18 @@ use Rattle.lvm_core.specs.Sound.{IsSound as IsSoundBetween}
 use Rattle.lvm_core.specs.State.{state_of}
 use Rattle.lvm_session.specs.Sound.{IsSound}
 use Rattle.lvm_session.specs.State.{Core}
-use Rattle.lvm_group.specs.NewGroup.{NewGroup}
-use Rattle.lvm_quiesce.specs.Groups.{CauseRose, MkvgOnceQuiet, VaryonOnceQuiet}
-use Rattle.lvm_stage.specs.Asking.{Asks, IsAsked, EndsSession}
-use Rattle.lvm_stage.specs.Ends.{patience_of_line}
-use Rattle.lvm_stage.specs.Lighting.{IsRelit, refusal_of}
-use Rattle.lvm_stage.specs.Replies.{IsRefused}
-use Rattle.lvm_stage.specs.Stages.{IsNotOn, IsOfKind, IsOn, history_of, open_in, session_of, shelf_of}
-use Rattle.lvm_stage.specs.State.{State, log_with}
-use Rattle.lvm_stage.specs.declared.holder.Holder.{Holder}
-use Rattle.lvm_stage.specs.declared.reply.Refusal.TheVariants as refusal
-use Rattle.lvm_stage.specs.declared.reply.Reply.{Reply}
-use Rattle.lvm_stage.specs.declared.reply.Reply.TheVariants as reply
+use Rattle.lvm_disk_lines.specs.passed.GroupNewGroup.{NewGroup}
+use Rattle.lvm_disk_lines.specs.passed.QuiesceGroups.{CauseRose, MkvgOnceQuiet, VaryonOnceQuiet}
+use Rattle.lvm_disk_lines.specs.passed.StageAsking.{Asks, IsAsked, EndsSession}
+use Rattle.lvm_disk_lines.specs.passed.StageEnds.{patience_of_line}
+use Rattle.lvm_disk_lines.specs.passed.StageLighting.{IsRelit, refusal_of}
+use Rattle.lvm_disk_lines.specs.passed.StageReplies.{IsRefused}
+use Rattle.lvm_disk_lines.specs.passed.StageStages.{IsNotOn, IsOfKind, IsOn, history_of, open_in, session_of, shelf_of}
+use Rattle.lvm_disk_lines.specs.passed.StageState.{State, log_with}
+use Rattle.lvm_disk_lines.specs.passed.StageHolderHolder.{Holder}
+use Rattle.lvm_disk_lines.specs.passed.StageReplyRefusalTheVariants as refusal
+use Rattle.lvm_disk_lines.specs.passed.StageReplyReply.{Reply}
+use Rattle.lvm_disk_lines.specs.passed.StageReplyReplyTheVariants as reply
 
 -- ---- what the call has left
 

@@ -8,17 +8,17 @@ ghost use Rattle.lvm_core.specs.Sound.{IsSound as IsSoundBetween};
 ghost use Rattle.lvm_core.specs.Starting.{IsRoom};
 ghost use Rattle.lvm_core.specs.State.{state_of};
 ghost use Rattle.lvm_group_lines.specs.Groups.{IsHeldBy, IsLeftBy, MkvgDoes, VaryonDoes, VaryoffDoes};
-ghost use Rattle.lvm_stage.specs.Lighting.{IsRelit, refusal_of};
-ghost use Rattle.lvm_stage.specs.Ends.{CommandEnds, EndsUnasked};
-ghost use Rattle.lvm_stage.specs.Moments.{Aside};
-ghost use Rattle.lvm_stage.specs.Stages.{IsBetweenStage, IsFitting, IsOfKind, history_of, session_of, shelf_of};
+ghost use Rattle.lvm_disk_lines.specs.passed.StageLighting.{IsRelit, refusal_of};
+ghost use Rattle.lvm_disk_lines.specs.passed.StageEnds.{CommandEnds, EndsUnasked};
+ghost use Rattle.lvm_disk_lines.specs.passed.StageMoments.{Aside};
+ghost use Rattle.lvm_disk_lines.specs.passed.StageStages.{IsBetweenStage, IsFitting, IsOfKind, history_of, session_of, shelf_of};
 
 use lvm_core::{Cause, Closed, Driver, Refused, Room};
 use lvm_disk::Shelf;
 use lvm_io::Clock;
 use lvm_num::Name;
-use lvm_quiesce::{mkvg, varyon};
-use lvm_stage::{Answered, Holder, Refusal, Reply, Stage};
+use lvm_disk_lines::below::lvm_quiesce::{mkvg, varyon};
+use lvm_disk_lines::below::lvm_stage::{Answered, Holder, Refusal, Reply, Stage};
 use lvm_transfer::{Patience, relight};
 use std::alloc::Global;
 
@@ -69,7 +69,7 @@ fn hold<S: Shelf>(driver: Driver<S>) -> Holder<S>
         Holder::Empty { driver }
     } else {
         let (shelf, session) = driver.into_parts();
-        let driver = lvm_driver::Driver::from_parts(shelf, session);
+        let driver = lvm_disk_lines::below::lvm_driver::Driver::from_parts(shelf, session);
         Holder::Serving { driver }
     }
 }

@@ -16,35 +16,35 @@ use Rattle.lvm_raw.specs.Keeping.{FaultRose}
 use Rattle.lvm_raw.specs.Raw.{log_with as log_of}
 use Rattle.lvm_kept.specs.Moments.{Moment}
 use Rattle.lvm_steps.specs.Requests.{at as moment_of}
-use Rattle.lvm_quiesce.specs.Ranges.{AskedAtRest, KeptFrom, RangeOnceQuiet, RangeStaysOut, ReadOnceQuiet, ReadsAtRest, WriteOnceQuiet, WritesAtRest}
-use Rattle.lvm_quiesce.specs.Ranges.{RejectedAtOnce as RejectedAtOnceRange}
+use Rattle.lvm_volume_lines.specs.passed.QuiesceRanges.{AskedAtRest, KeptFrom, RangeOnceQuiet, RangeStaysOut, ReadOnceQuiet, ReadsAtRest, WriteOnceQuiet, WritesAtRest}
+use Rattle.lvm_volume_lines.specs.passed.QuiesceRanges.{RejectedAtOnce as RejectedAtOnceRange}
 use Rattle.lvm_core.specs.declared.parts.Room.{Room}
 use Rattle.lvm_core.specs.declared.refused.Cause.{Cause}
 use Rattle.lvm_core.specs.declared.refused.Cause.TheVariants as cause
 use Rattle.lvm_core.specs.declared.refused.Refused.{Refused}
 use Rattle.lvm_session.specs.State.{Core}
-use Rattle.lvm_group.specs.NewGroup.{NewGroup, RefusesFirst}
-use Rattle.lvm_group.specs.Made.{Refuses as MkvgRefuses}
-use Rattle.lvm_varyon.specs.Varied.{Refuses as VaryonRefuses}
-use Rattle.lvm_quiesce.specs.Ends.{Quiesces}
-use Rattle.lvm_quiesce.specs.Groups.{CauseRose, IsFullFor, MkvgOnceQuiet, RefusedAtOnce, StayedOut, StaysOut, VaryonOnceQuiet, WentQuiet}
-use Rattle.lvm_quiesce.proofs.Behind.{quiet_is_ahead}
-use Rattle.lvm_quiesce.proofs.Ending.{ends_only}
+use Rattle.lvm_volume_lines.specs.passed.GroupNewGroup.{NewGroup, RefusesFirst}
+use Rattle.lvm_volume_lines.specs.passed.GroupMade.{Refuses as MkvgRefuses}
+use Rattle.lvm_volume_lines.specs.passed.VaryonVaried.{Refuses as VaryonRefuses}
+use Rattle.lvm_volume_lines.specs.passed.QuiesceEnds.{Quiesces}
+use Rattle.lvm_volume_lines.specs.passed.QuiesceGroups.{CauseRose, IsFullFor, MkvgOnceQuiet, RefusedAtOnce, StayedOut, StaysOut, VaryonOnceQuiet, WentQuiet}
+use Rattle.lvm_volume_lines.proofs.passed.QuiesceBehind.{quiet_is_ahead}
+use Rattle.lvm_volume_lines.proofs.passed.QuiesceEnding.{ends_only}
 use Rattle.lvm_line.specs.Causes.{HasCause, HasFailed, IsBroughtBack, RoseOn, VaryonLaw, disk_of}
-use Rattle.lvm_stage.specs.Ends.{patience_of_line}
-use Rattle.lvm_disk_lines.specs.Disks.{refusal_by, NoWriteWhileOn, WriteGoes, NoReadWhileOn, ReadGoes}
-use Rattle.lvm_stage.specs.Lighting.{IsRelit, refusal_of}
-use Rattle.lvm_group_lines.specs.Groups.{Brings, IsLeft, asked_for, itself, outcome_of, NoVaryonWhileOn, Varies, NoMemoryForLine, NoMkvgWhileOn, Makes, NoVaryoff, BusyVaryoff, VariesOff}
+use Rattle.lvm_volume_lines.specs.passed.StageEnds.{patience_of_line}
+use Rattle.lvm_volume_lines.specs.passed.DiskLinesDisks.{refusal_by, NoWriteWhileOn, WriteGoes, NoReadWhileOn, ReadGoes}
+use Rattle.lvm_volume_lines.specs.passed.StageLighting.{IsRelit, refusal_of}
+use Rattle.lvm_volume_lines.specs.passed.GroupLinesGroups.{Brings, IsLeft, asked_for, itself, outcome_of, NoVaryonWhileOn, Varies, NoMemoryForLine, NoMkvgWhileOn, Makes, NoVaryoff, BusyVaryoff, VariesOff}
 use Rattle.lvm_line.specs.Lines.{LineDoes}
-use Rattle.lvm_group_lines.specs.Listings.{NoGroupToList, GroupThatIsOn, OtherGroup, ListsGroup, NoGroupForVolume, VolumeOfGroup, NoSuchVolume, ListsVolume, NoGroupForDisk, DiskOfGroup, NoSuchMember, ListsMember}
-use Rattle.lvm_stage.specs.Replies.{Shows, InFull, WithoutMemory}
-use Rattle.lvm_disk_lines.specs.Shelves.{NotThere, NotPlanned, IsArranged, CutNotPlanned, PowerIsCut}
-use Rattle.lvm_stage.specs.State.{State, log_with}
+use Rattle.lvm_volume_lines.specs.passed.GroupLinesListings.{NoGroupToList, GroupThatIsOn, OtherGroup, ListsGroup, NoGroupForVolume, VolumeOfGroup, NoSuchVolume, ListsVolume, NoGroupForDisk, DiskOfGroup, NoSuchMember, ListsMember}
+use Rattle.lvm_volume_lines.specs.passed.StageReplies.{Shows, InFull, WithoutMemory}
+use Rattle.lvm_volume_lines.specs.passed.DiskLinesShelves.{NotThere, NotPlanned, IsArranged, CutNotPlanned, PowerIsCut}
+use Rattle.lvm_volume_lines.specs.passed.StageState.{State, log_with}
 use Rattle.lvm_volume_lines.specs.Volumes.{NoGroupForMklv, BusyMklv, UndrainedMklv, MakesVolume, MklvFails, NoGroupForRmlv, BusyRmlv, UndrainedRmlv, NoVolumeForRmlv, RemovesVolume, RmlvFails, refusal_for, wanted}
-use Rattle.lvm_stage.specs.declared.reply.Refusal.{Refusal}
-use Rattle.lvm_stage.specs.declared.reply.Refusal.TheVariants as refusal
-use Rattle.lvm_stage.specs.declared.reply.Reply.TheVariants as reply
-use Rattle.lvm_group_lines.proofs.Coming.{clock_is_ahead}
+use Rattle.lvm_volume_lines.specs.passed.StageReplyRefusal.{Refusal}
+use Rattle.lvm_volume_lines.specs.passed.StageReplyRefusalTheVariants as refusal
+use Rattle.lvm_volume_lines.specs.passed.StageReplyReplyTheVariants as reply
+use Rattle.lvm_volume_lines.proofs.passed.GroupLinesComing.{clock_is_ahead}
 use Rattle.lvm_volume_lines.proofs.Ending.{mklv_facts, rmlv_facts}
 use Rattle.lvm_line.proofs.Faulting.{known_group, undrained}
 use Rattle.lvm_line.proofs.Knowing.{Known, by_reply, easy, has_by}

@@ -1,3 +1,4 @@
+pub mod passed
 pub mod Answering
 pub mod Lining
 pub mod Knowing

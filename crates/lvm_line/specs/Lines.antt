@@ -9,22 +9,22 @@ use Rattle.lvm_parse.specs.declared.command.Command.TheVariants as command
 use Rattle.lvm_operands.specs.declared.rest.Misfit.{Misfit}
 use Rattle.lvm_parse.specs.Grammar.{line_of}
 use Rattle.lvm_core.specs.declared.parts.Room.{Room}
-use Rattle.lvm_disk_lines.specs.Disks.{ReadDoes, WriteDoes}
-use Rattle.lvm_stage.specs.Ends.{CommandEnds}
-use Rattle.lvm_group_lines.specs.Groups.{MkvgDoes, VaryonDoes, VaryoffDoes}
-use Rattle.lvm_group_lines.specs.Listings.{GroupShows, VolumeShows, DiskShows}
-use Rattle.lvm_stage.specs.Moments.{GoesOn, Role, Aside, OfGroup, OfRequests}
-use Rattle.lvm_range_lines.specs.Requests.{RdDoes, WrDoes, PostDoes}
-use Rattle.lvm_range_lines.specs.Stepping.{StepDoes}
-use Rattle.lvm_range_lines.specs.Waiting.{WaitDoes}
-use Rattle.lvm_stage.specs.Replies.{IsRefused}
-use Rattle.lvm_disk_lines.specs.Shelves.{ArrangeDoes, CutDoes}
-use Rattle.lvm_stage.specs.State.{IsBetween, State}
+use Rattle.lvm_volume_lines.specs.passed.DiskLinesDisks.{ReadDoes, WriteDoes}
+use Rattle.lvm_volume_lines.specs.passed.StageEnds.{CommandEnds}
+use Rattle.lvm_volume_lines.specs.passed.GroupLinesGroups.{MkvgDoes, VaryonDoes, VaryoffDoes}
+use Rattle.lvm_volume_lines.specs.passed.GroupLinesListings.{GroupShows, VolumeShows, DiskShows}
+use Rattle.lvm_volume_lines.specs.passed.StageMoments.{GoesOn, Role, Aside, OfGroup, OfRequests}
+use Rattle.lvm_volume_lines.specs.passed.RangeLinesRequests.{RdDoes, WrDoes, PostDoes}
+use Rattle.lvm_volume_lines.specs.passed.RangeLinesStepping.{StepDoes}
+use Rattle.lvm_volume_lines.specs.passed.RangeLinesWaiting.{WaitDoes}
+use Rattle.lvm_volume_lines.specs.passed.StageReplies.{IsRefused}
+use Rattle.lvm_volume_lines.specs.passed.DiskLinesShelves.{ArrangeDoes, CutDoes}
+use Rattle.lvm_volume_lines.specs.passed.StageState.{IsBetween, State}
 use Rattle.lvm_volume_lines.specs.Volumes.{MklvDoes, RmlvDoes, wanted}
-use Rattle.lvm_stage.specs.declared.reply.Refusal.TheVariants as refusal
-use Rattle.lvm_stage.specs.declared.reply.Reply.{Reply}
-use Rattle.lvm_stage.specs.declared.reply.Reply.TheVariants as reply
-use Rattle.lvm_stage.specs.declared.stage.Stage.{Stage}
+use Rattle.lvm_volume_lines.specs.passed.StageReplyRefusalTheVariants as refusal
+use Rattle.lvm_volume_lines.specs.passed.StageReplyReply.{Reply}
+use Rattle.lvm_volume_lines.specs.passed.StageReplyReplyTheVariants as reply
+use Rattle.lvm_volume_lines.specs.passed.StageStageStage.{Stage}
 
 -- a listing leaves the whole state
 abbrev pub IsListed : State → State → Type 0 → Type 0

@@ -1,3 +1,4 @@
+pub mod passed
 pub mod Texts
 pub mod Posting
 pub mod Ending

@@ -8,20 +8,20 @@ use Rattle.lvm_session.specs.declared.open.Power.{Power}
 use Rattle.lvm_session.specs.declared.open.Power.TheVariants as power
 use Rattle.lvm_session.specs.Sound.{IsSound}
 use Rattle.lvm_session.specs.State.{Core, state}
-use Rattle.lvm_driver.specs.Answers.{state_of}
-use Rattle.lvm_running.specs.Running.{RunsOn}
+use Rattle.lvm_group_lines.specs.passed.DriverAnswers.{state_of}
+use Rattle.lvm_group_lines.specs.passed.RunningRunning.{RunsOn}
 use Rattle.lvm_posts.specs.declared.posts.Post.{Post}
-use Rattle.lvm_ranges.specs.Asking.{AskRangeGives}
-use Rattle.lvm_stage.specs.declared.reply.Refusal.{Refusal}
-use Rattle.lvm_stage.specs.declared.reply.Refusal.TheVariants as refusal
-use Rattle.lvm_stage.specs.declared.reply.Reply.{Reply}
-use Rattle.lvm_stage.specs.declared.reply.Reply.TheVariants as reply
-use Rattle.lvm_stage.specs.declared.stage.Stage.{Stage}
-use Rattle.lvm_stage.specs.Ends.{EndsUnasked}
-use Rattle.lvm_stage.specs.Moments.{OfRequests}
-use Rattle.lvm_stage.specs.Replies.{most_refusals}
-use Rattle.lvm_stage.specs.Stages.{HaveRooms, IsBetweenStage, IsCarried, IsFitting, state_in}
-use Rattle.lvm_stage.specs.State.{State}
+use Rattle.lvm_group_lines.specs.passed.RangesAsking.{AskRangeGives}
+use Rattle.lvm_group_lines.specs.passed.StageReplyRefusal.{Refusal}
+use Rattle.lvm_group_lines.specs.passed.StageReplyRefusalTheVariants as refusal
+use Rattle.lvm_group_lines.specs.passed.StageReplyReply.{Reply}
+use Rattle.lvm_group_lines.specs.passed.StageReplyReplyTheVariants as reply
+use Rattle.lvm_group_lines.specs.passed.StageStageStage.{Stage}
+use Rattle.lvm_group_lines.specs.passed.StageEnds.{EndsUnasked}
+use Rattle.lvm_group_lines.specs.passed.StageMoments.{OfRequests}
+use Rattle.lvm_group_lines.specs.passed.StageReplies.{most_refusals}
+use Rattle.lvm_group_lines.specs.passed.StageStages.{HaveRooms, IsBetweenStage, IsCarried, IsFitting, state_in}
+use Rattle.lvm_group_lines.specs.passed.StageState.{State}
 use Rattle.lvm_range_lines.specs.Leaving.{KeepsPosts, serving}
 use Rattle.lvm_range_lines.specs.Refusals.{ask_refusal}
 use Rattle.lvm_range_lines.specs.Requests.{AsksByName, HasNone, IsNotAsked, NotThere, OnVolume, Refuses, Takes, There}

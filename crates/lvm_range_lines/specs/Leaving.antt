@@ -8,11 +8,11 @@ use Rattle.lvm_session.specs.declared.open.Power.TheVariants as power
 use Rattle.lvm_session.specs.State.{Core, State as Session, state}
 use Rattle.lvm_posts.specs.declared.fault.RangeFault.{RangeFault}
 use Rattle.lvm_posts.specs.declared.posts.Post.{Post}
-use Rattle.lvm_stage.specs.declared.holder.Holder.TheVariants as holder
-use Rattle.lvm_stage.specs.declared.stage.Stage.{Stage}
-use Rattle.lvm_stage.specs.Ends.{patience_of_line}
-use Rattle.lvm_stage.specs.Stages.{IsCarried, IsClosed, IsEnded, posts_ended}
-use Rattle.lvm_stage.specs.State.{ArePosted, State}
+use Rattle.lvm_group_lines.specs.passed.StageHolderHolderTheVariants as holder
+use Rattle.lvm_group_lines.specs.passed.StageStageStage.{Stage}
+use Rattle.lvm_group_lines.specs.passed.StageEnds.{patience_of_line}
+use Rattle.lvm_group_lines.specs.passed.StageStages.{IsCarried, IsClosed, IsEnded, posts_ended}
+use Rattle.lvm_group_lines.specs.passed.StageState.{ArePosted, State}
 use Rattle.lvm_range_lines.specs.Refusals.{is_stuck}
 
 -- ---- states

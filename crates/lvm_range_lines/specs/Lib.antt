@@ -1,3 +1,4 @@
+pub mod passed
 pub mod Refusals
 pub mod Answers
 pub mod Leaving

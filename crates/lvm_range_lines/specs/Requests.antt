@@ -4,20 +4,20 @@ use Rattle.lvm_num.specs.Buffer.{Sector}
 use Rattle.lvm_core.specs.Looking.{IsNumberOf, HasNoVolume}
 use Rattle.lvm_session.specs.Sound.{IsSound}
 use Rattle.lvm_session.specs.State.{Core, State as Session}
-use Rattle.lvm_running.specs.Running.{RunsOn}
+use Rattle.lvm_group_lines.specs.passed.RunningRunning.{RunsOn}
 use Rattle.lvm_posts.specs.declared.asked.Asked.{Asked}
 use Rattle.lvm_posts.specs.declared.fault.RangeFault.{RangeFault}
 use Rattle.lvm_posts.specs.declared.posts.Post.{Post}
-use Rattle.lvm_ranges.specs.declared.refusal.AskRangeFault.{AskRangeFault}
-use Rattle.lvm_ranges.specs.Asking.{AskRangeGives}
-use Rattle.lvm_ranges.specs.Finishing.{FinishGives}
-use Rattle.lvm_ranges.specs.Reading.{AreGot}
-use Rattle.lvm_stage.specs.State.{State}
-use Rattle.lvm_stage.specs.Replies.{IsRefused, Shows}
-use Rattle.lvm_stage.specs.declared.reply.Refusal.{Refusal}
-use Rattle.lvm_stage.specs.declared.reply.Refusal.TheVariants as refusal
-use Rattle.lvm_stage.specs.declared.reply.Reply.{Reply}
-use Rattle.lvm_stage.specs.declared.reply.Reply.TheVariants as reply
+use Rattle.lvm_group_lines.specs.passed.RangesRefusalAskRangeFault.{AskRangeFault}
+use Rattle.lvm_group_lines.specs.passed.RangesAsking.{AskRangeGives}
+use Rattle.lvm_group_lines.specs.passed.RangesFinishing.{FinishGives}
+use Rattle.lvm_group_lines.specs.passed.RangesReading.{AreGot}
+use Rattle.lvm_group_lines.specs.passed.StageState.{State}
+use Rattle.lvm_group_lines.specs.passed.StageReplies.{IsRefused, Shows}
+use Rattle.lvm_group_lines.specs.passed.StageReplyRefusal.{Refusal}
+use Rattle.lvm_group_lines.specs.passed.StageReplyRefusalTheVariants as refusal
+use Rattle.lvm_group_lines.specs.passed.StageReplyReply.{Reply}
+use Rattle.lvm_group_lines.specs.passed.StageReplyReplyTheVariants as reply
 use Rattle.lvm_range_lines.specs.Leaving.{EndsBy, GoesOnWith, Waited, session_over}
 use Rattle.lvm_range_lines.specs.Refusals.{ask_refusal, blocks_text, range_refusal}
 

@@ -13,19 +13,19 @@ use Rattle.lvm_session.specs.declared.open.Power.{Power}
 use Rattle.lvm_session.specs.declared.open.Power.TheVariants as power
 use Rattle.lvm_session.specs.Sound.{IsSound}
 use Rattle.lvm_session.specs.State.{Core, State as Session, state}
-use Rattle.lvm_driver.specs.Answers.{state_of}
-use Rattle.lvm_driver.specs.Drains.{IsAny}
+use Rattle.lvm_group_lines.specs.passed.DriverAnswers.{state_of}
+use Rattle.lvm_group_lines.specs.passed.DriverDrains.{IsAny}
 use Rattle.lvm_posts.specs.declared.asked.Asked.{Asked}
 use Rattle.lvm_posts.specs.declared.posts.Post.{Post}
 use Rattle.lvm_posts.specs.Posts.{AreAnswered, AreHeld}
-use Rattle.lvm_ranges.specs.declared.landing.Stuck.{Stuck}
-use Rattle.lvm_ranges.specs.Keeping.{AreApart}
-use Rattle.lvm_ranges.specs.Landing.{HaveLanded, IsUnfinished, TurnsFor}
-use Rattle.lvm_earlier.specs.Earlier.{AreGone}
-use Rattle.lvm_running.specs.Running.{RunsOn}
-use Rattle.lvm_stage.specs.declared.reply.Reply.{Reply}
-use Rattle.lvm_stage.specs.declared.stage.Stage.{Stage}
-use Rattle.lvm_stage.specs.Stages.{IsEnded, history_in, session_in, shelf_in}
+use Rattle.lvm_group_lines.specs.passed.RangesLandingStuck.{Stuck}
+use Rattle.lvm_group_lines.specs.passed.RangesKeeping.{AreApart}
+use Rattle.lvm_group_lines.specs.passed.RangesLanding.{HaveLanded, IsUnfinished, TurnsFor}
+use Rattle.lvm_group_lines.specs.passed.EarlierEarlier.{AreGone}
+use Rattle.lvm_group_lines.specs.passed.RunningRunning.{RunsOn}
+use Rattle.lvm_group_lines.specs.passed.StageReplyReply.{Reply}
+use Rattle.lvm_group_lines.specs.passed.StageStageStage.{Stage}
+use Rattle.lvm_group_lines.specs.passed.StageStages.{IsEnded, history_in, session_in, shelf_in}
 use Rattle.lvm_range_lines.specs.declared.answers.Answers.{Answers}
 use Rattle.lvm_range_lines.specs.Answers.{Gathers, Tells}
 use Rattle.lvm_range_lines.specs.Leaving.{serving}

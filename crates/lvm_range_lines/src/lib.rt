@@ -1,6 +1,7 @@
 //! The lines that read and write volumes, at once or later, and make turns.
 #![tactic(auto)]
 
+pub mod below;
 mod answers;
 mod refusal;
 mod requests;

@@ -1,3 +1,4 @@
+pub mod passed
 pub mod Cuts
 pub mod Ends
 pub mod Going

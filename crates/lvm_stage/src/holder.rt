@@ -17,7 +17,7 @@ pub enum Holder<S: Shelf> {
     /// The session of a group without volumes. It takes commands on the group at once, since nothing is under way.
     Empty { driver: lvm_core::Driver<S> },
     /// The session of a group with volumes. It takes requests.
-    Serving { driver: lvm_driver::Driver<S> },
+    Serving { driver: lvm_tie_commands::below::lvm_driver::Driver<S> },
 }
 
 impl<S: Shelf> Holder<S> {
@@ -71,7 +71,7 @@ impl<S: Shelf> Holder<S> {
             Holder::Off { shelf, history } => Closed { shelf, history },
             Holder::Empty { driver } => driver.close(),
             Holder::Serving { driver } => {
-                let lvm_driver::Closed { shelf, history } = driver.close();
+                let lvm_tie_commands::below::lvm_driver::Closed { shelf, history } = driver.close();
                 Closed { shelf, history }
             }
         }

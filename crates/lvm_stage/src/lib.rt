@@ -1,6 +1,7 @@
 //! What stands between two lines of a script, what a line is answered, and what holds from one line to the next.
 #![tactic(auto)]
 
+pub mod below;
 mod holder;
 mod looking;
 mod reply;

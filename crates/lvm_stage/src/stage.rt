@@ -6,7 +6,7 @@ use crate::holder::Holder;
 use crate::reply::{Refusal, Reply};
 use lvm_core::Closed;
 use lvm_disk::Shelf;
-use lvm_driver::Driver;
+use lvm_tie_commands::below::lvm_driver::Driver;
 use lvm_num::{Memory, Name};
 use lvm_posts::{Post, end_posts};
 use lvm_session::Power;

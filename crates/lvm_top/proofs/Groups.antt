@@ -13,25 +13,25 @@ use Rattle.lvm_core.specs.declared.parts.Room.{Room}
 use Rattle.lvm_core.specs.declared.refused.Cause.{Cause}
 use Rattle.lvm_core.specs.declared.refused.Cause.TheVariants as cause
 use Rattle.lvm_core.specs.Leaves.{MayBeFound}
-use Rattle.lvm_group.specs.NewGroup.{new_group}
-use Rattle.lvm_stage.specs.Ends.{patience_of_line}
-use Rattle.lvm_stage.specs.Lighting.{refusal_of}
-use Rattle.lvm_stage.specs.Replies.{IsStuck}
-use Rattle.lvm_stage.specs.Asking.{Asks, IsAsked}
-use Rattle.lvm_group_lines.specs.Groups.{IsLeft, MkvgDoes, NoMemoryForLine, NoMkvgWhileOn, Makes, VaryonDoes, NoVaryonWhileOn, Varies, asked_for, itself, outcome_of}
-use Rattle.lvm_quiesce.specs.Ends.{Quiesces}
-use Rattle.lvm_quiesce.specs.Groups.{MkvgOnceQuiet, RefusedAtOnce, StayedOut, VaryonOnceQuiet, WentQuiet}
-use Rattle.lvm_quiesce.proofs.Behind.{each_is_behind, fewer_stay_behind}
-use Rattle.lvm_quiesce.proofs.Ending.{ends_leave, ends_only}
+use Rattle.lvm_line.specs.passed.GroupNewGroup.{new_group}
+use Rattle.lvm_line.specs.passed.StageEnds.{patience_of_line}
+use Rattle.lvm_line.specs.passed.StageLighting.{refusal_of}
+use Rattle.lvm_line.specs.passed.StageReplies.{IsStuck}
+use Rattle.lvm_line.specs.passed.StageAsking.{Asks, IsAsked}
+use Rattle.lvm_line.specs.passed.GroupLinesGroups.{IsLeft, MkvgDoes, NoMemoryForLine, NoMkvgWhileOn, Makes, VaryonDoes, NoVaryonWhileOn, Varies, asked_for, itself, outcome_of}
+use Rattle.lvm_line.specs.passed.QuiesceEnds.{Quiesces}
+use Rattle.lvm_line.specs.passed.QuiesceGroups.{MkvgOnceQuiet, RefusedAtOnce, StayedOut, VaryonOnceQuiet, WentQuiet}
+use Rattle.lvm_line.proofs.passed.QuiesceBehind.{each_is_behind, fewer_stay_behind}
+use Rattle.lvm_line.proofs.passed.QuiesceEnding.{ends_leave, ends_only}
 use Rattle.lvm_core.specs.declared.refused.Refused.{Refused}
 use Rattle.lvm_session.specs.State.{Core}
 use Rattle.lvm_stamps.proofs.Stamps.{later_is_ahead_too}
-use Rattle.lvm_stage.specs.Moments.{IsBrokenOff}
-use Rattle.lvm_stage.specs.State.{State, IsTimely, log_with}
-use Rattle.lvm_stage.specs.declared.reply.Reply.{Reply}
-use Rattle.lvm_stage.specs.declared.reply.Reply.TheVariants as reply
-use Rattle.lvm_varyon.specs.Varied.{Refuses}
-use Rattle.lvm_varyon.specs.Writing.{order}
+use Rattle.lvm_line.specs.passed.StageMoments.{IsBrokenOff}
+use Rattle.lvm_line.specs.passed.StageState.{State, IsTimely, log_with}
+use Rattle.lvm_line.specs.passed.StageReplyReply.{Reply}
+use Rattle.lvm_line.specs.passed.StageReplyReplyTheVariants as reply
+use Rattle.lvm_line.specs.passed.VaryonVaried.{Refuses}
+use Rattle.lvm_line.specs.passed.VaryonWriting.{order}
 use Rattle.lvm_top.specs.Standing.{MayHaveCommitted}
 use Rattle.lvm_top.proofs.Begun.{IsIts}
 use Rattle.lvm_top.proofs.Devices.{IsShelf, NothingNew, same_nothing, unwritten_nothing}

@@ -27,24 +27,24 @@ use Rattle.lvm_core.specs.declared.refused.Cause.{Cause}
 use Rattle.lvm_core.specs.declared.refused.Cause.TheVariants as cause
 use Rattle.lvm_core.specs.declared.refused.Refused.{Refused}
 use Rattle.lvm_session.specs.State.{Core, State as Session}
-use Rattle.lvm_quiesce.specs.Groups.{MkvgOnceQuiet, RefusedAtOnce, StayedOut, WentQuiet}
-use Rattle.lvm_tie.specs.Spares.{LeavesDescriptors}
+use Rattle.lvm_line.specs.passed.QuiesceGroups.{MkvgOnceQuiet, RefusedAtOnce, StayedOut, WentQuiet}
+use Rattle.lvm_line.specs.passed.TieSpares.{LeavesDescriptors}
 use Rattle.lvm_kept.specs.Moments.{Moment}
 use Rattle.lvm_core.specs.Leaves.{EntersVolumes, is_of_volume}
 use Rattle.lvm_volume_plan.specs.declared.new_volume.NewVolume.{NewVolume}
 use Rattle.lvm_core.specs.Leaves.{MayBeFound}
-use Rattle.lvm_group.specs.NewGroup.{NewGroup, new_group}
-use Rattle.lvm_group.specs.Made.{Refuses}
-use Rattle.lvm_group.specs.Shown.{IfShown, HasGroup}
-use Rattle.lvm_stage.specs.Ends.{patience_of_line}
-use Rattle.lvm_group_lines.specs.Groups.{IsLeft, MkvgDoes, NoMemoryForLine, NoMkvgWhileOn, Makes, asked_for, itself, outcome_of}
+use Rattle.lvm_line.specs.passed.GroupNewGroup.{NewGroup, new_group}
+use Rattle.lvm_line.specs.passed.GroupMade.{Refuses}
+use Rattle.lvm_line.specs.passed.GroupShown.{IfShown, HasGroup}
+use Rattle.lvm_line.specs.passed.StageEnds.{patience_of_line}
+use Rattle.lvm_line.specs.passed.GroupLinesGroups.{IsLeft, MkvgDoes, NoMemoryForLine, NoMkvgWhileOn, Makes, asked_for, itself, outcome_of}
 use Rattle.lvm_line.specs.Lines.{LineDoes, role_of}
-use Rattle.lvm_stage.specs.Asking.{Asks}
-use Rattle.lvm_stage.specs.Moments.{IsAlone, OfGroup, OfRequests, Role}
-use Rattle.lvm_stage.specs.Replies.{IsStuck}
-use Rattle.lvm_stage.specs.State.{State, IsTimely, StandsAlone, log_with}
-use Rattle.lvm_stage.specs.declared.reply.Reply.{Reply}
-use Rattle.lvm_volume_lines.specs.Volumes.{Drains, IsDone, MklvDoes, RmlvDoes, NoGroupForMklv, BusyMklv, UndrainedMklv, MakesVolume, MklvFails, NoGroupForRmlv, BusyRmlv, UndrainedRmlv, NoVolumeForRmlv, RemovesVolume, RmlvFails, wanted}
+use Rattle.lvm_line.specs.passed.StageAsking.{Asks}
+use Rattle.lvm_line.specs.passed.StageMoments.{IsAlone, OfGroup, OfRequests, Role}
+use Rattle.lvm_line.specs.passed.StageReplies.{IsStuck}
+use Rattle.lvm_line.specs.passed.StageState.{State, IsTimely, StandsAlone, log_with}
+use Rattle.lvm_line.specs.passed.StageReplyReply.{Reply}
+use Rattle.lvm_line.specs.passed.VolumeLinesVolumes.{Drains, IsDone, MklvDoes, RmlvDoes, NoGroupForMklv, BusyMklv, UndrainedMklv, MakesVolume, MklvFails, NoGroupForRmlv, BusyRmlv, UndrainedRmlv, NoVolumeForRmlv, RemovesVolume, RmlvFails, wanted}
 use Rattle.lvm_top.specs.Script.{Script, NoLine, NextLine, StaysAlone, Ends, AtLine, InLine, EndsAlone, EndsHeard, entry_state, empty_log, facts_of}
 use Rattle.lvm_top.specs.Run.{exit_state}
 use Rattle.lvm_top.proofs.Concluding.{how_ended, stuck_ends, stuck_still}
@@ -61,7 +61,7 @@ use Rattle.lvm_top.proofs.Groups.{asked, asked_nothing, not_stuck}
 use Rattle.lvm_top.proofs.Lines.{by_reading}
 use Rattle.lvm_top.proofs.Making.{parts_find, refused_finds}
 use Rattle.lvm_top.proofs.Scripts.{last_told, run_may_start, stood, went_so}
-use Rattle.lvm_tie_groups.specs.Coming.{AreOff}
+use Rattle.lvm_line.specs.passed.TieGroupsComing.{AreOff}
 use Rattle.lvm_num.specs.declared.place.Pp.{Pp}
 
 -- ---- what is found is shown, and what has a quorum is found

@@ -9,15 +9,15 @@ use Rattle.lvm_core.specs.declared.refused.Cause.TheVariants as cause
 use Rattle.lvm_session.specs.declared.open.Power.{Power}
 use Rattle.lvm_session.specs.declared.open.Power.TheVariants as power
 use Rattle.lvm_session.specs.State.{State as Session}
-use Rattle.lvm_quiesce.specs.declared.ends.Quiesced.TheVariants as quiesced
-use Rattle.lvm_quiesce.specs.Ends.{Quiesces}
-use Rattle.lvm_quiesce.specs.Groups.{StaysOut}
-use Rattle.lvm_quiesce.specs.Ranges.{RangeStaysOut}
-use Rattle.lvm_quiesce.proofs.Ending.{ends_leave, ends_leave_no_more}
-use Rattle.lvm_tie.specs.Spares.{LeavesDescriptors}
-use Rattle.lvm_running.specs.Running.{RunsOn}
-use Rattle.lvm_stage.specs.Lighting.{IsRelit}
-use Rattle.lvm_stage.specs.Stages.{IsClosed}
+use Rattle.lvm_line.specs.passed.QuiesceEndsQuiescedTheVariants as quiesced
+use Rattle.lvm_line.specs.passed.QuiesceEnds.{Quiesces}
+use Rattle.lvm_line.specs.passed.QuiesceGroups.{StaysOut}
+use Rattle.lvm_line.specs.passed.QuiesceRanges.{RangeStaysOut}
+use Rattle.lvm_line.proofs.passed.QuiesceEnding.{ends_leave, ends_leave_no_more}
+use Rattle.lvm_line.specs.passed.TieSpares.{LeavesDescriptors}
+use Rattle.lvm_line.specs.passed.RunningRunning.{RunsOn}
+use Rattle.lvm_line.specs.passed.StageLighting.{IsRelit}
+use Rattle.lvm_line.specs.passed.StageStages.{IsClosed}
 use Rattle.lvm_top.proofs.Devices.{NothingNew, then_nothing, same_nothing, fewer_nothing}
 use Rattle.lvm_top.proofs.Transfers.{relit_nothing}
 

@@ -26,19 +26,19 @@ use Rattle.lvm_core.specs.declared.parts.Room.{Room}
 use Rattle.lvm_core.specs.declared.refused.Cause.{Cause}
 use Rattle.lvm_session.specs.declared.open.Power.TheVariants as power
 use Rattle.lvm_session.specs.State.{Core, state}
-use Rattle.lvm_tie.specs.Spares.{LeavesDescriptors}
-use Rattle.lvm_tie_commands.specs.Standing.{StandsAfter as StandsAfterPast}
-use Rattle.lvm_quiesce.specs.Groups.{RefusedAtOnce, StayedOut, VaryonOnceQuiet, WentQuiet}
-use Rattle.lvm_quiesce.proofs.Ending.{ends_only}
+use Rattle.lvm_line.specs.passed.TieSpares.{LeavesDescriptors}
+use Rattle.lvm_line.specs.passed.TieCommandsStanding.{StandsAfter as StandsAfterPast}
+use Rattle.lvm_line.specs.passed.QuiesceGroups.{RefusedAtOnce, StayedOut, VaryonOnceQuiet, WentQuiet}
+use Rattle.lvm_line.proofs.passed.QuiesceEnding.{ends_only}
 use Rattle.lvm_core.specs.Leaves.{MayBeFound}
-use Rattle.lvm_group_lines.specs.Groups.{IsLeft, VaryonDoes, NoVaryonWhileOn, Varies, itself, outcome_of}
-use Rattle.lvm_stage.specs.Ends.{patience_of_line}
+use Rattle.lvm_line.specs.passed.GroupLinesGroups.{IsLeft, VaryonDoes, NoVaryonWhileOn, Varies, itself, outcome_of}
+use Rattle.lvm_line.specs.passed.StageEnds.{patience_of_line}
 use Rattle.lvm_line.specs.Lines.{LineDoes, IsLine, role_of}
-use Rattle.lvm_stage.specs.Moments.{IsAlone, Role}
-use Rattle.lvm_stage.specs.Replies.{IsStuck}
-use Rattle.lvm_stage.specs.State.{StandsAlone, StandsBy, State, log_with}
-use Rattle.lvm_stage.specs.declared.reply.Reply.{Reply}
-use Rattle.lvm_stage.specs.declared.reply.Reply.TheVariants as reply
+use Rattle.lvm_line.specs.passed.StageMoments.{IsAlone, Role}
+use Rattle.lvm_line.specs.passed.StageReplies.{IsStuck}
+use Rattle.lvm_line.specs.passed.StageState.{StandsAlone, StandsBy, State, log_with}
+use Rattle.lvm_line.specs.passed.StageReplyReply.{Reply}
+use Rattle.lvm_line.specs.passed.StageReplyReplyTheVariants as reply
 use Rattle.lvm_top.specs.Script.{Says, Script, NoLine, NextLine, StaysAlone, Ends, AtLine, InLine, EndsAlone, EndsHeard, entry_state, empty_log, facts_of}
 use Rattle.lvm_top.specs.Ending.{Concludes, NoneIsOn, NoneIsServed, IsServed, NothingIsLeft, TurnsAreMade}
 use Rattle.lvm_top.proofs.Concluding.{none_flies}

@@ -18,17 +18,17 @@ use Rattle.lvm_core.specs.Held.{IsHeld}
 use Rattle.lvm_core.specs.Looking.{IsNumberOf}
 use Rattle.lvm_core.specs.Leaves.{MayBeFound}
 use Rattle.lvm_session.specs.State.{Core, State as Session, is_there, state}
-use Rattle.lvm_driver.specs.declared.drain.DrainFault.{DrainFault}
-use Rattle.lvm_tie.specs.Spares.{LeavesDescriptors}
-use Rattle.lvm_tie.specs.Tied.{IsGood, IsTied}
-use Rattle.lvm_tie_groups.proofs.Leaving.{tied_holds}
-use Rattle.lvm_tie_commands.specs.Standing.{StandsAfter}
-use Rattle.lvm_tie_commands.proofs.Resting.{rests}
-use Rattle.lvm_stage.specs.Moments.{IsBrokenOff, OfGroup}
-use Rattle.lvm_stage.specs.State.{State, StandsAlone}
-use Rattle.lvm_volume_lines.specs.Volumes.{Drains, IsDone, IsUndrained, StaysOn, MklvDoes, RmlvDoes, NoGroupForMklv, BusyMklv, UndrainedMklv, MakesVolume, MklvFails, NoGroupForRmlv, BusyRmlv, UndrainedRmlv, NoVolumeForRmlv, RemovesVolume, RmlvFails, MklvEnds, RmlvEnds, ends_session, refusal_for, wanted}
-use Rattle.lvm_stage.specs.declared.reply.Reply.{Reply}
-use Rattle.lvm_stage.specs.declared.reply.Reply.TheVariants as reply
+use Rattle.lvm_line.specs.passed.DriverDrainDrainFault.{DrainFault}
+use Rattle.lvm_line.specs.passed.TieSpares.{LeavesDescriptors}
+use Rattle.lvm_line.specs.passed.TieTied.{IsGood, IsTied}
+use Rattle.lvm_line.proofs.passed.TieGroupsLeaving.{tied_holds}
+use Rattle.lvm_line.specs.passed.TieCommandsStanding.{StandsAfter}
+use Rattle.lvm_line.proofs.passed.TieCommandsResting.{rests}
+use Rattle.lvm_line.specs.passed.StageMoments.{IsBrokenOff, OfGroup}
+use Rattle.lvm_line.specs.passed.StageState.{State, StandsAlone}
+use Rattle.lvm_line.specs.passed.VolumeLinesVolumes.{Drains, IsDone, IsUndrained, StaysOn, MklvDoes, RmlvDoes, NoGroupForMklv, BusyMklv, UndrainedMklv, MakesVolume, MklvFails, NoGroupForRmlv, BusyRmlv, UndrainedRmlv, NoVolumeForRmlv, RemovesVolume, RmlvFails, MklvEnds, RmlvEnds, ends_session, refusal_for, wanted}
+use Rattle.lvm_line.specs.passed.StageReplyReply.{Reply}
+use Rattle.lvm_line.specs.passed.StageReplyReplyTheVariants as reply
 use Rattle.lvm_line.specs.Causes.{IsDrained}
 use Rattle.lvm_top.specs.Standing.{MayHaveCommitted, StoodBefore, HeldAtRest, StandsSince}
 use Rattle.lvm_top.proofs.Devices.{NothingNew, then_nothing, same_nothing}

@@ -10,12 +10,12 @@ use Rattle.lvm_vol.specs.Log.{Log}
 use Rattle.lvm_core.specs.declared.parts.Room.{Room}
 use Rattle.lvm_parse.specs.Grammar.{line_of}
 use Rattle.lvm_line.specs.Lines.{IsLine, role_of}
-use Rattle.lvm_stage.specs.Moments.{IsAlone, Role, Aside, OfGroup, OfRequests}
-use Rattle.lvm_stage.specs.Replies.{reply_text, refusals_of, IsStuck}
-use Rattle.lvm_stage.specs.State.{State}
-use Rattle.lvm_stage.specs.declared.reply.Refusal.TheVariants as refusal
-use Rattle.lvm_stage.specs.declared.reply.Reply.{Reply}
-use Rattle.lvm_stage.specs.declared.reply.Reply.TheVariants as reply
+use Rattle.lvm_line.specs.passed.StageMoments.{IsAlone, Role, Aside, OfGroup, OfRequests}
+use Rattle.lvm_line.specs.passed.StageReplies.{reply_text, refusals_of, IsStuck}
+use Rattle.lvm_line.specs.passed.StageState.{State}
+use Rattle.lvm_line.specs.passed.StageReplyRefusalTheVariants as refusal
+use Rattle.lvm_line.specs.passed.StageReplyReply.{Reply}
+use Rattle.lvm_line.specs.passed.StageReplyReplyTheVariants as reply
 
 -- its text is made as it is written, for which no memory may be found
 abbrev pub is_made_late : Reply → Bool

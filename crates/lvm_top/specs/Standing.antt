@@ -14,16 +14,16 @@ use Rattle.lvm_core.specs.declared.parts.Room.{Room}
 use Rattle.lvm_core.specs.Held.{IsHeld}
 use Rattle.lvm_core.specs.Looking.{IsNumberOf}
 use Rattle.lvm_session.specs.State.{Core}
-use Rattle.lvm_group.specs.NewGroup.{new_group}
-use Rattle.lvm_volumes.specs.Volumes.{IsWith}
+use Rattle.lvm_line.specs.passed.GroupNewGroup.{new_group}
+use Rattle.lvm_line.specs.passed.VolumesVolumes.{IsWith}
 use Rattle.lvm_core.specs.Leaves.{MayBeFound}
-use Rattle.lvm_group_lines.specs.Groups.{asked_for}
+use Rattle.lvm_line.specs.passed.GroupLinesGroups.{asked_for}
 use Rattle.lvm_line.specs.Causes.{IsDrained}
-use Rattle.lvm_stage.specs.Moments.{IsAlone, IsBrokenOff, Role}
-use Rattle.lvm_stage.specs.State.{IsAtRest, StandsBy, State}
-use Rattle.lvm_volume_lines.specs.Volumes.{wanted}
-use Rattle.lvm_stage.specs.declared.reply.Reply.{Reply}
-use Rattle.lvm_stage.specs.declared.reply.Reply.TheVariants as reply
+use Rattle.lvm_line.specs.passed.StageMoments.{IsAlone, IsBrokenOff, Role}
+use Rattle.lvm_line.specs.passed.StageState.{IsAtRest, StandsBy, State}
+use Rattle.lvm_line.specs.passed.VolumeLinesVolumes.{wanted}
+use Rattle.lvm_line.specs.passed.StageReplyReply.{Reply}
+use Rattle.lvm_line.specs.passed.StageReplyReplyTheVariants as reply
 use Rattle.lvm_top.specs.Script.{Script, NoLine, NextLine, Ends, AtLine, InLine}
 use Rattle.lvm_volume_plan.specs.NewVolume.{without_volume}
 

@@ -30,22 +30,22 @@ use Rattle.lvm_core.specs.Leaves.{EntersVolumes, KeepsHistory, Leaves, Scope}
 use Rattle.lvm_core.specs.Settled.{IsSettled as IsSettledCore}
 use Rattle.lvm_core.specs.Sound.{HaveAllLanded, IsSound as IsSoundBetween}
 use Rattle.lvm_commit.specs.LawsOfVolumes.{IsOneByAllOn}
-use Rattle.lvm_quiesce.proofs.Behind.{each_is_behind, still_is_behind_each}
+use Rattle.lvm_range_lines.proofs.passed.QuiesceBehind.{each_is_behind, still_is_behind_each}
 use Rattle.lvm_posts.specs.declared.posts.Post.{Post}
 use Rattle.lvm_posts.specs.Posts.{AreAnswered, AreHeld, ended_with}
-use Rattle.lvm_running.specs.Running.{IsBefore, LeavesSession}
-use Rattle.lvm_tie.specs.Stamps.{IsStamped}
-use Rattle.lvm_tie.specs.Tied.{IsGood}
-use Rattle.lvm_tie_commands.specs.Commands.{IsAloneAtFirst, MayBeCommanded}
-use Rattle.lvm_tie_commands.specs.Standing.{StandsAfter, StandsSince}
-use Rattle.lvm_stage.specs.Moments.{GoesOn, HasBegunHeld, IsAlone, OfGroup}
-use Rattle.lvm_stage.specs.Replies.{IsStuck, most_refusals}
-use Rattle.lvm_stage.specs.Stages.{posts_ended}
-use Rattle.lvm_stage.specs.State.{ArePosted, IsBetween, IsOnBetween, IsTimely, StandsAlone, StandsBy, State}
-use Rattle.lvm_stage.specs.declared.reply.Reply.{Reply}
-use Rattle.lvm_stage.proofs.Going.{relit_path, was_session}
-use Rattle.lvm_stage.proofs.Lighting.{ready_is_lit, still_leaves_descriptors}
-use Rattle.lvm_stage.proofs.Posting.{LeavesAnswers, end_posts, none_held, on_posts}
+use Rattle.lvm_range_lines.specs.passed.RunningRunning.{IsBefore, LeavesSession}
+use Rattle.lvm_range_lines.specs.passed.TieStamps.{IsStamped}
+use Rattle.lvm_range_lines.specs.passed.TieTied.{IsGood}
+use Rattle.lvm_range_lines.specs.passed.TieCommandsCommands.{IsAloneAtFirst, MayBeCommanded}
+use Rattle.lvm_range_lines.specs.passed.TieCommandsStanding.{StandsAfter, StandsSince}
+use Rattle.lvm_range_lines.specs.passed.StageMoments.{GoesOn, HasBegunHeld, IsAlone, OfGroup}
+use Rattle.lvm_range_lines.specs.passed.StageReplies.{IsStuck, most_refusals}
+use Rattle.lvm_range_lines.specs.passed.StageStages.{posts_ended}
+use Rattle.lvm_range_lines.specs.passed.StageState.{ArePosted, IsBetween, IsOnBetween, IsTimely, StandsAlone, StandsBy, State}
+use Rattle.lvm_range_lines.specs.passed.StageReplyReply.{Reply}
+use Rattle.lvm_range_lines.proofs.passed.StageGoing.{relit_path, was_session}
+use Rattle.lvm_range_lines.proofs.passed.StageLighting.{ready_is_lit, still_leaves_descriptors}
+use Rattle.lvm_range_lines.proofs.passed.StagePosting.{LeavesAnswers, end_posts, none_held, on_posts}
 
 -- ---- what a command promises, whatever its answer
 

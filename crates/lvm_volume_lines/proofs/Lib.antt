@@ -1,3 +1,4 @@
+pub mod passed
 pub mod Commanding
 pub mod Ending
 pub mod Landing

@@ -17,21 +17,21 @@ use Rattle.lvm_core.specs.Settled.{IsSettled as IsSettledCore}
 use Rattle.lvm_core.specs.Sound.{HaveAllLanded}
 use Rattle.lvm_core.specs.State.{state_of}
 use Rattle.lvm_disk.proofs.Paths.{last-path}
-use Rattle.lvm_running.specs.Running.{LeavesSession}
-use Rattle.lvm_tie_commands.specs.Commands.{IsAloneAtFirst, IsLeftStanding, IsLeftStandingSince, MayBeCommanded}
-use Rattle.lvm_tie_commands.specs.Standing.{HoldsEmpty, StandsAfter}
-use Rattle.lvm_volumes.specs.Endings.{IfOn, StillHeld, commanding}
+use Rattle.lvm_range_lines.specs.passed.RunningRunning.{LeavesSession}
+use Rattle.lvm_range_lines.specs.passed.TieCommandsCommands.{IsAloneAtFirst, IsLeftStanding, IsLeftStandingSince, MayBeCommanded}
+use Rattle.lvm_range_lines.specs.passed.TieCommandsStanding.{HoldsEmpty, StandsAfter}
+use Rattle.lvm_range_lines.specs.passed.VolumesEndings.{IfOn, StillHeld, commanding}
 use Rattle.lvm_volume_plan.specs.declared.fault.GroupFault.{GroupFault}
 use Rattle.lvm_volume_plan.specs.declared.fault.GroupFault.TheVariants as fault
-use Rattle.lvm_stage.specs.Ends.{CommandEnds, EndsUnasked, patience_of_line}
-use Rattle.lvm_stage.specs.Moments.{GoesOn, OfGroup}
-use Rattle.lvm_stage.specs.Stages.{HaveRooms, IsBetweenStage, IsFitting, IsOfKind, history_of, open_in, session_in, session_of, shelf_in, history_in, state_in}
-use Rattle.lvm_stage.specs.State.{IsAtRest, IsOnBetween, State, without_facts}
-use Rattle.lvm_stage.specs.declared.holder.Holder.{Holder}
-use Rattle.lvm_stage.specs.declared.holder.Holder.TheVariants as holder
-use Rattle.lvm_stage.specs.declared.reply.Reply.{Reply}
-use Rattle.lvm_stage.specs.declared.stage.Stage.{Stage}
-use Rattle.lvm_stage.proofs.Posting.{LeavesAnswers}
+use Rattle.lvm_range_lines.specs.passed.StageEnds.{CommandEnds, EndsUnasked, patience_of_line}
+use Rattle.lvm_range_lines.specs.passed.StageMoments.{GoesOn, OfGroup}
+use Rattle.lvm_range_lines.specs.passed.StageStages.{HaveRooms, IsBetweenStage, IsFitting, IsOfKind, history_of, open_in, session_in, session_of, shelf_in, history_in, state_in}
+use Rattle.lvm_range_lines.specs.passed.StageState.{IsAtRest, IsOnBetween, State, without_facts}
+use Rattle.lvm_range_lines.specs.passed.StageHolderHolder.{Holder}
+use Rattle.lvm_range_lines.specs.passed.StageHolderHolderTheVariants as holder
+use Rattle.lvm_range_lines.specs.passed.StageReplyReply.{Reply}
+use Rattle.lvm_range_lines.specs.passed.StageStageStage.{Stage}
+use Rattle.lvm_range_lines.proofs.passed.StagePosting.{LeavesAnswers}
 use Rattle.lvm_volume_lines.specs.Commands.{HasRested, IsCarriedOut, IsHeldAgain, IsLeftAs, IsLeftOff, IsLeftOn}
 use Rattle.lvm_volume_lines.specs.Volumes.{Drains, IsDone, StaysOn, is_over, volume_reply}
 use Rattle.lvm_volume_lines.proofs.Commanding.{AtMid, ClosesWell, Promised, empty_or, goes_off, goes_on, promised_by, ready_mid, rows_mid}

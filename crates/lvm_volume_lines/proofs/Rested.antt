@@ -9,15 +9,15 @@ use Rattle.lvm_session.specs.State.{Core, State as Session}
 use Rattle.lvm_core.specs.Settled.{IsSettled}
 use Rattle.lvm_core.specs.Sound.{IsSound as IsSoundBetween}
 use Rattle.lvm_core.specs.State.{state_of}
-use Rattle.lvm_driver.specs.declared.drain.DrainFault.{DrainFault}
-use Rattle.lvm_driver.specs.Drains.{FailsSo, IsAny, IsDrained, IsTurn}
-use Rattle.lvm_running.specs.Running.{RunsOn}
-use Rattle.lvm_running.proofs.Running.{runs_none}
-use Rattle.lvm_handover.specs.Settling.{MaySettle}
-use Rattle.lvm_stage.specs.Stages.{IsOfKind, open_in, session_of, shelf_of}
-use Rattle.lvm_stage.specs.State.{IsOnBetween}
-use Rattle.lvm_stage.specs.declared.holder.Holder.{Holder}
-use Rattle.lvm_stage.specs.declared.holder.Holder.TheVariants as holder
+use Rattle.lvm_range_lines.specs.passed.DriverDrainDrainFault.{DrainFault}
+use Rattle.lvm_range_lines.specs.passed.DriverDrains.{FailsSo, IsAny, IsDrained, IsTurn}
+use Rattle.lvm_range_lines.specs.passed.RunningRunning.{RunsOn}
+use Rattle.lvm_range_lines.proofs.passed.RunningRunning.{runs_none}
+use Rattle.lvm_range_lines.specs.passed.HandoverSettling.{MaySettle}
+use Rattle.lvm_range_lines.specs.passed.StageStages.{IsOfKind, open_in, session_of, shelf_of}
+use Rattle.lvm_range_lines.specs.passed.StageState.{IsOnBetween}
+use Rattle.lvm_range_lines.specs.passed.StageHolderHolder.{Holder}
+use Rattle.lvm_range_lines.specs.passed.StageHolderHolderTheVariants as holder
 use Rattle.lvm_volume_lines.specs.Commands.{HasBrokenOff, HasRested}
 use Rattle.lvm_volume_lines.proofs.Resting.{none_stay, turns_keep}
 

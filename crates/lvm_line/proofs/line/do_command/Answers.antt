@@ -1,14 +1,14 @@
 use Rattle.std.proofs.Common.{◌≡◌, ◌≤◌, refl, sym, subst, ℕ, List, length}
-use Rattle.lvm_stage.specs.Ends.{CommandEnds}
-use Rattle.lvm_stage.specs.Moments.{Aside}
-use Rattle.lvm_stage.specs.Replies.{most_refusals}
-use Rattle.lvm_stage.specs.Stages.{session_in, shelf_in}
-use Rattle.lvm_stage.specs.declared.reply.Refusal.TheVariants as refusal
-use Rattle.lvm_stage.specs.declared.reply.Reply.{Reply}
-use Rattle.lvm_stage.specs.declared.reply.Reply.TheVariants as reply
-use Rattle.lvm_stage.proofs.Ends.{one_refused}
-use Rattle.lvm_group_lines.specs.Groups.{MkvgDoes}
-use Rattle.lvm_group_lines.specs.Listings.{DiskShows, GroupShows, VolumeShows}
+use Rattle.lvm_volume_lines.specs.passed.StageEnds.{CommandEnds}
+use Rattle.lvm_volume_lines.specs.passed.StageMoments.{Aside}
+use Rattle.lvm_volume_lines.specs.passed.StageReplies.{most_refusals}
+use Rattle.lvm_volume_lines.specs.passed.StageStages.{session_in, shelf_in}
+use Rattle.lvm_volume_lines.specs.passed.StageReplyRefusalTheVariants as refusal
+use Rattle.lvm_volume_lines.specs.passed.StageReplyReply.{Reply}
+use Rattle.lvm_volume_lines.specs.passed.StageReplyReplyTheVariants as reply
+use Rattle.lvm_volume_lines.proofs.passed.StageEnds.{one_refused}
+use Rattle.lvm_volume_lines.specs.passed.GroupLinesGroups.{MkvgDoes}
+use Rattle.lvm_volume_lines.specs.passed.GroupLinesListings.{DiskShows, GroupShows, VolumeShows}
 use Rattle.lvm_line.proofs.Lining.{done_by, listed_by, one_disk, one_group, one_volume}
 use Rattle.lvm_line.proofs.line.do_command.Goals as goal
 

@@ -1,7 +1,7 @@
 use Rattle.std.proofs.Common.{Bool, sym, ◌∙◌, ap, subst}
-use Rattle.lvm_stage.specs.declared.reply.Reply.TheVariants as reply
-use Rattle.lvm_stage.specs.declared.stage.Stage.{Stage}
-use Rattle.lvm_stage.specs.Stages.{HaveRooms, IsCarried, IsEnded}
+use Rattle.lvm_group_lines.specs.passed.StageReplyReplyTheVariants as reply
+use Rattle.lvm_group_lines.specs.passed.StageStageStage.{Stage}
+use Rattle.lvm_group_lines.specs.passed.StageStages.{HaveRooms, IsCarried, IsEnded}
 use Rattle.lvm_range_lines.specs.Leaving.{StageFailsIf}
 use Rattle.lvm_range_lines.proofs.requests.failed.Goals as goal
 

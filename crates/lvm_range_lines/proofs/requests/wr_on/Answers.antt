@@ -1,14 +1,14 @@
 use Rattle.std.proofs.Common.{◌≡◌, ◌≤◌, Some, sym, ◌∙◌, subst, arith}
 use Rattle.lvm_session.specs.declared.open.Power.TheVariants as power
-use Rattle.lvm_stage.specs.declared.reply.Reply.{Reply}
-use Rattle.lvm_stage.specs.declared.reply.Reply.TheVariants as reply
-use Rattle.lvm_stage.specs.declared.stage.Stage.{Stage}
-use Rattle.lvm_stage.specs.Replies.{most_refusals}
-use Rattle.lvm_stage.specs.Stages.{HaveRooms, IsCarried}
+use Rattle.lvm_group_lines.specs.passed.StageReplyReply.{Reply}
+use Rattle.lvm_group_lines.specs.passed.StageReplyReplyTheVariants as reply
+use Rattle.lvm_group_lines.specs.passed.StageStageStage.{Stage}
+use Rattle.lvm_group_lines.specs.passed.StageReplies.{most_refusals}
+use Rattle.lvm_group_lines.specs.passed.StageStages.{HaveRooms, IsCarried}
 use Rattle.lvm_range_lines.specs.Requests.{AsksByName, Finishes, NotBegun}
 use Rattle.std.specs.Prelude.{Result}
 use Rattle.lvm_posts.specs.declared.asked.Asked.{Asked}
-use Rattle.lvm_stage.specs.declared.reply.Refusal.{Refusal}
+use Rattle.lvm_group_lines.specs.passed.StageReplyRefusal.{Refusal}
 use Rattle.lvm_range_lines.proofs.Lines.{finished_ends}
 use Rattle.lvm_range_lines.proofs.Refusing.{refusing_ends}
 use Rattle.lvm_range_lines.proofs.requests.wr_on.Goals as goal

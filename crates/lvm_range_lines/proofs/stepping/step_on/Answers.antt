@@ -1,9 +1,9 @@
 use Rattle.std.proofs.Common.{◌≤◌, refl, sym, ◌∙◌, subst, arith}
-use Rattle.lvm_driver.specs.Answers.{state_of}
-use Rattle.lvm_stage.specs.declared.reply.Reply.{Reply}
-use Rattle.lvm_stage.specs.declared.stage.Stage.{Stage}
-use Rattle.lvm_stage.specs.Replies.{most_refusals}
-use Rattle.lvm_stage.specs.Stages.{HaveRooms, IsCarried}
+use Rattle.lvm_group_lines.specs.passed.DriverAnswers.{state_of}
+use Rattle.lvm_group_lines.specs.passed.StageReplyReply.{Reply}
+use Rattle.lvm_group_lines.specs.passed.StageStageStage.{Stage}
+use Rattle.lvm_group_lines.specs.passed.StageReplies.{most_refusals}
+use Rattle.lvm_group_lines.specs.passed.StageStages.{HaveRooms, IsCarried}
 use Rattle.lvm_range_lines.specs.Stepping.{StepDoes, Steps}
 use Rattle.lvm_range_lines.proofs.Ending.{RunsTo, carried_ends, carried_leaves}
 use Rattle.lvm_range_lines.proofs.Posting.{table_posts}
