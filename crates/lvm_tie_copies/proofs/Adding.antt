@@ -2,33 +2,33 @@
 use Rattle.std.proofs.Common.{◌≡◌, ◌⊎◌, inl, inr, ⊎_elim, ℕ, ◌==◌, [], List, None, Some, Result, Ok, Err, sym, ap, subst, ◌∙◌}
 use Rattle.std.specs.Prelude.{◌≢◌, Contains, IsTrue, find}
 use Rattle.std.proofs.lemmas.List.Elements.{All-contains}
-use Rattle.lvm_num.specs.declared.descriptor.Descriptor.{Descriptor}
-use Rattle.lvm_num.specs.declared.descriptor.LvRow.{LvRow}
-use Rattle.lvm_num.specs.declared.place.Pp.{Pp}
-use Rattle.lvm_num.specs.declared.status.Status.{Status}
-use Rattle.lvm_num.specs.Descriptor.{is_member, volume_of}
-use Rattle.lvm_num.specs.Record.{Stamped}
-use Rattle.lvm_num.specs.Status.{calls_stale}
-use Rattle.lvm_kept.specs.Moments.{Moment}
-use Rattle.lvm_steps.specs.Moments.{Keeps}
-use Rattle.lvm_commit.specs.LawsOfVolumes.{IsOneByAllOn}
+use Rattle.lvm_tie_commands.specs.passed.NumDescriptorDescriptor.{Descriptor}
+use Rattle.lvm_tie_commands.specs.passed.NumDescriptorLvRow.{LvRow}
+use Rattle.lvm_tie_commands.specs.passed.NumPlacePp.{Pp}
+use Rattle.lvm_tie_commands.specs.passed.NumStatusStatus.{Status}
+use Rattle.lvm_tie_commands.specs.passed.NumDescriptor.{is_member, volume_of}
+use Rattle.lvm_tie_commands.specs.passed.NumRecord.{Stamped}
+use Rattle.lvm_tie_commands.specs.passed.NumStatus.{calls_stale}
+use Rattle.lvm_tie_commands.specs.passed.KeptMoments.{Moment}
+use Rattle.lvm_tie_commands.specs.passed.StepsMoments.{Keeps}
+use Rattle.lvm_tie_commands.specs.passed.CommitLawsOfVolumes.{IsOneByAllOn}
 use Rattle.lvm_map.specs.FirstFit.{IsAllocated, more_copies}
 use Rattle.lvm_map.proofs.OneAnswer.{map_is_one}
-use Rattle.lvm_session.specs.State.{Core, State as Session, is_there}
-use Rattle.lvm_core.specs.Committing.{moment_of}
-use Rattle.lvm_core.specs.Leaves.{NoPartition}
-use Rattle.lvm_core.specs.Settled.{IsSettled}
-use Rattle.lvm_volume_plan.specs.declared.fault.GroupFault.{GroupFault}
-use Rattle.lvm_volume_plan.specs.declared.fault.GroupFault.TheVariants as fault
-use Rattle.lvm_volumes.specs.Endings.{IfOn, StillHeld}
+use Rattle.lvm_tie_commands.specs.passed.SessionState.{Core, State as Session, is_there}
+use Rattle.lvm_tie_commands.specs.passed.CoreCommitting.{moment_of}
+use Rattle.lvm_tie_commands.specs.passed.CoreLeaves.{NoPartition}
+use Rattle.lvm_tie_commands.specs.passed.CoreSettled.{IsSettled}
+use Rattle.lvm_tie_commands.specs.passed.VolumePlanFaultGroupFault.{GroupFault}
+use Rattle.lvm_tie_commands.specs.passed.VolumePlanFaultGroupFaultTheVariants as fault
+use Rattle.lvm_tie_commands.specs.passed.VolumesEndings.{IfOn, StillHeld}
 use Rattle.lvm_copy_plan.specs.Copies.{further_copies, with_copies, with_map}
 use Rattle.lvm_copy_plan.specs.Faults.{HasFurtherPlaces}
 use Rattle.lvm_mirrors.specs.Mirrors.{AreAdded, IsFurther, IsWithMore, MklvcopyGives, to_add}
 use Rattle.lvm_mirrors.proofs.Even.{more_are_even}
-use Rattle.lvm_handover.specs.Serving.{IsCommanded}
-use Rattle.lvm_even.proofs.Even.{kept_even}
-use Rattle.lvm_rest.specs.Rest.{IsEven}
-use Rattle.lvm_tie_begins.specs.Begins.{shown_to}
+use Rattle.lvm_tie_commands.specs.passed.HandoverServing.{IsCommanded}
+use Rattle.lvm_tie_commands.proofs.passed.EvenEven.{kept_even}
+use Rattle.lvm_tie_commands.specs.passed.RestRest.{IsEven}
+use Rattle.lvm_tie_commands.specs.passed.TieBeginsBegins.{shown_to}
 use Rattle.lvm_tie_commands.specs.Commands.{IsLeftStandingSince, MayBeCommanded}
 use Rattle.lvm_tie_commands.proofs.Commands.{KeepsEven, keeps_on, left_standing, on_all}
 use Rattle.lvm_tie_copies.specs.Copies.{MklvcopyGoesOn}

@@ -2,23 +2,23 @@
 use Rattle.std.proofs.Common.{◌≡◌, inl, inr, ⊎_elim, ℕ, ◌==◌, [], Some, Ok, Err, refl, sym, ap, subst, ◌∙◌, arith}
 use Rattle.std.specs.Prelude.{IsFalse, IsTrue}
 use Rattle.std.proofs.lemmas.Bool.{eqb-true}
-use Rattle.lvm_num.specs.declared.descriptor.Descriptor.{Descriptor}
-use Rattle.lvm_num.specs.declared.descriptor.LvRow.{LvRow}
-use Rattle.lvm_num.specs.declared.place.Pp.{Pp}
-use Rattle.lvm_num.specs.Descriptor.{IsValid, copies_of, is_member}
-use Rattle.lvm_num.specs.Status.{calls_stale}
-use Rattle.lvm_kept.specs.Group.{IsOneOf}
-use Rattle.lvm_session.specs.State.{Core, State}
-use Rattle.lvm_session.specs.Judging.{copies_in}
-use Rattle.lvm_session.specs.Sound.{IsSound}
-use Rattle.lvm_core.specs.Leaves.{Leaves, NoPartition}
-use Rattle.lvm_core.specs.Settled.{IsSettled}
-use Rattle.lvm_volume_plan.specs.declared.fault.GroupFault.TheVariants as fault
-use Rattle.lvm_volumes.specs.Endings.{HasFresh, KeepsFresh, StillHeld}
+use Rattle.lvm_tie_commands.specs.passed.NumDescriptorDescriptor.{Descriptor}
+use Rattle.lvm_tie_commands.specs.passed.NumDescriptorLvRow.{LvRow}
+use Rattle.lvm_tie_commands.specs.passed.NumPlacePp.{Pp}
+use Rattle.lvm_tie_commands.specs.passed.NumDescriptor.{IsValid, copies_of, is_member}
+use Rattle.lvm_tie_commands.specs.passed.NumStatus.{calls_stale}
+use Rattle.lvm_tie_commands.specs.passed.KeptGroup.{IsOneOf}
+use Rattle.lvm_tie_commands.specs.passed.SessionState.{Core, State}
+use Rattle.lvm_tie_commands.specs.passed.SessionJudging.{copies_in}
+use Rattle.lvm_tie_commands.specs.passed.SessionSound.{IsSound}
+use Rattle.lvm_tie_commands.specs.passed.CoreLeaves.{Leaves, NoPartition}
+use Rattle.lvm_tie_commands.specs.passed.CoreSettled.{IsSettled}
+use Rattle.lvm_tie_commands.specs.passed.VolumePlanFaultGroupFaultTheVariants as fault
+use Rattle.lvm_tie_commands.specs.passed.VolumesEndings.{HasFresh, KeepsFresh, StillHeld}
 use Rattle.lvm_copy_plan.specs.Copies.{first_copies, with_copies}
 use Rattle.lvm_copy_plan.proofs.Fewer as fewer
 use Rattle.lvm_mirrors.specs.Mirrors.{AreTaken, IsWithFirst, to_take}
-use Rattle.lvm_handover.proofs.Volumes.{found, had_fresh, its_row, may_serve}
+use Rattle.lvm_tie_commands.proofs.passed.HandoverVolumes.{found, had_fresh, its_row, may_serve}
 use Rattle.lvm_tie_copies.specs.Serving.{MayServeWith, RmlvcopyServes}
 use Rattle.lvm_tie_copies.proofs.Rows.{IsCopyIn, were_or}
 use Rattle.lvm_tie_copies.proofs.ServingMore.{among_copies, its_member, refused}

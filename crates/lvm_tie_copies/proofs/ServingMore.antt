@@ -3,28 +3,28 @@ use Rattle.std.proofs.Common.{◌≡◌, ◌⊎◌, inr, ⊎_elim, ℕ, ◌==◌
 use Rattle.std.specs.Prelude.{Contains, IsFalse, IsTrue}
 use Rattle.std.proofs.lemmas.Bool.{eqb-true}
 use Rattle.std.proofs.lemmas.List.Elements.{All-contains}
-use Rattle.lvm_num.specs.declared.descriptor.Descriptor.{Descriptor}
-use Rattle.lvm_num.specs.declared.descriptor.LvRow.{LvRow}
-use Rattle.lvm_num.specs.declared.place.Pp.{Pp}
-use Rattle.lvm_num.specs.Descriptor.{IsPartitionOf, IsValid, copies_of, is_member, volume_of}
-use Rattle.lvm_num.specs.Status.{calls_stale}
-use Rattle.lvm_kept.specs.Group.{IsOneOf}
-use Rattle.lvm_session.specs.State.{Core, State, is_there}
-use Rattle.lvm_session.specs.Judging.{copies_in}
-use Rattle.lvm_session.specs.Marks.{is_among}
-use Rattle.lvm_session.specs.Sound.{IsSound}
-use Rattle.lvm_core.specs.Leaves.{Leaves, NoPartition}
-use Rattle.lvm_core.specs.Settled.{IsSettled}
+use Rattle.lvm_tie_commands.specs.passed.NumDescriptorDescriptor.{Descriptor}
+use Rattle.lvm_tie_commands.specs.passed.NumDescriptorLvRow.{LvRow}
+use Rattle.lvm_tie_commands.specs.passed.NumPlacePp.{Pp}
+use Rattle.lvm_tie_commands.specs.passed.NumDescriptor.{IsPartitionOf, IsValid, copies_of, is_member, volume_of}
+use Rattle.lvm_tie_commands.specs.passed.NumStatus.{calls_stale}
+use Rattle.lvm_tie_commands.specs.passed.KeptGroup.{IsOneOf}
+use Rattle.lvm_tie_commands.specs.passed.SessionState.{Core, State, is_there}
+use Rattle.lvm_tie_commands.specs.passed.SessionJudging.{copies_in}
+use Rattle.lvm_tie_commands.specs.passed.SessionMarks.{is_among}
+use Rattle.lvm_tie_commands.specs.passed.SessionSound.{IsSound}
+use Rattle.lvm_tie_commands.specs.passed.CoreLeaves.{Leaves, NoPartition}
+use Rattle.lvm_tie_commands.specs.passed.CoreSettled.{IsSettled}
 use Rattle.lvm_next.proofs.Building.{copy_is_placed, is_member_of}
-use Rattle.lvm_rest.proofs.Rows.{row_is_volume}
-use Rattle.lvm_tie.proofs.Words.{clash}
-use Rattle.lvm_volume_plan.specs.declared.fault.GroupFault.TheVariants as fault
-use Rattle.lvm_volumes.specs.Endings.{HasFresh, KeepsFresh, StillHeld}
+use Rattle.lvm_tie_commands.proofs.passed.RestRows.{row_is_volume}
+use Rattle.lvm_tie_commands.proofs.passed.TieWords.{clash}
+use Rattle.lvm_tie_commands.specs.passed.VolumePlanFaultGroupFaultTheVariants as fault
+use Rattle.lvm_tie_commands.specs.passed.VolumesEndings.{HasFresh, KeepsFresh, StillHeld}
 use Rattle.lvm_copy_plan.specs.Copies.{further_copies, with_copies, with_map}
 use Rattle.lvm_copy_plan.specs.Faults.{HasFurtherPlaces}
 use Rattle.lvm_copy_plan.proofs.More as more
 use Rattle.lvm_mirrors.specs.Mirrors.{AreAdded, IsFurther, IsWithMore, to_add}
-use Rattle.lvm_handover.proofs.Volumes.{copies_at, found, had_fresh, its_row, may_serve, refused_serves}
+use Rattle.lvm_tie_commands.proofs.passed.HandoverVolumes.{copies_at, found, had_fresh, its_row, may_serve, refused_serves}
 use Rattle.lvm_tie_copies.specs.Serving.{MayServeWith, MklvcopyServes}
 use Rattle.lvm_tie_copies.proofs.Adding.{same_further}
 use Rattle.lvm_tie_copies.proofs.Rows.{IsCopyIn, among_is, were_or}

@@ -1,16 +1,16 @@
 -- Over a command on the copies of a volume, by the contract of its call: what stands on the disks goes on to stand.
 use Rattle.std.specs.Prelude.{ℕ, List, Result}
-use Rattle.lvm_num.specs.declared.descriptor.LvRow.{LvRow}
-use Rattle.lvm_num.specs.declared.place.Pp.{Pp}
-use Rattle.lvm_kept.specs.Moments.{Moment}
-use Rattle.lvm_steps.specs.Moments.{Keeps}
-use Rattle.lvm_session.specs.State.{State as Session}
-use Rattle.lvm_core.specs.Committing.{moment_of}
-use Rattle.lvm_volume_plan.specs.declared.fault.GroupFault.{GroupFault}
-use Rattle.lvm_volumes.specs.Endings.{IfOn}
+use Rattle.lvm_tie_commands.specs.passed.NumDescriptorLvRow.{LvRow}
+use Rattle.lvm_tie_commands.specs.passed.NumPlacePp.{Pp}
+use Rattle.lvm_tie_commands.specs.passed.KeptMoments.{Moment}
+use Rattle.lvm_tie_commands.specs.passed.StepsMoments.{Keeps}
+use Rattle.lvm_tie_commands.specs.passed.SessionState.{State as Session}
+use Rattle.lvm_tie_commands.specs.passed.CoreCommitting.{moment_of}
+use Rattle.lvm_tie_commands.specs.passed.VolumePlanFaultGroupFault.{GroupFault}
+use Rattle.lvm_tie_commands.specs.passed.VolumesEndings.{IfOn}
 use Rattle.lvm_copy_plan.specs.Faults.{MayBeTaken}
 use Rattle.lvm_mirrors.specs.Mirrors.{IfShown, MklvcopyGives, RmlvcopyGives, to_add, to_take}
-use Rattle.lvm_handover.specs.Serving.{IsCommanded}
+use Rattle.lvm_tie_commands.specs.passed.HandoverServing.{IsCommanded}
 use Rattle.lvm_tie_commands.specs.Commands.{IsLeftStandingSince, MayBeCommanded}
 
 -- A span goes on over the addition of copies, whatever its answer, and where the session does, what stood stands again;

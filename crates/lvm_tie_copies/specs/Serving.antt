@@ -1,12 +1,12 @@
 -- A session that a command on copies has left: where it is sound with requests too.
 use Rattle.std.specs.Prelude.{◌≡◌, ℕ, List, [], Result, Ok, Err}
-use Rattle.lvm_num.specs.declared.place.Pp.{Pp}
-use Rattle.lvm_session.specs.State.{State}
-use Rattle.lvm_session.specs.Sound.{IsSound}
-use Rattle.lvm_volume_plan.specs.declared.fault.GroupFault.{GroupFault}
-use Rattle.lvm_volumes.specs.Endings.{IfOn}
+use Rattle.lvm_tie_commands.specs.passed.NumPlacePp.{Pp}
+use Rattle.lvm_tie_commands.specs.passed.SessionState.{State}
+use Rattle.lvm_tie_commands.specs.passed.SessionSound.{IsSound}
+use Rattle.lvm_tie_commands.specs.passed.VolumePlanFaultGroupFault.{GroupFault}
+use Rattle.lvm_tie_commands.specs.passed.VolumesEndings.{IfOn}
 use Rattle.lvm_mirrors.specs.Mirrors.{MklvcopyGives, RmlvcopyGives, to_add, to_take}
-use Rattle.lvm_handover.specs.Serving.{IsCommanded, MayServe, StaysSound}
+use Rattle.lvm_tie_commands.specs.passed.HandoverServing.{IsCommanded, MayServe, StaysSound}
 
 -- It may be handed over with these copies; where there are none, it is sound as it is too.
 abbrev pub MayServeWith : List Pp → State → Type 0

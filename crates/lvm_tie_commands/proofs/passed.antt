@@ -1,0 +1,4 @@
+pub mod EvenEven
+pub mod HandoverVolumes
+pub mod RestRows
+pub mod TieWords

@@ -1,0 +1,2 @@
+-- Passed on from `lvm_core`.
+pub use Rattle.lvm_core.specs.Committing.{moment_of}
