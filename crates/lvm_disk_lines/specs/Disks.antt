@@ -2,13 +2,13 @@
 use Rattle.std.specs.Prelude.{◌≡◌, ◌∷◌, ◌++◌, ◌+◌, ℕ, [], List, None, IsSome, Result, Ok, Err}
 use Rattle.lvm_num.specs.Buffer.{Sector}
 use Rattle.lvm_kept.specs.Moments.{Moment}
+use Rattle.lvm_stage.specs.passed.QuiesceRanges.{ReadOnceQuiet, WriteOnceQuiet}
 use Rattle.lvm_vol.specs.Log.{Log}
 use Rattle.lvm_replies.specs.Blocks.{block_text}
 use Rattle.lvm_raw.specs.declared.fault.RawFault.{RawFault}
 use Rattle.lvm_raw.specs.declared.fault.RawFault.TheVariants as fault
-use Rattle.lvm_raw.specs.Ends.{FaultHasCause}
-use Rattle.lvm_raw.specs.Raw.{WriteGives, ReadGives}
-use Rattle.lvm_stage.specs.State.{State, log_with}
+use Rattle.lvm_raw.specs.Keeping.{AnswerHasCause}
+use Rattle.lvm_stage.specs.State.{State}
 use Rattle.lvm_stage.specs.Replies.{IsRefused, Shows}
 use Rattle.lvm_stage.specs.declared.reply.Refusal.{Refusal}
 use Rattle.lvm_stage.specs.declared.reply.Refusal.TheVariants as refusal
@@ -39,27 +39,28 @@ abbrev pub blocks_text : ℕ → List Sector → List ℕ
 blocks_text at [] = []
 blocks_text at (block ∷ blocks) = block_text at block ++ blocks_text (at + 1) blocks
 
--- what has happened where `wr` is refused for a fault of the range, and where `rd` is
-abbrev pub WriteHasCause : Log → ℕ → ℕ → ℕ → Moment → Moment → RawFault → Type 0
-WriteHasCause log disk at count old new why = FaultHasCause fault.Lost (log_with log old.facts) disk at count patience_of_line old.device new.device why
+-- a line for each block that was read, if there was memory for them, or why it wasn't
+abbrev pub ShowsRead : ℕ → Result (List Sector) RawFault → Reply → Type 0
+ShowsRead at (Ok blocks) answer = Shows (blocks_text at blocks) answer
+ShowsRead at (Err why) answer = answer ≡ reply.Refused (refusal_by why)
 
-abbrev pub ReadHasCause : Log → ℕ → ℕ → ℕ → Moment → Moment → RawFault → Type 0
-ReadHasCause log disk at count old new why = FaultHasCause fault.ReadFailed (log_with log old.facts) disk at count patience_of_line old.device new.device why
+-- what has risen of the line's disk where the range has a fault
+abbrev pub HasRisen : {X : Type 0} → ℕ → Moment → Moment → Result X RawFault → Type 0
+HasRisen disk old new given = AnswerHasCause disk patience_of_line old.device.counts new.device.counts given
 
--- no group is on, nor afterwards, and the clock wasn't asked
+-- no group is on, nor afterwards, the posts stay, and the clock wasn't asked
 pub record StaysOff (old new : State) : Type 0 where
   pub before : old.session ≡ None
   pub after : new.session ≡ None
+  pub posts : new.posts ≡ old.posts
   pub clock : new.last ≡ old.last
 
 -- `wr` on a disk, while no group is on
 pub data WriteDoes (log : Log) (disk at count word : ℕ) (old new : State) (answer : Reply) : Type 0 where
   NoWriteWhileOn : IsSome old.session → IsRefused refusal.GroupOn answer old new → WriteDoes log disk at count word old new answer
-  WriteFaults : (why : RawFault) → StaysOff old new → WriteGives log disk at count word patience_of_line old.moment new.moment (Err why) → WriteHasCause log disk at count old.moment new.moment why → answer ≡ reply.Refused (refusal_by why) → WriteDoes log disk at count word old new answer
-  WriteIsDone : StaysOff old new → WriteGives log disk at count word patience_of_line old.moment new.moment (Ok tt) → answer ≡ reply.Ok → WriteDoes log disk at count word old new answer
+  WriteGoes : (given : Result (Unit {0}) RawFault) → StaysOff old new → WriteOnceQuiet log disk at count word patience_of_line old.moment new.moment given → HasRisen disk old.moment new.moment given → answer ≡ write_reply given → WriteDoes log disk at count word old new answer
 
 -- `rd` on a disk
 pub data ReadDoes (log : Log) (disk at count : ℕ) (old new : State) (answer : Reply) : Type 0 where
   NoReadWhileOn : IsSome old.session → IsRefused refusal.GroupOn answer old new → ReadDoes log disk at count old new answer
-  ReadFaults : (why : RawFault) → StaysOff old new → ReadGives log disk at count patience_of_line old.moment new.moment (Err why) → ReadHasCause log disk at count old.moment new.moment why → answer ≡ reply.Refused (refusal_by why) → ReadDoes log disk at count old new answer
-  ReadGets : (blocks : List Sector) → StaysOff old new → ReadGives log disk at count patience_of_line old.moment new.moment (Ok blocks) → Shows (blocks_text at blocks) answer → ReadDoes log disk at count old new answer
+  ReadGoes : (given : Result (List Sector) RawFault) → StaysOff old new → ReadOnceQuiet log disk at count patience_of_line old.moment new.moment given → HasRisen disk old.moment new.moment given → ShowsRead at given answer → ReadDoes log disk at count old new answer

@@ -2,14 +2,16 @@
 ghost use Rattle.std.specs.Prelude.{◌≡◌, ◌≤◌, ◌<◌, ◌+◌, ◌^◌, length, IfOk, IfErr};
 ghost use Rattle.lvm_disk_lines.specs.Disks.{WriteDoes, ReadDoes, refusal_by, write_reply, blocks_text};
 ghost use Rattle.lvm_stage.specs.Ends.{EndsUnasked};
+ghost use Rattle.lvm_stage.specs.Moments.{Aside};
 ghost use Rattle.lvm_stage.specs.Replies.{Shows};
-ghost use Rattle.lvm_stage.specs.Stages.{IsSettledStage};
+ghost use Rattle.lvm_stage.specs.Stages.{IsBetweenStage, IsFitting};
 
 use lvm_disk::Shelf;
 use lvm_num::{Memory, Rows, Text};
-use lvm_raw::{RawFault, read_disk, write_disk};
+use lvm_stage::below::lvm_quiesce::{read_disk, write_disk};
+use lvm_raw::RawFault;
 use lvm_replies::show_block;
-use lvm_stage::{Answered, Refusal, Reply, Stage};
+use lvm_stage::{Answered, Holder, Refusal, Reply, Stage};
 use lvm_transfer::Patience;
 use std::alloc::Global;
 
@@ -70,7 +72,7 @@ fn read_reply(alloc: Global, at: u64, read: Result<Rows<[u8; 512]>, RawFault>) -
     }
 }
 
-/// Writes a range of a disk, the first block filled with the word.
+/// Writes a range of a disk, the first block filled with the word, once the transfers that are out have ended.
 pub fn do_write<S: Shelf>(
     alloc: Global,
     stage: Stage<S>,
@@ -79,17 +81,23 @@ pub fn do_write<S: Shelf>(
     count: u32,
     word: u64,
 ) -> Answered<S>
-    requires settled { IsSettledStage S.device stage }
+    requires fits { IsFitting stage }
+    requires between { IsBetweenStage S.device stage }
     requires some { 1 ≤ count }
     requires most { count ≤ 4096 }
-    ensures { EndsUnasked S.device (λ log. WriteDoes log disk at count word) ⊥ stage result.stage result.reply }
+    ensures { EndsUnasked S.device (λ log. WriteDoes log disk at count word) ⊥ Aside stage result.stage result.reply }
 {
-    match stage {
-        Stage::On { driver } => Stage::On { driver }.refused(Refusal::GroupOn),
-        Stage::Off {
+    let Stage {
+        holder,
+        posts,
+        bytes,
+    } = stage;
+    match holder {
+        Holder::Off {
             mut shelf,
             mut history,
         } => {
+            let _ = history.run();
             let mut patience = Patience::whole();
             let done = write_disk(
                 alloc,
@@ -101,12 +109,24 @@ pub fn do_write<S: Shelf>(
                 word,
                 &mut patience,
             );
-            Stage::Off { shelf, history }.answered(write_reply(done))
+            let holder = Holder::Off { shelf, history };
+            Stage {
+                holder,
+                posts,
+                bytes,
+            }
+            .answered(write_reply(done))
         }
+        holder => Stage {
+            holder,
+            posts,
+            bytes,
+        }
+        .refused(Refusal::GroupOn),
     }
 }
 
-/// Reads a range of a disk.
+/// Reads a range of a disk, once the transfers that are out have ended.
 pub fn do_read<S: Shelf>(
     alloc: Global,
     stage: Stage<S>,
@@ -114,17 +134,23 @@ pub fn do_read<S: Shelf>(
     at: u64,
     count: u32,
 ) -> Answered<S>
-    requires settled { IsSettledStage S.device stage }
+    requires fits { IsFitting stage }
+    requires between { IsBetweenStage S.device stage }
     requires some { 1 ≤ count }
     requires most { count ≤ 4096 }
-    ensures { EndsUnasked S.device (λ log. ReadDoes log disk at count) ⊥ stage result.stage result.reply }
+    ensures { EndsUnasked S.device (λ log. ReadDoes log disk at count) ⊥ Aside stage result.stage result.reply }
 {
-    match stage {
-        Stage::On { driver } => Stage::On { driver }.refused(Refusal::GroupOn),
-        Stage::Off {
+    let Stage {
+        holder,
+        posts,
+        bytes,
+    } = stage;
+    match holder {
+        Holder::Off {
             mut shelf,
             mut history,
         } => {
+            let _ = history.run();
             let mut patience = Patience::whole();
             let read = read_disk(
                 alloc,
@@ -135,7 +161,19 @@ pub fn do_read<S: Shelf>(
                 count,
                 &mut patience,
             );
-            Stage::Off { shelf, history }.answered(read_reply(alloc, at, read))
+            let holder = Holder::Off { shelf, history };
+            Stage {
+                holder,
+                posts,
+                bytes,
+            }
+            .answered(read_reply(alloc, at, read))
         }
+        holder => Stage {
+            holder,
+            posts,
+            bytes,
+        }
+        .refused(Refusal::GroupOn),
     }
 }

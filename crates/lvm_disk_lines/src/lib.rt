@@ -1,6 +1,7 @@
 //! The lines on disks that are in no group, and on the shelf itself.
 #![tactic(auto)]
 
+pub mod below;
 mod disks;
 mod shelves;
 

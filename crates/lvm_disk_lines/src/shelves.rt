@@ -2,45 +2,55 @@
 ghost use Rattle.std.specs.Prelude.{◌≡◌, ◌⊎◌};
 ghost use Rattle.lvm_disk.specs.declared.shelf.Arrange.TheVariants as arrange;
 ghost use Rattle.lvm_stage.specs.Ends.{EndsUnasked};
+ghost use Rattle.lvm_stage.specs.Moments.{Aside};
 ghost use Rattle.lvm_disk_lines.specs.Shelves.{ArrangeDoes, CutDoes};
-ghost use Rattle.lvm_stage.specs.Stages.{IsSettledStage};
+ghost use Rattle.lvm_stage.specs.Stages.{IsBetweenStage, IsFitting};
 
 use lvm_core::Closed;
 use lvm_disk::{Arrange, Shelf};
-use lvm_stage::{Answered, Refusal, Reply, Stage};
+use lvm_stage::{Answered, Holder, Refusal, Reply, Stage};
 use lvm_transfer::relight;
 
 /// Lets a disk fail, or heal.
 pub fn do_arrange<S: Shelf>(stage: Stage<S>, disk: u16, what: Arrange) -> Answered<S>
-    requires settled { IsSettledStage S.device stage }
+    requires fits { IsFitting stage }
+    requires between { IsBetweenStage S.device stage }
     requires what { (what ≡ arrange.Fail disk) ⊎ (what ≡ arrange.Heal disk) }
-    ensures { EndsUnasked S.device (λ _. ArrangeDoes disk what) (Unit {0}) stage result.stage result.reply }
+    ensures { EndsUnasked S.device (λ _. ArrangeDoes disk what) (Unit {0}) Aside stage result.stage result.reply }
 {
     let mut stage = stage;
     if disk >= stage.disks() {
         return stage.refused(Refusal::NoDisk { disk });
     }
-    if stage.arrange(what) {
+    if stage.holder.arrange(what) {
         stage.answered(Reply::Ok)
     } else {
         stage.refused(Refusal::NoPlan)
     }
 }
 
-/// Cuts the power, and puts it on again. A session that is on ends.
+/// Cuts the power, and puts it on again. A session that is on ends, and its posts with it.
 pub fn do_cut<S: Shelf>(stage: Stage<S>, word: u64) -> Answered<S>
-    requires settled { IsSettledStage S.device stage }
-    ensures { EndsUnasked S.device (λ log. CutDoes log word) (Unit {0}) stage result.stage result.reply }
+    requires fits { IsFitting stage }
+    requires between { IsBetweenStage S.device stage }
+    ensures { EndsUnasked S.device (λ log. CutDoes log word) (Unit {0}) Aside stage result.stage result.reply }
 {
     let mut stage = stage;
-    if !stage.arrange(Arrange::Cut(word)) {
+    if !stage.holder.arrange(Arrange::Cut(word)) {
         return stage.refused(Refusal::NoPlan);
     }
+    let (closed, posts, bytes) = stage.close();
     let Closed {
         mut shelf,
         mut history,
-    } = stage.close();
+    } = closed;
     history.cut();
     relight(&mut shelf);
-    Stage::Off { shelf, history }.answered(Reply::Ok)
+    let holder = Holder::Off { shelf, history };
+    Stage {
+        holder,
+        posts,
+        bytes,
+    }
+    .answered(Reply::Ok)
 }

@@ -8,7 +8,7 @@ ghost use Rattle.lvm_posts.specs.Posts.{AreAnswered};
 ghost use Rattle.lvm_earlier.specs.Earlier.{AreGone, with_taken};
 
 use lvm_disk::Shelf;
-use lvm_driver::Driver;
+use lvm_ranges::below::lvm_driver::Driver;
 use lvm_posts::{Asked, RangeFault, take_closed};
 use lvm_session::Session;
 

@@ -1,6 +1,7 @@
 //! Answers of a session that is gone, taken while another one is on.
 #![tactic(auto)]
 
+pub mod below;
 mod earlier;
 pub mod laws;
 

@@ -1,11 +1,13 @@
 -- What is found in a descriptor.
-use Rattle.std.proofs.Common.{◌≡◌, ℕ, List, [], ◌∷◌, Bool, true, false, ◌||◌, Option, Some, None, is_some, if◌then◌else◌, eq-eqb, refl, sym, ◌∙◌, ap}
+use Rattle.std.proofs.Common.{◌≡◌, ◌≤◌, length, subst, arith, ℕ, List, [], ◌∷◌, Bool, true, false, ◌||◌, Option, Some, None, is_some, if◌then◌else◌, eq-eqb, refl, sym, ◌∙◌, ap}
 use Rattle.std.specs.Prelude.{◌==◌, IsSome, Contains}
 use Rattle.std.specs.List.{find, list_any}
 use Rattle.std.proofs.lemmas.List.Elements.{All-contains}
 use Rattle.lvm_num.proofs.MapsLemmas.{find-None}
+use Rattle.lvm_num.specs.declared.descriptor.Descriptor.{Descriptor}
 use Rattle.lvm_num.specs.declared.descriptor.LvRow.{LvRow}
 use Rattle.lvm_num.specs.declared.descriptor.PvRow.{PvRow}
+use Rattle.lvm_num.specs.declared.status.Status.{Status}
 use Rattle.lvm_core.specs.Looking.{IsNumberOf}
 
 -- some element passes exactly where one is found
@@ -37,3 +39,12 @@ a_member None is = absurd (cc (is))
 pub no_member : (o : Option PvRow) → is_some o ≡ false → o ≡ None
 no_member None is = refl
 no_member (Some row) is = absurd (cc (is))
+
+-- what is shown of a group with its status, by another name of both
+pub shown_as : (P : Descriptor → Status → Type 0) (group other : Descriptor) (status its : Status) → group ≡ other → status ≡ its → P group status → P other its
+shown_as P group other status its same_group same_status shows = subst (λ (t : Status). P other t) same_status (subst (λ (d : Descriptor). P d status) same_group shows)
+
+-- no rows
+pub none_few : {X : Type 0} (xs : List X) → length xs ≤ 0 → xs ≡ []
+none_few [] few = refl
+none_few (x ∷ xs) few = absurd (omega (arith, few))

@@ -1,47 +1,52 @@
 -- `mkvg`, by how its call ends.
-use Rattle.std.proofs.Common.{◌≡◌, inl, inr, ℕ, List, Bool, Option, Result, Ok, Err, IfOk, IfErr, refl, sym, ◌∙◌, ap, subst}
+use Rattle.std.proofs.Common.{◌≡◌, inl, inr, ℕ, List, Option, Result, Ok, Err, IfOk, IfErr, sym, ◌∙◌, ap, subst}
 use Rattle.lvm_disk.specs.Device.{Device, IsReady}
-use Rattle.lvm_io.specs.Count.{Rose}
 use Rattle.lvm_vol.specs.Facts.{Fact}
-use Rattle.lvm_vol.specs.Legal.{IsLater}
-use Rattle.lvm_vol.specs.Log.{Log}
+use Rattle.lvm_vol.specs.Log.{Log, spare_entries}
+use Rattle.lvm_kept.specs.Moments.{Moment}
+use Rattle.lvm_steps.specs.Moments.{Begins, Keeps}
+use Rattle.lvm_steps.specs.Requests.{at}
 use Rattle.lvm_core.specs.declared.parts.Room.{Room}
 use Rattle.lvm_core.specs.declared.refused.Cause.{Cause}
 use Rattle.lvm_core.specs.declared.refused.Cause.TheVariants as cause
 use Rattle.lvm_core.specs.declared.refused.Refused.{Refused}
-use Rattle.lvm_core.specs.Sound.{HaveAllLanded}
+use Rattle.lvm_core.specs.Held.{StartsHeld}
+use Rattle.lvm_core.specs.State.{state_of}
 use Rattle.lvm_session.specs.State.{Core}
-use Rattle.lvm_group.specs.Made.{Refuses, MkvgGives}
-use Rattle.lvm_group.specs.NewGroup.{NewGroup, given_up}
-use Rattle.lvm_stage.specs.Ends.{patience_of_line}
-use Rattle.lvm_group_lines.specs.Groups.{MkvgDoes, MakesGroup, MkvgFails, asked_for}
-use Rattle.lvm_stage.specs.Stages.{state_in}
-use Rattle.lvm_stage.specs.State.{without_facts}
-use Rattle.lvm_stage.specs.declared.reply.Reply.{Reply}
-use Rattle.lvm_stage.specs.declared.stage.Stage.{Stage}
-use Rattle.lvm_stage.specs.declared.stage.Stage.TheVariants as stage
-use Rattle.lvm_stage.proofs.Lighting.{Leaves}
-use Rattle.lvm_group_lines.proofs.Coming.{CameOn, StayedOff, Left}
-use Rattle.lvm_stage.proofs.Cuts.{cut_rooms}
-use Rattle.lvm_stage.proofs.Passive.{Bears, bears_cut, bears_given_up, landed_bears, later_bears}
+use Rattle.lvm_disk_lines.specs.passed.HandoverBeginning.{HasJustBegun, IsHistory, Serves}
+use Rattle.lvm_disk_lines.proofs.passed.HandoverBeginning.{made_begins}
+use Rattle.lvm_disk_lines.specs.passed.TieCommandsStanding.{StandsAfter}
+use Rattle.lvm_disk_lines.proofs.passed.TieCommandsBeginning.{made_stands}
+use Rattle.lvm_disk_lines.specs.passed.GroupMade.{IsMade, Refuses, MkvgGives}
+use Rattle.lvm_disk_lines.specs.passed.GroupNewGroup.{MayBegin, NewGroup, RefusesFirst, given_up}
+use Rattle.lvm_disk_lines.specs.passed.QuiesceEnds.{Quiesces}
+use Rattle.lvm_disk_lines.specs.passed.QuiesceGroups.{MkvgOnceQuiet}
+use Rattle.lvm_group_lines.specs.Groups.{itself}
+use Rattle.lvm_disk_lines.specs.passed.StageState.{StandsAlone, without_facts}
+use Rattle.lvm_disk_lines.proofs.passed.StageCuts.{cut_rooms}
+use Rattle.lvm_disk_lines.proofs.passed.StageLighting.{Leaves, Rests}
+use Rattle.lvm_disk_lines.proofs.passed.StagePassive.{Bears, bears_cut, bears_given_up}
+use Rattle.lvm_group_lines.proofs.Coming.{CameOn, StayedOff, stays}
+use Rattle.lvm_group_lines.proofs.Quieting.{device_outcome, itself_once, on_once, quiet_orders, stayed_once}
 
 -- ---- a refusal
 
-module _ (w : NewGroup) (patience : ℕ) (was is : Log) (old left : Device) (ready : IsReady old) where
-  pub leaves : (why : Cause) → Refuses w patience was is old left why → Leaves why old left
-  leaves (cause.NoDisk disk) refuses = record { rests = subst IsReady (sym refuses.0.shelf) ready; orders = ap (λ (d : Device). d.orders) refuses.0.shelf }
-  leaves (cause.TooMany limit) refuses = record { rests = subst IsReady (sym refuses.0.shelf) ready; orders = ap (λ (d : Device). d.orders) refuses.0.shelf }
-  leaves (cause.TooSmall disk) refuses = record { rests = subst IsReady (sym refuses.0.shelf) ready; orders = ap (λ (d : Device). d.orders) refuses.0.shelf }
-  leaves cause.HistoryFull refuses = record { rests = subst IsReady (sym refuses.0.shelf) ready; orders = ap (λ (d : Device). d.orders) refuses.0.shelf }
-  leaves (cause.DiskFailed disk) (inl unread) = record { rests = unread.read.rested.ready; orders = unread.read.unwritten.orders }
-  leaves (cause.DiskFailed disk) (inr unwritten) = record { rests = unwritten.rested.ready; orders = unwritten.breaks.stops.only.orders }
-  leaves cause.GroupExists refuses = record { rests = refuses.0.rested.ready; orders = refuses.0.unwritten.orders }
-  leaves (cause.ClockBack seen) refuses = record { rests = refuses.0.rested.ready; orders = refuses.0.unwritten.orders }
-  leaves cause.Dark (inl reading) = record { rests = reading.cut.flights; orders = reading.unwritten.orders }
-  leaves cause.Dark (inr writing) = record { rests = writing.cut.flights; orders = writing.breaks.stops.only.orders }
-  leaves cause.Stuck (inl reading) = record { rests = reading.stuck.power; orders = reading.unwritten.orders }
-  leaves cause.Stuck (inr writing) = record { rests = writing.stuck.power; orders = writing.breaks.stops.only.orders }
-  leaves cause.Memory refuses = record { rests = refuses.rested.ready; orders = refuses.unwritten.orders }
+-- what a refusal leaves of a shelf that was at rest
+module _ (before : Device) (w : NewGroup) (patience : ℕ) (was is : Log) (old left : Device) (ready : IsReady old) (same : old.orders ≡ before.orders) where
+  leaves : (why : Cause) → Refuses w patience was is old left why → Leaves why before left
+  leaves (cause.NoDisk disk) refuses = record { rests = inr (subst IsReady (sym refuses.0.shelf) ready); orders = ap (λ (d : Device). d.orders) refuses.0.shelf ∙ same }
+  leaves (cause.TooMany limit) refuses = record { rests = inr (subst IsReady (sym refuses.0.shelf) ready); orders = ap (λ (d : Device). d.orders) refuses.0.shelf ∙ same }
+  leaves (cause.TooSmall disk) refuses = record { rests = inr (subst IsReady (sym refuses.0.shelf) ready); orders = ap (λ (d : Device). d.orders) refuses.0.shelf ∙ same }
+  leaves cause.HistoryFull refuses = record { rests = inr (subst IsReady (sym refuses.0.shelf) ready); orders = ap (λ (d : Device). d.orders) refuses.0.shelf ∙ same }
+  leaves (cause.DiskFailed disk) (inl unread) = record { rests = inr unread.read.rested.ready; orders = unread.read.unwritten.orders ∙ same }
+  leaves (cause.DiskFailed disk) (inr unwritten) = record { rests = inr unwritten.rested.ready; orders = unwritten.breaks.stops.only.orders ∙ same }
+  leaves cause.GroupExists refuses = record { rests = inr refuses.0.rested.ready; orders = refuses.0.unwritten.orders ∙ same }
+  leaves (cause.ClockBack seen) refuses = record { rests = inr refuses.0.rested.ready; orders = refuses.0.unwritten.orders ∙ same }
+  leaves cause.Dark (inl reading) = record { rests = reading.cut.flights; orders = reading.unwritten.orders ∙ same }
+  leaves cause.Dark (inr writing) = record { rests = writing.cut.flights; orders = writing.breaks.stops.only.orders ∙ same }
+  leaves cause.Stuck (inl reading) = record { rests = reading.stuck.power; orders = reading.unwritten.orders ∙ same }
+  leaves cause.Stuck (inr writing) = record { rests = writing.stuck.power; orders = writing.breaks.stops.only.orders ∙ same }
+  leaves cause.Memory refuses = record { rests = inr refuses.rested.ready; orders = refuses.unwritten.orders ∙ same }
   leaves cause.NoRecord refuses = absurd refuses
   leaves cause.Ambiguous refuses = absurd refuses
   leaves (cause.NoQuorum have total) refuses = absurd refuses
@@ -51,7 +56,7 @@ module _ (w : NewGroup) (patience : ℕ) (was is : Log) (old left : Device) (rea
     as_is : is ≡ was → P is.facts
     as_is same = subst (λ (l : Log). P l.facts) (sym same) holds
 
-    pub entries_bear : (why : Cause) → Refuses w patience was is old left why → P is.facts
+    entries_bear : (why : Cause) → Refuses w patience was is old left why → P is.facts
     entries_bear (cause.NoDisk disk) refuses = as_is refuses.0.history
     entries_bear (cause.TooMany limit) refuses = as_is refuses.0.history
     entries_bear (cause.TooSmall disk) refuses = as_is refuses.0.history
@@ -69,7 +74,7 @@ module _ (w : NewGroup) (patience : ℕ) (was is : Log) (old left : Device) (rea
     entries_bear cause.Ambiguous refuses = absurd refuses
     entries_bear (cause.NoQuorum have total) refuses = absurd refuses
 
-  pub same_rooms : (why : Cause) → Refuses w patience was is old left why → without_facts is ≡ without_facts was
+  same_rooms : (why : Cause) → Refuses w patience was is old left why → without_facts is ≡ without_facts was
   same_rooms (cause.NoDisk disk) refuses = ap without_facts refuses.0.history
   same_rooms (cause.TooMany limit) refuses = ap without_facts refuses.0.history
   same_rooms (cause.TooSmall disk) refuses = ap without_facts refuses.0.history
@@ -87,35 +92,101 @@ module _ (w : NewGroup) (patience : ℕ) (was is : Log) (old left : Device) (rea
   same_rooms cause.Ambiguous refuses = absurd refuses
   same_rooms (cause.NoQuorum have total) refuses = absurd refuses
 
+-- nothing has changed where it is refused at once
+first_rests : (sizes : List ℕ) (spare : ℕ) (disks : List ℕ) (mib : Option ℕ) (old : Device) (why : Cause) (left : Device) → RefusesFirst sizes spare disks mib why → left ≡ old → Rests why old left
+first_rests sizes spare disks mib old (cause.NoDisk disk) left first same = inl same
+first_rests sizes spare disks mib old (cause.TooMany limit) left first same = inl same
+first_rests sizes spare disks mib old (cause.TooSmall disk) left first same = inl same
+first_rests sizes spare disks mib old cause.HistoryFull left first same = inl same
+first_rests sizes spare disks mib old cause.GroupExists left first same = absurd first
+first_rests sizes spare disks mib old cause.NoRecord left first same = absurd first
+first_rests sizes spare disks mib old cause.Ambiguous left first same = absurd first
+first_rests sizes spare disks mib old (cause.NoQuorum have total) left first same = absurd first
+first_rests sizes spare disks mib old (cause.ClockBack seen) left first same = absurd first
+first_rests sizes spare disks mib old (cause.DiskFailed disk) left first same = absurd first
+first_rests sizes spare disks mib old cause.Dark left first same = absurd first
+first_rests sizes spare disks mib old cause.Stuck left first same = absurd first
+first_rests sizes spare disks mib old cause.Memory left first same = absurd first
+
 -- ---- by the call's outcome
 
 module _ {S : Type 0} (device : S → Device) (shelf : S) (log : Log) (w : NewGroup) (room : Room) (patience : ℕ) where
-  pub came_on : (outcome : Result (S × Core) (Refused S)) → MkvgGives device w room patience log (device shelf) outcome → IfOk outcome (λ driver. CameOn w.moment (device shelf) (device driver.0) log driver.1)
-  came_on (Ok driver) made = record {
+  abbrev Outcomes : Type 0
+  Outcomes = Result (S × Core) (Refused S)
+
+  -- the group was made on the shelf that was at rest
+  record MadeOnce (driver : S × Core) : Type 0 where
+    mid : Device
+    quiesces : Quiesces (device shelf) mid
+    made : IsMade w room log mid (device driver.0) driver.1
+
+  made_at : (mid : Device) (left : ℕ) → Quiesces (device shelf) mid → (outcome : Outcomes) → MkvgGives device w room left log mid outcome → IfOk outcome MadeOnce
+  made_at mid left quiet (Ok driver) made = record { mid = mid; quiesces = quiet; made = made }
+  made_at mid left quiet (Err refused) gives = tt
+
+  stays_at : (mid : Device) (left : ℕ) (outcome : Outcomes) → IsReady mid → MkvgGives device w room left log mid outcome
+      → IfErr outcome (λ refused. (before : Device) → mid.orders ≡ before.orders → StayedOff refused.cause before (device refused.shelf) log refused.history)
+  stays_at mid left (Ok driver) ready made = tt
+  stays_at mid left (Err refused) ready refuses = λ before same. record {
+    leaves = leaves before w left log refused.history mid (device refused.shelf) ready same refused.cause refuses;
+    stays = stays log.facts refused.history.facts (λ P bears holds. entries_bear before w left log refused.history mid (device refused.shelf) ready same P bears holds refused.cause refuses);
+    rooms = same_rooms before w left log refused.history mid (device refused.shelf) ready same refused.cause refuses;
+  }
+
+  abbrev First : Cause → Type 0
+  First = RefusesFirst (device shelf).sizes (spare_entries log) w.disks w.mib
+
+  abbrev May : Type 0
+  May = MayBegin (device shelf).sizes (spare_entries log) w.disks w.mib
+
+  module _ (outcome : Outcomes) (quiet : MkvgOnceQuiet device w room patience log (device shelf) outcome) where
+    made : IfOk outcome MadeOnce
+    made = on_once device First May (λ left mid outcome. MkvgGives device w room left log mid outcome) patience log (device shelf) MadeOnce (λ left mid o quiesces at. made_at mid left quiesces o at) outcome quiet
+
+    pub stayed : IfErr outcome (λ refused. StayedOff refused.cause (device shelf) (device refused.shelf) log refused.history)
+    stayed = stayed_once device First May (λ left mid outcome. MkvgGives device w room left log mid outcome) patience log (device shelf)
+        (first_rests (device shelf).sizes (spare_entries log) w.disks w.mib (device shelf)) (λ left mid o ready at. stays_at mid left o ready at) outcome quiet
+
+  came_on : (driver : S × Core) → MadeOnce driver → CameOn w.moment (device shelf) (device driver.0) log driver.1
+  came_on driver it = record {
     entered = (given_up log w.disks).facts;
-    facts = ap (λ (c : Core). c.history.facts) made.core_is;
-    later = λ m later. bears_given_up (λ l. IsLater l m) (later_bears m) log.facts w.disks later;
-    landed = λ landed. bears_given_up HaveAllLanded landed_bears log.facts w.disks landed;
-    ready = made.rested.ready;
-    epoch = ap (λ (c : Core). c.status.stamp.epoch) made.core_is;
-    orders = made.only.orders;
-    rooms = ap (λ (c : Core). without_facts c.history) made.core_is;
-  }
-  came_on (Err refused) gives = tt
-
-  pub stayed_off : (outcome : Result (S × Core) (Refused S)) → IsReady (device shelf) → MkvgGives device w room patience log (device shelf) outcome → IfErr outcome (λ refused. StayedOff refused.cause (device shelf) (device refused.shelf) log refused.history)
-  stayed_off (Ok driver) ready made = tt
-  stayed_off (Err refused) ready refuses = record {
-    leaves = leaves w patience log refused.history (device shelf) (device refused.shelf) ready refused.cause refuses;
-    later = λ m later. entries_bear w patience log refused.history (device shelf) (device refused.shelf) ready (λ facts. IsLater facts m) (later_bears m) later refused.cause refuses;
-    landed = λ landed. entries_bear w patience log refused.history (device shelf) (device refused.shelf) ready HaveAllLanded landed_bears landed refused.cause refuses;
-    rooms = same_rooms w patience log refused.history (device shelf) (device refused.shelf) ready refused.cause refuses;
+    facts = ap (λ (c : Core). c.history.facts) it.made.core_is;
+    stays = stays log.facts (given_up log w.disks).facts (λ P bears holds. bears_given_up P bears log.facts w.disks holds);
+    ready = it.made.rested.ready;
+    epoch = ap (λ (c : Core). c.status.stamp.epoch) it.made.core_is;
+    orders = it.made.only.orders ∙ quiet_orders (device shelf) it.mid it.quiesces;
+    rooms = ap (λ (c : Core). without_facts c.history) it.made.core_is;
   }
 
-module _ {S : Type 0} (device : S → Device) (shelf : S) (log : Log) (force : Bool) (name : List ℕ) (mib : Option ℕ) (disks : List ℕ) (moment last : ℕ) (room : Room) (it : Stage S) (answer : Reply) (rose : Rose last moment) where
-  pub does : (outcome : Result (S × Core) (Refused S)) → MkvgGives device (asked_for name mib disks force moment) room patience_of_line log (device shelf) outcome → Left device outcome it answer
-      → MkvgDoes (without_facts log) room force name mib disks (state_in device (stage.Off shelf log) last) (state_in device it moment) answer
-  does (Ok driver) made left = subst (λ (s : Stage S). MkvgDoes (without_facts log) room force name mib disks (state_in device (stage.Off shelf log) last) (state_in device s moment) answer) (sym left.on.0)
-      (MakesGroup driver.1 rose refl made (record { facts = refl; after = refl; answered = left.on.1 }))
-  does (Err refused) refuses left = MkvgFails refused.cause (device refused.shelf) refused.history rose refl refuses
-      (record { lit = left.lit; facts = ap (λ (l : Log). l.facts) left.off.1; after = left.off.0; answered = left.off.2 })
+  -- what the line needs of it
+  pub came : (outcome : Outcomes) → MkvgOnceQuiet device w room patience log (device shelf) outcome → IfOk outcome (λ driver. CameOn w.moment (device shelf) (device driver.0) log driver.1)
+  came outcome quiet = by outcome (made outcome quiet)
+    where
+      by : (o : Outcomes) → IfOk o MadeOnce → IfOk o (λ driver. CameOn w.moment (device shelf) (device driver.0) log driver.1)
+      by (Ok driver) it = came_on driver it
+      by (Err refused) it = tt
+
+  pub serves : (outcome : Outcomes) → MkvgOnceQuiet device w room patience log (device shelf) outcome → IsHistory log → IfOk outcome (λ driver. HasJustBegun (state_of device driver) → Serves (state_of device driver))
+  serves outcome quiet history = by outcome (made outcome quiet)
+    where
+      by : (o : Outcomes) → IfOk o MadeOnce → IfOk o (λ driver. HasJustBegun (state_of device driver) → Serves (state_of device driver))
+      by (Ok driver) it = λ just. made_begins log w room it.mid (state_of device driver) history it.made just
+      by (Err refused) it = tt
+
+  pub stands : (outcome : Outcomes) → MkvgOnceQuiet device w room patience log (device shelf) outcome
+      → IfOk outcome (λ driver. (first : Moment) → Keeps log.run first (at (device driver.0) driver.1.history.facts) → StartsHeld (device driver.0) driver.1 → (past : List Fact) → Begins log.run past first → StandsAlone (device driver.0) driver.1 → StandsAfter past (device driver.0) driver.1)
+  stands outcome quiet = by outcome (made outcome quiet)
+    where
+      by : (o : Outcomes) → IfOk o MadeOnce
+          → IfOk o (λ driver. (first : Moment) → Keeps log.run first (at (device driver.0) driver.1.history.facts) → StartsHeld (device driver.0) driver.1 → (past : List Fact) → Begins log.run past first → StandsAlone (device driver.0) driver.1 → StandsAfter past (device driver.0) driver.1)
+      by (Ok driver) it = λ first keeps held past begins alone. made_stands past log w room it.mid (state_of device driver) it.made held
+      by (Err refused) it = tt
+
+  -- ---- the same of the shelf's device alone
+
+  at_itself : (left : ℕ) (mid : Device) (outcome : Outcomes) → MkvgGives device w room left log mid outcome → MkvgGives itself w room left log mid (device_outcome device outcome)
+  at_itself left mid (Ok driver) made = made
+  at_itself left mid (Err refused) refuses = refuses
+
+  pub itself_gives : (outcome : Outcomes) → MkvgOnceQuiet device w room patience log (device shelf) outcome → MkvgOnceQuiet itself w room patience log (device shelf) (device_outcome device outcome)
+  itself_gives = itself_once device First May (λ left mid outcome. MkvgGives device w room left log mid outcome) patience log (device shelf) (λ left mid outcome. MkvgGives itself w room left log mid outcome) at_itself

@@ -1,51 +1,56 @@
 -- `varyonvg`, by how its call ends.
-use Rattle.std.proofs.Common.{◌≡◌, ⊎_elim, ℕ, List, Result, Ok, Err, IfOk, IfErr, refl, sym, ◌∙◌, ap, subst}
-use Rattle.lvm_disk.specs.Device.{Device, IsReady}
-use Rattle.lvm_io.specs.Count.{Rose}
+use Rattle.std.proofs.Common.{◌≡◌, inl, inr, ⊎_elim, ℕ, List, Result, Ok, Err, IfOk, IfErr, refl, sym, ◌∙◌, ap, subst}
+use Rattle.std.specs.Prelude.{◌≤◌}
+use Rattle.lvm_disk.specs.Device.{Device, IsReady, HasSectors}
 use Rattle.lvm_vol.specs.Facts.{Fact}
-use Rattle.lvm_vol.specs.Legal.{IsLater}
-use Rattle.lvm_vol.specs.Log.{Log}
-use Rattle.lvm_stamps.specs.Behind.{ClockIsAhead}
+use Rattle.lvm_vol.specs.Log.{Log, spare_entries}
+use Rattle.lvm_kept.specs.Moments.{Moment}
+use Rattle.lvm_steps.specs.Moments.{Begins, Keeps}
+use Rattle.lvm_steps.specs.Requests.{at}
 use Rattle.lvm_core.specs.declared.parts.Room.{Room}
 use Rattle.lvm_core.specs.declared.refused.Cause.{Cause}
 use Rattle.lvm_core.specs.declared.refused.Cause.TheVariants as cause
 use Rattle.lvm_core.specs.declared.refused.Refused.{Refused}
-use Rattle.lvm_core.specs.Sound.{HaveAllLanded}
+use Rattle.lvm_core.specs.Held.{StartsHeld}
+use Rattle.lvm_core.specs.Settled.{IsSettled as IsSettledCore}
+use Rattle.lvm_core.specs.State.{state_of}
 use Rattle.lvm_session.specs.State.{Core}
-use Rattle.lvm_varyon.specs.Restated.{HasNoConsistency}
-use Rattle.lvm_varyon.specs.Varied.{IsRestated, IsRecovered, Refuses, VaryonGives, log_after}
-use Rattle.lvm_stage.specs.Ends.{patience_of_line}
-use Rattle.lvm_group_lines.specs.Groups.{VaryonDoes, VariesOn, VaryonFails}
-use Rattle.lvm_stage.specs.Stages.{state_in}
-use Rattle.lvm_stage.specs.State.{without_facts}
-use Rattle.lvm_stage.specs.declared.reply.Reply.{Reply}
-use Rattle.lvm_stage.specs.declared.stage.Stage.{Stage}
-use Rattle.lvm_stage.specs.declared.stage.Stage.TheVariants as stage
-use Rattle.lvm_stage.proofs.Lighting.{Leaves}
-use Rattle.lvm_group_lines.proofs.Coming.{CameOn, StayedOff, Left}
-use Rattle.lvm_stage.proofs.Cuts.{cut_rooms}
-use Rattle.lvm_stage.proofs.Passive.{Bears, bears_cut, landed_bears, later_bears}
+use Rattle.lvm_disk_lines.specs.passed.HandoverBeginning.{HasJustBegun, IsHistory, Serves}
+use Rattle.lvm_disk_lines.proofs.passed.HandoverBeginning.{varied_on_begins}
+use Rattle.lvm_disk_lines.specs.passed.TieCommandsStanding.{StandsAfter}
+use Rattle.lvm_disk_lines.proofs.passed.TieCommandsBeginning.{varied_on_stands}
+use Rattle.lvm_disk_lines.specs.passed.VaryonVaried.{ComesOn, Refuses, VaryonGives, log_after}
+use Rattle.lvm_disk_lines.specs.passed.QuiesceEnds.{Quiesces}
+use Rattle.lvm_disk_lines.specs.passed.QuiesceGroups.{IsFullFor, VariesOnAt, VaryonOnceQuiet}
+use Rattle.lvm_group_lines.specs.Groups.{itself}
+use Rattle.lvm_disk_lines.specs.passed.StageState.{StandsAlone, without_facts}
+use Rattle.lvm_disk_lines.proofs.passed.StageCuts.{cut_rooms}
+use Rattle.lvm_disk_lines.proofs.passed.StageLighting.{Leaves, Rests}
+use Rattle.lvm_disk_lines.proofs.passed.StagePassive.{Bears, bears_cut}
+use Rattle.lvm_group_lines.proofs.Coming.{CameOn, StayedOff, stays}
+use Rattle.lvm_group_lines.proofs.Quieting.{device_outcome, itself_once, on_once, quiet_orders, stayed_once}
 
 -- ---- a refusal
 
-module _ (old left : Device) (name : List ℕ) (moment patience : ℕ) (log : Log) (ready : IsReady old) where
-  pub leaves : (why : Cause) → Refuses old left name moment patience log why → Leaves why old left
-  leaves cause.HistoryFull refuses = record { rests = subst IsReady (sym refuses.1) ready; orders = ap (λ (d : Device). d.orders) refuses.1 }
-  leaves cause.NoRecord refuses = record { rests = refuses.1.rested.ready; orders = refuses.1.unwritten.orders }
-  leaves cause.Ambiguous refuses = record { rests = refuses.1.rested.ready; orders = refuses.1.unwritten.orders }
-  leaves (cause.NoQuorum have total) refuses = record { rests = refuses.1.rested.ready; orders = refuses.1.unwritten.orders }
-  leaves (cause.ClockBack seen) refuses = record { rests = refuses.1.rested.ready; orders = refuses.1.unwritten.orders }
-  leaves (cause.DiskFailed disk) refuses = let w = refuses.1.writes in record { rests = w.how.rested.ready; orders = w.how.stops.only.orders ∙ w.unwritten.orders }
-  leaves cause.Dark refuses = record { rests = refuses.1.how.flights; orders = ⊎_elim (λ u. u.orders) (λ w. w.writes.how.only.orders ∙ w.writes.unwritten.orders) refuses.1.when }
-  leaves cause.Stuck refuses = record { rests = refuses.1.how.power; orders = ⊎_elim (λ u. u.orders) (λ w. w.writes.how.only.orders ∙ w.writes.unwritten.orders) refuses.1.when }
-  leaves cause.Memory refuses = record { rests = refuses.1.1.ready; orders = refuses.1.0.orders }
+-- what a refusal leaves of a shelf that was at rest
+module _ (before old left : Device) (name : List ℕ) (moment patience : ℕ) (log : Log) (ready : IsReady old) (same : old.orders ≡ before.orders) where
+  pub leaves : (why : Cause) → Refuses old left name moment patience log why → Leaves why before left
+  leaves cause.HistoryFull refuses = record { rests = inr (subst IsReady (sym refuses.1) ready); orders = ap (λ (d : Device). d.orders) refuses.1 ∙ same }
+  leaves cause.NoRecord refuses = record { rests = inr refuses.1.rested.ready; orders = refuses.1.unwritten.orders ∙ same }
+  leaves cause.Ambiguous refuses = record { rests = inr refuses.1.rested.ready; orders = refuses.1.unwritten.orders ∙ same }
+  leaves (cause.NoQuorum have total) refuses = record { rests = inr refuses.1.rested.ready; orders = refuses.1.unwritten.orders ∙ same }
+  leaves (cause.ClockBack seen) refuses = record { rests = inr refuses.1.rested.ready; orders = refuses.1.unwritten.orders ∙ same }
+  leaves (cause.DiskFailed disk) refuses = let w = refuses.1.writes in record { rests = inr w.how.rested.ready; orders = w.how.stops.only.orders ∙ w.unwritten.orders ∙ same }
+  leaves cause.Dark refuses = record { rests = refuses.1.how.flights; orders = ⊎_elim (λ u. u.orders) (λ w. w.writes.how.only.orders ∙ w.writes.unwritten.orders) refuses.1.when ∙ same }
+  leaves cause.Stuck refuses = record { rests = refuses.1.how.power; orders = ⊎_elim (λ u. u.orders) (λ w. w.writes.how.only.orders ∙ w.writes.unwritten.orders) refuses.1.when ∙ same }
+  leaves cause.Memory refuses = record { rests = inr refuses.1.1.ready; orders = refuses.1.0.orders ∙ same }
   leaves (cause.NoDisk disk) refuses = absurd refuses.1
   leaves (cause.TooMany limit) refuses = absurd refuses.1
   leaves (cause.TooSmall disk) refuses = absurd refuses.1
   leaves cause.GroupExists refuses = absurd refuses.1
 
 -- what the entries after a refusal leave true
-pub after_bears : (P : List Fact → Type 0) → Bears P → (why : Cause) (log : Log) → P log.facts → P (log_after why log).facts
+after_bears : (P : List Fact → Type 0) → Bears P → (why : Cause) (log : Log) → P log.facts → P (log_after why log).facts
 after_bears P bears cause.Dark log holds = bears_cut P bears log holds
 after_bears P bears cause.HistoryFull log holds = holds
 after_bears P bears cause.NoRecord log holds = holds
@@ -75,37 +80,95 @@ after_rooms (cause.TooMany limit) log = refl
 after_rooms (cause.TooSmall disk) log = refl
 after_rooms cause.GroupExists log = refl
 
+-- nothing has changed where the history is full
+full_rests : (log : Log) (old : Device) (why : Cause) (left : Device) → IsFullFor log why → left ≡ old → Rests why old left
+full_rests log old why left full same = subst (λ (w : Cause). Rests w old left) (sym full.0) (inl same)
+
 -- ---- by the call's outcome
 
 module _ {S : Type 0} (device : S → Device) (shelf : S) (log : Log) (name : List ℕ) (moment patience : ℕ) (room : Room) where
-  pub came_on : (outcome : Result (S × Core) (Refused S)) → VaryonGives device (device shelf) log name moment room patience outcome → IfOk outcome (λ driver. CameOn moment (device shelf) (device driver.0) log driver.1)
-  came_on (Ok driver) on = record {
-    entered = log.facts;
-    facts = ap (λ (c : Core). c.history.facts) on.first.is;
-    later = λ m later. later;
-    landed = λ landed. landed;
-    ready = on.written.writes.how.rested.ready;
-    epoch = ap (λ (c : Core). c.status.stamp.epoch) on.first.is;
-    orders = on.written.writes.how.keeps.orders ∙ on.written.writes.unwritten.orders;
-    rooms = ap (λ (c : Core). without_facts c.history) on.first.is;
-  }
-  came_on (Err refused) gives = tt
+  abbrev Outcomes : Type 0
+  Outcomes = Result (S × Core) (Refused S)
 
-  pub stayed_off : (outcome : Result (S × Core) (Refused S)) → IsReady (device shelf) → VaryonGives device (device shelf) log name moment room patience outcome → IfErr outcome (λ refused. StayedOff refused.cause (device shelf) (device refused.shelf) log refused.history)
-  stayed_off (Ok driver) ready on = tt
-  stayed_off (Err refused) ready gives = record {
-    leaves = leaves (device shelf) (device refused.shelf) name moment patience log ready refused.cause gives.0;
-    later = λ m later. subst (λ (l : Log). IsLater l.facts m) (sym gives.1) (after_bears (λ facts. IsLater facts m) (later_bears m) refused.cause log later);
-    landed = λ landed. subst (λ (l : Log). HaveAllLanded l.facts) (sym gives.1) (after_bears HaveAllLanded landed_bears refused.cause log landed);
+  -- the group has come on over the shelf that was at rest
+  record ComesOnce (driver : S × Core) : Type 0 where
+    mid : Device
+    quiesces : Quiesces (device shelf) mid
+    on : ComesOn mid (device driver.0) log name moment room driver.1
+
+  comes_at : (mid : Device) (left : ℕ) → Quiesces (device shelf) mid → (outcome : Outcomes) → VaryonGives device mid log name moment room left outcome → IfOk outcome ComesOnce
+  comes_at mid left quiet (Ok driver) on = record { mid = mid; quiesces = quiet; on = on }
+  comes_at mid left quiet (Err refused) gives = tt
+
+  stays_at : (mid : Device) (left : ℕ) (outcome : Outcomes) → IsReady mid → VaryonGives device mid log name moment room left outcome
+      → IfErr outcome (λ refused. (before : Device) → mid.orders ≡ before.orders → StayedOff refused.cause before (device refused.shelf) log refused.history)
+  stays_at mid left (Ok driver) ready on = tt
+  stays_at mid left (Err refused) ready gives = λ before same. record {
+    leaves = leaves before mid (device refused.shelf) name moment left log ready same refused.cause gives.0;
+    stays = stays log.facts refused.history.facts (λ P bears holds. subst (λ (l : Log). P l.facts) (sym gives.1) (after_bears P bears refused.cause log holds));
     rooms = ap without_facts gives.1 ∙ after_rooms refused.cause log;
   }
 
-module _ {S : Type 0} (device : S → Device) (shelf : S) (log : Log) (name : List ℕ) (moment last : ℕ) (room : Room) (it : Stage S) (answer : Reply) (rose : Rose last moment) where
-  pub does : (outcome : Result (S × Core) (Refused S)) → VaryonGives device (device shelf) log name moment room patience_of_line outcome
-      → IfOk outcome (λ driver. ClockIsAhead log.run moment (device shelf) log.facts → IsRestated (device shelf) (device driver.0) driver.1.descriptor)
-      → IfOk outcome (λ driver. ClockIsAhead log.run moment (device shelf) log.facts → HasNoConsistency driver.1.descriptor → IsRecovered (device shelf) (device driver.0) driver.1.descriptor)
-      → Left device outcome it answer → VaryonDoes (without_facts log) room name (state_in device (stage.Off shelf log) last) (state_in device it moment) answer
-  does (Ok driver) on restated recovered left = subst (λ (s : Stage S). VaryonDoes (without_facts log) room name (state_in device (stage.Off shelf log) last) (state_in device s moment) answer) (sym left.on.0)
-      (VariesOn driver.1 rose refl on (λ ahead. record { restated = restated ahead; recovered = recovered ahead }) (record { facts = refl; after = refl; answered = left.on.1 }))
-  does (Err refused) gives restated recovered left = VaryonFails refused.cause (device refused.shelf) rose refl gives.0
-      (record { lit = left.lit; facts = ap (λ (l : Log). l.facts) (left.off.1 ∙ gives.1); after = left.off.0; answered = left.off.2 })
+  module _ (outcome : Outcomes) (quiet : VaryonOnceQuiet device log name moment room patience (device shelf) outcome) where
+    comes : IfOk outcome ComesOnce
+    comes = on_once device (IsFullFor log) (1 ≤ spare_entries log) (λ left mid outcome. VariesOnAt device log name moment room left mid outcome) patience log (device shelf) ComesOnce
+        (λ left mid o quiesces at. comes_at mid left quiesces o at.gives) outcome quiet
+
+    pub stayed : IfErr outcome (λ refused. StayedOff refused.cause (device shelf) (device refused.shelf) log refused.history)
+    stayed = stayed_once device (IsFullFor log) (1 ≤ spare_entries log) (λ left mid outcome. VariesOnAt device log name moment room left mid outcome) patience log (device shelf)
+        (full_rests log (device shelf)) (λ left mid o ready at. stays_at mid left o ready at.gives) outcome quiet
+
+  came_on : (driver : S × Core) → ComesOnce driver → CameOn moment (device shelf) (device driver.0) log driver.1
+  came_on driver it = record {
+    entered = log.facts;
+    facts = ap (λ (c : Core). c.history.facts) it.on.first.is;
+    stays = stays log.facts log.facts (λ P bears holds. holds);
+    ready = it.on.written.writes.how.rested.ready;
+    epoch = ap (λ (c : Core). c.status.stamp.epoch) it.on.first.is;
+    orders = it.on.written.writes.how.keeps.orders ∙ it.on.written.writes.unwritten.orders ∙ quiet_orders (device shelf) it.mid it.quiesces;
+    rooms = ap (λ (c : Core). without_facts c.history) it.on.first.is;
+  }
+
+  serves_then : (driver : S × Core) → IsHistory log → HasJustBegun (state_of device driver) → ComesOnce driver → Serves (state_of device driver)
+  serves_then driver history just it = varied_on_begins log name moment room it.mid (state_of device driver) history it.on just
+
+  stands_then : (driver : S × Core) → HasSectors (device driver.0) → IsSettledCore driver.1 → Serves (state_of device driver) → ComesOnce driver
+      → (first : Moment) → Keeps log.run first (at (device driver.0) driver.1.history.facts) → StartsHeld (device driver.0) driver.1 → (past : List Fact) → Begins log.run past first → StandsAlone (device driver.0) driver.1 → StandsAfter past (device driver.0) driver.1
+  stands_then driver whole settled serves it first keeps held past begins alone =
+      varied_on_stands log.run first log name moment room it.mid (state_of device driver) it.on
+      (record { sound = serves.sound; settled = settled; stamped = serves.stamped; run_is = ap (λ (c : Core). c.history.run) it.on.first.is; keeps = keeps; held = held }) whole (alone settled.quiet.requests) past begins
+
+  -- what the line needs of it
+  pub came : (outcome : Outcomes) → VaryonOnceQuiet device log name moment room patience (device shelf) outcome → IfOk outcome (λ driver. CameOn moment (device shelf) (device driver.0) log driver.1)
+  came outcome quiet = by outcome (comes outcome quiet)
+    where
+      by : (o : Outcomes) → IfOk o ComesOnce → IfOk o (λ driver. CameOn moment (device shelf) (device driver.0) log driver.1)
+      by (Ok driver) it = came_on driver it
+      by (Err refused) it = tt
+
+  pub serves : (outcome : Outcomes) → VaryonOnceQuiet device log name moment room patience (device shelf) outcome → IsHistory log → IfOk outcome (λ driver. HasJustBegun (state_of device driver) → Serves (state_of device driver))
+  serves outcome quiet history = by outcome (comes outcome quiet)
+    where
+      by : (o : Outcomes) → IfOk o ComesOnce → IfOk o (λ driver. HasJustBegun (state_of device driver) → Serves (state_of device driver))
+      by (Ok driver) it = λ just. serves_then driver history just it
+      by (Err refused) it = tt
+
+  pub stands : (outcome : Outcomes) → VaryonOnceQuiet device log name moment room patience (device shelf) outcome
+      → IfOk outcome (λ driver. HasSectors (device driver.0) → IsSettledCore driver.1 → Serves (state_of device driver)
+      → (first : Moment) → Keeps log.run first (at (device driver.0) driver.1.history.facts) → StartsHeld (device driver.0) driver.1 → (past : List Fact) → Begins log.run past first → StandsAlone (device driver.0) driver.1 → StandsAfter past (device driver.0) driver.1)
+  stands outcome quiet = by outcome (comes outcome quiet)
+    where
+      by : (o : Outcomes) → IfOk o ComesOnce
+          → IfOk o (λ driver. HasSectors (device driver.0) → IsSettledCore driver.1 → Serves (state_of device driver)
+          → (first : Moment) → Keeps log.run first (at (device driver.0) driver.1.history.facts) → StartsHeld (device driver.0) driver.1 → (past : List Fact) → Begins log.run past first → StandsAlone (device driver.0) driver.1 → StandsAfter past (device driver.0) driver.1)
+      by (Ok driver) it = λ whole settled serves. stands_then driver whole settled serves it
+      by (Err refused) it = tt
+
+  -- ---- the same of the shelf's device alone
+
+  at_itself : (left : ℕ) (mid : Device) (outcome : Outcomes) → VariesOnAt device log name moment room left mid outcome → VariesOnAt itself log name moment room left mid (device_outcome device outcome)
+  at_itself left mid (Ok driver) at = record { gives = at.gives; restated = at.restated; recovered = at.recovered }
+  at_itself left mid (Err refused) at = record { gives = at.gives; restated = tt; recovered = tt }
+
+  pub itself_gives : (outcome : Outcomes) → VaryonOnceQuiet device log name moment room patience (device shelf) outcome → VaryonOnceQuiet itself log name moment room patience (device shelf) (device_outcome device outcome)
+  itself_gives = itself_once device (IsFullFor log) (1 ≤ spare_entries log) (λ left mid outcome. VariesOnAt device log name moment room left mid outcome) patience log (device shelf) (λ left mid outcome. VariesOnAt itself log name moment room left mid outcome) at_itself

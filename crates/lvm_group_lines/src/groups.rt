@@ -1,22 +1,25 @@
 //! The lines that make a group, vary one on, or vary one off.
-ghost use Rattle.std.specs.Prelude.{◌≡◌, ◌≢◌, ◌≤◌, [], length, IfOk, IfErr, IsTrue, AllPairs};
+ghost use Rattle.std.specs.Prelude.{◌≡◌, ◌≢◌, ◌≤◌, [], length, Some, IfOk, IfErr, IsTrue, AllPairs};
 ghost use Rattle.std.specs.Option.{ForSome};
 ghost use Rattle.lvm_num.specs.Descriptor.{is_size};
 ghost use Rattle.lvm_io.specs.Count.{next_count};
+ghost use Rattle.lvm_session.specs.Sound.{IsSound};
+ghost use Rattle.lvm_core.specs.Sound.{IsSound as IsSoundBetween};
 ghost use Rattle.lvm_core.specs.Starting.{IsRoom};
-ghost use Rattle.lvm_group_lines.specs.Groups.{MkvgDoes, VaryonDoes, VaryoffDoes};
-ghost use Rattle.lvm_stage.specs.Lighting.{IsLit, refusal_of};
-ghost use Rattle.lvm_stage.specs.Ends.{CommandEnds, EndsUnasked};
-ghost use Rattle.lvm_stage.specs.Stages.{shelf_in, history_in, session_in, IsSettledStage};
+ghost use Rattle.lvm_core.specs.State.{state_of};
+ghost use Rattle.lvm_group_lines.specs.Groups.{IsHeldBy, IsLeftBy, MkvgDoes, VaryonDoes, VaryoffDoes};
+ghost use Rattle.lvm_disk_lines.specs.passed.StageLighting.{IsRelit, refusal_of};
+ghost use Rattle.lvm_disk_lines.specs.passed.StageEnds.{CommandEnds, EndsUnasked};
+ghost use Rattle.lvm_disk_lines.specs.passed.StageMoments.{Aside};
+ghost use Rattle.lvm_disk_lines.specs.passed.StageStages.{IsBetweenStage, IsFitting, IsOfKind, history_of, session_of, shelf_of};
 
 use lvm_core::{Cause, Closed, Driver, Refused, Room};
 use lvm_disk::Shelf;
-use lvm_group::mkvg;
 use lvm_io::Clock;
 use lvm_num::Name;
-use lvm_stage::{Answered, Refusal, Reply, Stage};
+use lvm_disk_lines::below::lvm_quiesce::{mkvg, varyon};
+use lvm_disk_lines::below::lvm_stage::{Answered, Holder, Refusal, Reply, Stage};
 use lvm_transfer::{Patience, relight};
-use lvm_varyon::varyon;
 use std::alloc::Global;
 
 // The cause for which no group came on, as the refusal of its line.
@@ -43,7 +46,7 @@ fn refusal_of(cause: Cause) -> Refusal
 // Puts the power on again where it was cut.
 fn relight_after<S: Shelf>(shelf: &mut S, cause: Cause)
     requires { cause ≡ Cause.Dark → (S.device shelf.old).flights ≡ [] }
-    ensures { IsLit cause (S.device shelf.old) (S.device shelf.new) }
+    ensures { IsRelit cause (S.device shelf.old) (S.device shelf.new) }
 {
     match cause {
         Cause::Dark => relight(shelf),
@@ -51,15 +54,35 @@ fn relight_after<S: Shelf>(shelf: &mut S, cause: Cause)
     }
 }
 
-// What a command leaves by which a group comes on or doesn't.
-fn left<S: Shelf>(outcome: Result<Driver<S>, Refused<S>>) -> Answered<S>
-    requires { IfErr outcome (λ refused. refused.cause ≡ Cause.Dark → (S.device refused.shelf).flights ≡ []) }
-    ensures on { IfOk outcome (λ driver. (result.stage ≡ Stage.On driver) × (result.reply ≡ Reply.Ok)) }
-    ensures off { IfErr outcome (λ refused. (session_in result.stage ≡ None) × (history_in result.stage ≡ refused.history) × (result.reply ≡ Reply.Refused (refusal_of refused.cause))) }
-    ensures lit { IfErr outcome (λ refused. IsLit refused.cause (S.device refused.shelf) (S.device (shelf_in result.stage))) }
+// Who holds a group that has come on, which takes requests where it has a volume.
+fn hold<S: Shelf>(driver: Driver<S>) -> Holder<S>
+    requires may { IsSoundBetween (state_of S.device driver) → IsSound (state_of S.device driver) }
+    ensures shelf { shelf_of result ≡ driver.0 }
+    ensures history { history_of result ≡ driver.1.history }
+    ensures session { session_of result ≡ Some driver.1 }
+    ensures kind { IsOfKind result }
+    ensures between { IsSoundBetween (state_of S.device driver) }
+    ensures sound { IsSound (state_of S.device driver) }
+{
+    let _ = driver.open();
+    if driver.descriptor().lvs.is_empty() {
+        Holder::Empty { driver }
+    } else {
+        let (shelf, session) = driver.into_parts();
+        let driver = lvm_disk_lines::below::lvm_driver::Driver::from_parts(shelf, session);
+        Holder::Serving { driver }
+    }
+}
+
+// Who holds the shelf and the history after a command by which a group comes on or doesn't, and what it is answered.
+fn left<S: Shelf>(outcome: Result<Driver<S>, Refused<S>>) -> (Holder<S>, Reply)
+    requires may { IfOk outcome (λ driver. IsSoundBetween (state_of S.device driver) → IsSound (state_of S.device driver)) }
+    requires still { IfErr outcome (λ refused. refused.cause ≡ Cause.Dark → (S.device refused.shelf).flights ≡ []) }
+    ensures on { IfOk outcome (IsHeldBy S.device result.0 result.1) }
+    ensures off { IfErr outcome (IsLeftBy S.device result.0 result.1) }
 {
     match outcome {
-        Ok(driver) => Stage::On { driver }.answered(Reply::Ok),
+        Ok(driver) => (hold(driver), Reply::Ok),
         Err(refused) => {
             let Refused {
                 mut shelf,
@@ -67,12 +90,16 @@ fn left<S: Shelf>(outcome: Result<Driver<S>, Refused<S>>) -> Answered<S>
                 cause,
             } = refused;
             relight_after(&mut shelf, cause);
-            Stage::Off { shelf, history }.refused(refusal_of(cause))
+            (
+                Holder::Off { shelf, history },
+                Reply::Refused(refusal_of(cause)),
+            )
         }
     }
 }
 
-/// Makes a group of some disks, at the moment that the clock answers, and varies it on.
+/// Makes a group of some disks, at the moment that the clock answers, and varies it on. The transfers that are out are
+/// ended first.
 pub fn do_mkvg<S: Shelf, C: Clock>(
     alloc: Global,
     stage: Stage<S>,
@@ -83,20 +110,26 @@ pub fn do_mkvg<S: Shelf, C: Clock>(
     mib: Option<u16>,
     disks: &[u16],
 ) -> Answered<S>
-    requires settled { IsSettledStage S.device stage }
+    requires fits { IsFitting stage }
+    requires between { IsBetweenStage S.device stage }
     requires room { IsRoom room }
     requires a_disk { 1 ≤ length disks.now }
     requires differ { AllPairs (λ a b. a ≢ b) disks.now }
     requires size { ForSome mib (λ given. IsTrue (is_size given)) }
     ensures asked { C.asked clock.new ≡ next_count (C.asked clock.old) }
-    ensures ends { CommandEnds S.device (λ log. MkvgDoes log room force name mib disks.now) ⊥ stage result.stage result.reply (C.last clock.old) (C.last clock.new) }
+    ensures ends { CommandEnds S.device (λ log. MkvgDoes log room force name mib disks.now) ⊥ Aside stage result.stage result.reply (C.last clock.old) (C.last clock.new) }
 {
     let moment = clock.now();
-    match stage {
-        Stage::On { driver } => Stage::On { driver }.refused(Refusal::GroupOn),
-        Stage::Off { shelf, history } => {
+    let Stage {
+        holder,
+        posts,
+        bytes,
+    } = stage;
+    match holder {
+        Holder::Off { shelf, history } => {
+            let _ = history.run();
             let mut patience = Patience::whole();
-            left(mkvg(
+            let (holder, reply) = left(mkvg(
                 alloc,
                 shelf,
                 history,
@@ -107,12 +140,24 @@ pub fn do_mkvg<S: Shelf, C: Clock>(
                 moment,
                 room,
                 &mut patience,
-            ))
+            ));
+            Stage {
+                holder,
+                posts,
+                bytes,
+            }
+            .answered(reply)
         }
+        holder => Stage {
+            holder,
+            posts,
+            bytes,
+        }
+        .refused(Refusal::GroupOn),
     }
 }
 
-/// Varies a group on, at the moment that the clock answers.
+/// Varies a group on, at the moment that the clock answers. The transfers that are out are ended first.
 pub fn do_varyon<S: Shelf, C: Clock>(
     alloc: Global,
     stage: Stage<S>,
@@ -120,35 +165,66 @@ pub fn do_varyon<S: Shelf, C: Clock>(
     room: Room,
     name: Name,
 ) -> Answered<S>
-    requires settled { IsSettledStage S.device stage }
+    requires fits { IsFitting stage }
+    requires between { IsBetweenStage S.device stage }
     requires room { IsRoom room }
     ensures asked { C.asked clock.new ≡ next_count (C.asked clock.old) }
-    ensures ends { CommandEnds S.device (λ log. VaryonDoes log room name) ⊥ stage result.stage result.reply (C.last clock.old) (C.last clock.new) }
+    ensures ends { CommandEnds S.device (λ log. VaryonDoes log room name) ⊥ Aside stage result.stage result.reply (C.last clock.old) (C.last clock.new) }
 {
     let moment = clock.now();
-    match stage {
-        Stage::On { driver } => Stage::On { driver }.refused(Refusal::GroupOn),
-        Stage::Off { shelf, history } => {
+    let Stage {
+        holder,
+        posts,
+        bytes,
+    } = stage;
+    match holder {
+        Holder::Off { shelf, history } => {
+            let _ = history.run();
             let mut patience = Patience::whole();
-            left(varyon(alloc, shelf, history, name, moment, room, &mut patience))
+            let (holder, reply) = left(varyon(
+                alloc,
+                shelf,
+                history,
+                name,
+                moment,
+                room,
+                &mut patience,
+            ));
+            Stage {
+                holder,
+                posts,
+                bytes,
+            }
+            .answered(reply)
         }
+        holder => Stage {
+            holder,
+            posts,
+            bytes,
+        }
+        .refused(Refusal::GroupOn),
     }
 }
 
-/// Varies the group of the name off, if it is on.
+/// Varies the group of the name off, if it is on and none of its requests is open. Transfers that are out stay so.
 pub fn do_varyoff<S: Shelf>(stage: Stage<S>, name: Name) -> Answered<S>
-    requires settled { IsSettledStage S.device stage }
-    ensures { EndsUnasked S.device (λ _. VaryoffDoes name) ⊥ stage result.stage result.reply }
+    requires fits { IsFitting stage }
+    requires between { IsBetweenStage S.device stage }
+    ensures { EndsUnasked S.device (λ _. VaryoffDoes name) ⊥ Aside stage result.stage result.reply }
 {
-    match stage {
-        Stage::Off { shelf, history } => Stage::Off { shelf, history }.refused(Refusal::NoGroup),
-        Stage::On { driver } => {
-            if driver.descriptor().name == name {
-                let Closed { shelf, history } = driver.close();
-                Stage::Off { shelf, history }.answered(Reply::Ok)
-            } else {
-                Stage::On { driver }.refused(Refusal::NoGroup)
-            }
-        }
+    if !stage.is_on(name) {
+        return stage.refused(Refusal::NoGroup);
     }
+    if stage.holder.open() > 0 {
+        return stage.refused(Refusal::Busy);
+    }
+    let (closed, posts, bytes) = stage.close();
+    let Closed { shelf, history } = closed;
+    let holder = Holder::Off { shelf, history };
+    Stage {
+        holder,
+        posts,
+        bytes,
+    }
+    .answered(Reply::Ok)
 }

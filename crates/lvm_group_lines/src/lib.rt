@@ -1,6 +1,7 @@
 //! The lines that make a group, vary one on or off, and list it.
 #![tactic(auto)]
 
+pub mod below;
 mod groups;
 mod listings;
 

@@ -1,15 +1,15 @@
 //! The lines that list the group that is on.
 ghost use Rattle.std.specs.Prelude.{◌≡◌, ℕ, List, length, IfOk};
-ghost use Rattle.lvm_num.specs.Descriptor.{is_member};
-ghost use Rattle.lvm_group_lines.specs.Listings.{GroupShows, VolumeShows, DiskShows, listing_of};
-ghost use Rattle.lvm_stage.specs.Replies.{Shows};
-ghost use Rattle.lvm_stage.specs.Stages.{shelf_in, session_in};
+ghost use Rattle.lvm_num.specs.Descriptor.{IsValid, is_member};
+ghost use Rattle.lvm_group_lines.specs.Listings.{CopiesShow, DiskShows, GroupShows, MemberShows, NamedShows, VolumeShows};
+ghost use Rattle.lvm_disk_lines.specs.passed.StageReplies.{Shows};
+ghost use Rattle.lvm_disk_lines.specs.passed.StageStages.{shelf_in, session_in};
 
-use lvm_core::Driver;
 use lvm_disk::Shelf;
 use lvm_num::{Descriptor, Memory, Name, Text};
 use lvm_show::{show_disk, show_group, show_map, show_volumes};
-use lvm_stage::{Refusal, Reply, Stage};
+use lvm_disk_lines::below::lvm_stage::{Holder, Refusal, Reply, Stage, number_of};
+use lvm_stale::StaleTable;
 use std::alloc::Global;
 
 // The lines of a text, if there was memory for it.
@@ -22,14 +22,24 @@ fn shows(text: Result<Text, Memory>) -> Reply
     }
 }
 
-// Lists the group of a session, or its volumes.
-fn list_session<S: Shelf>(alloc: Global, driver: &Driver<S>, volumes: bool) -> Reply
-    ensures { Shows (listing_of volumes driver.now.1) result }
+// Lists a group, or its volumes, if it has the name.
+fn list_named(
+    alloc: Global,
+    group: &Descriptor,
+    table: &StaleTable,
+    volumes: bool,
+    name: Name,
+) -> Reply
+    requires { IsValid group.now }
+    ensures { NamedShows volumes name group.now table.now result }
 {
+    if group.name != name {
+        return Reply::Refused(Refusal::NoGroup);
+    }
     if volumes {
-        shows(show_volumes(alloc, driver.descriptor(), driver.table()))
+        shows(show_volumes(alloc, group, table))
     } else {
-        shows(show_group(alloc, driver.descriptor(), driver.table()))
+        shows(show_group(alloc, group, table))
     }
 }
 
@@ -37,18 +47,28 @@ fn list_session<S: Shelf>(alloc: Global, driver: &Driver<S>, volumes: bool) -> R
 pub fn list_group<S: Shelf>(alloc: Global, stage: &Stage<S>, volumes: bool, name: Name) -> Reply
     ensures { GroupShows volumes name (session_in stage.now) result }
 {
-    match stage {
-        Stage::Off {
+    match &stage.holder {
+        Holder::Off {
             shelf: _,
             history: _,
         } => Reply::Refused(Refusal::NoGroup),
-        Stage::On { driver } => {
-            if driver.descriptor().name == name {
-                list_session(alloc, driver, volumes)
-            } else {
-                Reply::Refused(Refusal::NoGroup)
-            }
+        Holder::Empty { driver } => {
+            list_named(alloc, driver.descriptor(), driver.table(), volumes, name)
         }
+        Holder::Serving { driver } => {
+            list_named(alloc, driver.descriptor(), driver.table(), volumes, name)
+        }
+    }
+}
+
+// Lists where the copies of the volume of a name lie.
+fn list_copies(alloc: Global, group: &Descriptor, table: &StaleTable, name: Name) -> Reply
+    requires { IsValid group.now }
+    ensures { CopiesShow name group.now table.now result }
+{
+    match number_of(group, name) {
+        None => Reply::Refused(Refusal::NoVolume),
+        Some(lv) => shows(show_map(alloc, group, table, lv)),
     }
 }
 
@@ -56,15 +76,15 @@ pub fn list_group<S: Shelf>(alloc: Global, stage: &Stage<S>, volumes: bool, name
 pub fn list_volume<S: Shelf>(alloc: Global, stage: &Stage<S>, name: Name) -> Reply
     ensures { VolumeShows name (session_in stage.now) result }
 {
-    match stage {
-        Stage::Off {
+    match &stage.holder {
+        Holder::Off {
             shelf: _,
             history: _,
         } => Reply::Refused(Refusal::NoGroup),
-        Stage::On { driver } => match driver.volume(name) {
-            None => Reply::Refused(Refusal::NoVolume),
-            Some(lv) => shows(show_map(alloc, driver.descriptor(), driver.table(), lv)),
-        },
+        Holder::Empty { driver } => list_copies(alloc, driver.descriptor(), driver.table(), name),
+        Holder::Serving { driver } => {
+            list_copies(alloc, driver.descriptor(), driver.table(), name)
+        }
     }
 }
 
@@ -75,25 +95,49 @@ fn is_member(group: &Descriptor, disk: u16) -> bool
     group.pvs.as_slice().iter().any(|row| row.disk == disk)
 }
 
+// Lists a member of a group on a shelf with so many disks.
+fn list_member(
+    alloc: Global,
+    group: &Descriptor,
+    table: &StaleTable,
+    disk: u16,
+    disks: u16,
+) -> Reply
+    requires { IsValid group.now }
+    ensures { MemberShows disk disks group.now table.now result }
+{
+    if disk >= disks {
+        return Reply::Refused(Refusal::NoDisk { disk });
+    }
+    if is_member(group, disk) {
+        shows(show_disk(alloc, group, table, disk))
+    } else {
+        Reply::Refused(Refusal::NoDisk { disk })
+    }
+}
+
 /// Lists a member of the group.
 pub fn list_disk<S: Shelf>(alloc: Global, stage: &Stage<S>, disk: u16) -> Reply
     ensures { DiskShows disk (length (S.device (shelf_in stage.now)).sizes) (session_in stage.now) result }
 {
-    match stage {
-        Stage::Off {
+    match &stage.holder {
+        Holder::Off {
             shelf: _,
             history: _,
         } => Reply::Refused(Refusal::NoGroup),
-        Stage::On { driver } => {
-            let group = driver.descriptor();
-            if disk >= driver.disks() {
-                return Reply::Refused(Refusal::NoDisk { disk });
-            }
-            if is_member(group, disk) {
-                shows(show_disk(alloc, group, driver.table(), disk))
-            } else {
-                Reply::Refused(Refusal::NoDisk { disk })
-            }
-        }
+        Holder::Empty { driver } => list_member(
+            alloc,
+            driver.descriptor(),
+            driver.table(),
+            disk,
+            driver.disks(),
+        ),
+        Holder::Serving { driver } => list_member(
+            alloc,
+            driver.descriptor(),
+            driver.table(),
+            disk,
+            driver.disks(),
+        ),
     }
 }

@@ -1,3 +1,4 @@
+pub mod passed
 pub mod Settling
 pub mod Serving
 pub mod Beginning

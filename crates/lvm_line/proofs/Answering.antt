@@ -11,6 +11,11 @@ pub answered_more : {X : Type 0} (P Q : X → Type 0) (o : Option X) → ((x : X
 answered_more P Q None more holds = tt
 answered_more P Q (Some x) more holds = more x holds
 
+-- two things that hold of it
+pub answered_both : {X : Type 0} (P Q : X → Type 0) (o : Option X) → IfSome o P → IfSome o Q → IfSome o (λ x. P x × Q x)
+answered_both P Q None holds too = tt
+answered_both P Q (Some x) holds too = (holds, too)
+
 -- a `mkvg` isn't a listing
 pub mkvg_changes : (read : Result (Option Command) Misfit) → IsMkvgLine read → IsChange read
 mkvg_changes (Ok (Some (command.Mkvg force name mib disks))) is = tt

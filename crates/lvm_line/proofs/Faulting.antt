@@ -1,5 +1,5 @@
 -- Why `mklv` and `rmlv` are refused.
-use Rattle.std.proofs.Common.{◌≡◌, ◌*◌, ◌≤◌, ℕ, Bool, true, false, Option, Some, None, Result, IsFalse, if◌then◌else◌, sym, ap, subst, arith}
+use Rattle.std.proofs.Common.{◌≡◌, ◌*◌, ◌+◌, ◌-◌, ◌≤◌, ℕ, Bool, true, false, Option, Some, None, Result, IsFalse, if◌then◌else◌, sym, ap, subst, arith}
 use Rattle.std.specs.Prelude.{nat_lt}
 use Rattle.std.proofs.lemmas.Bool.{ltb-false}
 use Rattle.lvm_num.specs.declared.descriptor.Descriptor.{Descriptor}
@@ -10,13 +10,20 @@ use Rattle.lvm_parse.specs.declared.command.Command.{Command}
 use Rattle.lvm_operands.specs.declared.rest.Misfit.{Misfit}
 use Rattle.lvm_status.specs.Update.{Stored}
 use Rattle.lvm_commit.specs.Settling.{HasLostQuorum}
-use Rattle.lvm_session.specs.State.{Core, State as Session, state}
-use Rattle.lvm_line.specs.Causes.{HasFailed, HasLost}
-use Rattle.lvm_stage.specs.Ends.{patience_of_line}
-use Rattle.lvm_stage.specs.State.{State}
-use Rattle.lvm_volume_lines.specs.Volumes.{IsLeft, ends_session, refusal_for}
+use Rattle.lvm_session.specs.State.{Core, State as Session}
+use Rattle.lvm_line.specs.Causes.{HasFailed, HasLost, IsDrained}
+use Rattle.lvm_write.proofs.Transfers.{rose_then}
+use Rattle.lvm_disk.proofs.Rising.{rose_before}
+use Rattle.lvm_volume_lines.specs.passed.DriverDrainDrainFault.{DrainFault}
+use Rattle.lvm_volume_lines.specs.passed.DriverDrainDrainFaultTheVariants as drain_fault
+use Rattle.lvm_volume_lines.specs.passed.StageReplyRefusal.{Refusal}
+use Rattle.lvm_volume_lines.specs.passed.StageReplyRefusalTheVariants as refusal
+use Rattle.lvm_volume_lines.specs.passed.StageReplyReplyTheVariants as reply
+use Rattle.lvm_volume_lines.specs.passed.StageEnds.{patience_of_line}
+use Rattle.lvm_volume_lines.specs.passed.StageState.{State}
+use Rattle.lvm_volume_lines.specs.Volumes.{Drains, IsLeft, IsUndrained, drain_refusal, ends_session, refusal_for}
 use Rattle.lvm_volume_lines.proofs.Ending.{FaultFacts}
-use Rattle.lvm_line.proofs.Knowing.{Known}
+use Rattle.lvm_line.proofs.Knowing.{Known, has_by, has_undrained}
 use Rattle.lvm_volume_plan.specs.declared.fault.GroupFault.{GroupFault}
 use Rattle.lvm_volume_plan.specs.declared.fault.GroupFault.TheVariants as fault
 
@@ -29,27 +36,78 @@ at_most_half group have few = go group.quorum few
     go false is = let none = ltb-false 0 have is in omega (arith, none)
 
 -- what is left has the counts of the shelf
-counts_left : (ends : Bool) (left : Session) (new : State) → IsLeft ends left new → new.moment.device.counts ≡ left.device.counts
-counts_left true left new over = ap (λ (d : Device). d.counts) over.lit
-counts_left false left new stays = ap (λ (d : Device). d.counts) stays.device
+counts_left : (ends : Bool) (left : Session) (old new : State) → IsLeft ends left old new → new.moment.device.counts ≡ left.device.counts
+counts_left true left old new over = ap (λ (d : Device). d.counts) over.lit
+counts_left false left old new stays = ap (λ (d : Device). d.counts) stays.device
 
-none_left : (left : Session) (new : State) → IsLeft true left new → new.session ≡ None
-none_left left new over = over.session
+none_left : (left : Session) (old new : State) → IsLeft true left old new → new.session ≡ None
+none_left left old new over = over.session
+
+-- why the turns before the command have ended is no want of votes for a quorum
+not_counted : (why : Refusal) (fault : DrainFault) (have total : ℕ) → reply.Refused why ≡ reply.Refused (drain_refusal fault) → why ≡ refusal.NoQuorum have total → ⊥
+not_counted why drain_fault.Dark have total says is = cc (says, is)
+not_counted why (drain_fault.WentOff left all) have total says is = cc (says, is)
+not_counted why drain_fault.Stuck have total says is = cc (says, is)
+
+pub undrained : (read : Result (Option Command) Misfit) (why : Refusal) (old new : State) (core : Core) (fault : DrainFault) → old.session ≡ Some core → IsUndrained core old new fault (reply.Refused why) → Known read why old new
+undrained read why old new core fault some ends = record {
+  cause = has_undrained read why old new (record { core = core; fault = fault; on = some; ends = ends });
+  off = λ is. ends.over.session;
+  unwritten = λ have total is. absurd (not_counted why fault have total ends.says is);
+}
+
+-- patience that went before, and then
+rose_in_line : (left a b c : ℕ) → left ≤ patience_of_line → RoseBy (patience_of_line - left) a b → RoseBy left b c → RoseBy patience_of_line a c
+rose_in_line left a b c few before later =
+    let sum : (patience_of_line - left) + left ≡ patience_of_line = omega (arith, few) in
+    subst (λ (n : ℕ). RoseBy n a c) sum (rose_then (patience_of_line - left) left a b c before later)
 
 module _ (read : Result (Option Command) Misfit) (failed : (d : ℕ) (a b : Counts) → Rose (a.faults d) (b.faults d) → HasFailed read d a b) where
-  lost : (core : Core) (old : State) (first : old.session ≡ Some core) (have total : ℕ) (left : Device) (last : Stored) (new : Counts) → HasLostQuorum core.status last old.moment.device left have total → new ≡ left.counts → (2 * have ≤ total) × HasLost old.session old.moment.device.counts new
-  lost core old first have total left last new it same = (
-    subst (λ (n : ℕ). 2 * have ≤ n) (sym it.total_is) (at_most_half last.group have it.few),
-    subst (λ (s : Option Core). HasLost s old.moment.device.counts new) (sym first) (it.disk, it.was, subst (λ (n : Counts). Rose (old.moment.device.counts.faults it.disk) (n.faults it.disk)) (sym same) it.failed),
-  )
+  module _ (old new : State) (core : Core) (patience : ℕ) (mid left : Session) (some : old.session ≡ Some core) (drains : Drains core old patience mid) where
+    drained : IsDrained old core mid.core
+    drained = record { on = some; descriptor = drains.runs.leaves.keeps.descriptor; still = λ rests. ap (λ (s : Session). s.core) (drains.still rests) }
 
-  pub known_group : (why : GroupFault) (old new : State) (core : Core) (left : Session) → old.session ≡ Some core → FaultFacts why patience_of_line (state old.moment.device core) left → IsLeft (ends_session why) left new → Known read (refusal_for why) old new
-  known_group fault.Dark old new core left some facts leaves =
-      record { cause = subst (λ (n : Counts). Rose old.moment.device.counts.cuts n.cuts) (sym (counts_left true left new leaves)) facts.1; off = λ is. none_left left new leaves; unwritten = λ have total is. absurd (cc (is)) }
-  known_group (fault.WentOff have total) old new core left some facts leaves =
-      record { cause = lost core old some have total left.device left.core.status new.moment.device.counts facts.0 (counts_left true left new leaves); off = λ is. none_left left new leaves; unwritten = λ h t is. absurd (cc (is)) }
-  known_group fault.Stuck old new core left some facts leaves =
-      record { cause = subst (λ (n : Counts). RoseBy patience_of_line old.moment.device.counts.waits n.waits) (sym (counts_left true left new leaves)) facts.waits; off = λ is. none_left left new leaves; unwritten = λ have total is. absurd (cc (is)) }
-  known_group (fault.DiskFailed disk) old new core left some facts leaves =
-      record { cause = failed disk old.moment.device.counts new.moment.device.counts (subst (λ (n : Counts). Rose (old.moment.device.counts.faults disk) (n.faults disk)) (sym (counts_left false left new leaves)) facts.0); off = λ is. absurd (cc (is)); unwritten = λ have total is. absurd (cc (is)) }
-  known_group other old new core left some facts leaves = record { cause = tt; off = λ is. absurd (cc (is)); unwritten = λ have total is. absurd (cc (is)) }
+    faults_since : (disk : ℕ) (n : Counts) → Rose (mid.device.counts.faults disk) (n.faults disk) → Rose (old.moment.device.counts.faults disk) (n.faults disk)
+    faults_since disk n rose = rose_before (drains.runs.leaves.keeps.counts.faults disk) rose
+
+    lost : (have total : ℕ) (last : Stored) → HasLostQuorum mid.core.status last mid.device left.device have total → new.moment.device.counts ≡ left.device.counts → (2 * have ≤ total) × HasLost old new.moment.device.counts
+    lost have total last it same = (
+      subst (λ (n : ℕ). 2 * have ≤ n) (sym it.total_is) (at_most_half last.group have it.few),
+      record {
+        core = core;
+        mid = mid.core;
+        drained = drained;
+        disk = it.disk;
+        was = it.was;
+        failed = subst (λ (n : Counts). Rose (old.moment.device.counts.faults it.disk) (n.faults it.disk)) (sym same) (faults_since it.disk left.device.counts it.failed);
+      },
+    )
+
+    known_so : (why : GroupFault) → FaultFacts why patience mid left → IsLeft (ends_session why) left old new → Known read (refusal_for why) old new
+    known_so fault.Dark facts leaves = record {
+      cause = has_by read refusal.Dark old new (subst (λ (n : Counts). Rose old.moment.device.counts.cuts n.cuts) (sym (counts_left true left old new leaves)) (rose_before drains.runs.leaves.keeps.counts.cuts facts.1));
+      off = λ is. none_left left old new leaves;
+      unwritten = λ have total is. absurd (cc (is));
+    }
+    known_so (fault.WentOff have total) facts leaves = record {
+      cause = has_by read (refusal.WentOff have total) old new (lost have total left.core.status facts.0 (counts_left true left old new leaves));
+      off = λ is. none_left left old new leaves;
+      unwritten = λ h t is. absurd (cc (is));
+    }
+    known_so fault.Stuck facts leaves = record {
+      cause = has_by read refusal.Stuck old new (subst (λ (n : Counts). RoseBy patience_of_line old.moment.device.counts.waits n.waits) (sym (counts_left true left old new leaves))
+          (rose_in_line patience old.moment.device.counts.waits mid.device.counts.waits left.device.counts.waits drains.few drains.waited facts.waits));
+      off = λ is. none_left left old new leaves;
+      unwritten = λ have total is. absurd (cc (is));
+    }
+    known_so (fault.DiskFailed disk) facts leaves = record {
+      cause = has_by read (refusal.DiskFailed disk) old new
+          (failed disk old.moment.device.counts new.moment.device.counts (subst (λ (n : Counts). Rose (old.moment.device.counts.faults disk) (n.faults disk)) (sym (counts_left false left old new leaves)) (faults_since disk left.device.counts facts.0)));
+      off = λ is. absurd (cc (is));
+      unwritten = λ have total is. absurd (cc (is));
+    }
+    known_so other facts leaves = record { cause = has_by read _ old new tt; off = λ is. absurd (cc (is)); unwritten = λ have total is. absurd (cc (is)) }
+
+  pub known_group : (why : GroupFault) (old new : State) (core : Core) (patience : ℕ) (mid left : Session) → old.session ≡ Some core → Drains core old patience mid → FaultFacts why patience mid left → IsLeft (ends_session why) left old new
+      → Known read (refusal_for why) old new
+  known_group why old new core patience mid left some drains facts leaves = known_so old new core patience mid left some drains why facts leaves

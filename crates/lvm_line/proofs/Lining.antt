@@ -1,5 +1,5 @@
 -- Lines, by how they are read.
-use Rattle.std.proofs.Common.{◌≡◌, ℕ, List, Bool, Option, Some, None, IsSome, Result, Ok, refl, sym, ap, subst}
+use Rattle.std.proofs.Common.{◌≡◌, ◌≤◌, ℕ, List, Bool, Option, Some, None, IfSome, IsSome, Result, Ok, refl, sym, ap, subst, arith}
 use Rattle.lvm_disk.specs.Device.{Device, HasSectors}
 use Rattle.lvm_io.specs.Count.{next_count}
 use Rattle.lvm_vol.specs.Log.{Log}
@@ -10,49 +10,99 @@ use Rattle.lvm_parse.specs.Grammar.{line_of}
 use Rattle.lvm_parse.specs.Answering.{IsMkvgLine}
 use Rattle.lvm_core.specs.declared.parts.Room.{Room}
 use Rattle.lvm_session.specs.State.{Core}
-use Rattle.lvm_stage.specs.Ends.{CommandEnds}
-use Rattle.lvm_stage.specs.Asking.{IsAsked}
-use Rattle.lvm_group_lines.specs.Groups.{MkvgDoes, NoMemoryForLine, NoMkvgWhileOn}
-use Rattle.lvm_line.specs.Lines.{CommandDoes, CommandIsDone, LineDoes, IsLine, IsOrder, asked_after}
-use Rattle.lvm_stage.specs.Moments.{GoesOn}
-use Rattle.lvm_stage.specs.Stages.{history_in, state_in, IsSettledStage}
-use Rattle.lvm_stage.specs.State.{State, IsSettled, without_facts}
-use Rattle.lvm_stage.specs.declared.reply.Refusal.TheVariants as refusal
-use Rattle.lvm_stage.specs.declared.reply.Reply.{Reply}
-use Rattle.lvm_stage.specs.declared.reply.Reply.TheVariants as reply
-use Rattle.lvm_stage.specs.declared.stage.Stage.{Stage}
-use Rattle.lvm_stage.proofs.Ends.{ends_as}
-use Rattle.lvm_stage.proofs.Going.{same_goes, asked_goes}
+use Rattle.lvm_volume_lines.specs.passed.StageEnds.{CommandEnds}
+use Rattle.lvm_volume_lines.specs.passed.StageAsking.{IsAsked}
+use Rattle.lvm_volume_lines.specs.passed.GroupLinesGroups.{MkvgDoes, NoMemoryForLine, NoMkvgWhileOn}
+use Rattle.lvm_line.specs.Lines.{CommandDoes, CommandIsDone, LineDoes, IsLine, IsOrder, asked_after, role_of}
+use Rattle.lvm_volume_lines.specs.passed.GroupLinesListings.{DiskShows, DiskOfGroup, GroupShows, GroupThatIsOn, ListsGroup, ListsMember, ListsVolume, NoGroupForDisk, NoGroupForVolume, NoGroupToList, NoSuchMember, NoSuchVolume, OtherGroup, VolumeOfGroup, VolumeShows}
+use Rattle.lvm_volume_lines.specs.passed.StageMoments.{GoesOn}
+use Rattle.lvm_volume_lines.specs.passed.StageReplies.{InFull, Shows, WithoutMemory, most_refusals}
+use Rattle.lvm_volume_lines.specs.passed.StageStages.{IsBetweenStage, IsFitting, history_in, history_of, session_in, shelf_in, session_of, state_in}
+use Rattle.lvm_volume_lines.specs.passed.StageState.{IsBetween, State, without_facts}
+use Rattle.lvm_volume_lines.specs.passed.StageHolderHolder.{Holder}
+use Rattle.lvm_volume_lines.specs.passed.StageHolderHolderTheVariants as holder
+use Rattle.lvm_volume_lines.specs.passed.StageReplyRefusalTheVariants as refusal
+use Rattle.lvm_volume_lines.specs.passed.StageReplyReply.{Reply}
+use Rattle.lvm_volume_lines.specs.passed.StageReplyReplyTheVariants as reply
+use Rattle.lvm_volume_lines.specs.passed.StageStageStage.{Stage}
+use Rattle.lvm_volume_lines.proofs.passed.StageEnds.{one_refused}
+use Rattle.lvm_volume_lines.proofs.passed.StageGoing.{same_goes, asked_goes}
+
+-- ---- how many refusals a listing answers
+
+one_shown : (text : List ℕ) (answer : Reply) → Shows text answer → most_refusals answer ≤ 1
+one_shown text answer (InFull is) = subst (λ (a : Reply). most_refusals a ≤ 1) (sym is) (omega arith)
+one_shown text answer (WithoutMemory is) = one_refused answer refusal.Memory is
+
+pub one_group : (volumes : Bool) (name : List ℕ) (session : Option Core) (answer : Reply) → GroupShows volumes name session answer → most_refusals answer ≤ 1
+one_group volumes name session answer (NoGroupToList none is) = one_refused answer refusal.NoGroup is
+one_group volumes name session answer (GroupThatIsOn core some (OtherGroup other is)) = one_refused answer refusal.NoGroup is
+one_group volumes name session answer (GroupThatIsOn core some (ListsGroup its shows)) = one_shown _ answer shows
+
+pub one_volume : (name : List ℕ) (session : Option Core) (answer : Reply) → VolumeShows name session answer → most_refusals answer ≤ 1
+one_volume name session answer (NoGroupForVolume none is) = one_refused answer refusal.NoGroup is
+one_volume name session answer (VolumeOfGroup core some (NoSuchVolume none is)) = one_refused answer refusal.NoVolume is
+one_volume name session answer (VolumeOfGroup core some (ListsVolume lv its shows)) = one_shown _ answer shows
+
+pub one_disk : (disk disks : ℕ) (session : Option Core) (answer : Reply) → DiskShows disk disks session answer → most_refusals answer ≤ 1
+one_disk disk disks session answer (NoGroupForDisk none is) = one_refused answer refusal.NoGroup is
+one_disk disk disks session answer (DiskOfGroup core some (NoSuchMember none is)) = one_refused answer (refusal.NoDisk disk) is
+one_disk disk disks session answer (DiskOfGroup core some (ListsMember row there its shows)) = one_shown _ answer shows
+
+-- ---- lines
+
+-- a session that is on is of the stage's run
+pub stage_named : {S : Type 0} (stage : Stage S) → IfSome (session_in stage) (λ core. core.history.run ≡ (history_in stage).run)
+stage_named {S} stage = by stage.holder
+  where
+    by : (h : Holder S) → IfSome (session_of h) (λ core. core.history.run ≡ (history_of h).run)
+    by (holder.Off shelf history) = tt
+    by (holder.Empty driver) = refl
+    by (holder.Serving driver) = refl
+
+-- what stands before a line
+pub record Before (log : Log) (old : State) : Type 0 where
+  pub whole : HasSectors old.moment.device
+  pub between : IsBetween old.moment old.session old.posts
+  pub named : IfSome old.session (λ core. core.history.run ≡ log.run)
 
 -- a line that is read so
 pub line_read :
-    (log : Log) (room : Room) (line : List ℕ) (read : Result (Option Command) Misfit) (answer : Reply) (old new : State) → line_of line ≡ read → LineDoes log room read old new answer → GoesOn log.run answer old new
-    → ((IsOrder read → ⊥) → new.moment.device.orders ≡ old.moment.device.orders) → HasSectors old.moment.device → IsLine log room line answer old new
-line_read log room line read answer old new is does goes orders whole = record {
+    (log : Log) (room : Room) (line : List ℕ) (read : Result (Option Command) Misfit) (answer : Reply) (old new : State) → line_of line ≡ read → LineDoes log room read old new answer → GoesOn log.run (role_of read) answer old new
+    → ((IsOrder read → ⊥) → new.moment.device.orders ≡ old.moment.device.orders) → Before log old → IsLine log room line answer old new
+line_read log room line read answer old new is does goes orders before = record {
   does = subst (λ (r : Result (Option Command) Misfit). LineDoes log room r old new answer) (sym is) does;
-  goes = goes;
+  goes = subst (λ (r : Result (Option Command) Misfit). GoesOn log.run (role_of r) answer old new) (sym is) goes;
   orders = subst (λ (r : Result (Option Command) Misfit). (IsOrder r → ⊥) → new.moment.device.orders ≡ old.moment.device.orders) (sym is) orders;
-  whole = whole;
+  whole = before.whole;
+  between = before.between;
+  named = before.named;
 }
 
 -- a line that changes nothing
 pub line_still :
-    (log : Log) (room : Room) (line : List ℕ) (read : Result (Option Command) Misfit) (answer : Reply) (old new : State) → line_of line ≡ read → LineDoes log room read old new answer → IsSettled old.moment old.session → new ≡ old
-    → HasSectors old.moment.device → IsLine log room line answer old new
-line_still log room line read answer old new is does settled same whole =
-    line_read log room line read answer old new is does (same_goes log.run answer old new settled same) (λ no_order. ap (λ (s : State). s.moment.device.orders) same) whole
+    (log : Log) (room : Room) (line : List ℕ) (read : Result (Option Command) Misfit) (answer : Reply) (old new : State) → line_of line ≡ read → LineDoes log room read old new answer → most_refusals answer ≤ 1 → new ≡ old → Before log old
+    → IsLine log room line answer old new
+line_still log room line read answer old new is does one same before =
+    line_read log room line read answer old new is does (same_goes log.run (role_of read) answer old new before.between one same) (λ no_order. ap (λ (s : State). s.moment.device.orders) same) before
 
 -- a line for which no memory was found, while a group is on or none is
 pub line_unread :
     (log : Log) (room : Room) (line : List ℕ) (answer : Reply) (old new : State) → IsMkvgLine (line_of line) → (IsSome old.session → answer ≡ reply.Refused refusal.GroupOn) → (old.session ≡ None → answer ≡ reply.Refused refusal.Memory) → IsAsked old new
-    → IsSettled old.moment old.session → HasSectors old.moment.device → IsLine log room line answer old new
-line_unread log room line answer old new mkvg on off asked settled whole = record {
+    → Before log old → IsLine log room line answer old new
+line_unread log room line answer old new mkvg on off asked before = record {
   does = of_mkvg (line_of line) mkvg;
-  goes = asked_goes log.run answer old new settled asked;
+  goes = asked_goes log.run (role_of (line_of line)) answer old new before.between (one old.session refl) asked;
   orders = λ no_order. ap (λ (s : State). s.moment.device.orders) asked.same;
-  whole = whole;
+  whole = before.whole;
+  between = before.between;
+  named = before.named;
 }
   where
+    one : (session : Option Core) → old.session ≡ session → most_refusals answer ≤ 1
+    one None is = one_refused answer refusal.Memory (off is)
+    one (Some core) is = one_refused answer refusal.GroupOn (on (subst IsSome (sym is) refl))
+
     by_session : (force : Bool) (name : List ℕ) (mib : Option ℕ) (disks : List ℕ) (session : Option Core) → old.session ≡ session → MkvgDoes log room force name mib disks old new answer
     by_session force name mib disks None is = NoMemoryForLine is (off is) asked
     by_session force name mib disks (Some core) is = let some : IsSome old.session = subst IsSome (sym is) refl in NoMkvgWhileOn some (on some) asked
@@ -76,15 +126,21 @@ of_command log room it other old new answer is does = subst (λ (c : Command). C
 
 -- so it ends,
 pub done_by : {S : Type 0} (device : S → Device) (room : Room) (it other : Command) (old new : Stage S) (answer : Reply) (before after asked now : ℕ) → it ≡ other
-    → CommandEnds device (λ log. CommandDoes log room other) (IsOrder (Ok (Some other))) old new answer before after → now ≡ asked_after (Ok (Some other)) asked → CommandIsDone device room it old new answer before after asked now
+    → CommandEnds device (λ log. CommandDoes log room other) (IsOrder (Ok (Some other))) (role_of (Ok (Some other))) old new answer before after → now ≡ asked_after (Ok (Some other)) asked → CommandIsDone device room it old new answer before after asked now
 done_by device room it other old new answer before after asked now is ends count =
     subst (λ (c : Command). CommandIsDone device room c old new answer before after asked now) (sym is) (record { ends = ends; asked = count })
 
--- and a listing
-pub listed_by : {S : Type 0} (device : S → Device) (room : Room) (it other : Command) (old new : Stage S) (answer reply : Reply) (last asked : ℕ) → it ≡ other → IsSettledStage device old → new ≡ old → answer ≡ reply
-    → ((log : Log) → CommandDoes log room other (state_in device old last) (state_in device old last) reply) → asked ≡ asked_after (Ok (Some other)) asked → CommandIsDone device room it old new answer last last asked asked
-listed_by device room it other old new answer reply last asked is settled same says does count =
+-- and one that changes nothing
+pub listed_by : {S : Type 0} (device : S → Device) (room : Room) (it other : Command) (old new : Stage S) (answer : Reply) (last asked : ℕ) → it ≡ other → IsFitting old → IsBetweenStage device old → new ≡ old → most_refusals answer ≤ 1
+    → ((log : Log) → state_in device new last ≡ state_in device old last → CommandDoes log room other (state_in device old last) (state_in device new last) answer) → asked ≡ asked_after (Ok (Some other)) asked
+    → CommandIsDone device room it old new answer last last asked asked
+listed_by device room it other old new answer last asked is fits between same one does count =
     done_by device room it other old new answer last last asked asked is
-    (ends_as device (λ log. CommandDoes log room other) (IsOrder (Ok (Some other))) old old new old answer reply last last refl same says
-    (record { does = does (without_facts (history_in old)); goes = same_goes (history_in old).run reply (state_in device old last) (state_in device old last) settled refl; rooms = refl; orders = λ none. refl }))
+    (record {
+      does = does (without_facts (history_in old)) (ap (λ (s : Stage _). state_in device s last) same);
+      goes = same_goes (history_in old).run (role_of (Ok (Some other))) answer (state_in device old last) (state_in device new last) between one (ap (λ (s : Stage _). state_in device s last) same);
+      rooms = ap (λ (s : Stage _). without_facts (history_in s)) same;
+      fits = subst IsFitting (sym same) fits;
+      orders = λ none. ap (λ (s : Stage _). (device (shelf_in s)).orders) same;
+    })
     count

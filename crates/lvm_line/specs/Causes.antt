@@ -9,13 +9,19 @@ use Rattle.lvm_vol.specs.Log.{Log}
 use Rattle.lvm_commit.specs.Settling.{there}
 use Rattle.lvm_core.specs.declared.parts.Room.{Room}
 use Rattle.lvm_session.specs.State.{Core}
-use Rattle.lvm_group_lines.specs.Groups.{IsBroughtBack}
-use Rattle.lvm_stage.specs.Ends.{patience_of_line}
+use Rattle.lvm_num.specs.declared.descriptor.Descriptor.{Descriptor}
+use Rattle.lvm_disk.specs.Device.{Device}
+use Rattle.lvm_volume_lines.specs.passed.VaryonRestated.{HasNoConsistency}
+use Rattle.lvm_volume_lines.specs.passed.VaryonVaried.{IsRestated, IsRecovered}
+use Rattle.lvm_volume_lines.specs.passed.QuiesceEnds.{Quiesces}
+use Rattle.lvm_volume_lines.specs.passed.DriverDrainDrainFault.{DrainFault}
+use Rattle.lvm_volume_lines.specs.Volumes.{IsUndrained}
+use Rattle.lvm_volume_lines.specs.passed.StageEnds.{patience_of_line}
 use Rattle.lvm_line.specs.Lines.{IsLine}
-use Rattle.lvm_stage.specs.State.{State, IsTimely}
-use Rattle.lvm_stage.specs.declared.reply.Refusal.{Refusal}
-use Rattle.lvm_stage.specs.declared.reply.Refusal.TheVariants as refusal
-use Rattle.lvm_stage.specs.declared.reply.Reply.TheVariants as reply
+use Rattle.lvm_volume_lines.specs.passed.StageState.{IsAtRest, State, IsTimely}
+use Rattle.lvm_volume_lines.specs.passed.StageReplyRefusal.{Refusal}
+use Rattle.lvm_volume_lines.specs.passed.StageReplyRefusalTheVariants as refusal
+use Rattle.lvm_volume_lines.specs.passed.StageReplyReplyTheVariants as reply
 
 -- the disk that a line reads or writes
 abbrev pub disk_of : Result (Option Command) Misfit → Option ℕ
@@ -35,34 +41,65 @@ HasFailed (Ok (Some (command.RawRd on at count))) disk old new = Rose (old.misse
 HasFailed (Ok (Some (command.RawWr on at count word))) disk old new = Rose (old.misses disk) (new.misses disk)
 HasFailed other disk old new = Rose (old.faults disk) (new.faults disk)
 
--- a transfer of a member of the session has failed that wasn't missing
-abbrev pub HasLost : Option Core → Counts → Counts → Type 0
-HasLost None old new = ⊥
-HasLost (Some core) old new = (disk : ℕ) × IsTrue (there core.status disk) × Rose (old.faults disk) (new.faults disk)
+-- The session on whose group a command was made: that which was on, after the turns by which what was under way in it was ended; none where nothing was.
+pub record IsDrained (old : State) (core mid : Core) : Type 0 where
+  pub on : old.session ≡ Some core
+  pub descriptor : mid.descriptor ≡ core.descriptor
+  pub still : IsAtRest old → mid ≡ core
+
+-- a transfer of a member has failed since that wasn't missing then
+pub record HasLost (old : State) (new : Counts) : Type 0 where
+  pub core : Core
+  pub mid : Core
+  pub drained : IsDrained old core mid
+  pub disk : ℕ
+  pub was : IsTrue (there mid.status disk)
+  pub failed : Rose (old.moment.device.counts.faults disk) (new.faults disk)
+
+-- The turns before the command ended for that.
+pub record WasUndrained (why : Refusal) (old new : State) : Type 0 where
+  pub core : Core
+  pub fault : DrainFault
+  pub on : old.session ≡ Some core
+  pub ends : IsUndrained core old new fault (reply.Refused why)
 
 -- Transfers of the line's disk have failed; the votes that are left are at most half, and a transfer of a member has failed; the power was cut; the shelf
 -- waited a million times; transfers of the disk that is named have failed; or the clock's moment isn't later than the one that is told. For the other
 -- refusals nothing has to have happened.
+abbrev pub CauseOf : Result (Option Command) Misfit → Refusal → State → State → Type 0
+CauseOf read refusal.Lost old new = RoseOn (disk_of read) old.moment.device.counts.faults new.moment.device.counts.faults
+CauseOf read refusal.ReadFailed old new = RoseOn (disk_of read) old.moment.device.counts.faults new.moment.device.counts.faults
+CauseOf read (refusal.WentOff have total) old new = (2 * have ≤ total) × HasLost old new.moment.device.counts
+CauseOf read refusal.Dark old new = Rose old.moment.device.counts.cuts new.moment.device.counts.cuts
+CauseOf read refusal.Stuck old new = RoseBy patience_of_line old.moment.device.counts.waits new.moment.device.counts.waits
+CauseOf read (refusal.DiskFailed disk) old new = HasFailed read disk old.moment.device.counts new.moment.device.counts
+CauseOf read (refusal.ClockBack seen) old new = new.last ≤ seen
+CauseOf read other old new = Unit {0}
+
+-- What a line of requests is refused for is told by what it does: how its requests have landed, and why.
 abbrev pub HasCause : Result (Option Command) Misfit → Refusal → State → State → Type 0
-HasCause read refusal.Lost old new = RoseOn (disk_of read) old.moment.device.counts.faults new.moment.device.counts.faults
-HasCause read refusal.ReadFailed old new = RoseOn (disk_of read) old.moment.device.counts.faults new.moment.device.counts.faults
-HasCause read (refusal.WentOff have total) old new = (2 * have ≤ total) × HasLost old.session old.moment.device.counts new.moment.device.counts
-HasCause read refusal.Dark old new = Rose old.moment.device.counts.cuts new.moment.device.counts.cuts
-HasCause read refusal.Stuck old new = RoseBy patience_of_line old.moment.device.counts.waits new.moment.device.counts.waits
-HasCause read (refusal.DiskFailed disk) old new = HasFailed read disk old.moment.device.counts new.moment.device.counts
-HasCause read (refusal.ClockBack seen) old new = new.last ≤ seen
-HasCause read other old new = Unit {0}
+HasCause (Ok (Some (command.Rd name at count))) why old new = Unit {0}
+HasCause (Ok (Some (command.Wr name at count word))) why old new = Unit {0}
+HasCause (Ok (Some (command.Post name at count word))) why old new = Unit {0}
+HasCause (Ok (Some command.Wait)) why old new = Unit {0}
+HasCause (Ok (Some (command.Step turns))) why old new = Unit {0}
+HasCause read why old new = WasUndrained why old new ⊎ CauseOf read why old new
 
 -- Within each line that is refused for what its shelf or the clock did, that has happened.
 abbrev pub CauseLaw : Type 0
 CauseLaw = (log : Log) (room : Room) (line : List ℕ) (why : Refusal) (old new : State) → IsLine log room line (reply.Refused why) old new → HasCause (line_of line) why old new
 
+-- The records of the group stand again, and where no volume of it has consistency it is recovered.
+pub record IsBroughtBack (old new : Device) (group : Descriptor) : Type 0 where
+  pub restated : IsRestated old new group
+  pub recovered : HasNoConsistency group → IsRecovered old new group
+
 -- A group that a line has varied on is on, with its records and data as they should be, recovered where no volume of it has consistency, where the clock's
--- moments rise.
+-- moments rise; from the shelf on which the transfers of before have ended.
 abbrev pub VaryonLaw : Type 0
 VaryonLaw =
     (log : Log) (room : Room) (line name : List ℕ) (old new : State) → line_of line ≡ Ok (Some (command.Varyon name)) → IsLine log room line reply.Ok old new → IsTimely log.run old
-    → (core : Core) × (new.session ≡ Some core) × IsBroughtBack old.moment.device new.moment.device core.descriptor
+    → (core : Core) × (new.session ≡ Some core) × ((quiet : Device) × Quiesces old.moment.device quiet × IsBroughtBack quiet new.moment.device core.descriptor)
 
 -- Where the quorum is lacking nothing was written.
 abbrev pub NoQuorumLaw : Type 0

@@ -1,5 +1,5 @@
 -- What one line of a script does.
-use Rattle.std.specs.Prelude.{◌≡◌, ℕ, List, Option, Some, None, Result, Ok, Err, length}
+use Rattle.std.specs.Prelude.{◌≡◌, ℕ, List, Option, Some, None, Result, Ok, Err, IfSome, length}
 use Rattle.lvm_disk.specs.Device.{Device, HasSectors}
 use Rattle.lvm_disk.specs.declared.shelf.Arrange.TheVariants as arrange
 use Rattle.lvm_io.specs.Count.{next_count}
@@ -9,19 +9,22 @@ use Rattle.lvm_parse.specs.declared.command.Command.TheVariants as command
 use Rattle.lvm_operands.specs.declared.rest.Misfit.{Misfit}
 use Rattle.lvm_parse.specs.Grammar.{line_of}
 use Rattle.lvm_core.specs.declared.parts.Room.{Room}
-use Rattle.lvm_disk_lines.specs.Disks.{ReadDoes, WriteDoes}
-use Rattle.lvm_stage.specs.Ends.{CommandEnds}
-use Rattle.lvm_group_lines.specs.Groups.{MkvgDoes, VaryonDoes, VaryoffDoes}
-use Rattle.lvm_group_lines.specs.Listings.{GroupShows, VolumeShows, DiskShows}
-use Rattle.lvm_stage.specs.Moments.{GoesOn}
-use Rattle.lvm_stage.specs.Replies.{IsRefused}
-use Rattle.lvm_disk_lines.specs.Shelves.{ArrangeDoes, CutDoes}
-use Rattle.lvm_stage.specs.State.{State}
+use Rattle.lvm_volume_lines.specs.passed.DiskLinesDisks.{ReadDoes, WriteDoes}
+use Rattle.lvm_volume_lines.specs.passed.StageEnds.{CommandEnds}
+use Rattle.lvm_volume_lines.specs.passed.GroupLinesGroups.{MkvgDoes, VaryonDoes, VaryoffDoes}
+use Rattle.lvm_volume_lines.specs.passed.GroupLinesListings.{GroupShows, VolumeShows, DiskShows}
+use Rattle.lvm_volume_lines.specs.passed.StageMoments.{GoesOn, Role, Aside, OfGroup, OfRequests}
+use Rattle.lvm_volume_lines.specs.passed.RangeLinesRequests.{RdDoes, WrDoes, PostDoes}
+use Rattle.lvm_volume_lines.specs.passed.RangeLinesStepping.{StepDoes}
+use Rattle.lvm_volume_lines.specs.passed.RangeLinesWaiting.{WaitDoes}
+use Rattle.lvm_volume_lines.specs.passed.StageReplies.{IsRefused}
+use Rattle.lvm_volume_lines.specs.passed.DiskLinesShelves.{ArrangeDoes, CutDoes}
+use Rattle.lvm_volume_lines.specs.passed.StageState.{IsBetween, State}
 use Rattle.lvm_volume_lines.specs.Volumes.{MklvDoes, RmlvDoes, wanted}
-use Rattle.lvm_stage.specs.declared.reply.Refusal.TheVariants as refusal
-use Rattle.lvm_stage.specs.declared.reply.Reply.{Reply}
-use Rattle.lvm_stage.specs.declared.reply.Reply.TheVariants as reply
-use Rattle.lvm_stage.specs.declared.stage.Stage.{Stage}
+use Rattle.lvm_volume_lines.specs.passed.StageReplyRefusalTheVariants as refusal
+use Rattle.lvm_volume_lines.specs.passed.StageReplyReply.{Reply}
+use Rattle.lvm_volume_lines.specs.passed.StageReplyReplyTheVariants as reply
+use Rattle.lvm_volume_lines.specs.passed.StageStageStage.{Stage}
 
 -- a listing leaves the whole state
 abbrev pub IsListed : State → State → Type 0 → Type 0
@@ -35,6 +38,13 @@ CommandDoes log room (command.Varyoff name) old new answer = VaryoffDoes name ol
 CommandDoes log room (command.Lsvg volumes name) old new answer = IsListed old new (GroupShows volumes name old.session answer)
 CommandDoes log room (command.Mklv name copies mode policy group lps) old new answer = MklvDoes (wanted name copies mode policy lps) group old new answer
 CommandDoes log room (command.Rmlv name) old new answer = RmlvDoes name old new answer
+CommandDoes log room (command.Mklvcopy name copies) old new answer = IsRefused (refusal.BadLine 1) answer old new
+CommandDoes log room (command.Rmlvcopy name copies) old new answer = IsRefused (refusal.BadLine 1) answer old new
+CommandDoes log room (command.Rd name at count) old new answer = RdDoes name at count old new answer
+CommandDoes log room (command.Wr name at count word) old new answer = WrDoes name at count word old new answer
+CommandDoes log room (command.Post name at count word) old new answer = PostDoes name at count word old new answer
+CommandDoes log room command.Wait old new answer = WaitDoes old new answer
+CommandDoes log room (command.Step turns) old new answer = StepDoes turns old new answer
 CommandDoes log room (command.Lslv name) old new answer = IsListed old new (VolumeShows name old.session answer)
 CommandDoes log room (command.Lspv disk) old new answer = IsListed old new (DiskShows disk (length old.moment.device.sizes) old.session answer)
 CommandDoes log room (command.RawRd disk at count) old new answer = ReadDoes log disk at count old new answer
@@ -48,6 +58,17 @@ abbrev pub LineDoes : Log → Room → Result (Option Command) Misfit → State 
 LineDoes log room (Ok None) old new answer = (answer ≡ reply.Silent) × (new ≡ old)
 LineDoes log room (Ok (Some c)) old new answer = CommandDoes log room c old new answer
 LineDoes log room (Err misfit) old new answer = IsRefused (refusal.BadLine misfit.column) answer old new
+
+-- how a line acts on the session that is on
+abbrev pub role_of : Result (Option Command) Misfit → Role
+role_of (Ok (Some (command.Mklv name copies mode policy group lps))) = OfGroup
+role_of (Ok (Some (command.Rmlv name))) = OfGroup
+role_of (Ok (Some (command.Rd name at count))) = OfRequests
+role_of (Ok (Some (command.Wr name at count word))) = OfRequests
+role_of (Ok (Some (command.Post name at count word))) = OfRequests
+role_of (Ok (Some command.Wait)) = OfRequests
+role_of (Ok (Some (command.Step turns))) = OfRequests
+role_of other = Aside
 
 -- `fail`, `heal` and `cut`, which alone arrange something
 abbrev pub IsOrder : Result (Option Command) Misfit → Type 0
@@ -73,12 +94,14 @@ asked_after other asked = asked
 
 -- A command leads from one stage to another by what it does, and the clock was asked so often.
 pub record CommandIsDone {S : Type 0} (device : S → Device) (room : Room) (c : Command) (old new : Stage S) (answer : Reply) (before after asks now : ℕ) : Type 0 where
-  pub ends : CommandEnds device (λ log. CommandDoes log room c) (IsOrder (Ok (Some c))) old new answer before after
+  pub ends : CommandEnds device (λ log. CommandDoes log room c) (IsOrder (Ok (Some c))) (role_of (Ok (Some c))) old new answer before after
   pub asked : now ≡ asked_after (Ok (Some c)) asks
 
--- A line joins two states, of a shelf whose sectors are 512 bytes each.
+-- A line joins two states, of a session of this run, and of a shelf whose sectors are 512 bytes each. Before it nothing stands against it.
 pub record IsLine (log : Log) (room : Room) (line : List ℕ) (answer : Reply) (old new : State) : Type 0 where
   pub does : LineDoes log room (line_of line) old new answer
-  pub goes : GoesOn log.run answer old new
+  pub goes : GoesOn log.run (role_of (line_of line)) answer old new
   pub orders : (IsOrder (line_of line) → ⊥) → new.moment.device.orders ≡ old.moment.device.orders
   pub whole : HasSectors old.moment.device
+  pub between : IsBetween old.moment old.session old.posts
+  pub named : IfSome old.session (λ core. core.history.run ≡ log.run)

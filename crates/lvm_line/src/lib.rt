@@ -1,6 +1,7 @@
 //! What one line of a script asks for, and what it does to a shelf or to the session of the group that is on.
 #![tactic(auto)]
 
+pub mod below;
 mod laws;
 mod line;
 

@@ -1,22 +1,23 @@
 //! One line of a script.
-ghost use Rattle.std.specs.Prelude.{◌≡◌, ℕ, None, IsSome, IfSome, IfNone};
+ghost use Rattle.std.specs.Prelude.{◌≡◌, ◌≤◌, ℕ, None, IsSome, IfSome, IfNone};
 ghost use Rattle.lvm_core.specs.Starting.{IsRoom};
 ghost use Rattle.lvm_core.specs.declared.parts.Room.{Room};
 ghost use Rattle.lvm_vol.specs.Log.{Log};
 ghost use Rattle.lvm_parse.specs.Grammar.{line_of};
 ghost use Rattle.lvm_parse.specs.Within.{IsWithin};
 ghost use Rattle.lvm_line.specs.Lines.{CommandDoes, CommandIsDone, IsLine, IsChange, asked_after};
-ghost use Rattle.lvm_stage.specs.Replies.{IsStuck};
-ghost use Rattle.lvm_stage.specs.Stages.{history_in, session_in, state_in, IsSettledStage};
-ghost use Rattle.lvm_stage.specs.State.{without_facts};
+ghost use Rattle.lvm_volume_lines.specs.passed.StageReplies.{IsStuck, most_refusals};
+ghost use Rattle.lvm_volume_lines.specs.passed.StageStages.{history_in, session_in, state_in, IsBetweenStage, IsFitting};
+ghost use Rattle.lvm_volume_lines.specs.passed.StageState.{without_facts};
 
 use lvm_core::Room;
 use lvm_disk::{Arrange, Shelf};
-use lvm_disk_lines::{do_arrange, do_cut, do_read, do_write};
-use lvm_group_lines::{do_mkvg, do_varyoff, do_varyon, list_disk, list_group, list_volume};
+use lvm_volume_lines::below::lvm_disk_lines::{do_arrange, do_cut, do_read, do_write};
+use lvm_volume_lines::below::lvm_group_lines::{do_mkvg, do_varyoff, do_varyon, list_disk, list_group, list_volume};
 use lvm_io::Clock;
 use lvm_parse::{Command, ParseFault, parse};
-use lvm_stage::{Answered, Refusal, Reply, Stage};
+use lvm_volume_lines::below::lvm_range_lines::{do_post, do_rd, do_step, do_wait, do_wr};
+use lvm_volume_lines::below::lvm_stage::{Answered, Refusal, Reply, Stage};
 use lvm_volume_lines::{do_mklv, do_rmlv};
 use std::alloc::Global;
 
@@ -28,7 +29,8 @@ fn do_command<S: Shelf, C: Clock>(
     room: Room,
     command: Command,
 ) -> Answered<S>
-    requires settled { IsSettledStage S.device stage }
+    requires between { IsBetweenStage S.device stage }
+    requires fits { IsFitting stage }
     requires room { IsRoom room }
     requires within { IsWithin command }
     ensures { CommandIsDone S.device room command stage result.stage result.reply (C.last clock.old) (C.last clock.new) (C.asked clock.old) (C.asked clock.new) }
@@ -64,6 +66,8 @@ fn do_command<S: Shelf, C: Clock>(
             lps,
         } => do_mklv(alloc, stage, name, copies, mode, policy, group, lps),
         Command::Rmlv { name } => do_rmlv(alloc, stage, name),
+        Command::Mklvcopy { name: _, copies: _ } => stage.refused(Refusal::BadLine { column: 1 }),
+        Command::Rmlvcopy { name: _, copies: _ } => stage.refused(Refusal::BadLine { column: 1 }),
         Command::Lslv { name } => {
             let reply = list_volume(alloc, &stage, name);
             stage.answered(reply)
@@ -72,6 +76,21 @@ fn do_command<S: Shelf, C: Clock>(
             let reply = list_disk(alloc, &stage, disk);
             stage.answered(reply)
         }
+        Command::Rd { name, at, count } => do_rd(alloc, stage, name, at, count),
+        Command::Wr {
+            name,
+            at,
+            count,
+            word,
+        } => do_wr(stage, name, at, count, word),
+        Command::Post {
+            name,
+            at,
+            count,
+            word,
+        } => do_post(stage, name, at, count, word),
+        Command::Wait => do_wait(alloc, stage),
+        Command::Step { turns } => do_step(stage, turns),
         Command::RawRd { disk, at, count } => do_read(alloc, stage, disk, at, count),
         Command::RawWr {
             disk,
@@ -92,9 +111,10 @@ fn refuse_unread<S: Shelf>(stage: Stage<S>) -> Answered<S>
     ensures on { IsSome (session_in stage) → result.reply ≡ Reply.Refused Refusal.GroupOn }
     ensures off { session_in stage ≡ None → result.reply ≡ Reply.Refused Refusal.Memory }
 {
-    match stage {
-        Stage::On { driver } => Stage::On { driver }.refused(Refusal::GroupOn),
-        Stage::Off { shelf, history } => Stage::Off { shelf, history }.refused(Refusal::Memory),
+    if stage.is_off() {
+        stage.refused(Refusal::Memory)
+    } else {
+        stage.refused(Refusal::GroupOn)
     }
 }
 
@@ -102,6 +122,7 @@ fn refuse_unread<S: Shelf>(stage: Stage<S>) -> Answered<S>
 fn list<S: Shelf>(alloc: Global, stage: &Stage<S>, command: Command) -> Option<Reply>
     ensures does { IfSome result (λ reply. (log : Log) (room : Room) (last : ℕ) → CommandDoes log room command (state_in S.device stage.now last) (state_in S.device stage.now last) reply) }
     ensures heard { IfSome result (λ reply. IsStuck reply → ⊥) }
+    ensures few { IfSome result (λ reply. most_refusals reply ≤ 1) }
     ensures change { IfNone result (IsChange (Ok (Some command))) }
 {
     match command {
@@ -116,7 +137,7 @@ fn list<S: Shelf>(alloc: Global, stage: &Stage<S>, command: Command) -> Option<R
 /// language, and a listing. None only where it asks for another command, which `do_line` does. The stage isn't given
 /// away for it, so that such lines cost no move of it.
 pub fn answer_line<S: Shelf>(alloc: Global, stage: &Stage<S>, line: &[u8]) -> Option<Reply>
-    requires settled { IsSettledStage S.device stage.now }
+    requires between { IsBetweenStage S.device stage.now }
     ensures line { IfSome result (λ reply. (room : Room) (last : ℕ) → IsLine (without_facts (history_in stage.now)) room line.now reply (state_in S.device stage.now last) (state_in S.device stage.now last)) }
     ensures heard { IfSome result (λ reply. IsStuck reply → ⊥) }
     ensures change { IfNone result (IsChange (line_of line.now)) }
@@ -138,10 +159,12 @@ pub fn do_line<S: Shelf, C: Clock>(
     room: Room,
     line: &[u8],
 ) -> Answered<S>
-    requires settled { IsSettledStage S.device stage }
+    requires between { IsBetweenStage S.device stage }
+    requires fits { IsFitting stage }
     requires room { IsRoom room }
     ensures line { IsLine (without_facts (history_in stage)) room line.now result.reply (state_in S.device stage (C.last clock.old)) (state_in S.device result.stage (C.last clock.new)) }
     ensures rooms { without_facts (history_in result.stage) ≡ without_facts (history_in stage) }
+    ensures fits { IsFitting result.stage }
     ensures asked { C.asked clock.new ≡ asked_after (line_of line.now) (C.asked clock.old) }
 {
     match parse(alloc, line) {

@@ -39,6 +39,10 @@ count_in = number_within 1 4096
 abbrev pub partitions_in : List ℕ → Option ℕ
 partitions_in = number_within 1 65535
 
+-- TURNS: 1 to 1,000,000 turns
+abbrev pub turns_in : List ℕ → Option ℕ
+turns_in = number_within 1 1000000
+
 -- N: 0 to 9 copies
 abbrev pub copies_in : List ℕ → Option ℕ
 copies_in = number_within 0 9

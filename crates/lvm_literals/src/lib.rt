@@ -5,5 +5,5 @@ mod words;
 
 pub use words::{
     copies_of, count_of, disk_of, hex_word, mode_of, name_of, number_of, partitions_of, policy_of,
-    size_of,
+    size_of, turns_of,
 };

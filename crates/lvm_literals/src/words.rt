@@ -1,6 +1,6 @@
 //! What a single word means.
 ghost use Rattle.std.specs.Prelude.{◌≡◌, ◌≤◌, IfSome, if◌then◌else◌};
-ghost use Rattle.lvm_literals.specs.Words.{number_in, number_within, count_in, partitions_in, copies_in, size_in, is_hex_digit, hex_value, word_in, name_in, is_padded, disk_in, mode_in, policy_in};
+ghost use Rattle.lvm_literals.specs.Words.{number_in, number_within, count_in, partitions_in, turns_in, copies_in, size_in, is_hex_digit, hex_value, word_in, name_in, is_padded, disk_in, mode_in, policy_in};
 
 use lvm_num::{Mode, Name, Policy};
 
@@ -56,6 +56,14 @@ pub fn partitions_of(word: &[u8]) -> Option<u32>
 {
     let partitions = number_within(word, 1, 65535)?;
     Some(partitions as u32)
+}
+
+/// How many turns.
+pub fn turns_of(word: &[u8]) -> Option<u32>
+    ensures { result ≡ turns_in word.now }
+{
+    let turns = number_within(word, 1, 1_000_000)?;
+    Some(turns as u32)
 }
 
 /// How many copies.

@@ -1,5 +1,5 @@
 -- How the words of a line are read from the left.
-use Rattle.std.specs.Prelude.{ℕ, ◌==◌, nat_lt, Bool, true, false, ◌&&◌, not, if◌then◌else◌, List, [], ◌∷◌, ◌++◌, length, Option, Some, None, Result, Ok, Err, bytes_eq}
+use Rattle.std.specs.Prelude.{ℕ, ◌==◌, nat_lt, Bool, true, false, ◌&&◌, not, if◌then◌else◌, List, [], ◌∷◌, ◌++◌, length, Option, Some, None, is_some, Result, Ok, Err, bytes_eq}
 use Rattle.std.specs.List.{list_any}
 use Rattle.lvm_operands.specs.declared.range.BlockRange.{BlockRange}
 use Rattle.lvm_operands.specs.declared.rest.Misfit.{Misfit}
@@ -55,6 +55,14 @@ ends l value = ends_of l.words value
 -- the operand with which the line ends
 abbrev pub last : {T : Type 0} → (List ℕ → Option T) → Left → Result T Misfit
 last meaning l = then_ (operand meaning l) (λ value. ends value.1 value.0)
+
+-- whether the next word means something of this kind
+abbrev pub is_next_of : {T : Type 0} → (List ℕ → Option T) → List WordAt → Bool
+is_next_of meaning [] = false
+is_next_of meaning (w ∷ words) = is_some (meaning w.bytes)
+
+unfoldable pub is_next : {T : Type 0} → (List ℕ → Option T) → Left → Bool
+is_next meaning l = is_next_of meaning l.words
 
 -- ---- blocks
 

@@ -10,8 +10,9 @@ mod scan;
 
 pub use disk_list::disks;
 pub use operands::{
-    copies, count, disk, ends, last_disk, last_name, last_partitions, last_pattern, misfit, mode,
-    name, next_column, number, option, partitions, pattern, policy, size,
+    copies, count, disk, ends, is_disk_next, last_copies, last_disk, last_name, last_partitions,
+    last_pattern, last_turns, misfit, mode, name, next_column, number, option, partitions, pattern,
+    policy, size, turns,
 };
 pub use range::{BlockRange, blocks, last_blocks};
 pub use rest::{Misfit, Rest, Word};

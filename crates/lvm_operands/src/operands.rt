@@ -1,14 +1,14 @@
 //! The next word of a line: an operand, an option that stands alone, or none.
 ghost use Rattle.std.specs.Prelude.{◌≡◌, [], MatchResult};
-ghost use Rattle.lvm_literals.specs.Words.{disk_in, number_in, count_in, word_in, name_in, partitions_in, size_in, copies_in, mode_in, policy_in};
-ghost use Rattle.lvm_operands.specs.Reading.{next_column, operand, option, ends, last};
+ghost use Rattle.lvm_literals.specs.Words.{disk_in, number_in, count_in, word_in, name_in, partitions_in, turns_in, size_in, copies_in, mode_in, policy_in};
+ghost use Rattle.lvm_operands.specs.Reading.{next_column, is_next, operand, option, ends, last};
 ghost use Rattle.lvm_operands.specs.Rests.{left, word_at, with_word, Reads};
 
 use crate::rest::{Misfit, Rest, Word};
 use crate::scan::next_word;
 use lvm_literals::{
     copies_of, count_of, disk_of, hex_word, mode_of, name_of, number_of, partitions_of, policy_of,
-    size_of,
+    size_of, turns_of,
 };
 use lvm_num::{Mode, Name, Policy};
 
@@ -97,6 +97,18 @@ pub fn partitions(rest: Rest<'_>) -> Result<(u32, Rest<'_>), Misfit>
     let (word, rest) = word(rest)?;
     match partitions_of(word.bytes) {
         Some(partitions) => Ok((partitions, rest)),
+        None => Err(misfit(word.column)),
+    }
+}
+
+/// TURNS: how many turns.
+#[tactic(auto, using(crate::proofs::NextWord::operand_lacks))]
+pub fn turns(rest: Rest<'_>) -> Result<(u32, Rest<'_>), Misfit>
+    ensures { Reads (operand turns_in (left rest.entry)) result }
+{
+    let (word, rest) = word(rest)?;
+    match turns_of(word.bytes) {
+        Some(turns) => Ok((turns, rest)),
         None => Err(misfit(word.column)),
     }
 }
@@ -203,12 +215,39 @@ pub fn last_partitions(rest: Rest<'_>) -> Result<u32, Misfit>
     ends(rest, partitions)
 }
 
+/// TURNS, and the line ends.
+pub fn last_turns(rest: Rest<'_>) -> Result<u32, Misfit>
+    ensures { result ≡ last turns_in (left rest.entry) }
+{
+    let (turns, rest) = turns(rest)?;
+    ends(rest, turns)
+}
+
+/// N, and the line ends.
+pub fn last_copies(rest: Rest<'_>) -> Result<u8, Misfit>
+    ensures { result ≡ last copies_in (left rest.entry) }
+{
+    let (copies, rest) = copies(rest)?;
+    ends(rest, copies)
+}
+
 /// WORD, and the line ends.
 pub fn last_pattern(rest: Rest<'_>) -> Result<u64, Misfit>
     ensures { result ≡ last word_in (left rest.entry) }
 {
     let (pattern, rest) = pattern(rest)?;
     ends(rest, pattern)
+}
+
+/// Whether a DISK is the next word.
+#[tactic(auto, unfolding(crate::specs::Reading::is_next))]
+pub fn is_disk_next(rest: Rest<'_>) -> bool
+    ensures { result ≡ is_next disk_in (left rest.entry) }
+{
+    match next_word(rest) {
+        Some((word, _)) => disk_of(word.bytes).is_some(),
+        None => false,
+    }
 }
 
 /// The column of the next word, or behind the line where none is left.

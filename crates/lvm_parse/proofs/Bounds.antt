@@ -9,11 +9,11 @@ use Rattle.lvm_parse.specs.declared.command.Command.{Command}
 use Rattle.lvm_parse.specs.declared.command.Command.TheVariants as command
 use Rattle.lvm_operands.specs.declared.rest.Misfit.{Misfit}
 use Rattle.lvm_operands.specs.Line.{WordAt, Left, finished, words_from, left_at, is_plain, is_remark, too_long_or, unreadable_at}
-use Rattle.lvm_literals.specs.Words.{number_in, count_in, partitions_in, word_in, name_in, disk_in}
+use Rattle.lvm_literals.specs.Words.{number_in, count_in, partitions_in, turns_in, copies_in, word_in, name_in, disk_in}
 use Rattle.lvm_operands.specs.declared.range.BlockRange.{BlockRange}
-use Rattle.lvm_operands.specs.Reading.{misfit, then_, or_misfit, column_of, next_column, operand_of, operand, option_of, option, ends_of, ends, last, blocks, last_blocks, Choice, NoOption, Alone, Valued, options_of, options, required, further_disk, one_or_more, disks_of, disks}
+use Rattle.lvm_operands.specs.Reading.{misfit, then_, or_misfit, column_of, next_column, operand_of, operand, option_of, option, ends_of, ends, last, is_next, blocks, last_blocks, Choice, NoOption, Alone, Valued, options_of, options, required, further_disk, one_or_more, disks_of, disks}
 use Rattle.lvm_options.specs.Options.{mkvg_choice, no_mkvg_options, mklv_choice, no_mklv_options}
-use Rattle.lvm_parse.specs.Grammar.{rd, wr, fail, heal, lspv, cut_of, cut, mkvg, varyonvg, varyoffvg, lsvg, mklv, rmlv, lslv, Row, rows, rule, line_of_words, readable, line_of}
+use Rattle.lvm_parse.specs.Grammar.{rd_disk, rd_volume, rd, wr_disk, wr_volume, wr, post, wait, step, fail, heal, lspv, cut_of, cut, mkvg, varyonvg, varyoffvg, lsvg, mklv, rmlv, mklvcopy, rmlvcopy, lslv, Row, rows, rule, line_of_words, readable, line_of}
 
 -- a column from 1 to this one
 abbrev pub IsIn : ℕ → ℕ → Type 0
@@ -70,6 +70,14 @@ operand_then {T} {B} high meaning l within next more = at l.words within.0
     at : (ws : List WordAt) → AreIn high ws → In high (then_ {A = T × Left} (operand_of meaning ws l.end) next)
     at [] words = within.1
     at (w ∷ ws) words = behind ws w.column (meaning w.bytes) words.1 words.0
+
+ends_in : {T : Type 0} (high : ℕ) (l : Left) (value : T) → LeftIn high l → In high (ends l value)
+unfolding ends
+ends_in {T} high l value within = at l.words within.0
+  where
+    at : (ws : List WordAt) → AreIn high ws → In high (ends_of ws value)
+    at [] words = tt
+    at (w ∷ ws) words = words.0
 
 ends_then : {T B : Type 0} (high : ℕ) (l : Left) (value : T) → LeftIn high l → (next : T → Result B Misfit) → ((v : T) → In high (next v)) → In high (then_ (ends l value) next)
 unfolding ends
@@ -178,11 +186,42 @@ last_blocks_then {B} high l within make =
 
 -- ---- the rows
 
+either_in : {T : Type 0} (high : ℕ) (t : Bool) (x y : Result T Misfit) → In high x → In high y → In high (cond t x y)
+either_in high true x y a b = a
+either_in high false x y a b = b
+
+rd_disk_in : (high : ℕ) (l : Left) → LeftIn high l → In high (rd_disk l)
+rd_disk_in high l b = operand_then high disk_in l b _ (λ disk b. last_blocks_then high disk.1 b (λ range. command.RawRd disk.0 range.at range.count))
+
+rd_volume_in : (high : ℕ) (l : Left) → LeftIn high l → In high (rd_volume l)
+rd_volume_in high l b = operand_then high name_in l b _ (λ name b. last_blocks_then high name.1 b (λ range. command.Rd name.0 range.at range.count))
+
 rd_in : (high : ℕ) (l : Left) → LeftIn high l → In high (rd l)
-rd_in high l b = operand_then high disk_in l b _ (λ disk b. last_blocks_then high disk.1 b (λ range. command.RawRd disk.0 range.at range.count))
+rd_in high l b = either_in high (is_next disk_in l) (rd_disk l) (rd_volume l) (rd_disk_in high l b) (rd_volume_in high l b)
+
+wr_disk_in : (high : ℕ) (l : Left) → LeftIn high l → In high (wr_disk l)
+wr_disk_in high l b = operand_then high disk_in l b _ (λ disk b. blocks_then high disk.1 b _ (λ range b. last_then high word_in range.1 b (command.RawWr disk.0 range.0.at range.0.count)))
+
+wr_volume_in : (high : ℕ) (l : Left) → LeftIn high l → In high (wr_volume l)
+wr_volume_in high l b = operand_then high name_in l b _ (λ name b. blocks_then high name.1 b _ (λ range b. last_then high word_in range.1 b (command.Wr name.0 range.0.at range.0.count)))
 
 wr_in : (high : ℕ) (l : Left) → LeftIn high l → In high (wr l)
-wr_in high l b = operand_then high disk_in l b _ (λ disk b. blocks_then high disk.1 b _ (λ range b. last_then high word_in range.1 b (command.RawWr disk.0 range.0.at range.0.count)))
+wr_in high l b = either_in high (is_next disk_in l) (wr_disk l) (wr_volume l) (wr_disk_in high l b) (wr_volume_in high l b)
+
+post_in : (high : ℕ) (l : Left) → LeftIn high l → In high (post l)
+post_in high l b = operand_then high name_in l b _ (λ name b. blocks_then high name.1 b _ (λ range b. last_then high word_in range.1 b (command.Post name.0 range.0.at range.0.count)))
+
+wait_in : (high : ℕ) (l : Left) → LeftIn high l → In high (wait l)
+wait_in high l b = ends_in high l command.Wait b
+
+step_in : (high : ℕ) (l : Left) → LeftIn high l → In high (step l)
+step_in high l b = last_then high turns_in l b command.Step
+
+mklvcopy_in : (high : ℕ) (l : Left) → LeftIn high l → In high (mklvcopy l)
+mklvcopy_in high l b = operand_then high name_in l b _ (λ name b. last_then high copies_in name.1 b (command.Mklvcopy name.0))
+
+rmlvcopy_in : (high : ℕ) (l : Left) → LeftIn high l → In high (rmlvcopy l)
+rmlvcopy_in high l b = operand_then high name_in l b _ (λ name b. last_then high copies_in name.1 b (command.Rmlvcopy name.0))
 
 lspv_in : (high : ℕ) (l : Left) → LeftIn high l → In high (lspv l)
 lspv_in high l b = last_then high disk_in l b command.Lspv
@@ -231,11 +270,7 @@ RowsAreIn [] = ⊤
 RowsAreIn (r ∷ rs) = ((high : ℕ) (l : Left) → LeftIn high l → In high (r.reads l)) × RowsAreIn rs
 
 rows_in : RowsAreIn rows
-rows_in = (mkvg_in, (varyonvg_in, (varyoffvg_in, (lsvg_in, (mklv_in, (rmlv_in, (lslv_in, (rd_in, (wr_in, (lspv_in, (fail_in, (heal_in, (cut_in, tt)))))))))))))
-
-either_in : {T : Type 0} (high : ℕ) (t : Bool) (x y : Result T Misfit) → In high x → In high y → In high (cond t x y)
-either_in high true x y a b = a
-either_in high false x y a b = b
+rows_in = (mkvg_in, (varyonvg_in, (varyoffvg_in, (lsvg_in, (mklv_in, (rmlv_in, (mklvcopy_in, (rmlvcopy_in, (lslv_in, (rd_in, (wr_in, (post_in, (wait_in, (step_in, (lspv_in, (fail_in, (heal_in, (cut_in, tt))))))))))))))))))
 
 rule_in : (high : ℕ) (rs : List Row) (word : List ℕ) (column : ℕ) (l : Left) → RowsAreIn rs → IsIn high column → LeftIn high l → In high (rule rs word column l)
 rule_in high [] word column l each own b = own

@@ -9,18 +9,18 @@ use Rattle.lvm_num.specs.Descriptor.{is_size}
 use Rattle.lvm_num.specs.Name.{is_name}
 use Rattle.lvm_num.specs.declared.descriptor.Mode.{Mode}
 use Rattle.lvm_num.specs.declared.descriptor.Mode.TheVariants.{Off}
-use Rattle.lvm_literals.specs.Words.{only, number_in, number_within, count_in, size_in, name_in, disk_in, word_in, mode_in, partitions_in, copies_in, policy_in}
+use Rattle.lvm_literals.specs.Words.{only, number_in, number_within, count_in, size_in, name_in, disk_in, word_in, mode_in, partitions_in, turns_in, copies_in, policy_in}
 use Rattle.lvm_operands.specs.declared.range.BlockRange.{BlockRange}
 use Rattle.lvm_operands.specs.declared.rest.Misfit.{Misfit}
 use Rattle.lvm_operands.specs.Line.{WordAt, Left, left_at, unreadable_at, is_remark}
-use Rattle.lvm_operands.specs.Reading.{then_, or_misfit, operand_of, operand, option, ends_of, ends, last, blocks, last_blocks, is_new, options, required, is_further, further_disk, disks_of, disks, next_column}
+use Rattle.lvm_operands.specs.Reading.{then_, or_misfit, operand_of, operand, option, ends_of, ends, last, is_next, blocks, last_blocks, is_new, options, required, is_further, further_disk, disks_of, disks, next_column}
 use Rattle.lvm_options.specs.declared.chosen.MkvgOptions.{MkvgOptions}
 use Rattle.lvm_options.specs.declared.chosen.MklvOptions.{MklvOptions}
 use Rattle.lvm_options.specs.Options.{mkvg_choice, no_mkvg_options, mklv_choice, no_mklv_options}
 use Rattle.lvm_options.proofs.Keeping.{mapped, Keeping, keeping_if, options_keep}
 use Rattle.lvm_parse.specs.declared.command.Command.{Command}
 use Rattle.lvm_parse.specs.declared.command.Command.TheVariants as command
-use Rattle.lvm_parse.specs.Grammar.{Row, rows, rule, rd, wr, lspv, fail, heal, cut, cut_of, mkvg, varyonvg, varyoffvg, lsvg, mklv, rmlv, lslv, line_of_words, readable, line_of}
+use Rattle.lvm_parse.specs.Grammar.{Row, rows, rule, rd_disk, rd_volume, rd, wr_disk, wr_volume, wr, post, wait, step, lspv, fail, heal, cut, cut_of, mkvg, varyonvg, varyoffvg, lsvg, mklv, rmlv, mklvcopy, rmlvcopy, lslv, line_of_words, readable, line_of}
 use Rattle.lvm_parse.specs.Within.{IsWithin}
 
 -- ---- what is read
@@ -122,6 +122,14 @@ found_of : {T : Type 0} (o : Option T) (column : ℕ) (v : T) → or_misfit o co
 found_of (Some w) column v is = cc (is)
 found_of None column v is = absurd (cc (is))
 
+fits_ends : (l : Left) (c : Command) → IsWithin c → Fits (ends l c)
+unfolding Fits ends
+fits_ends l c within = go l.words
+  where
+    go : (words : List WordAt) → Fits (ends_of words c)
+    go [] = within
+    go (w ∷ words) = tt
+
 -- ---- the options of `mkvg`
 
 named_word : (word name : List ℕ) → name_in word ≡ Some name → IsTrue (is_name name)
@@ -217,11 +225,44 @@ fits_mkvg l = fits_then (options mkvg_choice no_mkvg_options l) _ (λ o options_
 
 fits_rd : (l : Left) → Fits (rd l)
 unfolding Fits IsCounted
-fits_rd l = fits_then (operand disk_in l) _ (λ disk d. fits_then (last_blocks disk.1) _ (λ range r. last_blocks_counted disk.1 range r))
+fits_rd l =
+    fits_if (is_next disk_in l) (rd_disk l) (rd_volume l)
+    (fits_then (operand disk_in l) _ (λ disk d. fits_then (last_blocks disk.1) _ (λ range r. last_blocks_counted disk.1 range r)))
+    (fits_then (operand name_in l) _ (λ name n. fits_then (last_blocks name.1) _ (λ range r. last_blocks_counted name.1 range r)))
 
 fits_wr : (l : Left) → Fits (wr l)
 unfolding Fits IsCounted
-fits_wr l = fits_then (operand disk_in l) _ (λ disk d. fits_then (blocks disk.1) _ (λ range r. fits_then (last word_in range.1) _ (λ word w. blocks_counted disk.1 range r)))
+fits_wr l =
+    fits_if (is_next disk_in l) (wr_disk l) (wr_volume l)
+    (fits_then (operand disk_in l) _ (λ disk d. fits_then (blocks disk.1) _ (λ range r. fits_then (last word_in range.1) _ (λ word w. blocks_counted disk.1 range r))))
+    (fits_then (operand name_in l) _ (λ name n. fits_then (blocks name.1) _ (λ range r. fits_then (last word_in range.1) _ (λ word w. blocks_counted name.1 range r))))
+
+fits_post : (l : Left) → Fits (post l)
+unfolding Fits IsCounted
+fits_post l = fits_then (operand name_in l) _ (λ name n. fits_then (blocks name.1) _ (λ range r. fits_then (last word_in range.1) _ (λ word w. blocks_counted name.1 range r)))
+
+fits_wait : (l : Left) → Fits (wait l)
+fits_wait l = fits_ends l command.Wait tt
+
+fits_step : (l : Left) → Fits (step l)
+unfolding Fits
+fits_step l = fits_then (last turns_in l) _ (λ turns t.
+    let word = last_means turns_in l turns t in
+    let parts = both (nat_le 1 turns) (nat_le turns 1000000) (only_passes (λ n. nat_le 1 n && nat_le n 1000000) (number_in word.0) turns word.1) in
+    (leb-true 1 turns parts.0, leb-true turns 1000000 parts.1))
+
+few_copies : (l : Left) (copies : ℕ) → last copies_in l ≡ Ok copies → copies ≤ 9
+few_copies l copies is =
+    let word = last_means copies_in l copies is in
+    leb-true copies 9 (both (nat_le 0 copies) (nat_le copies 9) (only_passes (λ n. nat_le 0 n && nat_le n 9) (number_in word.0) copies word.1)).1
+
+fits_mklvcopy : (l : Left) → Fits (mklvcopy l)
+unfolding Fits
+fits_mklvcopy l = fits_then (operand name_in l) _ (λ name n. fits_then (last copies_in name.1) _ (λ copies c. few_copies name.1 copies c))
+
+fits_rmlvcopy : (l : Left) → Fits (rmlvcopy l)
+unfolding Fits
+fits_rmlvcopy l = fits_then (operand name_in l) _ (λ name n. fits_then (last copies_in name.1) _ (λ copies c. few_copies name.1 copies c))
 
 fits_cut : (l : Left) → Fits (cut l)
 unfolding Fits
@@ -277,7 +318,7 @@ RowsFit [] = Unit {0}
 RowsFit (r ∷ rs) = ((l : Left) → Fits (r.reads l)) × RowsFit rs
 
 rows_fit : RowsFit rows
-rows_fit = (fits_mkvg, (fits_varyonvg, (fits_varyoffvg, (fits_lsvg, (fits_mklv, (fits_rmlv, (fits_lslv, (fits_rd, (fits_wr, (fits_lspv, (fits_fail, (fits_heal, (fits_cut, tt)))))))))))))
+rows_fit = (fits_mkvg, (fits_varyonvg, (fits_varyoffvg, (fits_lsvg, (fits_mklv, (fits_rmlv, (fits_mklvcopy, (fits_rmlvcopy, (fits_lslv, (fits_rd, (fits_wr, (fits_post, (fits_wait, (fits_step, (fits_lspv, (fits_fail, (fits_heal, (fits_cut, tt))))))))))))))))))
 
 fits_rule : (rs : List Row) (word : List ℕ) (column : ℕ) (l : Left) → RowsFit rs → Fits (rule rs word column l)
 unfolding Fits

@@ -8,18 +8,47 @@ use Rattle.lvm_options.specs.declared.chosen.MkvgOptions.{MkvgOptions}
 use Rattle.lvm_options.specs.declared.chosen.MklvOptions.{MklvOptions}
 use Rattle.lvm_options.specs.Options.{mkvg_choice, no_mkvg_options, mklv_choice, no_mklv_options}
 use Rattle.lvm_operands.specs.Line.{WordAt, Left, left_at, unreadable_at, is_remark}
-use Rattle.lvm_literals.specs.Words.{partitions_in, word_in, name_in, disk_in}
-use Rattle.lvm_operands.specs.Reading.{misfit, then_, next_column, operand, option, last, blocks, last_blocks, options, required, disks}
+use Rattle.lvm_literals.specs.Words.{partitions_in, turns_in, copies_in, word_in, name_in, disk_in}
+use Rattle.lvm_operands.specs.Reading.{misfit, then_, next_column, operand, option, ends, last, is_next, blocks, last_blocks, options, required, disks}
 
--- ---- disks
+-- ---- requests
 
 -- `rd DISK BLOCK COUNT`
+abbrev pub rd_disk : Left → Result Command Misfit
+rd_disk l = then_ (operand disk_in l) (λ disk. then_ (last_blocks disk.1) (λ range. Ok (command.RawRd disk.0 range.at range.count)))
+
+-- `rd NAME BLOCK COUNT`
+abbrev pub rd_volume : Left → Result Command Misfit
+rd_volume l = then_ (operand name_in l) (λ name. then_ (last_blocks name.1) (λ range. Ok (command.Rd name.0 range.at range.count)))
+
+-- a DISK is no NAME
 abbrev pub rd : Left → Result Command Misfit
-rd l = then_ (operand disk_in l) (λ disk. then_ (last_blocks disk.1) (λ range. Ok (command.RawRd disk.0 range.at range.count)))
+rd l = if is_next disk_in l then rd_disk l else rd_volume l
 
 -- `wr DISK BLOCK COUNT WORD`
+abbrev pub wr_disk : Left → Result Command Misfit
+wr_disk l = then_ (operand disk_in l) (λ disk. then_ (blocks disk.1) (λ range. then_ (last word_in range.1) (λ word. Ok (command.RawWr disk.0 range.0.at range.0.count word))))
+
+-- `wr NAME BLOCK COUNT WORD`
+abbrev pub wr_volume : Left → Result Command Misfit
+wr_volume l = then_ (operand name_in l) (λ name. then_ (blocks name.1) (λ range. then_ (last word_in range.1) (λ word. Ok (command.Wr name.0 range.0.at range.0.count word))))
+
 abbrev pub wr : Left → Result Command Misfit
-wr l = then_ (operand disk_in l) (λ disk. then_ (blocks disk.1) (λ range. then_ (last word_in range.1) (λ word. Ok (command.RawWr disk.0 range.0.at range.0.count word))))
+wr l = if is_next disk_in l then wr_disk l else wr_volume l
+
+-- `post NAME BLOCK COUNT WORD`
+abbrev pub post : Left → Result Command Misfit
+post l = then_ (operand name_in l) (λ name. then_ (blocks name.1) (λ range. then_ (last word_in range.1) (λ word. Ok (command.Post name.0 range.0.at range.0.count word))))
+
+-- `wait`
+abbrev pub wait : Left → Result Command Misfit
+wait l = ends l command.Wait
+
+-- `step TURNS`
+abbrev pub step : Left → Result Command Misfit
+step l = then_ (last turns_in l) (λ turns. Ok (command.Step turns))
+
+-- ---- disks
 
 -- `fail DISK`
 abbrev pub fail : Left → Result Command Misfit
@@ -77,6 +106,14 @@ mklv l = then_ (options mklv_choice no_mklv_options l) (λ o. new_volume o.0 o.1
 abbrev pub rmlv : Left → Result Command Misfit
 rmlv l = then_ (last name_in (option (codes "-f") l).1) (λ name. Ok (command.Rmlv name))
 
+-- `mklvcopy NAME N`
+abbrev pub mklvcopy : Left → Result Command Misfit
+mklvcopy l = then_ (operand name_in l) (λ name. then_ (last copies_in name.1) (λ copies. Ok (command.Mklvcopy name.0 copies)))
+
+-- `rmlvcopy NAME N`
+abbrev pub rmlvcopy : Left → Result Command Misfit
+rmlvcopy l = then_ (operand name_in l) (λ name. then_ (last copies_in name.1) (λ copies. Ok (command.Rmlvcopy name.0 copies)))
+
 -- `lslv -m NAME`
 abbrev pub lslv : Left → Result Command Misfit
 lslv l = let map = option (codes "-m") l in if map.0 then then_ (last name_in map.1) (λ name. Ok (command.Lslv name)) else misfit (next_column map.1)
@@ -92,10 +129,13 @@ abbrev pub row : List ℕ → (Left → Result Command Misfit) → Row
 row word reads = record { word = word; reads = reads }
 
 abbrev pub rows_of_disks : List Row
-rows_of_disks = row (codes "rd") rd ∷ row (codes "wr") wr ∷ row (codes "lspv") lspv ∷ row (codes "fail") fail ∷ row (codes "heal") heal ∷ row (codes "cut") cut ∷ []
+rows_of_disks = row (codes "lspv") lspv ∷ row (codes "fail") fail ∷ row (codes "heal") heal ∷ row (codes "cut") cut ∷ []
+
+abbrev pub rows_of_requests : List Row
+rows_of_requests = row (codes "rd") rd ∷ row (codes "wr") wr ∷ row (codes "post") post ∷ row (codes "wait") wait ∷ row (codes "step") step ∷ rows_of_disks
 
 abbrev pub rows_of_volumes : List Row
-rows_of_volumes = row (codes "mklv") mklv ∷ row (codes "rmlv") rmlv ∷ row (codes "lslv") lslv ∷ rows_of_disks
+rows_of_volumes = row (codes "mklv") mklv ∷ row (codes "rmlv") rmlv ∷ row (codes "mklvcopy") mklvcopy ∷ row (codes "rmlvcopy") rmlvcopy ∷ row (codes "lslv") lslv ∷ rows_of_requests
 
 abbrev pub rows_of_groups : List Row
 rows_of_groups = row (codes "varyonvg") varyonvg ∷ row (codes "varyoffvg") varyoffvg ∷ row (codes "lsvg") lsvg ∷ rows_of_volumes

@@ -15,6 +15,12 @@ IsWithin (command.Mkvg force name mib disks) = (1 ≤ length disks) × AllPairs 
 IsWithin (command.Mklv name copies mode policy group lps) = (1 ≤ lps) × (mode ≡ Off)
 IsWithin (command.RawRd disk at count) = (1 ≤ count) × (count ≤ 4096)
 IsWithin (command.RawWr disk at count word) = (1 ≤ count) × (count ≤ 4096)
+IsWithin (command.Rd name at count) = (1 ≤ count) × (count ≤ 4096)
+IsWithin (command.Wr name at count word) = (1 ≤ count) × (count ≤ 4096)
+IsWithin (command.Post name at count word) = (1 ≤ count) × (count ≤ 4096)
+IsWithin (command.Step turns) = (1 ≤ turns) × (turns ≤ 1000000)
+IsWithin (command.Mklvcopy name copies) = copies ≤ 9
+IsWithin (command.Rmlvcopy name copies) = copies ≤ 9
 IsWithin other = Unit {0}
 
 -- at one of its columns, counted from 1, or behind its last byte

@@ -47,6 +47,18 @@ pub enum Command {
     Rmlv {
         name: Name,
     },
+    /// `mklvcopy NAME N`: give each logical partition of a volume so many copies, at least those it has.
+    Mklvcopy {
+        name: Name,
+        /// 0 to 9.
+        copies: u8,
+    },
+    /// `rmlvcopy NAME N`: leave each so many of those it has.
+    Rmlvcopy {
+        name: Name,
+        /// 0 to 9.
+        copies: u8,
+    },
     /// `lslv -m NAME`: list where a volume's copies lie.
     Lslv {
         name: Name,
@@ -54,6 +66,33 @@ pub enum Command {
     /// `lspv DISK`: list a member of the group.
     Lspv {
         disk: u16,
+    },
+    /// `rd NAME BLOCK COUNT`: read 1 to 4,096 blocks of a volume.
+    Rd {
+        name: Name,
+        at: u64,
+        count: u32,
+    },
+    /// `wr NAME BLOCK COUNT WORD`: write 1 to 4,096 blocks of a volume, the first filled with the word,
+    /// each next one with one more.
+    Wr {
+        name: Name,
+        at: u64,
+        count: u32,
+        word: u64,
+    },
+    /// `post NAME BLOCK COUNT WORD`: ask for such a write, and don't wait for it.
+    Post {
+        name: Name,
+        at: u64,
+        count: u32,
+        word: u64,
+    },
+    /// `wait`: wait for the writes that were posted.
+    Wait,
+    /// `step TURNS`: make 1 to 1,000,000 turns.
+    Step {
+        turns: u32,
     },
     /// `rd DISK BLOCK COUNT`: read 1 to 4,096 blocks of a disk.
     RawRd {

@@ -17,6 +17,7 @@
 //! | `COUNT` | a number from 1 to 4,096 |
 //! | `MIB` | a power of two from 1 to 1,024 |
 //! | `N` | a number from 0 to 9 |
+//! | `TURNS` | a number from 1 to 1,000,000 |
 //! | `LPS` | a number from 1 to 65,535 |
 //! | `WORD` | 16 hexadecimal digits of either case |
 //!
@@ -28,10 +29,15 @@
 //! | `lsvg [-l] NAME` | list the group, or with `-l` its volumes |
 //! | `mklv -y NAME [-c N] -w n [-d POLICY] NAME LPS` | make a volume, the first name, in the group, the second, of so many logical partitions; `-c` is the number of copies, 1 where it isn't given; `-d` is `p` (parallel, where it isn't given), `s` (sequential), `ps` or `pr` |
 //! | `rmlv [-f] NAME` | remove a volume; `-f` changes nothing |
+//! | `mklvcopy NAME N` | give each logical partition of a volume so many copies |
+//! | `rmlvcopy NAME N` | leave each so many |
 //! | `lslv -m NAME` | list where a volume's copies lie |
 //! | `lspv DISK` | list a member of the group |
-//! | `rd DISK BLOCK COUNT` | read blocks of a disk |
-//! | `wr DISK BLOCK COUNT WORD` | write blocks of a disk, the first filled with the word, each next one with one more |
+//! | `rd NAME BLOCK COUNT`, `rd DISK BLOCK COUNT` | read blocks of a volume, or of a disk |
+//! | `wr NAME BLOCK COUNT WORD`, `wr DISK BLOCK COUNT WORD` | write blocks of a volume, or of a disk, the first filled with the word, each next one with one more |
+//! | `post NAME BLOCK COUNT WORD` | ask for such a write of a volume, and don't wait for it |
+//! | `wait` | wait for the writes that were posted |
+//! | `step TURNS` | make so many turns |
 //! | `fail DISK`, `heal DISK` | let a disk fail; let it work again |
 //! | `cut [WORD]` | cut the power; the word, 0 where it isn't given, says what is kept of the writes that were out |
 //!

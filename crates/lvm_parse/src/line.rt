@@ -1,13 +1,14 @@
 //! A line as a whole.
 ghost use Rattle.std.specs.Prelude.{◌≡◌, ◌↔◌, ℕ, IfOk, Ok, Err};
 ghost use Rattle.lvm_operands.specs.Reading.{misfit};
-ghost use Rattle.lvm_parse.specs.Grammar.{rows_of_disks, rows_of_volumes, rows_of_groups, rows, rule, line_of_words, line_of};
+ghost use Rattle.lvm_parse.specs.Grammar.{rows_of_disks, rows_of_requests, rows_of_volumes, rows_of_groups, rows, rule, line_of_words, line_of};
 ghost use Rattle.lvm_operands.specs.Rests.{left};
 ghost use Rattle.lvm_parse.specs.Answering.{Answers, AnswersLine, IsMkvgLine};
 
 use crate::command::{Command, ParseFault};
 use crate::rules::{
-    cut, fail, heal, lslv, lspv, lsvg, mklv, mkvg, rd, rmlv, varyoffvg, varyonvg, wr,
+    cut, fail, heal, lslv, lspv, lsvg, mklv, mklvcopy, mkvg, post, rd, rmlv, rmlvcopy, step,
+    varyoffvg, varyonvg, wait, wr,
 };
 use lvm_operands::{Misfit, Rest, Word, is_remark, misfit, next_word, unreadable_at};
 use std::alloc::Global;
@@ -17,11 +18,7 @@ fn disk_command(word: Word<'_>, rest: Rest<'_>) -> Result<Command, Misfit>
     ensures { result ≡ rule rows_of_disks word.entry.bytes.now word.entry.column (left rest.entry) }
 {
     let name = word.bytes;
-    if name == b"rd".as_slice() {
-        rd(rest)
-    } else if name == b"wr".as_slice() {
-        wr(rest)
-    } else if name == b"lspv".as_slice() {
+    if name == b"lspv".as_slice() {
         lspv(rest)
     } else if name == b"fail".as_slice() {
         fail(rest)
@@ -34,6 +31,26 @@ fn disk_command(word: Word<'_>, rest: Rest<'_>) -> Result<Command, Misfit>
     }
 }
 
+// So of requests.
+fn request_command(word: Word<'_>, rest: Rest<'_>) -> Result<Command, Misfit>
+    ensures { result ≡ rule rows_of_requests word.entry.bytes.now word.entry.column (left rest.entry) }
+{
+    let name = word.bytes;
+    if name == b"rd".as_slice() {
+        rd(rest)
+    } else if name == b"wr".as_slice() {
+        wr(rest)
+    } else if name == b"post".as_slice() {
+        post(rest)
+    } else if name == b"wait".as_slice() {
+        wait(rest)
+    } else if name == b"step".as_slice() {
+        step(rest)
+    } else {
+        disk_command(word, rest)
+    }
+}
+
 // So of volumes.
 fn volume_command(word: Word<'_>, rest: Rest<'_>) -> Result<Command, Misfit>
     ensures { result ≡ rule rows_of_volumes word.entry.bytes.now word.entry.column (left rest.entry) }
@@ -43,10 +60,14 @@ fn volume_command(word: Word<'_>, rest: Rest<'_>) -> Result<Command, Misfit>
         mklv(rest)
     } else if name == b"rmlv".as_slice() {
         rmlv(rest)
+    } else if name == b"mklvcopy".as_slice() {
+        mklvcopy(rest)
+    } else if name == b"rmlvcopy".as_slice() {
+        rmlvcopy(rest)
     } else if name == b"lslv".as_slice() {
         lslv(rest)
     } else {
-        disk_command(word, rest)
+        request_command(word, rest)
     }
 }
 

@@ -1,21 +1,22 @@
 //! The lines of the language: each rule reads what follows the line's first word.
 ghost use Rattle.std.specs.Prelude.{◌≡◌};
-ghost use Rattle.lvm_parse.specs.Grammar.{rd, wr, fail, heal, lspv, cut, new_group, mkvg, varyonvg, varyoffvg, lsvg, new_volume, mklv, rmlv, lslv};
+ghost use Rattle.lvm_parse.specs.Grammar.{rd_disk, rd_volume, rd, wr_disk, wr_volume, wr, post, wait, step, fail, heal, lspv, cut, new_group, mkvg, varyonvg, varyoffvg, lsvg, new_volume, mklv, rmlv, mklvcopy, rmlvcopy, lslv};
 ghost use Rattle.lvm_operands.specs.Rests.{left};
 ghost use Rattle.lvm_parse.specs.Answering.{Answers};
 
 use crate::command::{Command, ParseFault};
 use lvm_num::{Policy, Rows};
 use lvm_operands::{
-    Misfit, Rest, blocks, disk, disks, last_blocks, last_disk, last_name, last_partitions,
-    last_pattern, misfit, name, next_column, next_word, option,
+    Misfit, Rest, blocks, disk, disks, ends, is_disk_next, last_blocks, last_copies, last_disk,
+    last_name, last_partitions, last_pattern, last_turns, misfit, name, next_column, next_word,
+    option,
 };
 use lvm_options::{MklvOptions, MkvgOptions, mklv_options, mkvg_options};
 use std::alloc::Global;
 
-/// `rd DISK BLOCK COUNT`
-pub fn rd(rest: Rest<'_>) -> Result<Command, Misfit>
-    ensures { result ≡ rd (left rest.entry) }
+// `rd DISK BLOCK COUNT`
+fn rd_disk(rest: Rest<'_>) -> Result<Command, Misfit>
+    ensures { result ≡ rd_disk (left rest.entry) }
 {
     let (disk, rest) = disk(rest)?;
     let range = last_blocks(rest)?;
@@ -26,9 +27,37 @@ pub fn rd(rest: Rest<'_>) -> Result<Command, Misfit>
     })
 }
 
-/// `wr DISK BLOCK COUNT WORD`
-pub fn wr(rest: Rest<'_>) -> Result<Command, Misfit>
-    ensures { result ≡ wr (left rest.entry) }
+// `rd NAME BLOCK COUNT`
+fn rd_volume(rest: Rest<'_>) -> Result<Command, Misfit>
+    ensures { result ≡ rd_volume (left rest.entry) }
+{
+    match name(rest) {
+        Ok((name, rest)) => {
+            let range = last_blocks(rest)?;
+            Ok(Command::Rd {
+                name,
+                at: range.at,
+                count: range.count,
+            })
+        }
+        Err(misfit) => Err(misfit),
+    }
+}
+
+/// `rd DISK BLOCK COUNT` and `rd NAME BLOCK COUNT`
+pub fn rd(rest: Rest<'_>) -> Result<Command, Misfit>
+    ensures { result ≡ rd (left rest.entry) }
+{
+    if is_disk_next(rest) {
+        rd_disk(rest)
+    } else {
+        rd_volume(rest)
+    }
+}
+
+// `wr DISK BLOCK COUNT WORD`
+fn wr_disk(rest: Rest<'_>) -> Result<Command, Misfit>
+    ensures { result ≡ wr_disk (left rest.entry) }
 {
     let (disk, rest) = disk(rest)?;
     let (range, rest) = blocks(rest)?;
@@ -39,6 +68,70 @@ pub fn wr(rest: Rest<'_>) -> Result<Command, Misfit>
         count: range.count,
         word,
     })
+}
+
+// `wr NAME BLOCK COUNT WORD`
+fn wr_volume(rest: Rest<'_>) -> Result<Command, Misfit>
+    ensures { result ≡ wr_volume (left rest.entry) }
+{
+    match name(rest) {
+        Ok((name, rest)) => {
+            let (range, rest) = blocks(rest)?;
+            let word = last_pattern(rest)?;
+            Ok(Command::Wr {
+                name,
+                at: range.at,
+                count: range.count,
+                word,
+            })
+        }
+        Err(misfit) => Err(misfit),
+    }
+}
+
+/// `wr DISK BLOCK COUNT WORD` and `wr NAME BLOCK COUNT WORD`
+pub fn wr(rest: Rest<'_>) -> Result<Command, Misfit>
+    ensures { result ≡ wr (left rest.entry) }
+{
+    if is_disk_next(rest) {
+        wr_disk(rest)
+    } else {
+        wr_volume(rest)
+    }
+}
+
+/// `post NAME BLOCK COUNT WORD`
+pub fn post(rest: Rest<'_>) -> Result<Command, Misfit>
+    ensures { result ≡ post (left rest.entry) }
+{
+    match name(rest) {
+        Ok((name, rest)) => {
+            let (range, rest) = blocks(rest)?;
+            let word = last_pattern(rest)?;
+            Ok(Command::Post {
+                name,
+                at: range.at,
+                count: range.count,
+                word,
+            })
+        }
+        Err(misfit) => Err(misfit),
+    }
+}
+
+/// `wait`
+pub fn wait(rest: Rest<'_>) -> Result<Command, Misfit>
+    ensures { result ≡ wait (left rest.entry) }
+{
+    ends(rest, Command::Wait)
+}
+
+/// `step TURNS`
+pub fn step(rest: Rest<'_>) -> Result<Command, Misfit>
+    ensures { result ≡ step (left rest.entry) }
+{
+    let turns = last_turns(rest)?;
+    Ok(Command::Step { turns })
 }
 
 /// `fail DISK`
@@ -109,6 +202,32 @@ pub fn rmlv(rest: Rest<'_>) -> Result<Command, Misfit>
     let (_, rest) = option(rest, b"-f");
     let name = last_name(rest)?;
     Ok(Command::Rmlv { name })
+}
+
+/// `mklvcopy NAME N`
+pub fn mklvcopy(rest: Rest<'_>) -> Result<Command, Misfit>
+    ensures { result ≡ mklvcopy (left rest.entry) }
+{
+    match name(rest) {
+        Ok((name, rest)) => {
+            let copies = last_copies(rest)?;
+            Ok(Command::Mklvcopy { name, copies })
+        }
+        Err(misfit) => Err(misfit),
+    }
+}
+
+/// `rmlvcopy NAME N`
+pub fn rmlvcopy(rest: Rest<'_>) -> Result<Command, Misfit>
+    ensures { result ≡ rmlvcopy (left rest.entry) }
+{
+    match name(rest) {
+        Ok((name, rest)) => {
+            let copies = last_copies(rest)?;
+            Ok(Command::Rmlvcopy { name, copies })
+        }
+        Err(misfit) => Err(misfit),
+    }
 }
 
 /// `lslv -m NAME`

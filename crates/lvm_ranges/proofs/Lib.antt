@@ -1,3 +1,4 @@
+pub mod passed
 pub mod Growing
 pub mod Done
 pub mod Tables

@@ -1,6 +1,7 @@
 //! Ranges of volumes of the group that is on: they are asked for in pieces, and answered once all have landed.
 #![tactic(auto)]
 
+pub mod below;
 mod ask;
 mod landing;
 pub mod laws;

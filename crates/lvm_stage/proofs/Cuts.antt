@@ -1,13 +1,13 @@
 -- Cuts in a history.
-use Rattle.std.proofs.Common.{◌≡◌, ◌+◌, ◌∷◌, ◌++◌, [], ℕ, List, Bool, true, false, if◌then◌else◌, refl, sym, ◌∙◌, ap, subst}
+use Rattle.std.proofs.Common.{◌≡◌, ◌∷◌, ◌++◌, [], ℕ, List, Bool, true, false, if◌then◌else◌, refl, sym, ap, subst}
 use Rattle.lvm_disk.specs.Device.{Device}
 use Rattle.lvm_vol.specs.Facts.{Fact, Cut}
-use Rattle.lvm_vol.specs.Log.{Log, is_uncut, is_uncut_from, is_uncut_after, cut_log}
+use Rattle.lvm_vol.specs.Log.{Log, is_uncut, cut_log}
 use Rattle.lvm_vol.specs.Legal.{IsLater}
-use Rattle.lvm_kept.specs.Moments.{Moment, StaysCalm}
+use Rattle.lvm_kept.specs.Moments.{Moment}
 use Rattle.lvm_steps.specs.Moments.{Keeps}
 use Rattle.lvm_steps.specs.Requests.{at}
-use Rattle.lvm_steps.proofs.Entering.{quiet_goes_on, calm_goes_on}
+use Rattle.lvm_steps.proofs.Entering.{quiet_goes_on}
 use Rattle.lvm_stamps.proofs.Clock.{later_joins}
 use Rattle.lvm_stage.specs.State.{log_with, without_facts}
 
@@ -25,27 +25,8 @@ module _ (P : List Fact → Type 0) (log : Log) (none : P log.facts) (one : P (l
 pub cut_keeps : (run : ℕ) (first : Moment) (device : Device) (log : Log) → Keeps run first (at device log.facts) → Keeps run first (at device (cut_log log).facts)
 cut_keeps run first device log keeps = with_cut (λ facts. Keeps run first (at device facts)) log keeps (quiet_goes_on run first device log.facts Cut keeps tt (λ past begins holds. tt))
 
-pub cut_calm : (first : Moment) (device : Device) (log : Log) → StaysCalm first (at device log.facts) → StaysCalm first (at device (cut_log log).facts)
-cut_calm first device log calm = with_cut (λ facts. StaysCalm first (at device facts)) log calm (calm_goes_on first device log.facts Cut calm tt)
-
 pub cut_later : (moment : ℕ) (log : Log) → IsLater log.facts moment → IsLater (cut_log log).facts moment
 cut_later moment log later = with_cut (λ facts. IsLater facts moment) log later (later_joins moment log.facts (Cut ∷ []) later tt)
-
--- a cut that was entered isn't entered again
-ends_cut : (b : Bool) (facts : List Fact) → is_uncut_from b (facts ++ Cut ∷ []) ≡ false
-ends_cut b [] = refl
-ends_cut b (f ∷ facts) = ends_cut (is_uncut_after b f) facts
-
-pub cut_twice : (log : Log) → cut_log (cut_log log) ≡ cut_log log
-cut_twice log = go (is_uncut log.facts) refl
-  where
-    go : (b : Bool) → is_uncut log.facts ≡ b → cut_log (cut_log log) ≡ cut_log log
-    go true is =
-        let once : cut_log log ≡ log_with log (log.facts ++ Cut ∷ []) = ap (λ (b : Bool). if b then log_with log (log.facts ++ Cut ∷ []) else log) is in
-        ap cut_log once ∙ ap (λ (b : Bool). if b then log_with log ((log.facts ++ Cut ∷ []) ++ Cut ∷ []) else log_with log (log.facts ++ Cut ∷ [])) (ends_cut false log.facts) ∙ sym once
-    go false is =
-        let none : cut_log log ≡ log = ap (λ (b : Bool). if b then log_with log (log.facts ++ Cut ∷ []) else log) is in
-        ap cut_log none
 
 pub cut_rooms : (log : Log) → without_facts (cut_log log) ≡ without_facts log
 cut_rooms log = go (is_uncut log.facts) refl

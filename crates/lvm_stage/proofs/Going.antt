@@ -1,47 +1,46 @@
 -- How states go on: where nothing changes, and steps of the shelf.
-use Rattle.std.proofs.Common.{◌≡◌, ◌+◌, ◌≤◌, ◌∷◌, [], ℕ, List, Option, Some, None, IfSome, refl, sym, ◌∙◌, ap, subst, arith}
+use Rattle.std.proofs.Common.{◌≡◌, ◌+◌, ◌≤◌, ◌∷◌, [], ℕ, List, Option, Some, None, IfSome, IfNone, map, refl, sym, ◌∙◌, ap, subst, arith}
+use Rattle.std.proofs.lemmas.List.{length-map}
 use Rattle.lvm_num.specs.Buffer.{Buffer}
+use Rattle.lvm_num.specs.Votes.{total_votes}
 use Rattle.lvm_disk.specs.Device.{Device, MayLeave}
 use Rattle.lvm_disk.specs.Images.{LeavesNoMore}
 use Rattle.lvm_disk.specs.Paths.{DeviceStep, Path, Here, Then, Freed, Lit}
 use Rattle.lvm_disk.proofs.Paths.{append-path}
 use Rattle.lvm_vol.specs.Facts.{Fact}
+use Rattle.lvm_vol.specs.Log.{is_open}
 use Rattle.lvm_kept.specs.Moments.{Moment}
 use Rattle.lvm_stamps.specs.Behind.{IsAhead}
-use Rattle.lvm_stamps.proofs.Stamps.{later_is_ahead_too}
 use Rattle.lvm_stamps.proofs.Clock.{later_is_later_too}
-use Rattle.lvm_session.specs.State.{Core}
-use Rattle.lvm_stage.specs.Asking.{IsAsked, EndsSession}
-use Rattle.lvm_steps.proofs.Spans.{keeps_still}
+use Rattle.lvm_session.specs.declared.open.Open.{Open}
+use Rattle.lvm_session.specs.State.{Core, votes_there}
+use Rattle.lvm_session.specs.Sound.{waits}
+use Rattle.lvm_core.specs.Sound.{HaveAllLanded}
+use Rattle.lvm_posts.specs.declared.posts.Post.{Post}
+use Rattle.lvm_posts.specs.Posts.{ended_with}
+use Rattle.lvm_quiesce.specs.Behind.{IsAheadEach}
+use Rattle.lvm_quiesce.proofs.Behind.{each_is_behind, later_is_behind_each}
 use Rattle.lvm_transfer.specs.Transfer.{Relights}
-use Rattle.lvm_stage.specs.Moments.{GoesOn}
-use Rattle.lvm_stage.specs.State.{State, IsSettled}
+use Rattle.lvm_stage.specs.Asking.{IsAsked, EndsSession}
+use Rattle.lvm_stage.specs.Moments.{GoesOn, HasBegunHeld, Role}
+use Rattle.lvm_stage.specs.Replies.{most_refusals}
+use Rattle.lvm_stage.specs.Stages.{posts_ended}
+use Rattle.lvm_stage.specs.State.{State, ArePosted, IsBetween, IsOnBetween}
 use Rattle.lvm_stage.specs.declared.reply.Reply.{Reply}
+use Rattle.lvm_stage.proofs.Posting.{end_posts, none_held}
 
--- where nothing changes
-pub still_goes : (run : ℕ) (answer : Reply) (s : State) → IsSettled s.moment s.session → GoesOn run answer s s
-still_goes run answer s settled = record {
-  keeps = λ timely held alone. keeps_still run s.moment;
-  timely = λ timely. timely;
-  held = λ timely held. held;
-  notes = λ timely quiet home. home;
-  left = λ none. none;
-  calm = λ goes past calm. calm;
-  settled = λ goes. settled;
-  power = settled.ready.power;
-  waits = omega arith;
-  clock = omega arith;
-}
+-- ---- the clock
 
-pub same_goes : (run : ℕ) (answer : Reply) (old new : State) → IsSettled old.moment old.session → new ≡ old → GoesOn run answer old new
-same_goes run answer old new settled same = subst (λ (s : State). GoesOn run answer old s) (sym same) (still_goes run answer old settled)
+-- what is ahead of each crash image is ahead of the disks
+pub each_is_ahead : (run moment : ℕ) (device : Device) (facts : List Fact) → IsAheadEach run moment device facts → IsAhead run moment device facts
+each_is_ahead run moment device facts ahead = record { run_is = ahead.run_is; later = ahead.later; behind = each_is_behind moment device ahead.behind }
 
 -- what was ahead is so of a later moment too
-pub ahead_later : (run moment later : ℕ) (device : Device) (facts : List Fact) → moment ≤ later → IsAhead run moment device facts → IsAhead run later device facts
+pub ahead_later : (run moment later : ℕ) (device : Device) (facts : List Fact) → moment ≤ later → IsAheadEach run moment device facts → IsAheadEach run later device facts
 ahead_later run moment later device facts le ahead = record {
   run_is = let r = ahead.run_is in omega (arith, r, le);
   later = later_is_later_too moment later facts le ahead.later;
-  behind = later_is_ahead_too moment later device le ahead.behind;
+  behind = later_is_behind_each moment later device le ahead.behind;
 }
 
 -- a session's moment is up to each later one
@@ -49,47 +48,100 @@ pub session_later : (session : Option Core) (moment later : ℕ) → moment ≤ 
 session_later None moment later le up_to = tt
 session_later (Some core) moment later le up_to = omega (arith, le, up_to)
 
+-- ---- no session begins
+
+-- that goes on,
+pub same_session : (o : Option Core) (P : Core → Type 0) → IfNone o (IfSome o P)
+same_session None P = tt
+same_session (Some core) P = tt
+
+-- that is on already,
+pub was_session : (o : Option Core) (core : Core) (P : Type 0) → o ≡ Some core → IfNone o P
+was_session o core P is = subst (λ (x : Option Core). IfNone x P) (sym is) tt
+
+-- or where none is on afterwards
+pub none_begins : (o : Option Core) → IfNone o (Unit {0})
+none_begins None = tt
+none_begins (Some core) = tt
+
+-- ---- where nothing changes
+
+pub still_goes : (run : ℕ) (role : Role) (answer : Reply) (s : State) → IsBetween s.moment s.session s.posts → most_refusals answer ≤ 1 → GoesOn run role answer s s
+still_goes run role answer s between one = record {
+  keeps = λ timely alone first span stands. (span, λ goes. stands);
+  timely = λ goes timely. timely;
+  left = λ timely. each_is_ahead run (s.last + 1) s.moment.device s.moment.facts timely.ahead;
+  between = λ goes. between;
+  rests = λ others goes rests. rests;
+  begins = λ timely. same_session s.session (HasBegunHeld s.moment.device);
+  power = between.lit.power;
+  waits = omega arith;
+  clock = omega arith;
+  few = omega (arith, one);
+}
+
+pub same_goes : (run : ℕ) (role : Role) (answer : Reply) (old new : State) → IsBetween old.moment old.session old.posts → most_refusals answer ≤ 1 → new ≡ old → GoesOn run role answer old new
+same_goes run role answer old new between one same = subst (λ (s : State). GoesOn run role answer old s) (sym same) (still_goes run role answer old between one)
+
 -- the clock alone was asked
-pub asked_goes : (run : ℕ) (answer : Reply) (old new : State) → IsSettled old.moment old.session → IsAsked old new → GoesOn run answer old new
-asked_goes run answer old new settled asked = subst (λ (s : State). GoesOn run answer old s) (sym asked.same) (record {
-  keeps = λ timely held alone. keeps_still run old.moment;
-  timely = λ timely. record {
-    ahead = ahead_later run (old.last + 1) (new.last + 1) old.moment.device old.moment.facts (omega (arith, later)) timely.ahead;
-    session = session_later old.session old.last new.last later timely.session;
-  };
-  held = λ timely held. held;
-  notes = λ timely quiet home. home;
-  left = λ none. none;
-  calm = λ goes past calm. calm;
-  settled = λ goes. settled;
-  power = settled.ready.power;
+pub asked_goes : (run : ℕ) (role : Role) (answer : Reply) (old new : State) → IsBetween old.moment old.session old.posts → most_refusals answer ≤ 1 → IsAsked old new → GoesOn run role answer old new
+asked_goes run role answer old new between one asked = subst (λ (s : State). GoesOn run role answer old s) (sym asked.same) (record {
+  keeps = λ timely alone first span stands. (span, λ goes. stands);
+  timely = λ goes timely. record { ahead = ahead timely.ahead; session = session_later old.session old.last new.last later timely.session };
+  left = λ timely. each_is_ahead run (new.last + 1) old.moment.device old.moment.facts (ahead timely.ahead);
+  between = λ goes. between;
+  rests = λ others goes rests. record { ready = rests.ready; landed = rests.landed; session = rests.session; posts = rests.posts };
+  begins = λ timely. same_session old.session (HasBegunHeld old.moment.device);
+  power = between.lit.power;
   waits = omega arith;
   clock = later;
+  few = omega (arith, one);
 })
   where
     later : old.last ≤ new.last
     later = asked.asks.later
 
--- a session ends, and nothing else changes
-pub ended_goes : (run : ℕ) (answer : Reply) (old new : State) → IsSettled old.moment old.session → EndsSession old new → GoesOn run answer old new
-ended_goes run answer old new settled ends = subst (λ (s : State). GoesOn run answer old s) (sym is) (record {
-  keeps = λ timely held alone. keeps_still run old.moment;
-  timely = λ timely. record { ahead = timely.ahead; session = tt };
-  held = λ timely held. tt;
-  notes = λ timely quiet home. tt;
-  left = λ none. tt;
-  calm = λ goes past calm. calm;
-  settled = λ goes. record { ready = settled.ready; landed = settled.landed; session = tt };
-  power = settled.ready.power;
+    ahead : IsAheadEach run (old.last + 1) old.moment.device old.moment.facts → IsAheadEach run (new.last + 1) old.moment.device old.moment.facts
+    ahead = ahead_later run (old.last + 1) (new.last + 1) old.moment.device old.moment.facts (omega (arith, later))
+
+-- ---- a session ends of which no request is open, and nothing else changes
+
+pub ended_goes : (run : ℕ) (role : Role) (answer : Reply) (old new : State) (core : Core) → old.session ≡ Some core → core.history.facts ≡ old.moment.facts → core.requests ≡ [] → IsBetween old.moment old.session old.posts
+    → most_refusals answer ≤ 1 → EndsSession old new → GoesOn run role answer old new
+ended_goes run role answer old new core was facts none between one ends = subst (λ (s : State). GoesOn run role answer old s) (sym is) (record {
+  keeps = λ timely alone first span stands. (span, λ goes past begins. tt);
+  timely = λ goes timely. record { ahead = timely.ahead; session = tt };
+  left = λ timely. each_is_ahead run (old.last + 1) old.moment.device old.moment.facts timely.ahead;
+  between = λ goes. record { lit = between.lit; descriptors = between.descriptors; landed = landed; session = tt; posted = posted };
+  rests = λ others goes rests. record { ready = rests.ready; landed = landed; session = tt; posts = ap (map (ended_with have total)) rests.posts };
+  begins = λ timely. none_begins old.session;
+  power = between.lit.power;
   waits = omega arith;
   clock = omega arith;
+  few = let same = length-map old.posts (ended_with have total) in omega (arith, one, same);
 })
   where
-    is : new ≡ record old { session = None }
+    have : ℕ
+    have = votes_there core
+
+    total : ℕ
+    total = total_votes core.descriptor
+
+    is : new ≡ record { moment = old.moment; session = None; posts = map (ended_with have total) old.posts; last = old.last }
     is =
-        ap (λ (m : Moment). record { moment = m; session = new.session; last = new.last }) ends.same
-        ∙ ap (λ (s : Option Core). record { moment = old.moment; session = s; last = new.last }) ends.after
-        ∙ ap (λ (n : ℕ). record { moment = old.moment; session = None; last = n }) ends.clock
+        ap (λ (m : Moment). record { moment = m; session = new.session; posts = new.posts; last = new.last }) ends.same
+        ∙ ap (λ (s : Option Core). record { moment = old.moment; session = s; posts = new.posts; last = new.last }) ends.after
+        ∙ ap (λ (ps : List Post). record { moment = old.moment; session = None; posts = ps; last = new.last }) (ends.posts ∙ ap (λ (s : Option Core). posts_ended s old.posts) was)
+        ∙ ap (λ (n : ℕ). record { moment = old.moment; session = None; posts = map (ended_with have total) old.posts; last = n }) ends.clock
+
+    on : IsOnBetween old.moment.device core
+    on = subst (λ (s : Option Core). IfSome s (IsOnBetween old.moment.device)) was between.session
+
+    landed : HaveAllLanded old.moment.facts
+    landed id = ap (λ (l : List Fact). is_open l id) (sym facts) ∙ on.sound.told.each id ∙ ap (λ (os : List Open). waits os id) none
+
+    posted : ArePosted old.moment.facts None (map (ended_with have total) old.posts)
+    posted = end_posts old.moment.facts old.moment.facts (λ range answered. answered) core have total (none_held core old.moment.facts none) old.posts (subst (λ (s : Option Core). ArePosted old.moment.facts s old.posts) was between.posted)
 
 -- ---- the power is put on again
 

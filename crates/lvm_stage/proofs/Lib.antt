@@ -1,7 +1,10 @@
+pub mod passed
 pub mod Cuts
 pub mod Ends
 pub mod Going
 pub mod Lighting
 pub mod Passive
+pub mod Posting
+pub mod Running
 pub mod Staging
 pub mod Texts

@@ -1,6 +1,7 @@
 -- A line by which the clock is asked, or the session ends, and nothing else happens.
 use Rattle.std.specs.Prelude.{◌≡◌, None}
 use Rattle.lvm_io.specs.Count.{Rose}
+use Rattle.lvm_stage.specs.Stages.{posts_ended}
 use Rattle.lvm_stage.specs.State.{State}
 
 -- the clock was asked, and answered a later moment, or the last one that there is again
@@ -16,4 +17,5 @@ pub record IsAsked (old new : State) : Type 0 where
 pub record EndsSession (old new : State) : Type 0 where
   pub same : new.moment ≡ old.moment
   pub after : new.session ≡ None
+  pub posts : new.posts ≡ posts_ended old.session old.posts
   pub clock : new.last ≡ old.last

@@ -1,3 +1,4 @@
+pub mod passed
 pub mod Asking
 pub mod Ends
 pub mod Lighting

@@ -24,6 +24,6 @@ refusal_of cause.Stuck = refusal.Stuck
 refusal_of cause.Memory = refusal.Memory
 
 -- where the power was cut it is put on again
-abbrev pub IsLit : Cause → Device → Device → Type 0
-IsLit cause.Dark left new = Relights left new
-IsLit other left new = new ≡ left
+abbrev pub IsRelit : Cause → Device → Device → Type 0
+IsRelit cause.Dark left new = Relights left new
+IsRelit other left new = new ≡ left

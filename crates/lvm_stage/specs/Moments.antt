@@ -1,11 +1,16 @@
 -- What holds of the moments of each line.
-use Rattle.std.specs.Prelude.{◌≡◌, ◌≤◌, ℕ, true}
-use Rattle.lvm_kept.specs.Moments.{StaysCalm}
+use Rattle.std.specs.Prelude.{◌≡◌, ◌≤◌, ◌+◌, ℕ, true, IfSome, IfNone, length}
+use Rattle.lvm_disk.specs.Device.{Device, IsReady}
+use Rattle.lvm_kept.specs.Moments.{Moment}
 use Rattle.lvm_steps.specs.Moments.{Keeps}
+use Rattle.lvm_stamps.specs.Behind.{IsAhead}
 use Rattle.lvm_commit.specs.LawsOfVolumes.{IsOneByAllOn}
+use Rattle.lvm_core.specs.Held.{IsHeld}
 use Rattle.lvm_core.specs.Leaves.{EntersVolumes}
-use Rattle.lvm_stage.specs.State.{State, IsSettled, IsTimely, AreHeld, HaveNotesHome, ComesOnQuiet, HaveNoneLeft}
-use Rattle.lvm_stage.specs.Replies.{IsStuck}
+use Rattle.lvm_core.specs.Settled.{IsSettled as IsSettledCore}
+use Rattle.lvm_session.specs.State.{Core}
+use Rattle.lvm_stage.specs.State.{State, IsAtRest, IsBetween, IsTimely, StandsAlone, StandsBy}
+use Rattle.lvm_stage.specs.Replies.{IsStuck, most_refusals}
 use Rattle.lvm_stage.specs.declared.reply.Refusal.TheVariants as refusal
 use Rattle.lvm_stage.specs.declared.reply.Reply.{Reply}
 use Rattle.lvm_stage.specs.declared.reply.Reply.TheVariants as reply
@@ -18,22 +23,52 @@ IsBrokenOff (reply.Refused refusal.Stuck) = Unit {0}
 IsBrokenOff (reply.Refused (refusal.DiskFailed disk)) = Unit {0}
 IsBrokenOff other = ⊥
 
--- At most one group has a quorum among all disks, where a volume's making or removal is entered meanwhile.
-abbrev pub IsAlone : State → State → Type 0
-IsAlone old new = EntersVolumes old.moment.facts new.moment.facts → IsOneByAllOn old.moment.device
+-- what a line does with the session that is on: nothing, a command on its group, or requests
+pub data Role : Type 0 where
+  Aside : Role
+  OfGroup : Role
+  OfRequests : Role
 
--- From one state to the next, where this is answered. While the clock is ahead of the disks, these hold what the session says, and no other group has a
--- quorum among them where a volume is made or removed, the history is legal at each moment between and each crash image is kept with it. While the clock is
--- ahead it stays so, the disks go on holding what a session says, and their notes go on naming what its cache does. No copy is left behind where none was.
--- Unless nothing was heard of a transfer, nothing is under way and no write is open where none was.
-pub record GoesOn (run : ℕ) (answer : Reply) (old new : State) : Type 0 where
-  pub keeps : IsTimely run old → AreHeld old → IsAlone old new → Keeps run old.moment new.moment
-  pub timely : IsTimely run old → IsTimely run new
-  pub held : IsTimely run old → AreHeld old → AreHeld new
-  pub notes : IsTimely run old → ComesOnQuiet old new → HaveNotesHome old → HaveNotesHome new
-  pub left : HaveNoneLeft old → HaveNoneLeft new
-  pub calm : (IsStuck answer → ⊥) → StaysCalm old.moment new.moment
-  pub settled : (IsStuck answer → ⊥) → IsSettled new.moment new.session
+-- it acts on the session
+abbrev pub IsActing : Role → Type 0
+IsActing Aside = ⊥
+IsActing OfGroup = Unit {0}
+IsActing OfRequests = Unit {0}
+
+-- it makes requests of it, or turns, and leaves them under way
+abbrev pub IsRequesting : Role → Type 0
+IsRequesting Aside = ⊥
+IsRequesting OfGroup = ⊥
+IsRequesting OfRequests = Unit {0}
+
+-- At most one group has a quorum among all disks where a volume's making or removal is entered meanwhile, and where a session is acted on whose group has
+-- volumes, which are all in mode off.
+pub record IsAlone (role : Role) (old new : State) : Type 0 where
+  pub enters : EntersVolumes old.moment.facts new.moment.facts → IsOneByAllOn old.moment.device
+  pub acts : IsActing role → IfSome old.session (StandsAlone old.moment.device)
+
+-- A span goes on from the one state to the other, and the disks go on standing by the session, unless nothing was heard of a transfer.
+abbrev pub KeepsStanding : ℕ → Reply → State → State → Type 0
+KeepsStanding run answer old new = (first : Moment) → Keeps run first old.moment → StandsBy run first old → Keeps run first new.moment × ((IsStuck answer → ⊥) → StandsBy run first new)
+
+-- A session begins settled, nothing is out, and its disks hold what it says is committed.
+pub record HasBegunHeld (device : Device) (core : Core) : Type 0 where
+  pub ready : IsReady device
+  pub settled : IsSettledCore core
+  pub held : IsHeld device core
+
+-- From one state to the next, where this is answered. While the clock is ahead of each crash image, and no other group has a quorum where that is asked, what
+-- stood goes on to stand. The clock stays ahead of the disks, and of each crash image unless nothing was heard of a transfer: else the next line may begin, and
+-- at rest too, if none of requests was between.
+pub record GoesOn (run : ℕ) (role : Role) (answer : Reply) (old new : State) : Type 0 where
+  pub keeps : IsTimely run old → IsAlone role old new → KeepsStanding run answer old new
+  pub timely : (IsStuck answer → ⊥) → IsTimely run old → IsTimely run new
+  pub left : IsTimely run old → IsAhead run (new.last + 1) new.moment.device new.moment.facts
+  pub between : (IsStuck answer → ⊥) → IsBetween new.moment new.session new.posts
+  pub rests : (IsRequesting role → ⊥) → (IsStuck answer → ⊥) → IsAtRest old → IsAtRest new
+  pub begins : IsTimely run old → IfNone old.session (IfSome new.session (HasBegunHeld new.moment.device))
   pub power : new.moment.device.power ≡ true
   pub waits : old.moment.device.counts.waits ≤ new.moment.device.counts.waits
   pub clock : old.last ≤ new.last
+  -- each refusal that it answers but one is that of a post that goes with it
+  pub few : most_refusals answer + length new.posts ≤ length old.posts + 1

@@ -25,6 +25,7 @@ shown (refusal.LastFresh lp) = record { number = 17; carried = carried.Lp lp }
 shown (refusal.OutOfRange blocks) = record { number = 18; carried = carried.Number blocks }
 shown refusal.Lost = record { number = 19; carried = carried.Nothing }
 shown refusal.ReadFailed = record { number = 20; carried = carried.Nothing }
+shown (refusal.NoFresh lp) = record { number = 21; carried = carried.Lp lp }
 shown (refusal.WentOff have total) = record { number = 22; carried = carried.Votes have total }
 shown refusal.Dark = record { number = 23; carried = carried.Nothing }
 shown refusal.Stuck = record { number = 24; carried = carried.Nothing }
@@ -33,3 +34,4 @@ shown (refusal.InGroup disk) = record { number = 26; carried = carried.Disk disk
 shown refusal.NoPlan = record { number = 27; carried = carried.Nothing }
 shown refusal.Memory = record { number = 29; carried = carried.Nothing }
 shown refusal.Busy = record { number = 30; carried = carried.Nothing }
+shown (refusal.TableFull held) = record { number = 32; carried = carried.Number held }

@@ -1,6 +1,7 @@
 -- The texts of replies.
 use Rattle.std.specs.Prelude.{◌≡◌, ℕ, List, [], codes}
 use Rattle.lvm_replies.specs.Refusals.{refusal_text}
+use Rattle.lvm_replies.specs.Texts.{stepped_text}
 use Rattle.lvm_stage.specs.Refusals.{shown}
 use Rattle.lvm_stage.specs.State.{State}
 use Rattle.lvm_stage.specs.declared.reply.Refusal.{Refusal}
@@ -12,8 +13,26 @@ use Rattle.lvm_stage.specs.declared.reply.Reply.TheVariants as reply
 abbrev pub reply_text : Reply → List ℕ
 reply_text reply.Silent = []
 reply_text reply.Ok = codes "ok\n"
+reply_text reply.Posted = codes "posted\n"
+reply_text (reply.Stepped turns) = stepped_text turns
 reply_text (reply.Lines text) = text
+reply_text (reply.Answers text refused) = text
 reply_text (reply.Refused why) = refusal_text (shown why)
+
+-- how many refusals it answers: that of each post of a `wait`, and one else
+abbrev pub refusals_of : Reply → ℕ
+refusals_of reply.Silent = 0
+refusals_of reply.Ok = 0
+refusals_of reply.Posted = 0
+refusals_of (reply.Stepped turns) = 0
+refusals_of (reply.Lines text) = 0
+refusals_of (reply.Answers text refused) = refused
+refusals_of (reply.Refused why) = 1
+
+-- how many it may answer, since the line of turns may find no memory
+abbrev pub most_refusals : Reply → ℕ
+most_refusals (reply.Stepped turns) = 1
+most_refusals other = refusals_of other
 
 -- nothing was heard of a transfer, and the run ends
 abbrev pub IsStuck : Reply → Type 0

@@ -1,21 +1,32 @@
 -- What stands between two lines of a script.
-use Rattle.std.specs.Prelude.{◌+◌, ◌≤◌, ℕ, [], List, Option, IfSome, IfNone}
-use Rattle.lvm_disk.specs.Device.{IsReady}
+use Rattle.std.specs.Prelude.{◌≡◌, ◌≢◌, ◌+◌, ◌≤◌, ℕ, [], List, Option, None, IfSome, IfNone, IsSomeAnd, All, AllPairs}
+use Rattle.lvm_disk.specs.Device.{Device, IsReady}
 use Rattle.lvm_vol.specs.Facts.{Fact}
 use Rattle.lvm_vol.specs.Log.{Log}
 use Rattle.lvm_kept.specs.Moments.{Moment}
-use Rattle.lvm_steps.specs.VaryingOn.{HasNoActive}
-use Rattle.lvm_stamps.specs.Behind.{IsAhead}
-use Rattle.lvm_commit.specs.Settling.{NoneIsLeft}
-use Rattle.lvm_session.specs.State.{Core}
+use Rattle.lvm_steps.specs.Moments.{Begins}
+use Rattle.lvm_commit.specs.LawsOfVolumes.{IsOneByAllOn}
+use Rattle.lvm_status.specs.Members.{HasItsRows}
+use Rattle.lvm_session.specs.declared.open.Power.TheVariants as power
+use Rattle.lvm_session.specs.State.{Core, state}
+use Rattle.lvm_session.specs.Sound.{IsLit, IsSound}
+use Rattle.lvm_tie_commands.specs.passed.TieSpares.{LeavesDescriptors}
+use Rattle.lvm_tie_commands.specs.passed.TieStamps.{IsStamped}
 use Rattle.lvm_core.specs.Sound.{HaveAllLanded}
-use Rattle.lvm_core.specs.Held.{IsHeld, AreNotesHome}
 use Rattle.lvm_core.specs.Settled.{IsSettled as IsSettledCore}
+use Rattle.lvm_posts.specs.declared.posts.Post.{Post}
+use Rattle.lvm_posts.specs.Pieces.{IsLaidOut}
+use Rattle.lvm_posts.specs.Posts.{AreAnswered, AreHeld}
+use Rattle.lvm_quiesce.specs.Behind.{IsAheadEach}
+use Rattle.lvm_tie_commands.specs.passed.EarlierEarlier.{AreGone}
+use Rattle.lvm_tie_commands.specs.Standing.{StandsAfter}
+use Rattle.lvm_tie_commands.specs.passed.TieGroupsComing.{AreOff}
 
--- The shelf, what the history has so far, the session of the group that is on, if one is, and the clock's last moment.
+-- The shelf and what the history has so far, the session of the group that is on, if one is, the posts whose answers aren't taken, and the clock's last moment.
 pub record State : Type 0 where
   pub moment : Moment
   pub session : Option Core
+  pub posts : List Post
   pub last : ℕ
 
 -- the history with these entries
@@ -26,30 +37,64 @@ log_with log facts = record log { facts = facts }
 abbrev pub without_facts : Log → Log
 without_facts log = log_with log []
 
--- nothing is under way
-pub record IsSettled (moment : Moment) (on : Option Core) : Type 0 where
-  pub ready : IsReady moment.device
-  pub landed : HaveAllLanded moment.facts
-  pub session : IfSome on IsSettledCore
+-- ---- the posts
 
--- What stands on the disks is of sessions up to the clock's last moment, and so is the run and each group that was varied on in it, that of the session
--- among them.
+-- A post asks for something. While its session is on the table has its requests; once that is gone the history has its answers, which aren't taken, and the
+-- table of a later session none of its requests.
+pub record IsPosted (facts : List Fact) (on : Option Core) (p : Post) : Type 0 where
+  pub laid : IsLaidOut p.asked
+  pub some : 1 ≤ p.asked.pieces
+  pub held : p.ended ≡ None → IsSomeAnd on (λ core. AreHeld core p.asked)
+  pub answered : IfSome p.ended (λ votes. AreAnswered facts p.asked)
+  pub gone : IfSome p.ended (λ votes. IfSome on (λ core. AreGone core p.asked))
+
+-- Each is so, and the numbers of their requests rise.
+pub record ArePosted (facts : List Fact) (on : Option Core) (posts : List Post) : Type 0 where
+  pub each : All (IsPosted facts on) posts
+  pub rise : AllPairs (λ a b. a.asked.first + a.asked.pieces ≤ b.asked.first) posts
+
+-- ---- what is under way
+
+-- A session that is on is sound, and has begun, with a row of its first status for each member; no copy is brought up; and where its group has no volume
+-- nothing is under way in it.
+pub record IsOnBetween (device : Device) (core : Core) : Type 0 where
+  pub power : core.power ≡ power.On
+  pub sound : IsSound (state device core)
+  pub stamped : IsStamped core.status
+  pub rows : HasItsRows core.descriptor core.origin.table
+  pub copy : core.copy ≡ None
+  pub empty : core.descriptor.lvs ≡ [] → IsSettledCore core
+
+-- The power is on, and no buffer was given up; transfers may be out, also of a session that is gone, but to no slot of descriptors. Without a session each
+-- request has landed.
+pub record IsBetween (moment : Moment) (on : Option Core) (posts : List Post) : Type 0 where
+  pub lit : IsLit moment.device
+  pub descriptors : LeavesDescriptors moment.device
+  pub landed : IfNone on (HaveAllLanded moment.facts)
+  pub session : IfSome on (IsOnBetween moment.device)
+  pub posted : ArePosted moment.facts on posts
+
+-- nothing is out, or under way in a session, and no post is left
+pub record IsAtRest (s : State) : Type 0 where
+  pub ready : IsReady s.moment.device
+  pub landed : HaveAllLanded s.moment.facts
+  pub session : IfSome s.session IsSettledCore
+  pub posts : s.posts ≡ []
+
+-- ---- the clock
+
+-- What stands on the disks, or may after a loss of power, is of sessions up to the clock's last moment, and so is the run and each group that was varied on
+-- in it, that of the session among them.
 pub record IsTimely (run : ℕ) (s : State) : Type 0 where
-  pub ahead : IsAhead run (s.last + 1) s.moment.device s.moment.facts
+  pub ahead : IsAheadEach run (s.last + 1) s.moment.device s.moment.facts
   pub session : IfSome s.session (λ core. core.status.stamp.epoch ≤ s.last)
 
--- the disks of a session hold what it says is committed
-abbrev pub AreHeld : State → Type 0
-AreHeld s = IfSome s.session (λ core. IsHeld s.moment.device core)
+-- ---- what stands on the disks
 
--- their notes name what its cache does
-abbrev pub HaveNotesHome : State → Type 0
-HaveNotesHome s = IfSome s.session (λ core. AreNotesHome s.moment.device core)
+-- Where its group has a volume and no request is open, at most one group has a quorum among all disks, and all its volumes are in mode off.
+abbrev pub StandsAlone : Device → Core → Type 0
+StandsAlone device core = core.requests ≡ [] → core.descriptor.lvs ≢ [] → IsOneByAllOn device × AreOff core.descriptor
 
--- no volume of a group that comes on is in mode active: the notes of such a group are left as they were found
-abbrev pub ComesOnQuiet : State → State → Type 0
-ComesOnQuiet old new = IfNone old.session (IfSome new.session (λ core. HasNoActive core.descriptor))
-
--- no copy of a session's volumes is left behind on a member that is missing
-abbrev pub HaveNoneLeft : State → Type 0
-HaveNoneLeft s = IfSome s.session (λ core. NoneIsLeft core.descriptor core.status)
+-- After each earlier history with which the run may have begun, the disks stand by the session, where its group stands alone.
+abbrev pub StandsBy : ℕ → Moment → State → Type 0
+StandsBy run first s = (past : List Fact) → Begins run past first → IfSome s.session (λ core. StandsAlone s.moment.device core → StandsAfter past s.moment.device core)

@@ -1,12 +1,13 @@
 //! What a line is answered.
-ghost use Rattle.std.specs.Prelude.{◌≡◌, IsTrue, IfOk};
+ghost use Rattle.std.specs.Prelude.{◌≡◌, ◌++◌, IsTrue, IfOk, OnOk};
+ghost use Rattle.std.specs.String.{string_bytes};
 ghost use Rattle.lvm_replies.specs.Refusals.{is_refusal};
 ghost use Rattle.lvm_stage.specs.Refusals.{shown};
 ghost use Rattle.lvm_stage.specs.Replies.{reply_text};
 
 use lvm_num::{Memory, Text};
-use lvm_replies::{Carried, show_refusal};
-use std::alloc::Global;
+use lvm_replies::{Carried, push_refusal, show_refusal};
+use std::alloc::{AllocError, Global};
 
 /// Why a line was not carried out, or how it failed. Each has a number and a name of this project's own.
 #[derive(Drop)]
@@ -51,6 +52,8 @@ pub enum Refusal {
     Lost,
     /// 20: a read failed, since its disk did.
     ReadFailed,
+    /// 21: no copy of this logical partition, counted from 0, can be used.
+    NoFresh { lp: u32 },
     /// 22: the members that can be written to have so many votes of so many, too few for the group to
     /// stay on.
     WentOff { have: u32, total: u32 },
@@ -68,6 +71,8 @@ pub enum Refusal {
     Memory,
     /// 30: a request of the session hasn't been answered.
     Busy,
+    /// 32: so many requests are open, and there isn't room for those of the line.
+    TableFull { held: u32 },
 }
 
 /// The answer to a line.
@@ -77,8 +82,14 @@ pub enum Reply {
     Silent,
     /// `ok`.
     Ok,
+    /// `posted`.
+    Posted,
+    /// `stepped`, and how many turns did something.
+    Stepped(u32),
     /// The lines of a listing, or of the blocks that were read.
     Lines(Text),
+    /// The lines of a `wait`: of each post how it ended, and `ok`. So many of them are refusals.
+    Answers { text: Text, refused: u32 },
     /// `refused`, with the refusal's number, its name and what it carries.
     Refused(Refusal),
 }
@@ -115,6 +126,7 @@ fn shown(refusal: &Refusal) -> lvm_replies::Refusal
         Refusal::OutOfRange { blocks } => (18, Carried::Number(*blocks)),
         Refusal::Lost => (19, Carried::Nothing),
         Refusal::ReadFailed => (20, Carried::Nothing),
+        Refusal::NoFresh { lp } => (21, Carried::Lp(*lp)),
         Refusal::WentOff { have, total } => (
             22,
             Carried::Votes {
@@ -129,8 +141,16 @@ fn shown(refusal: &Refusal) -> lvm_replies::Refusal
         Refusal::NoPlan => (27, Carried::Nothing),
         Refusal::Memory => (29, Carried::Nothing),
         Refusal::Busy => (30, Carried::Nothing),
+        Refusal::TableFull { held } => (32, Carried::Number(u64::from(*held))),
     };
     lvm_replies::Refusal { number, carried }
+}
+
+/// Adds the line of a refusal to a text.
+pub fn push_refusal_line(text: &mut String, why: &Refusal) -> Result<(), AllocError>
+    ensures { OnOk result (string_bytes text.new ≡ string_bytes text.old ++ reply_text (Reply.Refused why.now)) }
+{
+    push_refusal(text, &shown(why))
 }
 
 /// The line of a refusal.

@@ -1,24 +1,29 @@
 //! What stands between two lines of a script.
-ghost use Rattle.std.specs.Prelude.{◌≡◌, length, IsTrue, IsFalse, IsSome, IfSome, None};
-ghost use Rattle.std.specs.Option.{option_map};
-ghost use Rattle.lvm_disk.specs.Steps.{MayArrange, ArrangeGives};
-ghost use Rattle.lvm_session.specs.Dark.{after_arrange};
-ghost use Rattle.lvm_stage.specs.Stages.{IsOn, IsNotOn};
-ghost use Rattle.lvm_stage.specs.Stages.{shelf_in, history_in, session_in, history_after, GivesBack};
+ghost use Rattle.std.specs.Prelude.{◌≡◌, ◌↔◌, ℕ, [], length, IsTrue, IsFalse, IsSome, IfSome, IfOk, None};
+ghost use Rattle.lvm_stage.specs.Stages.{GivesBack, HaveRooms, IsCarried, IsEnded, IsNotOn, IsOn, history_in, posts_ended, session_in, session_of, shelf_in};
 
+use crate::holder::Holder;
 use crate::reply::{Refusal, Reply};
-use lvm_core::{Closed, Driver};
-use lvm_disk::{Arrange, Shelf};
-use lvm_history::History;
-use lvm_num::Name;
+use lvm_core::Closed;
+use lvm_disk::Shelf;
+use lvm_tie_commands::below::lvm_driver::Driver;
+use lvm_num::{Memory, Name};
+use lvm_posts::{Post, end_posts};
+use lvm_session::Power;
+use lvm_transfer::relight;
+use std::alloc::Global;
 
-/// What stands between two lines: no group is on, or one is.
+// The bytes of the longest piece of a range.
+const PIECE: usize = 131_072;
+
+/// What stands between two lines: who holds the shelf and the history, and the writes that were posted.
 #[derive(Drop)]
-pub enum Stage<S: Shelf> {
-    /// The shelf beside the history.
-    Off { shelf: S, history: History },
-    /// The session of the group that is on.
-    On { driver: Driver<S> },
+pub struct Stage<S: Shelf> {
+    pub holder: Holder<S>,
+    /// The posts whose answers aren't taken, in their order. There is room for one for each three entries of the history.
+    pub posts: Vec<Post>,
+    /// Room for the bytes of a piece of a range.
+    pub bytes: Vec<u8>,
 }
 
 /// What a line leaves, and what it is answered.
@@ -26,6 +31,39 @@ pub enum Stage<S: Shelf> {
 pub struct Answered<S: Shelf> {
     pub stage: Stage<S>,
     pub reply: Reply,
+}
+
+/// The memory for the posts of a run with so many entries, and for the bytes of a piece. No line takes any for them.
+pub fn take_rooms(alloc: Global, entries: u32) -> Result<(Vec<Post>, Vec<u8>), Memory>
+    ensures { IfOk result (λ rooms. (rooms.0.items ≡ []) × HaveRooms entries rooms.0 rooms.1) }
+{
+    let (Ok(posts), Ok(bytes)) = (
+        Vec::with_capacity(alloc, entries as usize / 3),
+        Vec::with_capacity(alloc, PIECE),
+    ) else {
+        return Err(Memory);
+    };
+    Ok((posts, bytes))
+}
+
+// The posts of a session that ends.
+fn end_session<S: Shelf>(holder: &Holder<S>, posts: &mut [Post])
+    ensures { posts.new ≡ posts_ended (session_of holder.now) posts.old }
+{
+    match holder {
+        Holder::Off {
+            shelf: _,
+            history: _,
+        } => {}
+        Holder::Empty { driver } => {
+            let (have, total) = driver.votes();
+            end_posts(posts, have, total);
+        }
+        Holder::Serving { driver } => {
+            let (have, total) = driver.votes();
+            end_posts(posts, have, total);
+        }
+    }
 }
 
 impl<S: Shelf> Stage<S> {
@@ -49,9 +87,19 @@ impl<S: Shelf> Stage<S> {
     pub fn disks(&self) -> u16
         ensures { result ≡ length (S.device (shelf_in self.now)).sizes }
     {
-        match self {
-            Stage::Off { shelf, history: _ } => shelf.disks(),
-            Stage::On { driver } => driver.disks(),
+        self.holder.disks()
+    }
+
+    /// Whether no group is on.
+    pub fn is_off(&self) -> bool
+        ensures { IsTrue result ↔ (session_in self.now ≡ None) }
+    {
+        match &self.holder {
+            Holder::Off {
+                shelf: _,
+                history: _,
+            } => true,
+            Holder::Empty { driver: _ } | Holder::Serving { driver: _ } => false,
         }
     }
 
@@ -61,37 +109,68 @@ impl<S: Shelf> Stage<S> {
         ensures some { IsTrue result → IsSome (session_in self.now) }
         ensures off { IsFalse result → IsNotOn name (session_in self.now) }
     {
-        match self {
-            Stage::Off {
+        match &self.holder {
+            Holder::Off {
                 shelf: _,
                 history: _,
             } => false,
-            Stage::On { driver } => driver.descriptor().name == name,
+            Holder::Empty { driver } => driver.descriptor().name == name,
+            Holder::Serving { driver } => driver.descriptor().name == name,
         }
     }
 
-    /// Arranges a fault or a power cut on its shelf, where that takes such orders.
-    pub fn arrange(&mut self, what: Arrange) -> bool
-        requires { MayArrange (S.device (shelf_in self.old)) what }
-        ensures shelf { ArrangeGives (S.device (shelf_in self.old)) (S.device (shelf_in self.new)) what result }
-        ensures session { session_in self.new ≡ option_map (after_arrange what result) (session_in self.old) }
-        ensures history { history_in self.new ≡ history_after what result (history_in self.old) (session_in self.old) }
+    /// The stage once its session is over, or nothing was heard of it: the session is closed, its posts have ended with
+    /// its votes, and after a power cut the power is on again. Transfers that are out stay with the shelf.
+    pub fn ended(driver: Driver<S>, posts: Vec<Post>, bytes: Vec<u8>) -> Stage<S>
+        ensures ended { IsEnded S.device driver posts.items result }
+        ensures rooms { (entries : ℕ) → HaveRooms entries posts bytes → HaveRooms entries result.posts result.bytes }
     {
-        match self {
-            Stage::Off { shelf, history: _ } => shelf.arrange(what),
-            Stage::On { driver } => driver.arrange(what),
+        let power = driver.power();
+        let holder = Holder::Serving { driver };
+        let mut posts = posts;
+        end_session(&holder, posts.as_mut_slice());
+        let Closed { mut shelf, history } = holder.close();
+        match power {
+            Power::Dark => relight(&mut shelf),
+            Power::On | Power::Off | Power::Stuck => {}
+        }
+        Stage {
+            holder: Holder::Off { shelf, history },
+            posts,
+            bytes,
         }
     }
 
-    /// Its shelf and its history. A session that is on ends without a write.
-    pub fn close(self) -> Closed<S>
-        ensures shelf { GivesBack (S.device (shelf_in self)) (S.device result.shelf) }
-        ensures off { session_in self ≡ None → S.device result.shelf ≡ S.device (shelf_in self) }
-        ensures history { result.history ≡ history_in self }
+    /// The stage after turns or calls of its session: one that is over has ended.
+    pub fn carried(driver: Driver<S>, posts: Vec<Post>, bytes: Vec<u8>) -> Stage<S>
+        ensures carried { IsCarried S.device driver posts bytes driver.1.power result }
+        ensures rooms { (entries : ℕ) → HaveRooms entries posts bytes → HaveRooms entries result.posts result.bytes }
     {
-        match self {
-            Stage::Off { shelf, history } => Closed { shelf, history },
-            Stage::On { driver } => driver.close(),
+        match driver.power() {
+            Power::On => Stage {
+                holder: Holder::Serving { driver },
+                posts,
+                bytes,
+            },
+            Power::Off | Power::Dark | Power::Stuck => Stage::ended(driver, posts, bytes),
         }
+    }
+
+    /// Ends the session that is on without a write, and gives back the shelf and the history beside the posts, which
+    /// have ended with its votes, and the room for bytes.
+    pub fn close(self) -> (Closed<S>, Vec<Post>, Vec<u8>)
+        ensures shelf { GivesBack (S.device (shelf_in self)) (S.device result.0.shelf) }
+        ensures off { session_in self ≡ None → S.device result.0.shelf ≡ S.device (shelf_in self) }
+        ensures history { result.0.history ≡ history_in self }
+        ensures posts { result.1.items ≡ posts_ended (session_in self) self.posts.items }
+        ensures rooms { (entries : ℕ) → HaveRooms entries self.posts self.bytes → HaveRooms entries result.1 result.2 }
+    {
+        let Stage {
+            holder,
+            mut posts,
+            bytes,
+        } = self;
+        end_session(&holder, posts.as_mut_slice());
+        (holder.close(), posts, bytes)
     }
 }

@@ -122,6 +122,56 @@ fn blocks_are_spelled(rt: HostRuntime) {
 }
 
 #[test]
+fn requests_are_spelled(rt: HostRuntime) {
+    let name = name(&rt, b"lv00");
+    let (at, count, word) = (255, 256, 0xa0);
+    spells(&rt, b"rd lv00 255 256", Command::Rd { name, at, count });
+    spells(
+        &rt,
+        b"wr lv00 255 256 00000000000000a0",
+        Command::Wr {
+            name,
+            at,
+            count,
+            word,
+        },
+    );
+    spells(
+        &rt,
+        b" post lv00  0255 256 00000000000000A0",
+        Command::Post {
+            name,
+            at,
+            count,
+            word,
+        },
+    );
+    spells(&rt, b"wait ", Command::Wait);
+    spells(&rt, b"step 0001000000", Command::Step { turns: 1_000_000 });
+}
+
+static REQUESTS: [(&[u8], u32); 13] = [
+    (b"rd lv00 5", 10),
+    (b"rd hdisk128 5 1", 4),
+    (b"rd hdisk 5 1", 4),
+    (b"wr lv00 0 4097 0000000000000001", 11),
+    (b"wr lv00 0 1 1", 13),
+    (b"post hdisk0 0 1 0000000000000001", 6),
+    (b"post lv00 18446744073709551616 1 0000000000000001", 11),
+    (b"post lv00 0 1", 14),
+    (b"wait now", 6),
+    (b"waits", 1),
+    (b"step 0", 6),
+    (b"step 1000001", 6),
+    (b"step 1 2", 8),
+];
+
+#[test]
+fn requests_that_do_not_fit(rt: HostRuntime) {
+    all_refused(&rt, &REQUESTS);
+}
+
+#[test]
 fn disks_and_cuts_are_spelled(rt: HostRuntime) {
     spells(&rt, b"lspv hdisk3", Command::Lspv { disk: 3 });
     spells(&rt, b"fail hdisk10", Command::Fail { disk: 10 });
@@ -200,6 +250,31 @@ fn volumes_are_spelled(rt: HostRuntime) {
     spells(&rt, b"rmlv lv00", Command::Rmlv { name: lv00 });
     spells(&rt, b"rmlv -f lv00", Command::Rmlv { name: lv00 });
     spells(&rt, b"lslv -m lv00", Command::Lslv { name: lv00 });
+}
+
+#[test]
+fn copies_are_spelled(rt: HostRuntime) {
+    let name = name(&rt, b"lv00");
+    spells(
+        &rt,
+        b"mklvcopy lv00 3",
+        Command::Mklvcopy { name, copies: 3 },
+    );
+    spells(
+        &rt,
+        b"rmlvcopy lv00 00",
+        Command::Rmlvcopy { name, copies: 0 },
+    );
+    all_refused(
+        &rt,
+        &[
+            (b"mklvcopy lv00 10", 15),
+            (b"mklvcopy hdisk0 2", 10),
+            (b"mklvcopy lv00 2 3", 17),
+            (b"rmlvcopy lv00 ", 15),
+            (b"rmlvcopy -f lv00 1", 10),
+        ],
+    );
 }
 
 // The volume lv00 in datavg, without a note.

@@ -3,7 +3,7 @@ ghost use Rattle.lvm_replies.specs.Refusals.{is_refusal};
 
 use crate::fixtures::{check, check_at};
 use lvm_num::{Text, fill};
-use lvm_replies::{Carried, Refusal, show_block, show_refusal};
+use lvm_replies::{Carried, Refusal, push_refusal, show_block, show_refusal, show_stepped};
 use std::process::Abort;
 
 // Whether a refusal has this text.
@@ -85,6 +85,24 @@ fn refusals_of_rooms_and_disks(rt: HostRuntime) {
     says(&rt, 30, Carried::Nothing, b"refused 30 Busy\n");
     says(&rt, 31, Carried::Disk(0), b"refused 31 Missing hdisk0\n");
     says(&rt, 32, Carried::Number(2), b"refused 32 TableFull 2\n");
+}
+
+#[test]
+fn a_refusal_is_added_to_a_text(rt: HostRuntime) {
+    let mut text = String::new(rt.alloc());
+    text.push_str("ok\n").expect(&rt, "memory");
+    let refusal = Refusal {
+        number: 21,
+        carried: Carried::Lp(0),
+    };
+    push_refusal(&mut text, &refusal).expect(&rt, "memory");
+    check(&rt, text.as_str() == "ok\nrefused 21 NoFresh 1\n", "text");
+}
+
+#[test]
+fn turns_are_shown(rt: HostRuntime) {
+    let shown = show_stepped(rt.alloc(), 1_000_000).expect(&rt, "memory");
+    check(&rt, shown.as_str() == "stepped 1000000\n", "turns");
 }
 
 fn block(rt: &(impl Abort + AllocGlobal), at: u64, block: &[u8; 512]) -> Text {

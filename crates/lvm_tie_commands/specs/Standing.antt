@@ -6,8 +6,8 @@ use Rattle.lvm_kept.specs.Moments.{Moment}
 use Rattle.lvm_steps.specs.Moments.{Begins}
 use Rattle.lvm_session.specs.State.{Core, State as Session, state}
 use Rattle.lvm_core.specs.Held.{AreNotesHome, IsHeld}
-use Rattle.lvm_tie.specs.Spares.{SparesDescriptors}
-use Rattle.lvm_tie.specs.Tied.{IsTied}
+use Rattle.lvm_handover.specs.passed.TieSpares.{SparesDescriptors}
+use Rattle.lvm_handover.specs.passed.TieTied.{IsTied}
 
 -- Of a group without volumes: the disks hold what the session says is committed, and their notes name what its cache does.
 pub record HoldsEmpty (device : Device) (core : Core) : Type 0 where

@@ -11,7 +11,7 @@ use Rattle.lvm_top.specs.Run.{Run, Promises, WhereAlone}
 use Rattle.lvm_top.specs.Script.{facts_of}
 use Rattle.lvm_top.specs.Sim.{full_room, IsToldBlank, sim_device}
 use Rattle.lvm_top.proofs.Blanks.{told_earlier, told_behind, sim_earlier, sim_behind}
-use Rattle.lvm_top.proofs.Scripting.{run_upheld}
+use Rattle.lvm_top.proofs.Concluding.{run_upheld}
 
 -- as if nothing had been told before
 upheld_alone : (run : ℕ) (entry exit : Device) (facts : List Fact) → IsEarlier run entry [] → IsUpheld run entry exit facts → Legal (joined [] facts) × ImagesKept exit (joined [] facts)

@@ -1,7 +1,7 @@
 -- What is found after the lines that make a group or vary one on.
-use Rattle.std.proofs.Common.{◌≡◌, ◌≢◌, ◌⊎◌, inl, inr, ⊎_elim, ℕ, ◌-◌, ◌^◌, ◌<◌, ◌++◌, ◌∷◌, [], List, Bool, Option, Some, Ok, refl, sym, ap, subst, ◌∙◌, arith}
+use Rattle.std.proofs.Common.{◌≡◌, ◌≢◌, ◌⊎◌, inl, inr, ⊎_elim, ℕ, ◌+◌, ◌-◌, ◌^◌, ◌<◌, ◌≤◌, ◌++◌, ◌∷◌, [], List, Bool, Option, Some, Result, Ok, Err, length, refl, sym, ap, subst, ◌∙◌, arith}
 use Rattle.lvm_num.specs.declared.descriptor.Descriptor.{Descriptor}
-use Rattle.lvm_disk.specs.Device.{Device, IsReady}
+use Rattle.lvm_disk.specs.Device.{Device}
 use Rattle.lvm_io.specs.Count.{Rose}
 use Rattle.lvm_vol.specs.Log.{Log}
 use Rattle.lvm_parse.specs.declared.command.Command.TheVariants as command
@@ -13,25 +13,30 @@ use Rattle.lvm_core.specs.declared.parts.Room.{Room}
 use Rattle.lvm_core.specs.declared.refused.Cause.{Cause}
 use Rattle.lvm_core.specs.declared.refused.Cause.TheVariants as cause
 use Rattle.lvm_core.specs.Leaves.{MayBeFound}
-use Rattle.lvm_group.specs.NewGroup.{NewGroup, new_group}
-use Rattle.lvm_stage.specs.Ends.{patience_of_line}
-use Rattle.lvm_stage.specs.Lighting.{IsLit}
-use Rattle.lvm_stage.specs.Asking.{Asks, IsAsked}
-use Rattle.lvm_group_lines.specs.Groups.{MkvgDoes, NoMemoryForLine, NoMkvgWhileOn, MakesGroup, MkvgFails, VaryonDoes, NoVaryonWhileOn, VariesOn, VaryonFails, asked_for}
-use Rattle.lvm_stage.specs.Moments.{IsBrokenOff}
-use Rattle.lvm_stage.specs.State.{State, IsTimely, log_with}
-use Rattle.lvm_stage.specs.declared.reply.Reply.{Reply}
-use Rattle.lvm_stage.specs.declared.reply.Reply.TheVariants as reply
-use Rattle.lvm_group_lines.proofs.Coming.{clock_is_ahead}
-use Rattle.lvm_stage.proofs.Lighting.{lit_up}
-use Rattle.lvm_group_lines.proofs.Making.{leaves as making_leaves}
-use Rattle.lvm_group_lines.proofs.Varying.{leaves as varying_leaves}
-use Rattle.lvm_varyon.specs.Varied.{Refuses}
-use Rattle.lvm_varyon.specs.Writing.{order}
+use Rattle.lvm_line.specs.passed.GroupNewGroup.{new_group}
+use Rattle.lvm_line.specs.passed.StageEnds.{patience_of_line}
+use Rattle.lvm_line.specs.passed.StageLighting.{refusal_of}
+use Rattle.lvm_line.specs.passed.StageReplies.{IsStuck}
+use Rattle.lvm_line.specs.passed.StageAsking.{Asks, IsAsked}
+use Rattle.lvm_line.specs.passed.GroupLinesGroups.{IsLeft, MkvgDoes, NoMemoryForLine, NoMkvgWhileOn, Makes, VaryonDoes, NoVaryonWhileOn, Varies, asked_for, itself, outcome_of}
+use Rattle.lvm_line.specs.passed.QuiesceEnds.{Quiesces}
+use Rattle.lvm_line.specs.passed.QuiesceGroups.{MkvgOnceQuiet, RefusedAtOnce, StayedOut, VaryonOnceQuiet, WentQuiet}
+use Rattle.lvm_line.proofs.passed.QuiesceBehind.{each_is_behind, fewer_stay_behind}
+use Rattle.lvm_line.proofs.passed.QuiesceEnding.{ends_leave, ends_only}
+use Rattle.lvm_core.specs.declared.refused.Refused.{Refused}
+use Rattle.lvm_session.specs.State.{Core}
+use Rattle.lvm_stamps.proofs.Stamps.{later_is_ahead_too}
+use Rattle.lvm_line.specs.passed.StageMoments.{IsBrokenOff}
+use Rattle.lvm_line.specs.passed.StageState.{State, IsTimely, log_with}
+use Rattle.lvm_line.specs.passed.StageReplyReply.{Reply}
+use Rattle.lvm_line.specs.passed.StageReplyReplyTheVariants as reply
+use Rattle.lvm_line.specs.passed.VaryonVaried.{Refuses}
+use Rattle.lvm_line.specs.passed.VaryonWriting.{order}
 use Rattle.lvm_top.specs.Standing.{MayHaveCommitted}
 use Rattle.lvm_top.proofs.Begun.{IsIts}
-use Rattle.lvm_top.proofs.Devices.{IsShelf, NothingNew, then_nothing, same_nothing, fewer_nothing, unwritten_nothing}
-use Rattle.lvm_top.proofs.Making.{IsAskedFor, none_out, parts_find, refused_finds}
+use Rattle.lvm_top.proofs.Devices.{IsShelf, NothingNew, same_nothing, unwritten_nothing}
+use Rattle.lvm_top.proofs.Making.{IsAskedFor, parts_find, refused_finds}
+use Rattle.lvm_top.proofs.Quiet.{lit_nothing, quiet_nothing, stays_nothing}
 use Rattle.lvm_top.proofs.Varying.{written_nothing}
 
 -- ---- the clock
@@ -43,87 +48,138 @@ asked_nothing old new asked = same_nothing old.moment.device new.moment.device (
 some_moment : (last moment : ℕ) → Rose last moment → moment ≢ 0
 some_moment last moment rose none = let r = rose.risen in omega (arith, r, none)
 
-module _ (log : Log) (old new : State) (answer : Reply) (shelf : IsShelf old.moment.device) (ready : IsReady old.moment.device) (after : IsReady new.moment.device) (timely : IsTimely log.run old) where
-  behind : Asks old new → new.last < 2 ^ 64 - 1 → IsBehind new.last old.moment.device
-  behind asks early = (clock_is_ahead log.run old.last new.last old.moment.device old.moment.facts asks timely.ahead early).behind
+module _ (log : Log) (old new : State) (answer : Reply) (shelf : IsShelf old.moment.device) (heard : IsStuck answer → ⊥) (timely : IsTimely log.run old) where
+  -- the shelf once the transfers of before have ended
+  module _ (mid : Device) (quiet : Quiesces old.moment.device mid) where
+    same_sizes : mid.sizes ≡ old.moment.device.sizes
+    same_sizes = (ends_only quiet.ends).sizes
 
-  -- where nothing was heard of a transfer the shelf is left as it was
-  pub left_still : (why : Cause) (left : Device) → IsLit why left new.moment.device → why ≡ cause.Stuck → left.flights ≡ []
-  left_still why left lit stuck = let same : new.moment.device ≡ left = subst (λ (c : Cause). IsLit c left new.moment.device) stuck lit in sym (ap (λ (d : Device). d.flights) same) ∙ after.flights
+    pub mid_shelf : IsShelf mid
+    mid_shelf = record { few = subst (λ (sizes : List ℕ). length sizes ≤ 128) (sym same_sizes) shelf.few; whole = quiet.whole }
+
+    behind : Asks old new → new.last < 2 ^ 64 - 1 → IsBehind new.last mid
+    behind asks early =
+        let each = fewer_stay_behind old.moment.device mid (old.last + 1) (ends_leave quiet.ends) timely.ahead.behind in
+        later_is_ahead_too (old.last + 1) new.last mid (let r = asks.risen in omega (arith, r, early)) (each_is_behind (old.last + 1) mid each)
+
+  -- something was heard
+  pub not_stuck : (why : Cause) → answer ≡ reply.Refused (refusal_of why) → why ≡ cause.Stuck → ⊥
+  not_stuck why says stuck = heard (says ∙ ap (λ (c : Cause). reply.Refused (refusal_of c)) stuck)
 
   -- ---- `mkvg`
 
   module _ (line : List ℕ) (force : Bool) (name : List ℕ) (mib : Option ℕ) (disks : List ℕ) (read : line_of line ≡ Ok (Some (command.Mkvg force name mib disks))) where
-    abbrev w : NewGroup
-    w = asked_for name mib disks force new.last
-
     abbrev Found : Device → Type 0
     Found device = (id : ℕ) (k : Descriptor) → MayBeFound device id k → MayBeFound old.moment.device id k ⊎ MayHaveCommitted (Ok (Some (command.Mkvg force name mib disks))) answer old new id k
 
-    pub asked : Asks old new → IsAskedFor (asked_for name mib disks force new.last) old.moment.device
-    asked asks =
+    pub asked : (mid : Device) (quiet : Quiesces old.moment.device mid) → Asks old new → IsAskedFor (asked_for name mib disks force new.last) mid
+    asked mid quiet asks =
         let within = line_is_within line (command.Mkvg force name mib disks) read in
         record {
-          shelf = shelf;
-          ready = ready;
+          shelf = mid_shelf mid quiet;
+          ready = quiet.ready;
           moment = some_moment old.last new.last asks;
           named = within.3;
           a_disk = within.0;
           differ = within.1;
           sized = within.2;
-          clock = behind asks;
+          clock = behind mid quiet asks;
         }
 
-    committed : (answer ≡ reply.Ok) ⊎ IsBrokenOff answer → (id : ℕ) (k : Descriptor) → IsIts (new_group old.moment.device.sizes (asked_for name mib disks force new.last)) id k → MayHaveCommitted (Ok (Some (command.Mkvg force name mib disks))) answer old new id k
-    committed tried id k its = record { tried = tried; own = its.0 ∙ sym (ap (λ (d : Descriptor). d.id) its.1); is = its.1 }
+    -- the group that is made where they have ended is that which was asked for
+    same_group : (mid : Device) (quiet : Quiesces old.moment.device mid) → new_group mid.sizes (asked_for name mib disks force new.last) ≡ new_group old.moment.device.sizes (asked_for name mib disks force new.last)
+    same_group mid quiet = ap (λ (sizes : List ℕ). new_group sizes (asked_for name mib disks force new.last)) (same_sizes mid quiet)
+
+    committed : (mid : Device) (quiet : Quiesces old.moment.device mid) → (answer ≡ reply.Ok) ⊎ IsBrokenOff answer → (id : ℕ) (k : Descriptor) → IsIts (new_group mid.sizes (asked_for name mib disks force new.last)) id k → MayHaveCommitted (Ok (Some (command.Mkvg force name mib disks))) answer old new id k
+    committed mid quiet tried id k its = record { tried = tried; own = its.0 ∙ sym (ap (λ (d : Descriptor). d.id) its.1); is = its.1 ∙ same_group mid quiet }
+
+    -- by what the call gives
+    outcome_finds : (room : Room) (left : Device) (is : Log) (given : Result Core Cause) → Asks old new
+        → MkvgOnceQuiet itself (asked_for name mib disks force new.last) room patience_of_line (log_with log old.moment.facts) old.moment.device (outcome_of left is given) → IsLeft left is old new answer given → Found new.moment.device
+    outcome_finds room left is given asks (RefusedAtOnce refused same first shelf_same history_same) gone id k it = inl (by_given given same gone)
+      where
+        by_given : (g : Result Core Cause) → outcome_of left is g ≡ Err refused → IsLeft left is old new answer g → MayBeFound old.moment.device id k
+        by_given (Ok core) same gone = absurd (cc (same))
+        by_given (Err why) same gone =
+            let its : left ≡ refused.shelf = ap (λ (r : Refused Device). r.shelf) (let e : record { shelf = left; history = is; cause = why } ≡ refused = cc (same) in e) in
+            subst (λ (d : Device). MayBeFound d id k) (its ∙ shelf_same) (lit_nothing why left new.moment.device gone.lit id k it)
+    outcome_finds room left is given asks (StayedOut refused same may out) gone id k it = inl (by_given given same gone)
+      where
+        by_given : (g : Result Core Cause) → outcome_of left is g ≡ Err refused → IsLeft left is old new answer g → MayBeFound old.moment.device id k
+        by_given (Ok core) same gone = absurd (cc (same))
+        by_given (Err why) same gone =
+            let its : left ≡ refused.shelf = ap (λ (r : Refused Device). r.shelf) (let e : record { shelf = left; history = is; cause = why } ≡ refused = cc (same) in e) in
+            stays_nothing patience_of_line old.moment.device refused.shelf (log_with log old.moment.facts) refused.history refused.cause out id k
+            (subst (λ (d : Device). MayBeFound d id k) its (lit_nothing why left new.moment.device gone.lit id k it))
+    outcome_finds room left is (Ok core) asks (WentQuiet may once) gone id k it = ⊎_elim
+        (λ was. inl (quiet_nothing old.moment.device once.mid once.quiesces id k was))
+        (λ its. inr (committed once.mid once.quiesces (inl gone.2.answered) id k its))
+        (parts_find (asked_for name mib disks force new.last) once.mid (asked once.mid once.quiesces asks) (log_with log old.moment.facts) left once.goes.clear once.goes.homes once.goes.spares new_order once.goes.only once.goes.rested.ready.flights id k
+        (subst (λ (d : Device). MayBeFound d id k) (sym gone.0) it))
+    outcome_finds room left is (Err why) asks (WentQuiet may once) gone id k it = ⊎_elim
+        (λ was. inl (quiet_nothing old.moment.device once.mid once.quiesces id k was))
+        (λ its. inr (committed once.mid once.quiesces (inr (subst IsBrokenOff (sym gone.answered) its.0)) id k its.1))
+        (refused_finds (asked_for name mib disks force new.last) once.mid (asked once.mid once.quiesces asks) once.left (log_with log old.moment.facts) is left why (λ stuck. absurd (not_stuck why gone.answered stuck)) once.goes id k
+        (lit_nothing why left new.moment.device gone.lit id k it))
 
     pub mkvg_finds : (room : Room) → MkvgDoes log room force name mib disks old new answer → Found new.moment.device
     mkvg_finds room (NoMemoryForLine off says same) id k it = inl (asked_nothing old new same id k it)
     mkvg_finds room (NoMkvgWhileOn on says same) id k it = inl (asked_nothing old new same id k it)
-    mkvg_finds room (MakesGroup core asks before made left) id k it = ⊎_elim
-        (λ was. inl was)
-        (λ its. inr (committed (inl left.answered) id k its))
-        (parts_find w old.moment.device (asked asks) (log_with log old.moment.facts) new.moment.device made.clear made.homes made.spares new_order made.only made.rested.ready.flights id k it)
-    mkvg_finds room (MkvgFails why left is asks before refuses gone) id k it =
-        let rests = (making_leaves w patience_of_line (log_with log old.moment.facts) is old.moment.device left ready why refuses).rests in
-        ⊎_elim
-        (λ was. inl was)
-        (λ its. inr (committed (inr (subst IsBrokenOff (sym gone.answered) its.0)) id k its.1))
-        (refused_finds w old.moment.device (asked asks) patience_of_line (log_with log old.moment.facts) is left why (left_still why left gone.lit) refuses id k
-        (fewer_nothing left new.moment.device (lit_up why left new.moment.device rests gone.lit).fewer id k it))
+    mkvg_finds room (Makes brings) id k it = outcome_finds room brings.shelf brings.history brings.given brings.asks brings.gives brings.left id k it
 
   -- ---- `varyonvg`
 
   module _ (name : List ℕ) where
-    module _ (asks : Asks old new) (left : Device) where
+    module _ (asks : Asks old new) (mid left : Device) (quiet : Quiesces old.moment.device mid) (patience : ℕ) where
       some : new.last ≢ 0
       some = some_moment old.last new.last asks
 
-      stops_nothing : (why : Cause) → (why ≡ cause.Stuck → left.flights ≡ []) → Refuses old.moment.device left name new.last patience_of_line (log_with log old.moment.facts) why → NothingNew old.moment.device left
-      stops_nothing cause.HistoryFull rests refuses = same_nothing old.moment.device left refuses.1
-      stops_nothing cause.NoRecord rests refuses = unwritten_nothing old.moment.device left refuses.1.unwritten refuses.1.rested.ready.flights
-      stops_nothing cause.Ambiguous rests refuses = unwritten_nothing old.moment.device left refuses.1.unwritten refuses.1.rested.ready.flights
-      stops_nothing (cause.NoQuorum have total) rests refuses = unwritten_nothing old.moment.device left refuses.1.unwritten refuses.1.rested.ready.flights
-      stops_nothing (cause.ClockBack seen) rests refuses = unwritten_nothing old.moment.device left refuses.1.unwritten refuses.1.rested.ready.flights
-      stops_nothing (cause.DiskFailed disk) rests refuses =
+      stops_nothing : (why : Cause) → (why ≡ cause.Stuck → ⊥) → Refuses mid left name new.last patience (log_with log old.moment.facts) why → NothingNew mid left
+      stops_nothing cause.HistoryFull heard refuses = same_nothing mid left refuses.1
+      stops_nothing cause.NoRecord heard refuses = unwritten_nothing mid left refuses.1.unwritten refuses.1.rested.ready.flights
+      stops_nothing cause.Ambiguous heard refuses = unwritten_nothing mid left refuses.1.unwritten refuses.1.rested.ready.flights
+      stops_nothing (cause.NoQuorum have total) heard refuses = unwritten_nothing mid left refuses.1.unwritten refuses.1.rested.ready.flights
+      stops_nothing (cause.ClockBack seen) heard refuses = unwritten_nothing mid left refuses.1.unwritten refuses.1.rested.ready.flights
+      stops_nothing (cause.DiskFailed disk) heard refuses =
           let stops = refuses.1.writes.how.stops in
-          written_nothing old.moment.device left name new.last _ refuses.1 shelf some (behind asks) (stops.before ++ stops.hand ∷ []) stops.only refuses.1.writes.how.rested.ready.flights
-      stops_nothing cause.Dark rests refuses = ⊎_elim
-          (λ un. unwritten_nothing old.moment.device left un refuses.1.how.flights)
-          (λ it. written_nothing old.moment.device left name new.last _ it shelf some (behind asks) (it.writes.how.before ++ it.writes.how.hand ∷ []) it.writes.how.only refuses.1.how.flights)
+          written_nothing mid left name new.last _ refuses.1 (mid_shelf mid quiet) some (behind mid quiet asks) (stops.before ++ stops.hand ∷ []) stops.only refuses.1.writes.how.rested.ready.flights
+      stops_nothing cause.Dark heard refuses = ⊎_elim
+          (λ un. unwritten_nothing mid left un refuses.1.how.flights)
+          (λ it. written_nothing mid left name new.last _ it (mid_shelf mid quiet) some (behind mid quiet asks) (it.writes.how.before ++ it.writes.how.hand ∷ []) it.writes.how.only refuses.1.how.flights)
           refuses.1.when
-      stops_nothing cause.Stuck rests refuses = absurd (none_out left.flights refuses.1.how.flight (rests refl) refuses.1.how.out)
-      stops_nothing cause.Memory rests refuses = unwritten_nothing old.moment.device left refuses.1.0 refuses.1.1.ready.flights
-      stops_nothing (cause.NoDisk disk) rests refuses = absurd refuses.1
-      stops_nothing (cause.TooMany limit) rests refuses = absurd refuses.1
-      stops_nothing (cause.TooSmall disk) rests refuses = absurd refuses.1
-      stops_nothing cause.GroupExists rests refuses = absurd refuses.1
+      stops_nothing cause.Stuck heard refuses = absurd (heard refl)
+      stops_nothing cause.Memory heard refuses = unwritten_nothing mid left refuses.1.0 refuses.1.1.ready.flights
+      stops_nothing (cause.NoDisk disk) heard refuses = absurd refuses.1
+      stops_nothing (cause.TooMany limit) heard refuses = absurd refuses.1
+      stops_nothing (cause.TooSmall disk) heard refuses = absurd refuses.1
+      stops_nothing cause.GroupExists heard refuses = absurd refuses.1
+
+    outcome_nothing : (room : Room) (left : Device) (is : Log) (given : Result Core Cause) → Asks old new
+        → VaryonOnceQuiet itself (log_with log old.moment.facts) name new.last room patience_of_line old.moment.device (outcome_of left is given) → IsLeft left is old new answer given → NothingNew old.moment.device new.moment.device
+    outcome_nothing room left is given asks (RefusedAtOnce refused same first shelf_same history_same) gone id k it = by_given given same gone
+      where
+        by_given : (g : Result Core Cause) → outcome_of left is g ≡ Err refused → IsLeft left is old new answer g → MayBeFound old.moment.device id k
+        by_given (Ok core) same gone = absurd (cc (same))
+        by_given (Err why) same gone =
+            let its : left ≡ refused.shelf = ap (λ (r : Refused Device). r.shelf) (let e : record { shelf = left; history = is; cause = why } ≡ refused = cc (same) in e) in
+            subst (λ (d : Device). MayBeFound d id k) (its ∙ shelf_same) (lit_nothing why left new.moment.device gone.lit id k it)
+    outcome_nothing room left is given asks (StayedOut refused same may out) gone id k it = by_given given same gone
+      where
+        by_given : (g : Result Core Cause) → outcome_of left is g ≡ Err refused → IsLeft left is old new answer g → MayBeFound old.moment.device id k
+        by_given (Ok core) same gone = absurd (cc (same))
+        by_given (Err why) same gone =
+            let its : left ≡ refused.shelf = ap (λ (r : Refused Device). r.shelf) (let e : record { shelf = left; history = is; cause = why } ≡ refused = cc (same) in e) in
+            stays_nothing patience_of_line old.moment.device refused.shelf (log_with log old.moment.facts) refused.history refused.cause out id k
+            (subst (λ (d : Device). MayBeFound d id k) its (lit_nothing why left new.moment.device gone.lit id k it))
+    outcome_nothing room left is (Ok core) asks (WentQuiet may once) gone id k it =
+        let written = once.goes.gives.written in
+        quiet_nothing old.moment.device once.mid once.quiesces id k
+        (written_nothing once.mid left name new.last _ written (mid_shelf once.mid once.quiesces) (some_moment old.last new.last asks) (behind once.mid once.quiesces asks) (order written.group) written.writes.how.keeps
+            written.writes.how.rested.ready.flights id k (subst (λ (d : Device). MayBeFound d id k) (sym gone.0) it))
+    outcome_nothing room left is (Err why) asks (WentQuiet may once) gone id k it =
+        quiet_nothing old.moment.device once.mid once.quiesces id k
+        (stops_nothing asks once.mid left once.quiesces once.left why (not_stuck why gone.answered) once.goes.gives.0 id k (lit_nothing why left new.moment.device gone.lit id k it))
 
     pub varyon_nothing : (room : Room) → VaryonDoes log room name old new answer → NothingNew old.moment.device new.moment.device
     varyon_nothing room (NoVaryonWhileOn on says same) = asked_nothing old new same
-    varyon_nothing room (VariesOn core asks before comes restated left) =
-        written_nothing old.moment.device new.moment.device name new.last _ comes.written shelf (some_moment old.last new.last asks) (behind asks) (order comes.written.group) comes.written.writes.how.keeps comes.written.writes.how.rested.ready.flights
-    varyon_nothing room (VaryonFails why left asks before refuses gone) =
-        let rests = (varying_leaves old.moment.device left name new.last patience_of_line (log_with log old.moment.facts) ready why refuses).rests in
-        then_nothing old.moment.device left new.moment.device (stops_nothing asks left why (left_still why left gone.lit) refuses)
-        (fewer_nothing left new.moment.device (lit_up why left new.moment.device rests gone.lit).fewer)
+    varyon_nothing room (Varies brings) = outcome_nothing room brings.shelf brings.history brings.given brings.asks brings.gives brings.left

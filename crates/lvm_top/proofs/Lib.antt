@@ -4,9 +4,11 @@ mod Firsts
 pub mod Lining
 mod Runs
 pub mod Scripting
+pub mod Concluding
 pub mod Stopping
 pub mod Devices
 pub mod Transfers
+pub mod Quiet
 pub mod Begun
 pub mod Making
 pub mod Varying
@@ -14,5 +16,7 @@ pub mod Volumes
 pub mod Groups
 pub mod Lines
 pub mod Acknowledged
+pub mod Modes
 pub mod Scripts
 pub mod OneGroup
+pub mod Turning

@@ -1,16 +1,16 @@
 -- How the lines of a run follow each other.
-use Rattle.std.proofs.Common.{◌≡◌, ◌⊎◌, inl, inr, ◌++◌, ℕ, List, [], Option, Some, None, true, false, Result, Ok, Err, is_err, OnOk, OnErr, refl, sym, subst}
+use Rattle.std.proofs.Common.{◌≡◌, inl, inr, ◌++◌, ℕ, List, [], Option, Some, None, true, false, Result, Ok, Err, is_err, OnOk, OnErr, refl, sym, subst}
 use Rattle.std.proofs.lemmas.List.{append-nil}
 use Rattle.lvm_io.specs.Count.{Rose}
 use Rattle.lvm_io.specs.Stream.{WhereTold, WritesFront}
 use Rattle.lvm_vol.specs.Log.{Log}
 use Rattle.lvm_core.specs.declared.parts.Room.{Room}
 use Rattle.lvm_line.specs.Lines.{IsLine}
-use Rattle.lvm_stage.specs.Replies.{IsStuck}
-use Rattle.lvm_stage.specs.State.{State}
-use Rattle.lvm_stage.specs.declared.reply.Refusal.TheVariants as refusal
-use Rattle.lvm_stage.specs.declared.reply.Reply.{Reply}
-use Rattle.lvm_stage.specs.declared.reply.Reply.TheVariants as reply
+use Rattle.lvm_line.specs.passed.StageReplies.{IsStuck}
+use Rattle.lvm_line.specs.passed.StageState.{State}
+use Rattle.lvm_line.specs.passed.StageReplyRefusalTheVariants as refusal
+use Rattle.lvm_line.specs.passed.StageReplyReply.{Reply}
+use Rattle.lvm_line.specs.passed.StageReplyReplyTheVariants as reply
 use Rattle.std.specs.Prelude.{is_some}
 use Rattle.lvm_line.proofs.Causing.{stuck_off}
 use Rattle.lvm_top.specs.declared.script.Stop.{Stop}

@@ -1,12 +1,12 @@
 -- Lines without a `mkvg -f` leave one group, where there was one.
-use Rattle.std.proofs.Common.{◌≡◌, ◌⊎◌, inl, inr, ⊎_elim, ℕ, ◌∷◌, ◌++◌, [], List, Bool, true, false, Option, Some, None, Result, Ok, Err, refl, sym, ap, subst, ◌∙◌, ◌≤◌, length}
-use Rattle.std.specs.Prelude.{IsSome, IsSomeAnd, IsTrue, IfSome}
+use Rattle.std.proofs.Common.{◌≡◌, ◌⊎◌, inl, inr, ⊎_elim, ℕ, ◌∷◌, ◌++◌, [], List, Bool, true, false, Option, Some, None, Result, Ok, Err, count_by, refl, sym, ap, subst, ◌∙◌, ◌≤◌, length, arith}
+use Rattle.std.specs.Prelude.{IsSome, IsTrue, IfSome}
 use Rattle.lvm_num.specs.declared.descriptor.Descriptor.{Descriptor}
 use Rattle.lvm_num.specs.Disks.{Disks}
 use Rattle.lvm_num.specs.Record.{Stamped}
 use Rattle.lvm_num.specs.Votes.{all_disks, votes_in, is_enough_to_read}
 use Rattle.lvm_num.proofs.Newest.{is_one}
-use Rattle.lvm_disk.specs.Device.{Media, Device, IsReady, image_of, MayLeave}
+use Rattle.lvm_disk.specs.Device.{Media, Device, image_of, MayLeave}
 use Rattle.lvm_vol.specs.Facts.{Fact, Cut}
 use Rattle.lvm_vol.specs.Log.{Log}
 use Rattle.lvm_parse.specs.declared.command.Command.{Command}
@@ -18,44 +18,51 @@ use Rattle.lvm_kept.specs.Group.{passes, is_of, descriptor_among, is_voter, has_
 use Rattle.lvm_kept.proofs.Blank.{no_descriptor}
 use Rattle.lvm_kept.proofs.Chaining.{span_sizes}
 use Rattle.lvm_kept.proofs.Finding.{offered, is_offered}
-use Rattle.lvm_steps.proofs.Making.{media_may}
 use Rattle.lvm_begin.specs.Beginning.{new_order}
-use Rattle.lvm_write.proofs.Writing.{told_at}
-use Rattle.lvm_commit.specs.Committed.{HoldsCommitted}
 use Rattle.lvm_commit.specs.LawsOfVolumes.{IsOneByAllOn}
 use Rattle.lvm_commit.proofs.NoMore.{data_finds_nothing_new}
 use Rattle.lvm_commit.proofs.Still.{still_image}
 use Rattle.lvm_core.specs.declared.parts.Room.{Room}
 use Rattle.lvm_core.specs.declared.refused.Cause.{Cause}
 use Rattle.lvm_core.specs.declared.refused.Cause.TheVariants as cause
-use Rattle.lvm_core.specs.Held.{IsHeld}
-use Rattle.lvm_core.specs.Looking.{IsNumberOf}
-use Rattle.lvm_session.specs.State.{Core, is_there}
+use Rattle.lvm_core.specs.declared.refused.Refused.{Refused}
+use Rattle.lvm_session.specs.State.{Core, State as Session}
+use Rattle.lvm_line.specs.passed.QuiesceGroups.{MkvgOnceQuiet, RefusedAtOnce, StayedOut, WentQuiet}
+use Rattle.lvm_line.specs.passed.TieSpares.{LeavesDescriptors}
+use Rattle.lvm_kept.specs.Moments.{Moment}
+use Rattle.lvm_core.specs.Leaves.{EntersVolumes, is_of_volume}
+use Rattle.lvm_volume_plan.specs.declared.new_volume.NewVolume.{NewVolume}
 use Rattle.lvm_core.specs.Leaves.{MayBeFound}
-use Rattle.lvm_group.specs.NewGroup.{NewGroup, new_group}
-use Rattle.lvm_group.specs.Made.{Refuses}
-use Rattle.lvm_group.specs.Shown.{IfShown, HasGroup}
-use Rattle.lvm_volumes.specs.Volumes.{IsWith}
-use Rattle.lvm_stage.specs.Ends.{patience_of_line}
-use Rattle.lvm_group_lines.specs.Groups.{MkvgDoes, NoMemoryForLine, NoMkvgWhileOn, MakesGroup, MkvgFails, asked_for}
-use Rattle.lvm_line.specs.Lines.{LineDoes}
-use Rattle.lvm_stage.specs.State.{State, IsTimely, AreHeld, log_with}
-use Rattle.lvm_stage.specs.declared.reply.Reply.{Reply}
-use Rattle.lvm_volume_lines.specs.Volumes.{wanted}
-use Rattle.lvm_stage.proofs.Lighting.{lit_up}
-use Rattle.lvm_group_lines.proofs.Making.{leaves as making_leaves}
-use Rattle.lvm_top.specs.Script.{Script, NoLine, NextLine, StaysAlone, Ends, AtLine, InLine, EndsAlone, entry_state, empty_log}
+use Rattle.lvm_line.specs.passed.GroupNewGroup.{NewGroup, new_group}
+use Rattle.lvm_line.specs.passed.GroupMade.{Refuses}
+use Rattle.lvm_line.specs.passed.GroupShown.{IfShown, HasGroup}
+use Rattle.lvm_line.specs.passed.StageEnds.{patience_of_line}
+use Rattle.lvm_line.specs.passed.GroupLinesGroups.{IsLeft, MkvgDoes, NoMemoryForLine, NoMkvgWhileOn, Makes, asked_for, itself, outcome_of}
+use Rattle.lvm_line.specs.Lines.{LineDoes, role_of}
+use Rattle.lvm_line.specs.passed.StageAsking.{Asks}
+use Rattle.lvm_line.specs.passed.StageMoments.{IsAlone, OfGroup, OfRequests, Role}
+use Rattle.lvm_line.specs.passed.StageReplies.{IsStuck}
+use Rattle.lvm_line.specs.passed.StageState.{State, IsTimely, StandsAlone, log_with}
+use Rattle.lvm_line.specs.passed.StageReplyReply.{Reply}
+use Rattle.lvm_line.specs.passed.VolumeLinesVolumes.{Drains, IsDone, MklvDoes, RmlvDoes, NoGroupForMklv, BusyMklv, UndrainedMklv, MakesVolume, MklvFails, NoGroupForRmlv, BusyRmlv, UndrainedRmlv, NoVolumeForRmlv, RemovesVolume, RmlvFails, wanted}
+use Rattle.lvm_top.specs.Script.{Script, NoLine, NextLine, StaysAlone, Ends, AtLine, InLine, EndsAlone, EndsHeard, entry_state, empty_log, facts_of}
+use Rattle.lvm_top.specs.Run.{exit_state}
+use Rattle.lvm_top.proofs.Concluding.{how_ended, stuck_ends, stuck_still}
+use Rattle.lvm_top.proofs.Modes.{IsOffOn, committed_off, session_off}
+use Rattle.lvm_top.proofs.Quiet.{lit_nothing, quiet_nothing, stays_nothing}
+use Rattle.lvm_top.proofs.Volumes.{done_finds, found_before, idle_nothing, undrained_nothing}
 use Rattle.lvm_top.proofs.Scripting.{script_went}
 use Rattle.lvm_top.specs.Laws.{MayStart}
-use Rattle.lvm_top.specs.OneGroup.{FindsOneGroup, IsUnforced, AreUnforced, UnforcedStaysAlone, UnforcedRunsAlone, BlankFindsOneGroup}
-use Rattle.lvm_top.specs.Standing.{MayHaveCommitted}
+use Rattle.lvm_top.specs.OneGroup.{FindsOff, FindsOneGroup, IsUnforced, AreUnforced, EndsUnforced, UnforcedStaysAlone, UnforcedRunsAlone, BlankFindsOneGroup}
+use Rattle.lvm_top.specs.Standing.{MayHaveCommitted, StoodBefore}
 use Rattle.lvm_top.proofs.Begun.{IsIts}
-use Rattle.lvm_top.proofs.Devices.{IsShelf, NothingNew, then_nothing, same_nothing, fewer_nothing, unwritten_nothing}
-use Rattle.lvm_top.proofs.Groups.{asked, asked_nothing, left_still}
+use Rattle.lvm_top.proofs.Devices.{IsShelf, NothingNew, then_nothing, same_nothing, unwritten_nothing}
+use Rattle.lvm_top.proofs.Groups.{asked, asked_nothing, not_stuck}
 use Rattle.lvm_top.proofs.Lines.{by_reading}
-use Rattle.lvm_top.proofs.Making.{none_out, parts_find, refused_finds}
-use Rattle.lvm_top.proofs.Scripts.{some_of, script_ready, first_held, last_told, run_may_start}
-use Rattle.lvm_volume_plan.specs.NewVolume.{without_volume}
+use Rattle.lvm_top.proofs.Making.{parts_find, refused_finds}
+use Rattle.lvm_top.proofs.Scripts.{last_told, run_may_start, stood, went_so}
+use Rattle.lvm_line.specs.passed.TieGroupsComing.{AreOff}
+use Rattle.lvm_num.specs.declared.place.Pp.{Pp}
 
 -- ---- what is found is shown, and what has a quorum is found
 
@@ -107,7 +114,7 @@ none_found device still free id k it = by_media device.media refl free it.1
 
 module _ (w : NewGroup) (old left : Device) (patience : ℕ) (was is : Log) where
   -- it left what there was, or none that may not give way was there
-  refused_either : (why : Cause) → (why ≡ cause.Stuck → left.flights ≡ []) → Refuses w patience was is old left why → NothingNew old left ⊎ IfShown old (λ c. HasGroup c w.force → ⊥)
+  refused_either : (why : Cause) → (why ≡ cause.Stuck → ⊥) → Refuses w patience was is old left why → NothingNew old left ⊎ IfShown old (λ c. HasGroup c w.force → ⊥)
   refused_either (cause.NoDisk disk) rests refuses = inl (same_nothing old left refuses.0.shelf)
   refused_either (cause.TooMany limit) rests refuses = inl (same_nothing old left refuses.0.shelf)
   refused_either (cause.TooSmall disk) rests refuses = inl (same_nothing old left refuses.0.shelf)
@@ -118,7 +125,7 @@ module _ (w : NewGroup) (old left : Device) (patience : ℕ) (was is : Log) wher
   refused_either (cause.ClockBack seen) rests refuses = inl (unwritten_nothing old left refuses.0.unwritten refuses.0.rested.ready.flights)
   refused_either cause.Dark rests (inl reading) = inl (unwritten_nothing old left reading.unwritten reading.cut.flights)
   refused_either cause.Dark rests (inr writing) = inr writing.breaks.clear.free.free
-  refused_either cause.Stuck rests (inl reading) = absurd (none_out left.flights reading.stuck.flight (rests refl) reading.stuck.out)
+  refused_either cause.Stuck rests (inl reading) = absurd (rests refl)
   refused_either cause.Stuck rests (inr writing) = inr writing.breaks.clear.free.free
   refused_either cause.Memory rests refuses = inl (unwritten_nothing old left refuses.unwritten refuses.rested.ready.flights)
   refused_either cause.NoRecord rests refuses = absurd refuses
@@ -132,135 +139,194 @@ its_one group old new none finds v w g h is also = its v g is ∙ sym (its w h a
     its : (id : ℕ) (k : Descriptor) → MayBeFound new id k → id ≡ group.id
     its id k it = ⊎_elim (λ before. absurd (none id k before)) (λ (new : IsIts group id k). new.0) (finds id k it)
 
-module _ (log : Log) (old new : State) (answer : Reply) (shelf : IsShelf old.moment.device) (ready : IsReady old.moment.device) (after : IsReady new.moment.device) (timely : IsTimely log.run old) (one : FindsOneGroup old.moment.device) where
+module _ (log : Log) (old new : State) (answer : Reply) (shelf : IsShelf old.moment.device) (leaves : LeavesDescriptors old.moment.device) (heard : IsStuck answer → ⊥) (timely : IsTimely log.run old)
+    (named : IfSome old.session (λ core. core.history.run ≡ log.run)) (told : IsSome old.moment.device.media) (one : FindsOneGroup old.moment.device) where
   abbrev was : Device
   was = old.moment.device
 
   abbrev now : Device
   now = new.moment.device
 
+  same_one : new ≡ old → FindsOneGroup now
+  same_one same = nothing_one was now (same_nothing was now (ap (λ (s : State). s.moment.device) same)) one
+
+  -- ---- `mkvg`
+
+  made_one : (room : Room) (line : List ℕ) (name : List ℕ) (mib : Option ℕ) (disks : List ℕ) → line_of line ≡ Ok (Some (command.Mkvg false name mib disks)) → (left : Device) (is : Log) (given : Result Core Cause) → Asks old new
+      → MkvgOnceQuiet itself (asked_for name mib disks false new.last) room patience_of_line (log_with log old.moment.facts) was (outcome_of left is given) → IsLeft left is old new answer given → FindsOneGroup now
+  made_one room line name mib disks read left is (Ok core) asks (RefusedAtOnce refused same first shelf_same history_same) gone = absurd (cc (same))
+  made_one room line name mib disks read left is (Ok core) asks (StayedOut refused same may out) gone = absurd (cc (same))
+  made_one room line name mib disks read left is (Ok core) asks (WentQuiet may once) gone =
+      let w : NewGroup = asked_for name mib disks false new.last in
+      its_one (new_group once.mid.sizes w) once.mid now (none_found once.mid once.quiesces.ready.flights once.goes.clear.free.free)
+      (λ id k it. parts_find w once.mid (asked log old new answer shelf heard timely line false name mib disks read once.mid once.quiesces asks) (log_with log old.moment.facts) left once.goes.clear once.goes.homes once.goes.spares new_order once.goes.only once.goes.rested.ready.flights
+      id k (subst (λ (d : Device). MayBeFound d id k) (sym gone.0) it))
+  made_one room line name mib disks read left is (Err why) asks (RefusedAtOnce refused same first shelf_same history_same) gone =
+      let its : left ≡ refused.shelf = ap (λ (r : Refused Device). r.shelf) (let e : record { shelf = left; history = is; cause = why } ≡ refused = cc (same) in e) in
+      nothing_one was now (λ id k it. subst (λ (d : Device). MayBeFound d id k) (its ∙ shelf_same) (lit_nothing why left now gone.lit id k it)) one
+  made_one room line name mib disks read left is (Err why) asks (StayedOut refused same may out) gone =
+      let its : left ≡ refused.shelf = ap (λ (r : Refused Device). r.shelf) (let e : record { shelf = left; history = is; cause = why } ≡ refused = cc (same) in e) in
+      nothing_one was now (λ id k it. stays_nothing patience_of_line was refused.shelf (log_with log old.moment.facts) refused.history refused.cause out id k (subst (λ (d : Device). MayBeFound d id k) its (lit_nothing why left now gone.lit id k it))) one
+  made_one room line name mib disks read left is (Err why) asks (WentQuiet may once) gone =
+      let w : NewGroup = asked_for name mib disks false new.last in
+      let stuck = not_stuck log old new answer shelf heard timely why gone.answered in
+      ⊎_elim
+      (λ (nothing : NothingNew once.mid left). nothing_one was now (then_nothing was once.mid now (quiet_nothing was once.mid once.quiesces) (then_nothing once.mid left now nothing (lit_nothing why left now gone.lit))) one)
+      (λ free. its_one (new_group once.mid.sizes w) once.mid now (none_found once.mid once.quiesces.ready.flights free) (λ id k it. ⊎_elim
+      (λ before. inl before)
+      (λ its. inr its.1)
+      (refused_finds w once.mid (asked log old new answer shelf heard timely line false name mib disks read once.mid once.quiesces asks) once.left (log_with log old.moment.facts) is left why (λ is. absurd (stuck is)) once.goes id k (lit_nothing why left now gone.lit id k it))))
+      (refused_either w once.mid left once.left (log_with log old.moment.facts) is why stuck once.goes)
+
   mkvg_one : (room : Room) (line : List ℕ) (name : List ℕ) (mib : Option ℕ) (disks : List ℕ) → line_of line ≡ Ok (Some (command.Mkvg false name mib disks)) → MkvgDoes log room false name mib disks old new answer → FindsOneGroup now
   mkvg_one room line name mib disks read (NoMemoryForLine off says same) = nothing_one was now (asked_nothing old new same) one
   mkvg_one room line name mib disks read (NoMkvgWhileOn on says same) = nothing_one was now (asked_nothing old new same) one
-  mkvg_one room line name mib disks read (MakesGroup core asks before made left) =
-      let w : NewGroup = asked_for name mib disks false new.last in
-      its_one (new_group was.sizes w) was now (none_found was ready.flights made.clear.free.free)
-      (parts_find w was (asked log old new answer shelf ready after timely line false name mib disks read asks) (log_with log old.moment.facts) now made.clear made.homes made.spares new_order made.only made.rested.ready.flights)
-  mkvg_one room line name mib disks read (MkvgFails why left is asks before refuses gone) =
-      let w : NewGroup = asked_for name mib disks false new.last in
-      let rests = (making_leaves w patience_of_line (log_with log old.moment.facts) is was left ready why refuses).rests in
-      let still = left_still log old new answer shelf ready after timely why left gone.lit in
-      let fewer : NothingNew left now = fewer_nothing left now (lit_up why left now rests gone.lit).fewer in
-      ⊎_elim
-      (λ (nothing : NothingNew was left). nothing_one was now (then_nothing was left now nothing fewer) one)
-      (λ free. its_one (new_group was.sizes w) was now (none_found was ready.flights free) (λ id k it. ⊎_elim
-      (λ before. inl before)
-      (λ its. inr its.1)
-      (refused_finds w was (asked log old new answer shelf ready after timely line false name mib disks read asks) patience_of_line (log_with log old.moment.facts) is left why still refuses id k (fewer id k it))))
-      (refused_either w was left patience_of_line (log_with log old.moment.facts) is why still refuses)
+  mkvg_one room line name mib disks read (Makes brings) = made_one room line name mib disks read brings.shelf brings.history brings.given brings.asks brings.gives brings.left
+
+  -- ---- `mklv` and `rmlv`
+
+  module _ (stood : StoodBefore log.run OfGroup old new) where
+    commanded_one : {Gives : Session → Session → Type 0} {IsNext : Core → Descriptor → Type 0} {IsPlace : Core → Pp → Type 0} {over : Bool} (core : Core) (left : ℕ) (mid : Session) → old.session ≡ Some core → Drains core old left mid
+        → ((k : Descriptor) → IsNext mid.core k → k.id ≡ mid.core.descriptor.id) → IsDone Gives IsNext IsPlace over mid old new → FindsOneGroup now
+    commanded_one core left mid some drains own done = no_new_one was now (λ id k it. ⊎_elim
+        (λ (before : MayBeFound was id k). (k, before))
+        (λ next.
+            let same : id ≡ core.descriptor.id = next.0 ∙ own k next.1 ∙ ap (λ (d : Descriptor). d.id) drains.runs.leaves.keeps.descriptor in
+            (core.descriptor, subst (λ (n : ℕ). MayBeFound was n core.descriptor) (sym same) (found_before log.run old new leaves named stood told core left mid some drains)))
+        (done_finds log.run old new leaves named stood core left mid some drains done id k it)) one
+
+    mklv_one : (w : NewVolume) (group : List ℕ) → MklvDoes w group old new answer → FindsOneGroup now
+    mklv_one w group (NoGroupForMklv none is) = same_one is.1
+    mklv_one w group (BusyMklv on busy is) = same_one is.1
+    mklv_one w group (UndrainedMklv core why some on un) = nothing_one was now (undrained_nothing log.run old new leaves named stood core why answer un) one
+    mklv_one w group (MakesVolume core left mid number some on drains done is) = commanded_one core left mid some drains (λ k its. ap (λ (d : Descriptor). d.id) its.2.2) done
+    mklv_one w group (MklvFails core left mid why some on drains done is) = commanded_one core left mid some drains (λ k its. ap (λ (d : Descriptor). d.id) its.2.2) done
+
+    rmlv_one : (name : List ℕ) → RmlvDoes name old new answer → FindsOneGroup now
+    rmlv_one name (NoGroupForRmlv none is) = same_one is.1
+    rmlv_one name (BusyRmlv busy is) = same_one is.1
+    rmlv_one name (UndrainedRmlv core why some un) = nothing_one was now (undrained_nothing log.run old new leaves named stood core why answer un) one
+    rmlv_one name (NoVolumeForRmlv core left mid some drains none stays last says) = nothing_one was now (idle_nothing log.run old new leaves named stood core left mid mid drains refl stays) one
+    rmlv_one name (RemovesVolume core left mid lv some drains its done is) = commanded_one core left mid some drains (λ k same. ap (λ (d : Descriptor). d.id) same) done
+    rmlv_one name (RmlvFails core left mid lv why some drains its done is) = commanded_one core left mid some drains (λ k same. ap (λ (d : Descriptor). d.id) same) done
 
   -- ---- another line
 
-  module _ (held : AreHeld old) (told : IsSome was.media) where
-    -- the group of the session may be found
-    session_found : (core : Core) → IsHeld was core → MayBeFound was core.descriptor.id core.descriptor
-    session_found core holds =
-        let m = some_of was.media told in
-        let shown = told_at was.media (λ (x : Media). HoldsCommitted (image_of was.sizes x) core.descriptor core.status.committed (is_there core) core.status.stamp core.homes) m.0 m.1 holds in
-        (image_of was.sizes m.0, media_may was m.0 m.1, (all_disks, shown.shows.found))
+  other_one : (room : Room) (line : List ℕ) (read : Result (Option Command) Misfit) → line_of line ≡ read → StoodBefore log.run (role_of read) old new → ((id : ℕ) (k : Descriptor) → MayHaveCommitted read answer old new id k → ⊥)
+      → LineDoes log room read old new answer → FindsOneGroup now
+  other_one room line read is stood none does = nothing_one was now (λ id k it. ⊎_elim
+      (λ (before : MayBeFound was id k). before)
+      (λ committed. absurd (none id k committed))
+      (by_reading log room line answer old new shelf leaves heard timely named read is stood does id k it)) one
 
-    -- so where what a line commits has its id, no group is new
-    of_session : (id : ℕ) → IsSomeAnd old.session (λ core. id ≡ core.descriptor.id) → (g : Descriptor) × MayBeFound was id g
-    of_session id its = by_session old.session its held
-      where
-        by_session : (o : Option Core) → IsSomeAnd o (λ core. id ≡ core.descriptor.id) → IfSome o (λ core. IsHeld was core) → (g : Descriptor) × MayBeFound was id g
-        by_session None its held = absurd its
-        by_session (Some core) its held = (core.descriptor, subst (λ (n : ℕ). MayBeFound was n core.descriptor) (sym its) (session_found core held))
-
-    same_ids : (P : Core → Type 0) (id : ℕ) → ((core : Core) → P core → id ≡ core.descriptor.id) → IsSomeAnd old.session P → IsSomeAnd old.session (λ core. id ≡ core.descriptor.id)
-    same_ids P id same is = by_session old.session is
-      where
-        by_session : (o : Option Core) → IsSomeAnd o P → IsSomeAnd o (λ core. id ≡ core.descriptor.id)
-        by_session None is = absurd is
-        by_session (Some core) is = same core is
-
-    committed_old : (read : Result (Option Command) Misfit) → ((force : Bool) (name : List ℕ) (mib : Option ℕ) (disks : List ℕ) → read ≡ Ok (Some (command.Mkvg force name mib disks)) → ⊥)
-        → (id : ℕ) (k : Descriptor) → MayHaveCommitted read answer old new id k → (g : Descriptor) × MayBeFound was id g
-    committed_old (Ok (Some (command.Mkvg force name mib disks))) other id k it = absurd (other force name mib disks refl)
-    committed_old (Ok (Some (command.Mklv name copies mode policy group lps))) other id k it =
-        of_session id (same_ids (λ core. IsWith (wanted name copies mode policy lps) core k) id (λ core its. it.own ∙ ap (λ (d : Descriptor). d.id) its.2.2) it.is)
-    committed_old (Ok (Some (command.Rmlv name))) other id k it =
-        of_session id (same_ids (λ core. (lv : ℕ) × IsNumberOf core.descriptor.lvs name lv × (k ≡ without_volume core.descriptor lv)) id (λ core its. it.own ∙ ap (λ (d : Descriptor). d.id) its.2) it.is)
-    committed_old (Err misfit) other id k it = absurd it.is
-    committed_old (Ok None) other id k it = absurd it.is
-    committed_old (Ok (Some (command.Varyon name))) other id k it = absurd it.is
-    committed_old (Ok (Some (command.Varyoff name))) other id k it = absurd it.is
-    committed_old (Ok (Some (command.Lsvg volumes name))) other id k it = absurd it.is
-    committed_old (Ok (Some (command.Lslv name))) other id k it = absurd it.is
-    committed_old (Ok (Some (command.Lspv disk))) other id k it = absurd it.is
-    committed_old (Ok (Some (command.RawRd disk at count))) other id k it = absurd it.is
-    committed_old (Ok (Some (command.RawWr disk at count word))) other id k it = absurd it.is
-    committed_old (Ok (Some (command.Fail disk))) other id k it = absurd it.is
-    committed_old (Ok (Some (command.Heal disk))) other id k it = absurd it.is
-    committed_old (Ok (Some (command.Cut word))) other id k it = absurd it.is
-
-    other_one : (room : Room) (line : List ℕ) (read : Result (Option Command) Misfit) → line_of line ≡ read → ((force : Bool) (name : List ℕ) (mib : Option ℕ) (disks : List ℕ) → read ≡ Ok (Some (command.Mkvg force name mib disks)) → ⊥)
-        → LineDoes log room read old new answer → FindsOneGroup now
-    other_one room line read is other does = no_new_one was now (λ id k it. ⊎_elim
-        (λ (before : MayBeFound was id k). (k, before))
-        (λ committed. committed_old read other id k committed)
-        (by_reading log room line answer old new shelf ready after timely held read is does id k it)) one
-
-    line_one : (room : Room) (line : List ℕ) → IsUnforced line → (read : Result (Option Command) Misfit) → line_of line ≡ read → LineDoes log room read old new answer → FindsOneGroup now
-    line_one room line unforced (Ok (Some (command.Mkvg true name mib disks))) is does = absurd (unforced name mib disks is)
-    line_one room line unforced (Ok (Some (command.Mkvg false name mib disks))) is does = mkvg_one room line name mib disks is does
-    line_one room line unforced (Err misfit) is does = other_one room line (Err misfit) is (λ force name mib disks e. absurd cc) does
-    line_one room line unforced (Ok None) is does = other_one room line (Ok None) is (λ force name mib disks e. absurd cc) does
-    line_one room line unforced (Ok (Some (command.Varyon name))) is does = other_one room line _ is (λ force name mib disks e. absurd cc) does
-    line_one room line unforced (Ok (Some (command.Varyoff name))) is does = other_one room line _ is (λ force name mib disks e. absurd cc) does
-    line_one room line unforced (Ok (Some (command.Lsvg volumes name))) is does = other_one room line _ is (λ force name mib disks e. absurd cc) does
-    line_one room line unforced (Ok (Some (command.Mklv name copies mode policy group lps))) is does = other_one room line _ is (λ force name mib disks e. absurd cc) does
-    line_one room line unforced (Ok (Some (command.Rmlv name))) is does = other_one room line _ is (λ force name mib disks e. absurd cc) does
-    line_one room line unforced (Ok (Some (command.Lslv name))) is does = other_one room line _ is (λ force name mib disks e. absurd cc) does
-    line_one room line unforced (Ok (Some (command.Lspv disk))) is does = other_one room line _ is (λ force name mib disks e. absurd cc) does
-    line_one room line unforced (Ok (Some (command.RawRd disk at count))) is does = other_one room line _ is (λ force name mib disks e. absurd cc) does
-    line_one room line unforced (Ok (Some (command.RawWr disk at count word))) is does = other_one room line _ is (λ force name mib disks e. absurd cc) does
-    line_one room line unforced (Ok (Some (command.Fail disk))) is does = other_one room line _ is (λ force name mib disks e. absurd cc) does
-    line_one room line unforced (Ok (Some (command.Heal disk))) is does = other_one room line _ is (λ force name mib disks e. absurd cc) does
-    line_one room line unforced (Ok (Some (command.Cut word))) is does = other_one room line _ is (λ force name mib disks e. absurd cc) does
+  line_one : (room : Room) (line : List ℕ) → IsUnforced line → (read : Result (Option Command) Misfit) → line_of line ≡ read → StoodBefore log.run (role_of read) old new → LineDoes log room read old new answer → FindsOneGroup now
+  line_one room line unforced (Ok (Some (command.Mkvg true name mib disks))) is stood does = absurd (unforced name mib disks is)
+  line_one room line unforced (Ok (Some (command.Mkvg false name mib disks))) is stood does = mkvg_one room line name mib disks is does
+  line_one room line unforced (Ok (Some (command.Mklv name copies mode policy group lps))) is stood does = mklv_one stood (wanted name copies mode policy lps) group does
+  line_one room line unforced (Ok (Some (command.Rmlv name))) is stood does = rmlv_one stood name does
+  line_one room line unforced (Err misfit) is stood does = other_one room line _ is stood (λ id k it. it.is) does
+  line_one room line unforced (Ok None) is stood does = other_one room line _ is stood (λ id k it. it.is) does
+  line_one room line unforced (Ok (Some (command.Varyon name))) is stood does = other_one room line _ is stood (λ id k it. it.is) does
+  line_one room line unforced (Ok (Some (command.Varyoff name))) is stood does = other_one room line _ is stood (λ id k it. it.is) does
+  line_one room line unforced (Ok (Some (command.Lsvg volumes name))) is stood does = other_one room line _ is stood (λ id k it. it.is) does
+  line_one room line unforced (Ok (Some (command.Mklvcopy name copies))) is stood does = other_one room line _ is stood (λ id k it. it.is) does
+  line_one room line unforced (Ok (Some (command.Rmlvcopy name copies))) is stood does = other_one room line _ is stood (λ id k it. it.is) does
+  line_one room line unforced (Ok (Some (command.Lslv name))) is stood does = other_one room line _ is stood (λ id k it. it.is) does
+  line_one room line unforced (Ok (Some (command.Lspv disk))) is stood does = other_one room line _ is stood (λ id k it. it.is) does
+  line_one room line unforced (Ok (Some (command.Rd name at count))) is stood does = other_one room line _ is stood (λ id k it. it.is) does
+  line_one room line unforced (Ok (Some (command.Wr name at count word))) is stood does = other_one room line _ is stood (λ id k it. it.is) does
+  line_one room line unforced (Ok (Some (command.Post name at count word))) is stood does = other_one room line _ is stood (λ id k it. it.is) does
+  line_one room line unforced (Ok (Some command.Wait)) is stood does = other_one room line _ is stood (λ id k it. it.is) does
+  line_one room line unforced (Ok (Some (command.Step turns))) is stood does = other_one room line _ is stood (λ id k it. it.is) does
+  line_one room line unforced (Ok (Some (command.RawRd disk at count))) is stood does = other_one room line _ is stood (λ id k it. it.is) does
+  line_one room line unforced (Ok (Some (command.RawWr disk at count word))) is stood does = other_one room line _ is stood (λ id k it. it.is) does
+  line_one room line unforced (Ok (Some (command.Fail disk))) is stood does = other_one room line _ is stood (λ id k it. it.is) does
+  line_one room line unforced (Ok (Some (command.Heal disk))) is stood does = other_one room line _ is stood (λ id k it. it.is) does
+  line_one room line unforced (Ok (Some (command.Cut word))) is stood does = other_one room line _ is stood (λ id k it. it.is) does
 
 -- ---- the lines of a script
 
-module _ (log : Log) (room : Room) (past : List Fact) (first : State) (begin : MayStart log.run past first) (one : FindsOneGroup first.moment.device) where
-  script_one : {lines : List (List ℕ)} {replies : List Reply} {last : State} (script : Script log room first lines replies last) → AreUnforced script → StaysAlone script × FindsOneGroup last.moment.device
-  script_one NoLine unforced = (tt, one)
+-- where one group may be found, with such volumes, and a session has no other
+alone_so : (role : Role) (old new : State) → FindsOneGroup old.moment.device → IsOffOn old → IsAlone role old new
+alone_so role old new one off = record { enters = λ enters. one_by_all old.moment.device one; acts = λ acting. by_session old.session off }
+  where
+    by_session : (o : Option Core) → IfSome o (λ core. AreOff core.descriptor) → IfSome o (StandsAlone old.moment.device)
+    by_session None off = tt
+    by_session (Some core) off = λ none some. (one_by_all old.moment.device one, off)
+
+module _ (log : Log) (room : Room) (past : List Fact) (first : State) (begin : MayStart log.run past first) (one : FindsOneGroup first.moment.device) (off : FindsOff first.moment.device) where
+  -- all that is so of the lines
+  record ScriptOff {lines : List (List ℕ)} {replies : List Reply} {last : State} (script : Script log room first lines replies last) : Type 0 where
+    alone : StaysAlone script
+    finds_one : FindsOneGroup last.moment.device
+    finds_off : FindsOff last.moment.device
+    session : IsOffOn last
+
+  script_one : {lines : List (List ℕ)} {replies : List Reply} {last : State} (script : Script log room first lines replies last) → AreUnforced script → ScriptOff script
+  script_one NoLine unforced = record { alone = tt; finds_one = one; finds_off = off; session = subst (λ (s : Option Core). IfSome s (λ core. AreOff core.descriptor)) (sym begin.off) tt }
   script_one (NextLine {mid = mid} {new = new} line answer said heard says before it) unforced =
       let so_far = script_one before unforced.0 in
       let went = script_went log room first before in
-      let few : length mid.moment.device.sizes ≤ 128 =
-      subst (λ (sizes : List ℕ). length sizes ≤ 128) (sym (span_sizes (went.keeps begin.timely (first_held log room past first begin) so_far.0))) begin.few in (
-        (so_far.0, λ enters. one_by_all mid.moment.device so_far.1),
-        line_one log mid new answer (record { few = few; whole = it.whole }) (script_ready log room first before begin.ready) (it.goes.settled heard).ready (went.timely begin.timely) so_far.1
-            (went.held begin.timely (first_held log room past first begin)) (last_told log room past first begin before so_far.0) room line unforced.1 (line_of line) refl it.does,
-      )
+      let now : IsAlone (role_of (line_of line)) mid new = alone_so (role_of (line_of line)) mid new so_far.finds_one so_far.session in
+      let few : length mid.moment.device.sizes ≤ 128 = subst (λ (sizes : List ℕ). length sizes ≤ 128) (sym (span_sizes (went_so log room past first begin before so_far.alone).0)) begin.few in
+      let shelf : IsShelf mid.moment.device = record { few = few; whole = it.whole } in
+      let leaves = went.leaves begin.leaves in
+      let timely = went.timely begin.timely in
+      let stood_so = stood log room past first begin before so_far.alone (role_of (line_of line)) new now in
+      let told_new : IsSome new.moment.device.media = last_told log room past first begin (NextLine line answer said heard says before it) (so_far.alone, now) in
+      let finds = by_reading log room line answer mid new shelf leaves heard timely it.named (line_of line) refl stood_so it.does in
+      let off_new : FindsOff new.moment.device = λ id k found. ⊎_elim (λ was. so_far.finds_off id k was) (λ committed. committed_off line (line_of line) refl answer mid new so_far.session id k committed) (finds id k found) in
+      record {
+        alone = (so_far.alone, now);
+        finds_one = line_one log mid new answer shelf leaves heard timely it.named (last_told log room past first begin before so_far.alone) so_far.finds_one room line unforced.1 (line_of line) refl stood_so it.does;
+        finds_off = off_new;
+        session = session_off log room answer mid new so_far.session (it.goes.begins timely) told_new off_new leaves it.named (line_of line) stood_so it.does;
+      }
 
-  ends_alone : {mid last : State} {done : List (List ℕ)} {said : List Reply} {front : List ℕ} (ends : Ends log room mid last done said front) → FindsOneGroup mid.moment.device → EndsAlone ends
-  ends_alone (AtLine same) found = tt
-  ends_alone {mid = mid} (InLine line answer said front rest says split it) found = λ enters. one_by_all mid.moment.device found
+  ends_alone : {mid last : State} {done : List (List ℕ)} {said : List Reply} {front : List ℕ} (ends : Ends log room mid last done said front) → FindsOneGroup mid.moment.device → IsOffOn mid → EndsAlone ends
+  ends_alone (AtLine same) found session = tt
+  ends_alone {mid = mid} {last = last} (InLine line answer said front rest says split it) found session = alone_so (role_of (line_of line)) mid last found session
+
+  -- what is so where they end, unless nothing was heard of a transfer
+  ends_one : {lines : List (List ℕ)} {replies : List Reply} {mid last : State} {done : List (List ℕ)} {said : List Reply} {front : List ℕ} (script : Script log room first lines replies mid) → ScriptOff script → AreUnforced script
+      → (ends : Ends log room mid last done said front) → EndsHeard ends → EndsUnforced ends → FindsOneGroup last.moment.device × IsOffOn last
+  ends_one script so_far before (AtLine same) heard unforced = (subst (λ (s : State). FindsOneGroup s.moment.device) (sym same) so_far.finds_one, subst IsOffOn (sym same) so_far.session)
+  ends_one script so_far before (InLine line answer said front rest says split it) heard unforced =
+      let all = script_one (NextLine line answer said heard says script it) (before, unforced) in
+      (all.finds_one, all.session)
 
 pub unforced_stays_alone : UnforcedStaysAlone
-unforced_stays_alone log room past first lines replies last script begin one unforced = script_one log room past first begin one script unforced
+unforced_stays_alone log room past first lines replies last script begin one off unforced =
+    let all = script_one log room past first begin one off script unforced in
+    (all.alone, all.finds_one, all.finds_off)
+
+-- a history isn't longer than itself
+not_more : (a b : List Fact) → b ≡ a → EntersVolumes a b → ⊥
+not_more a b same more = let e : count_by is_of_volume b ≡ count_by is_of_volume a = ap (λ (l : List Fact). count_by is_of_volume l) same in omega (arith, e, more)
 
 pub unforced_runs_alone : UnforcedRunsAlone
-unforced_runs_alone r ran past few ready behind earlier one unforced =
+unforced_runs_alone r ran past few ready behind earlier one off unforced =
     let begin = run_may_start r.named r.entry past few ready behind earlier in
-    let all = script_one (empty_log r.named r.room) r.room (past ++ Cut ∷ []) (entry_state r.entry r.named) begin one ran.lines.script unforced.0 in
-    (all.0, ends_alone (empty_log r.named r.room) r.room (past ++ Cut ∷ []) (entry_state r.entry r.named) begin one ran.lines.ends all.1)
+    let all = script_one (empty_log r.named r.room) r.room (past ++ Cut ∷ []) (entry_state r.entry r.named) begin one off ran.lines.script unforced.0 in (
+      all.alone,
+      ends_alone (empty_log r.named r.room) r.room (past ++ Cut ∷ []) (entry_state r.entry r.named) begin one off ran.lines.ends all.finds_one all.session,
+      λ requests. ⊎_elim
+      (λ stuck.
+          let none : ran.end.session ≡ None = stuck_ends ran.lines.ends (ran.stuck stuck) in
+          record {
+            enters = λ enters. absurd (not_more ran.end.moment.facts (facts_of r.history) (ap (λ (m : Moment). m.facts) (stuck_still r ran stuck)) enters);
+            acts = λ acting. subst (λ (o : Option Core). IfSome o (StandsAlone ran.end.moment.device)) (sym none) tt;
+          })
+      (λ heard.
+          let last = ends_one (empty_log r.named r.room) r.room (past ++ Cut ∷ []) (entry_state r.entry r.named) begin one off ran.lines.script all unforced.0 ran.lines.ends (ran.heard heard) unforced.1 in
+          alone_so OfRequests ran.end (exit_state r.exit r.history ran.end) last.0 last.1)
+      (how_ended r.status),
+    )
 
 -- ---- disks of zeros
 
 pub blank_finds_one : BlankFindsOneGroup
-blank_finds_one device blank v w g h is also = absurd (none_found device blank.still free v g is)
+blank_finds_one device blank = (λ v w g h is also. absurd (none_found device blank.still free v g is), λ id k is. absurd (none_found device blank.still free id k is))
   where
     shows_none : HasGroup (contents_of (image_of device.sizes blank.media)) false → ⊥
     shows_none has = no_some has.newest (sym (no_descriptor (image_of device.sizes blank.media) blank.blank has.disk) ∙ has.on)

@@ -1,6 +1,7 @@
 -- Runs of lines.
-use Rattle.std.specs.Prelude.{is_some}
-use Rattle.std.proofs.Common.{◌≡◌, inl, inr, ⊎_elim, ◌↔◌, ◌+◌, ◌≤◌, ◌<◌, ℕ, List, [], ◌∷◌, ◌++◌, Option, Some, None, Bool, true, false, cond, if◌then◌else◌, length, refl, sym, ◌∙◌, ap, subst, arith, zero-add, append_assoc}
+use Rattle.std.specs.Prelude.{is_some, IsTrue}
+use Rattle.std.specs.List.{list_any}
+use Rattle.std.proofs.Common.{◌≡◌, ◌||◌, inl, inr, ⊎_elim, ◌↔◌, ◌+◌, ◌≤◌, ◌<◌, ℕ, List, [], ◌∷◌, ◌++◌, Option, Some, None, Bool, true, false, if◌then◌else◌, length, refl, sym, ◌∙◌, ap, subst, arith, zero-add, append_assoc}
 use Rattle.std.proofs.lemmas.Bool.{cases_lt}
 use Rattle.std.proofs.lemmas.List.{append-nil}
 use Rattle.std.proofs.lemmas.List.Sums.{sum_by-append}
@@ -9,24 +10,27 @@ use Rattle.lvm_io.specs.Count.{Rose}
 use Rattle.lvm_io.specs.Stream.{WhereTold}
 use Rattle.lvm_io.specs.Lines.{is_feed, lines_from, lines_of}
 use Rattle.lvm_io.specs.Reading.{Reading, to_come, lines_left, CountsGiven}
-use Rattle.lvm_vol.specs.Facts.{Fact}
 use Rattle.lvm_vol.specs.Log.{Log}
-use Rattle.lvm_kept.specs.Moments.{Moment, StaysCalm}
-use Rattle.lvm_steps.specs.Moments.{Keeps, IsUpheld}
-use Rattle.lvm_steps.proofs.Spans.{keeps_still, spans_join, span_upholds}
+use Rattle.lvm_kept.specs.Moments.{Moment}
+use Rattle.lvm_steps.specs.Moments.{Keeps}
 use Rattle.lvm_stamps.specs.Behind.{IsBehind, IsAhead}
 use Rattle.lvm_stamps.proofs.Stamps.{later_is_ahead_too}
 use Rattle.lvm_core.specs.declared.parts.Room.{Room}
-use Rattle.lvm_line.specs.Lines.{IsLine}
-use Rattle.lvm_stage.specs.Replies.{reply_text, IsStuck}
-use Rattle.lvm_stage.specs.State.{State, IsTimely, AreHeld}
-use Rattle.lvm_top.specs.Run.{Run, WhereAlone}
-use Rattle.lvm_top.specs.Script.{Stream, Passage, Says, Script, NoLine, NextLine, StaysAlone, Ends, AtLine, InLine, EndsAlone, AreDone, AreAllRead, IsLineLeft, texts_of, is_refused, refusals_in, entry_state, empty_log, facts_of}
+use Rattle.lvm_parse.specs.Grammar.{line_of}
+use Rattle.lvm_line.proofs.passed.QuiesceBehind.{still_is_behind_each, each_is_behind}
+use Rattle.lvm_line.specs.passed.TieSpares.{LeavesDescriptors}
+use Rattle.lvm_posts.specs.declared.posts.Post.{Post}
+use Rattle.lvm_line.specs.Lines.{IsLine, role_of}
+use Rattle.lvm_line.specs.passed.StageMoments.{IsRequesting, Role, Aside, OfGroup, OfRequests}
+use Rattle.lvm_line.specs.passed.StageReplies.{reply_text, refusals_of, most_refusals, IsStuck}
+use Rattle.lvm_line.specs.passed.StageState.{State, IsAtRest, IsTimely, StandsBy}
+use Rattle.lvm_top.specs.Script.{Stream, Passage, Says, Script, NoLine, NextLine, StaysAlone, Ends, AtLine, InLine, EndsAlone, EndsHeard, AreDone, AreAllRead, IsLineLeft, MakeRequests, is_made_late, is_requesting, texts_of, refusals_in, entry_state}
 use Rattle.lvm_top.specs.Statuses.{GoesUntil}
 use Rattle.lvm_top.specs.declared.script.Stop.{Stop}
 use Rattle.lvm_top.specs.declared.script.Stop.TheVariants as stop
-use Rattle.lvm_top.specs.Turn.{Comes, Wrote, EndsFor, ReadsLine, ReadsNone, Tells}
-use Rattle.lvm_stage.specs.declared.reply.Reply.{Reply}
+use Rattle.lvm_top.specs.Turn.{Wrote, EndsFor, ReadsLine, ReadsNone, Tells}
+use Rattle.lvm_line.specs.passed.StageReplyReply.{Reply}
+use Rattle.lvm_line.specs.passed.StageReplyReplyTheVariants as reply
 
 -- nothing was read yet
 abbrev pub nothing_read : Reading
@@ -41,7 +45,7 @@ pub record RunSoFar (log : Log) (room : Room) (first now : State) (reading : Rea
   pub given : CountsGiven nothing_read reading input left
   pub written : WhereTold before after (λ a b. b ≡ a ++ texts_of replies)
   pub counted : refused ≡ refusals_in replies
-  pub few : refused ≤ lines_done
+  pub few : refused + length now.posts ≤ lines_done
   pub bounded : lines_left reading + lines_done ≤ 16842752
   pub within : reading.given ≤ 16777216
 
@@ -67,8 +71,8 @@ told_on None (Some b) z R S T f one two = absurd one
 told_on (Some a) None z R S T f one two = absurd one
 told_on (Some a) (Some b) None R S T f one two = absurd two
 
-pub at_start : (log : Log) (room : Room) (first : State) (input before : Option (List ℕ)) → RunSoFar log room first first nothing_read input input before before 0 0
-at_start log room first input before = record {
+pub at_start : (log : Log) (room : Room) (first : State) (input before : Option (List ℕ)) → first.posts ≡ [] → RunSoFar log room first first nothing_read input input before before 0 0
+at_start log room first input before none = record {
   lines = [];
   replies = [];
   script = NoLine;
@@ -76,7 +80,7 @@ at_start log room first input before = record {
   given = told_same input (λ a b. length a + 0 ≡ length b + 0) (λ a. refl);
   written = told_same before (λ a b. b ≡ a ++ []) (λ a. sym (append-nil a));
   counted = refl;
-  few = omega arith;
+  few = let e : length first.posts ≡ 0 = ap (λ (l : List Post). length l) none in omega (arith, e);
   bounded = omega arith;
   within = omega arith;
 }
@@ -85,16 +89,35 @@ texts_more : (replies : List Reply) (said : Reply) → texts_of (replies ++ said
 texts_more [] said = append-nil (reply_text said)
 texts_more (r ∷ replies) said = ap (λ (t : List ℕ). reply_text r ++ t) (texts_more replies said) ∙ sym (append_assoc (reply_text r) (texts_of replies) (reply_text said))
 
-refusals_more : (replies : List Reply) (said : Reply) → refusals_in (replies ++ said ∷ []) ≡ refusals_in replies + cond (is_refused said) 1 0
-refusals_more replies said = sum_by-append (λ r. cond (is_refused r) 1 0) replies (said ∷ []) ∙ ap (λ (n : ℕ). refusals_in replies + n) (zero-add (cond (is_refused said) 1 0))
+refusals_more : (replies : List Reply) (said : Reply) → refusals_in (replies ++ said ∷ []) ≡ refusals_in replies + refusals_of said
+refusals_more replies said = sum_by-append refusals_of replies (said ∷ []) ∙ ap (λ (n : ℕ). refusals_in replies + n) (zero-add (refusals_of said))
 
--- one line more refuses at most one line more
-pub one_more : (refused refused' lines_done : ℕ) (said : Reply) → refused' ≡ refused + cond (is_refused said) 1 0 → refused ≤ lines_done → refused' ≤ lines_done + 1
-one_more refused refused' lines_done said is few = bounded (is_refused said) is
+-- what is written has as many refusals as the answer may have
+pub said_few : (answer said : Reply) → Says answer said → refusals_of said ≤ most_refusals answer
+said_few answer said (inl same) = subst (λ (r : Reply). refusals_of r ≤ most_refusals answer) (sym same) (its answer)
   where
-    bounded : (b : Bool) → refused' ≡ refused + cond b 1 0 → refused' ≤ lines_done + 1
-    bounded true is = omega (arith, is, few)
-    bounded false is = omega (arith, is, few)
+    its : (r : Reply) → refusals_of r ≤ most_refusals r
+    its reply.Silent = omega arith
+    its reply.Ok = omega arith
+    its reply.Posted = omega arith
+    its (reply.Stepped turns) = omega arith
+    its (reply.Lines text) = omega arith
+    its (reply.Answers text refused) = omega arith
+    its (reply.Refused why) = omega arith
+said_few answer said (inr (late, is)) = subst (λ (r : Reply). refusals_of r ≤ most_refusals answer) (sym is) (one answer late)
+  where
+    one : (r : Reply) → IsTrue (is_made_late r) → 1 ≤ most_refusals r
+    one (reply.Stepped turns) late = omega arith
+    one (reply.Refused why) late = omega arith
+    one reply.Silent late = absurd (cc (late))
+    one reply.Ok late = absurd (cc (late))
+    one reply.Posted late = absurd (cc (late))
+    one (reply.Lines text) late = absurd (cc (late))
+    one (reply.Answers text refused) late = absurd (cc (late))
+
+-- one line more refuses as many lines more as posts go with it, and one
+pub one_more : (refused refused' lines_done posts posts' : ℕ) (answer said : Reply) → Says answer said → refused' ≡ refused + refusals_of said → most_refusals answer + posts' ≤ posts + 1 → refused + posts ≤ lines_done → refused' + posts' ≤ lines_done + 1
+one_more refused refused' lines_done posts posts' answer said says is one few = let most = said_few answer said says in omega (arith, is, one, few, most)
 
 -- bytes that have no lines are none
 some_lines : (front bytes : List ℕ) → (front ≡ [] → ⊥) → lines_from front bytes ≡ [] → ⊥
@@ -123,7 +146,7 @@ module _ (log : Log) (room : Room) (first now : State) (reading : Reading) (inpu
   pub line_answered :
       (new : State) (reading' : Reading) (left' after' : Option (List ℕ)) (refused' : ℕ) (line : List ℕ) (answer said : Reply) → (IsStuck answer → ⊥) → Says answer said → IsLine log room line answer now new
       → WhereTold (to_come reading left) (to_come reading' left') (λ a b. lines_of a ≡ line ∷ lines_of b) → CountsGiven reading reading' left left' → lines_left reading' < lines_left reading → reading'.given ≤ 16777216
-      → WhereTold after after' (λ a b. b ≡ a ++ reply_text said) → refused' ≡ refused + cond (is_refused said) 1 0 → refused' ≤ lines_done + 1
+      → WhereTold after after' (λ a b. b ≡ a ++ reply_text said) → refused' ≡ refused + refusals_of said → refused' + length new.posts ≤ lines_done + 1
       → RunSoFar log room first new reading' input left' before after' refused' (lines_done + 1)
   line_answered new reading' left' after' refused' line answer said goes says does read given fewer within written counts few = record {
     lines = so_far.lines ++ line ∷ [];
@@ -133,7 +156,7 @@ module _ (log : Log) (room : Room) (first now : State) (reading : Reading) (inpu
         (λ a b c one two. one ∙ ap (λ (l : List (List ℕ)). so_far.lines ++ l) two ∙ sym (append_assoc so_far.lines (line ∷ []) (lines_of c))) so_far.read read;
     given = told_on input left left' _ _ (λ a b. length a + 0 ≡ length b + reading'.given) (λ a b c one two. omega (arith, one, two)) so_far.given given;
     written = told_on before after after' _ _ (λ a b. b ≡ a ++ texts_of (so_far.replies ++ said ∷ [])) (λ a b c one two. two ∙ ap (λ (t : List ℕ). t ++ reply_text said) one ∙ append_assoc a (texts_of so_far.replies) (reply_text said) ∙ ap (λ (t : List ℕ). a ++ t) (sym (texts_more so_far.replies said))) so_far.written written;
-    counted = counts ∙ ap (λ (n : ℕ). n + cond (is_refused said) 1 0) so_far.counted ∙ sym (refusals_more so_far.replies said);
+    counted = counts ∙ ap (λ (n : ℕ). n + refusals_of said) so_far.counted ∙ sym (refusals_more so_far.replies said);
     few = few;
     bounded = let b = so_far.bounded in omega (arith, b, fewer);
     within = within;
@@ -215,6 +238,7 @@ module _ (log : Log) (room : Room) (first now : State) (reading : Reading) (inpu
     read_well = read_well;
     written_well = λ no_sink no_stuck. written_well;
     stuck = λ is. absurd (no_stuck is);
+    heard = λ other. tt;
     long = λ is. told_then input left' _ (λ a b. 16777216 + length b < length a) (λ a b e. let over = too_long.0 is in omega (arith, e, over)) (all_given reading' left' given);
     short = λ not_long. told_then input left' _ (λ a b. length a ≤ 16777216 + length b) (λ a b e. let fits = within not_long in omega (arith, e, fits)) (all_given reading' left' given);
   }
@@ -225,10 +249,10 @@ module _ (log : Log) (room : Room) (first now : State) (reading : Reading) (inpu
   -- the run stops in one line more
   pub stops_in_line :
       (why : Option Stop) (last : State) (reading' : Reading) (left' after' : Option (List ℕ)) (f g h k refused' : ℕ) (line : List ℕ) (answer said : Reply) (text : Wrote (reply_text said) (through after h after' k)) → Says answer said → IsLine log room line answer now last
-      → WhereTold (to_come reading left) (to_come reading' left') (λ a b. lines_of a ≡ line ∷ lines_of b) → CountsGiven reading reading' left left' → reading'.given ≤ 16777216 → refused' ≡ refused + cond (is_refused said) 1 0
-      → (why ≡ None → ⊥) → (why ≡ Some stop.SourceFault → ⊥) → (why ≡ Some stop.TooLong → ⊥) → ((why ≡ Some stop.SinkFault → ⊥) → why ≡ Some stop.Stuck) → (why ≡ Some stop.SinkFault → Rose h k) → (why ≡ Some stop.Stuck → IsStuck answer) → g ≡ f
+      → WhereTold (to_come reading left) (to_come reading' left') (λ a b. lines_of a ≡ line ∷ lines_of b) → CountsGiven reading reading' left left' → reading'.given ≤ 16777216 → refused' ≡ refused + refusals_of said
+      → (why ≡ None → ⊥) → (why ≡ Some stop.SourceFault → ⊥) → (why ≡ Some stop.TooLong → ⊥) → ((why ≡ Some stop.SinkFault → ⊥) → why ≡ Some stop.Stuck) → (why ≡ Some stop.SinkFault → Rose h k) → (why ≡ Some stop.Stuck → IsStuck answer) → (IsStuck answer → why ≡ Some stop.Stuck) → g ≡ f
       → GoesUntil why log room first last (through input f left' g) (through before h after' k) refused'
-  stops_in_line why last reading' left' after' f g h k refused' line answer said text says does read given within counts not_end no_source not_long either sink stuck well = record {
+  stops_in_line why last reading' left' after' f g h k refused' line answer said text says does read given within counts not_end no_source not_long either sink stuck stuck_so well = record {
     lines = record {
       lines = so_far.lines;
       replies = so_far.replies;
@@ -241,7 +265,7 @@ module _ (log : Log) (room : Room) (first now : State) (reading : Reading) (inpu
       read = λ bytes is. begins_with bytes (to_come reading left) (to_come reading' left') (subst (λ (o : Option (List ℕ)). WhereTold (to_come nothing_read o) (to_come reading left) (λ a b. lines_of a ≡ so_far.lines ++ lines_of b)) is so_far.read) read;
       written = told_on before after after' _ _ (λ a b. b ≡ (a ++ texts_of so_far.replies) ++ text.front) (λ a b c one two. two ∙ ap (λ (t : List ℕ). t ++ text.front) one) so_far.written text.written;
       in_full = ⊎_elim (λ is. inl (is ∙ sym (append-nil (reply_text said)))) (λ rose. inr rose) text.in_full;
-      counted = counts ∙ ap (λ (n : ℕ). n + cond (is_refused said) 1 0) so_far.counted ∙ sym (refusals_more so_far.replies said);
+      counted = counts ∙ ap (λ (n : ℕ). n + refusals_of said) so_far.counted ∙ sym (refusals_more so_far.replies said);
     };
     whole = λ is. absurd (not_end is);
     between = λ no_sink no_stuck. absurd (no_stuck (either no_sink));
@@ -251,6 +275,7 @@ module _ (log : Log) (room : Room) (first now : State) (reading : Reading) (inpu
     read_well = λ no_source. well;
     written_well = λ no_sink no_stuck. absurd (no_stuck (either no_sink));
     stuck = stuck;
+    heard = λ other stuck. other (stuck_so stuck);
     long = λ is. absurd (not_long is);
     short = λ not_long. told_then input left' _ (λ a b. length a ≤ 16777216 + length b) (λ a b e. omega (arith, e, within)) (all_given reading' left' given);
   }
@@ -274,7 +299,7 @@ module _ (log : Log) (room : Room) (first now : State) (reading : Reading) (inpu
   line_told new reading' left' after' f g h k refused' line answer (Some why) none does read tells = absurd (cc (none))
   line_told new reading' left' after' f g h k refused' line answer None none does read tells =
       let on = tells.goes_on refl in
-      line_answered new reading' left' after' refused' line answer tells.said (λ is. (let e = tells.stuck.1 is in cc (e))) tells.says does read.line_is read.given read.fewer read.within on.whole tells.counted (one_more refused refused' lines_done tells.said tells.counted so_far.few)
+      line_answered new reading' left' after' refused' line answer tells.said (λ is. (let e = tells.stuck.1 is in cc (e))) tells.says does read.line_is read.given read.fewer read.within on.whole tells.counted (one_more refused refused' lines_done (length now.posts) (length new.posts) answer tells.said tells.says tells.counted does.goes.few so_far.few)
 
   -- it ends
   pub line_ends :
@@ -286,92 +311,133 @@ module _ (log : Log) (room : Room) (first now : State) (reading : Reading) (inpu
       ended : EndsFor (through after h after' k) why → GoesUntil (Some why) log room first last (through input f left' g) (through before h after' k) refused'
       ended (inl is) =
           stops_in_line (Some why) last reading' left' after' f g h k refused' line answer tells.said tells.text tells.says does read.line_is read.given read.within tells.counted
-          (λ e. cc (e)) (λ e. cc (e, is)) (λ e. cc (e, is)) (λ no. ap Some is) (λ e. absurd (cc (e, is))) tells.stuck.0 read.well
+          (λ e. cc (e)) (λ e. cc (e, is)) (λ e. cc (e, is)) (λ no. ap Some is) (λ e. absurd (cc (e, is))) tells.stuck.0 tells.stuck.1 read.well
       ended (inr (is, rose)) =
           stops_in_line (Some why) last reading' left' after' f g h k refused' line answer tells.said tells.text tells.says does read.line_is read.given read.within tells.counted
-          (λ e. cc (e)) (λ e. cc (e, is)) (λ e. cc (e, is)) (λ no. absurd (no (ap Some is))) (λ e. rose) tells.stuck.0 read.well
+          (λ e. cc (e)) (λ e. cc (e, is)) (λ e. cc (e, is)) (λ no. absurd (no (ap Some is))) (λ e. rose) tells.stuck.0 tells.stuck.1 read.well
+
+-- ---- requests among the lines
+
+more_requests : (lines more : List (List ℕ)) → MakeRequests lines → MakeRequests (lines ++ more)
+more_requests [] more some = absurd (cc (some))
+more_requests (line ∷ lines) more some = by (is_requesting (role_of (line_of line))) some (more_requests lines more)
+  where
+    by : (t : Bool) → IsTrue (t || list_any (λ l. is_requesting (role_of (line_of l))) lines) → (MakeRequests lines → MakeRequests (lines ++ more)) → IsTrue (t || list_any (λ l. is_requesting (role_of (line_of l))) (lines ++ more))
+    by true some rest = refl
+    by false some rest = rest some
+
+last_requests : (lines : List (List ℕ)) (line : List ℕ) → IsTrue (is_requesting (role_of (line_of line))) → MakeRequests (lines ++ line ∷ [])
+last_requests [] line its = ap (λ (t : Bool). t || false) its
+last_requests (other ∷ lines) line its = by (is_requesting (role_of (line_of other))) (last_requests lines line its)
+  where
+    by : (t : Bool) → MakeRequests (lines ++ line ∷ []) → IsTrue (t || list_any (λ l. is_requesting (role_of (line_of l))) (lines ++ line ∷ []))
+    by true rest = refl
+    by false rest = rest
+
+-- such a line
+asks : (role : Role) → IsRequesting role → IsTrue (is_requesting role)
+asks Aside asking = absurd asking
+asks OfGroup asking = absurd asking
+asks OfRequests asking = refl
+
+no_requests : (lines : List (List ℕ)) (line : List ℕ) → (MakeRequests (lines ++ line ∷ []) → ⊥) → IsRequesting (role_of (line_of line)) → ⊥
+no_requests lines line none asking = none (last_requests lines line (asks (role_of (line_of line)) asking))
 
 -- ---- what a run upholds
 
--- From one state to a later one, where the clock is ahead of the disks at the first: it stays ahead, the disks go on holding what a session says, and where
--- no other group was found at a line that asks for one, the history is legal and each crash image kept with it at each moment between. No write of a disk
--- is open that wasn't.
-pub record Went (run : ℕ) (Alone : Type 0) (first last : State) : Type 0 where
+-- From one state to a later one, where the clock is ahead of each crash image at the first: it stays ahead; where no other group was found at a line that asks for
+-- one, a span goes on, and the disks go on standing by the session. No transfer goes to a slot of descriptors where none did, and nothing is under way where no line
+-- made requests.
+pub record Went (run : ℕ) (Alone Requests : Type 0) (first last : State) : Type 0 where
   pub timely : IsTimely run first → IsTimely run last
-  pub held : IsTimely run first → AreHeld first → AreHeld last
-  pub keeps : IsTimely run first → AreHeld first → Alone → Keeps run first.moment last.moment
-  pub calm : StaysCalm first.moment last.moment
+  pub keeps : IsTimely run first → Alone → (begun : Moment) → Keeps run begun first.moment → StandsBy run begun first → Keeps run begun last.moment × StandsBy run begun last
+  pub leaves : LeavesDescriptors first.moment.device → LeavesDescriptors last.moment.device
+  pub rests : (Requests → ⊥) → IsAtRest first → IsAtRest last
   pub waits : first.moment.device.counts.waits ≤ last.moment.device.counts.waits
   pub power : first.moment.device.power ≡ true → last.moment.device.power ≡ true
   pub clock : first.last ≤ last.last
 
-pub script_went : (log : Log) (room : Room) (first : State) {lines : List (List ℕ)} {replies : List Reply} {last : State} (script : Script log room first lines replies last) → Went log.run (StaysAlone script) first last
+pub script_went : (log : Log) (room : Room) (first : State) {lines : List (List ℕ)} {replies : List Reply} {last : State} (script : Script log room first lines replies last) → Went log.run (StaysAlone script) (MakeRequests lines) first last
 script_went log room first NoLine =
-    record { timely = λ timely. timely; held = λ timely held. held; keeps = λ timely held alone. keeps_still log.run first.moment; calm = λ past calm. calm; waits = omega arith; power = λ on. on; clock = omega arith }
-script_went log room first (NextLine {mid = mid} {new = new} line answer said goes says script it) =
+    record { timely = λ timely. timely; keeps = λ timely alone begun span stands. (span, stands); leaves = λ leaves. leaves; rests = λ none rest. rest; waits = omega arith; power = λ on. on; clock = omega arith }
+script_went log room first (NextLine {lines = lines} {mid = mid} {new = new} line answer said heard says script it) =
     let went = script_went log room first script in
     record {
-      timely = λ timely. it.goes.timely (went.timely timely);
-      held = λ timely held. it.goes.held (went.timely timely) (went.held timely held);
-      keeps = λ timely held alone. spans_join log.run first.moment mid.moment new.moment (went.keeps timely held alone.0) went.calm (it.goes.keeps (went.timely timely) (went.held timely held) alone.1);
-      calm = λ past calm. it.goes.calm goes past (went.calm past calm);
+      timely = λ timely. it.goes.timely heard (went.timely timely);
+      keeps = λ timely alone begun span stands.
+          let so_far = went.keeps timely alone.0 begun span stands in
+          let next = it.goes.keeps (went.timely timely) alone.1 begun so_far.0 so_far.1 in
+          (next.0, next.1 heard);
+      leaves = λ leaves. (it.goes.between heard).descriptors;
+      rests = λ none rest. it.goes.rests (no_requests lines line none) heard (went.rests (λ some. none (more_requests lines (line ∷ []) some)) rest);
       waits = let a = went.waits in let b = it.goes.waits in omega (arith, a, b);
       power = λ on. it.goes.power;
       clock = let a = went.clock in let b = it.goes.clock in omega (arith, a, b);
     }
 
--- the same to a run's last state, behind which a write may be open
-pub record Ended (run : ℕ) (Alone : Type 0) (first last : State) : Type 0 where
-  pub timely : IsTimely run first → IsTimely run last
-  pub keeps : IsTimely run first → AreHeld first → Alone → Keeps run first.moment last.moment
+-- the same to a run's last state, behind which nothing may have been heard of a transfer
+pub record Ended (run : ℕ) (Alone Requests Heard : Type 0) (first last : State) : Type 0 where
+  pub left : IsTimely run first → IsAhead run (last.last + 1) last.moment.device last.moment.facts
+  pub timely : Heard → IsTimely run first → IsTimely run last
+  pub keeps : IsTimely run first → Alone → (begun : Moment) → Keeps run begun first.moment → StandsBy run begun first → Keeps run begun last.moment × (Heard → StandsBy run begun last)
+  pub rests : Heard → (Requests → ⊥) → IsAtRest first → IsAtRest last
+  pub leaves : Heard → LeavesDescriptors first.moment.device → LeavesDescriptors last.moment.device
   pub power : first.moment.device.power ≡ true → last.moment.device.power ≡ true
   pub clock : first.last ≤ last.last
 
-ends_went : (log : Log) (room : Room) (Alone : Type 0) (first mid last : State) {done : List (List ℕ)} {said : List Reply} {front : List ℕ} → Went log.run Alone first mid → (ends : Ends log room mid last done said front) → Ended log.run (Alone × EndsAlone ends) first last
-ends_went log room Alone first mid last went (AtLine is) = record {
-  timely = λ timely. subst (IsTimely log.run) (sym is) (went.timely timely);
-  keeps = λ timely held alone. subst (λ (s : State). Keeps log.run first.moment s.moment) (sym is) (went.keeps timely held alone.0);
+-- what is ahead of each crash image is ahead of the disks
+pub timely_ahead : (run : ℕ) (s : State) → IsTimely run s → IsAhead run (s.last + 1) s.moment.device s.moment.facts
+timely_ahead run s timely = record { run_is = timely.ahead.run_is; later = timely.ahead.later; behind = each_is_behind (s.last + 1) s.moment.device timely.ahead.behind }
+
+ends_went : (log : Log) (room : Room) (Alone : Type 0) (lines : List (List ℕ)) (first mid last : State) {done : List (List ℕ)} {said : List Reply} {front : List ℕ} → Went log.run Alone (MakeRequests lines) first mid → (ends : Ends log room mid last done said front)
+    → Ended log.run (Alone × EndsAlone ends) (MakeRequests (lines ++ done)) (EndsHeard ends) first last
+ends_went log room Alone lines first mid last went (AtLine is) = record {
+  left = λ timely. timely_ahead log.run last (subst (IsTimely log.run) (sym is) (went.timely timely));
+  timely = λ heard timely. subst (IsTimely log.run) (sym is) (went.timely timely);
+  keeps = λ timely alone begun span stands.
+      let kept = went.keeps timely alone.0 begun span stands in
+      (subst (λ (s : State). Keeps log.run begun s.moment) (sym is) kept.0, λ heard. subst (λ (s : State). StandsBy log.run begun s) (sym is) kept.1);
+  rests = λ heard none rest. subst IsAtRest (sym is) (went.rests (λ some. none (more_requests lines [] some)) rest);
+  leaves = λ heard leaves. subst (λ (s : State). LeavesDescriptors s.moment.device) (sym is) (went.leaves leaves);
   power = λ on. subst (λ (s : State). s.moment.device.power ≡ true) (sym is) (went.power on);
   clock = subst (λ (s : State). first.last ≤ s.last) (sym is) went.clock;
 }
-ends_went log room Alone first mid last went (InLine line answer said front rest says split it) = record {
-  timely = λ timely. it.goes.timely (went.timely timely);
-  keeps = λ timely held alone. spans_join log.run first.moment mid.moment last.moment (went.keeps timely held alone.0) went.calm (it.goes.keeps (went.timely timely) (went.held timely held) alone.1);
+ends_went log room Alone lines first mid last went (InLine line answer said front rest says split it) = record {
+  left = λ timely. it.goes.left (went.timely timely);
+  timely = λ heard timely. it.goes.timely heard (went.timely timely);
+  keeps = λ timely alone begun span stands.
+      let so_far = went.keeps timely alone.0 begun span stands in
+      it.goes.keeps (went.timely timely) alone.1 begun so_far.0 so_far.1;
+  rests = λ heard none rest. it.goes.rests (no_requests lines line none) heard (went.rests (λ some. none (more_requests lines (line ∷ []) some)) rest);
+  leaves = λ heard leaves. (it.goes.between heard).descriptors;
   power = λ on. it.goes.power;
   clock = let a = went.clock in let b = it.goes.clock in omega (arith, a, b);
 }
 
-pub lines_ended : (log : Log) (room : Room) (first last : State) (input output : Passage) (refused : ℕ) (lines : AreDone log room first last input output refused) → Ended log.run (StaysAlone lines.script × EndsAlone lines.ends) first last
-lines_ended log room first last input output refused lines = ends_went log room (StaysAlone lines.script) first lines.mid last (script_went log room first lines.script) lines.ends
+pub lines_ended : (log : Log) (room : Room) (first last : State) (input output : Passage) (refused : ℕ) (lines : AreDone log room first last input output refused)
+    → Ended log.run (StaysAlone lines.script × EndsAlone lines.ends) (MakeRequests (lines.lines ++ lines.done)) (EndsHeard lines.ends) first last
+lines_ended log room first last input output refused lines = ends_went log room (StaysAlone lines.script) lines.lines first lines.mid last (script_went log room first lines.script) lines.ends
 
 -- a run that has done no line
-pub nothing_done : (log : Log) (room : Room) (first : State) (input output : Stream) → AreDone log room first first (record { before = input; after = input }) (record { before = output; after = output }) 0
-nothing_done log room first input output =
-    lines_so_far log room first first nothing_read input.content input.content output.content output.content 0 0 (at_start log room first input.content output.content) input input.faults output.faults output.faults
+pub nothing_done : (log : Log) (room : Room) (first : State) (input output : Stream) → first.posts ≡ [] → AreDone log room first first (record { before = input; after = input }) (record { before = output; after = output }) 0
+nothing_done log room first input output none =
+    lines_so_far log room first first nothing_read input.content input.content output.content output.content 0 0 (at_start log room first input.content output.content none) input input.faults output.faults output.faults
 
 -- in which no line was broken off
-pub nothing_broken : (log : Log) (room : Room) (first : State) (input output : Stream) → (nothing_done log room first input output).done ≡ []
+pub nothing_broken : (log : Log) (room : Room) (first : State) (input output : Stream) (none : first.posts ≡ []) → (nothing_done log room first input output none).done ≡ []
 unfolding nothing_done lines_so_far
-nothing_broken log room first input output = refl
+nothing_broken log room first input output none = refl
+
+-- nor was anything not heard of
+pub nothing_heard : (log : Log) (room : Room) (first : State) (input output : Stream) (none : first.posts ≡ []) → EndsHeard (nothing_done log room first input output none).ends
+unfolding nothing_done lines_so_far
+nothing_heard log room first input output none = tt
 
 -- ---- runs
 
--- The run's moment is later than what stands on the disks at its beginning, so the clock is ahead of them.
-pub begins_timely : (run : ℕ) (device : Device) → IsBehind run device → IsTimely run (entry_state device run)
-begins_timely run device behind = record { ahead = record { run_is = omega arith; later = tt; behind = later_is_ahead_too run (run + 1) device (omega arith) behind }; session = tt }
-
--- A run whose lines find no other group where they ask for that upholds what was told before it,
-pub run_upheld : (r : Run) → WhereAlone r (IsBehind r.named r.entry → IsUpheld r.named r.entry r.exit (facts_of r.history))
-run_upheld r = λ ran alone behind.
-    span_upholds r.named r.entry r.exit (facts_of r.history)
-    (subst (λ (m : Moment). Keeps r.named (record { device = r.entry; facts = [] }) m) ran.closed.moment
-    ((lines_ended (empty_log r.named r.room) r.room (entry_state r.entry r.named) ran.end r.input r.output r.refused ran.lines).keeps (begins_timely r.named r.entry behind) tt alone))
-
--- and leaves the clock ahead of the disks.
-pub run_ahead : (log : Log) (room : Room) (run last : ℕ) (entry exit : Device) (facts : List Fact) (end : State) (input output : Passage) (refused : ℕ) → log.run ≡ run → end.moment ≡ record { device = exit; facts = facts } → end.last ≡ last
-    → AreDone log room (entry_state entry run) end input output refused → IsBehind run entry → IsAhead run (last + 1) exit facts
-run_ahead log room run last entry exit facts end input output refused named is ended lines behind =
-    subst (λ (m : Moment). IsAhead run (last + 1) m.device m.facts) is
-    (subst (λ (n : ℕ). IsAhead run (n + 1) end.moment.device end.moment.facts) ended
-    (subst (λ (n : ℕ). IsTimely n end) named
-    ((lines_ended log room (entry_state entry run) end input output refused lines).timely (subst (λ (n : ℕ). IsTimely n (entry_state entry run)) (sym named) (begins_timely run entry behind)))).ahead)
+-- The run's moment is later than what stands on the disks at its beginning, where nothing is out, so the clock is ahead of each crash image.
+pub begins_timely : (run : ℕ) (device : Device) → device.flights ≡ [] → IsBehind run device → IsTimely run (entry_state device run)
+begins_timely run device still behind = record {
+  ahead = record { run_is = omega arith; later = tt; behind = still_is_behind_each (run + 1) device still (later_is_ahead_too run (run + 1) device (omega arith) behind) };
+  session = tt;
+}

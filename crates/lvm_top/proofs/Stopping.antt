@@ -1,21 +1,25 @@
 -- Why a run ended, by its status.
-use Rattle.std.proofs.Common.{◌≡◌, ◌⊎◌, inl, inr, ◌≤◌, ◌<◌, ◌+◌, ◌==◌, if◌then◌else◌, ℕ, List, [], length, Option, Some, None, Bool, true, false, refl, sym, ◌∙◌, ap, subst, arith}
+use Rattle.std.proofs.Common.{◌≡◌, ◌⊎◌, inl, inr, ⊎_elim, ◌++◌, ◌≤◌, ◌+◌, ◌==◌, if◌then◌else◌, ℕ, List, [], length, Option, Some, None, Bool, true, false, refl, sym, ◌∙◌, ap, subst, arith}
 use Rattle.lvm_disk.specs.Device.{Device, IsReady}
 use Rattle.lvm_io.specs.Count.{Rose}
 use Rattle.lvm_vol.specs.Facts.{Fact}
 use Rattle.lvm_vol.specs.Log.{Log}
-use Rattle.lvm_num.specs.Buffer.{Buffer}
 use Rattle.lvm_stamps.specs.Behind.{IsBehind, IsAhead}
 use Rattle.lvm_stamps.proofs.Stamps.{later_is_ahead_too}
 use Rattle.lvm_core.specs.declared.parts.Room.{Room}
-use Rattle.lvm_stage.specs.Stages.{shelf_in, history_in, session_in, state_in, IsSettledStage, GivesBack}
-use Rattle.lvm_stage.specs.declared.stage.Stage.{Stage}
-use Rattle.lvm_stage.specs.declared.stage.Stage.TheVariants as stage
-use Rattle.lvm_stage.specs.State.{State, without_facts}
-use Rattle.lvm_top.specs.Run.{Run, IsClosed, IsRun, Promises, ran}
-use Rattle.lvm_top.specs.Script.{Stream, Passage, StaysAlone, EndsAlone, empty_log, entry_state}
+use Rattle.lvm_line.specs.passed.StageStages.{shelf_in, history_in, moment_in, session_in, state_in, IsBetweenStage}
+use Rattle.lvm_line.specs.passed.StageStageStage.{Stage}
+use Rattle.std.specs.Global.{Vec}
+use Rattle.lvm_posts.specs.declared.posts.Post.{Post}
+use Rattle.lvm_line.specs.passed.StageHolderHolderTheVariants as holder
+use Rattle.lvm_line.specs.passed.StageState.{IsAtRest, IsBetween, State, without_facts}
+use Rattle.lvm_kept.specs.Moments.{Moment}
+use Rattle.lvm_top.specs.Ending.{Concludes, NoneIsOn}
+use Rattle.lvm_top.specs.Run.{Run, IsConcluded, IsRun, Promises, ran}
+use Rattle.lvm_top.specs.Script.{Stream, Passage, StaysAlone, EndsAlone, EndsHeard, MakeRequests, empty_log, entry_state}
 use Rattle.lvm_top.proofs.Firsts.{first_upheld}
-use Rattle.lvm_top.proofs.Scripting.{Ended, told_same, nothing_done, nothing_broken, lines_ended, run_upheld, run_ahead}
+use Rattle.lvm_top.proofs.Concluding.{at_rest_still, concluded, entry_between, off_still, ran_ahead, run_upheld}
+use Rattle.lvm_top.proofs.Scripting.{Ended, told_same, nothing_done, nothing_broken, nothing_heard, lines_ended}
 use Rattle.lvm_top.specs.Statuses.{status_of, at_end, IsAtEnd, GoesUntil}
 use Rattle.lvm_top.specs.declared.status.ExitStatus.{ExitStatus}
 use Rattle.lvm_top.specs.declared.status.ExitStatus.TheVariants as ended
@@ -77,46 +81,48 @@ why_at why refused status is = sym (reason_back why refused) ∙ ap reason is
 pub nothing_ran : (last : ℕ) (room : Room) (device : Device) (input output : Stream) → IsReady device
     → IsRun (ran room device device (record { before = input; after = input }) (record { before = output; after = output }) last None ended.Memory 0)
 nothing_ran last room device input output ready = record {
+  ready = ready;
   history_is = tt;
   none = (refl, refl, refl);
   read_words = λ is. cc (is);
   counted = λ end. absurd end;
   end = entry_state device 0;
-  closed = record { moment = refl; clock = tt };
-  lines = nothing_done (empty_log 0 room) room (entry_state device 0) input output;
+  lines = nothing_done (empty_log 0 room) room (entry_state device 0) input output refl;
+  concluded = record { concludes = NoneIsOn refl refl; still = λ none. refl; rests = λ none heard. ready; clock = tt };
   whole = λ end. absurd end;
-  between = λ no_sink no_stuck. nothing_broken (empty_log 0 room) room (entry_state device 0) input output;
+  between = λ no_sink no_stuck. nothing_broken (empty_log 0 room) room (entry_state device 0) input output refl;
   wanting = λ is. tt;
   source = λ is. absurd (cc (is));
   sink = λ is. absurd (cc (is));
   read_well = λ no. refl;
   written_well = λ no_sink no_stuck. refl;
   stuck = λ is. absurd (cc (is));
+  heard = λ no. nothing_heard (empty_log 0 room) room (entry_state device 0) input output refl;
   long = λ is. absurd (cc (is));
   short = λ no. told_same input.content (λ a b. length a ≤ 16777216 + length b) (λ a. omega arith);
-  ready = λ goes. ready;
   power = ready.power;
 }
 
-module _ (run last : ℕ) (room : Room) (entry exit : Device) (input output : Passage) (log : Log) (made : log ≡ record (empty_log run room) { facts = log.facts }) (end : State) (closed : IsClosed exit (Some log) last end) (why : Option Stop) (refused : ℕ) where
+module _ (run last : ℕ) (room : Room) (entry exit : Device) (input output : Passage) (log : Log) (made : log ≡ record (empty_log run room) { facts = log.facts }) (end : State) (why : Option Stop) (refused : ℕ) where
   -- a run of lines that ended so
   abbrev ran_so : ExitStatus → Run
   ran_so status = record { named = run; last = last; room = room; entry = entry; exit = exit; input = input; output = output; history = Some log; status = status; refused = refused }
 
   -- lines were done, and the status says why no more were
   pub lines_ran :
-      (status : ExitStatus) → status ≡ status_of why refused
-      → GoesUntil why (empty_log run room) room (entry_state entry run) end input output refused
-      → ((why ≡ Some stop.Stuck → ⊥) → IsReady exit) → exit.power ≡ true
+      (status : ExitStatus) → status ≡ status_of why refused → IsReady entry
+      → (goes : GoesUntil why (empty_log run room) room (entry_state entry run) end input output refused)
+      → IsConcluded run exit (Some log) last end (MakeRequests (goes.lines.lines ++ goes.lines.done)) (why ≡ Some stop.Stuck) → exit.power ≡ true
       → IsRun (ran_so status)
-  lines_ran status says goes ready power = subst (λ (s : ExitStatus). IsRun (ran_so s)) (sym says) (record {
+  lines_ran status says ready goes concluded power = subst (λ (s : ExitStatus). IsRun (ran_so s)) (sym says) (record {
+    ready = ready;
     history_is = made;
     none = tt;
     read_words = words_read why refused;
     counted = counted_at_end why refused;
     end = end;
-    closed = closed;
     lines = goes.lines;
+    concluded = record { concludes = concluded.concludes; still = concluded.still; rests = λ none no. concluded.rests none (λ is. no (says_so is)); clock = concluded.clock };
     whole = λ end. goes.whole (at_its_end why refused end);
     between = λ no_sink no_stuck. goes.between (λ is. no_sink (says_so is)) (λ is. no_stuck (says_so is));
     wanting = λ is. goes.wanting (why_at why refused ended.Memory is);
@@ -125,9 +131,9 @@ module _ (run last : ℕ) (room : Room) (entry exit : Device) (input output : Pa
     read_well = λ no. goes.read_well (λ is. no (says_so is));
     written_well = λ no_sink no_stuck. goes.written_well (λ is. no_sink (says_so is)) (λ is. no_stuck (says_so is));
     stuck = λ is. goes.stuck (why_at why refused ended.Stuck is);
+    heard = λ no. goes.heard (λ is. no (says_so is));
     long = λ is. goes.long (why_at why refused ended.TooLong is);
     short = λ no. goes.short (λ is. no (says_so is));
-    ready = λ no. ready (λ is. no (says_so is));
     power = power;
   })
     where
@@ -144,77 +150,102 @@ first_is log run room is = subst (λ (l : Log). l ≡ record (empty_log l.run ro
 
 -- ---- the end
 
--- a session that is on is closed without a write
-pub closed_same : {S : Type 0} (device : S → Device) (it : Stage S) (exit : Device) → GivesBack (device (shelf_in it)) exit → (session_in it ≡ None → exit ≡ device (shelf_in it)) → (IsSettledStage device it ⊎ (session_in it ≡ None)) → exit ≡ device (shelf_in it)
-closed_same device it exit (inl same) off either = same
-closed_same device it exit (inr back) off (inl settled) = back ∙ ap (λ (l : List Buffer). record (device (shelf_in it)) { freed = l }) (sym settled.ready.freed)
-closed_same device it exit (inr back) off (inr none) = off none
+-- whether a run stops since nothing was heard of a transfer
+pub how_stopped : (why : Option Stop) → (why ≡ Some stop.Stuck) ⊎ (why ≡ Some stop.Stuck → ⊥)
+how_stopped None = inr (λ e. cc (e))
+how_stopped (Some stop.Stuck) = inl refl
+how_stopped (Some stop.SourceFault) = inr (λ e. cc (e))
+how_stopped (Some stop.SinkFault) = inr (λ e. cc (e))
+how_stopped (Some stop.Memory) = inr (λ e. cc (e))
+how_stopped (Some stop.TooLong) = inr (λ e. cc (e))
 
-module _ {S : Type 0} (device : S → Device) (shelf : S) (history : Log) (run begun last : ℕ) (room : Room) (made : history ≡ empty_log run room) (asked : begun ≡ run)
-    (it : Stage S) (closed : S) (kept : Log) (gives : GivesBack (device (shelf_in it)) (device closed)) (off : session_in it ≡ None → device closed ≡ device (shelf_in it)) (kept_is : kept ≡ history_in it)
-    (rooms : without_facts (history_in it) ≡ without_facts history) (why : Option Stop) (settled : (why ≡ Some stop.Stuck → ⊥) → IsSettledStage device it) (stuck_off : why ≡ Some stop.Stuck → session_in it ≡ None) where
-  either : IsSettledStage device it ⊎ (session_in it ≡ None)
-  either = go why refl
-    where
-      go : (w : Option Stop) → why ≡ w → IsSettledStage device it ⊎ (session_in it ≡ None)
-      go (Some stop.Stuck) is = inr (stuck_off is)
-      go None is = inl (settled (λ stuck. cc (is, stuck)))
-      go (Some stop.SourceFault) is = inl (settled (λ stuck. cc (is, stuck)))
-      go (Some stop.SinkFault) is = inl (settled (λ stuck. cc (is, stuck)))
-      go (Some stop.Memory) is = inl (settled (λ stuck. cc (is, stuck)))
-      go (Some stop.TooLong) is = inl (settled (λ stuck. cc (is, stuck)))
+-- no line was done
+first_rests : (device : Device) (run : ℕ) → IsReady device → IsAtRest (entry_state device run)
+first_rests device run ready = record { ready = ready; landed = λ id. refl; session = tt; posts = refl }
 
-  exit_same : device closed ≡ device (shelf_in it)
-  exit_same = closed_same device it (device closed) gives off either
+-- the state of a run at its beginning
+pub first_state : {S : Type 0} (device : S → Device) (shelf : S) (history : Log) (posts : Vec Post) (bytes : Vec ℕ) (begun run : ℕ) (room : Room) → history ≡ empty_log run room → posts.items ≡ [] → begun ≡ run
+    → state_in device (record { holder = holder.Off shelf history; posts = posts; bytes = bytes }) begun ≡ entry_state (device shelf) run
+first_state device shelf history posts bytes begun run room is none last =
+    ap (λ (fs : List Fact). record { moment = record { device = device shelf; facts = fs }; session = None; posts = posts.items; last = begun }) (ap (λ (l : Log). l.facts) is)
+    ∙ ap (λ (ps : List Post). record { moment = record { device = device shelf; facts = [] }; session = None; posts = ps; last = begun }) none
+    ∙ ap (λ (n : ℕ). record { moment = record { device = device shelf; facts = [] }; session = None; posts = []; last = n }) last
 
-  end_is : (state_in device it last).moment ≡ record { device = device closed; facts = kept.facts }
-  end_is = ap (λ (d : Device). record { device = d; facts = (history_in it).facts }) (sym exit_same) ∙ ap (λ (l : Log). record { device = device closed; facts = l.facts }) (sym kept_is)
+-- the next line may begin then
+pub first_between : {S : Type 0} (device : S → Device) (shelf : S) (history : Log) (posts : Vec Post) (bytes : Vec ℕ) (run : ℕ) (room : Room) → history ≡ empty_log run room → posts.items ≡ [] → IsReady (device shelf)
+    → IsBetweenStage device (record { holder = holder.Off shelf history; posts = posts; bytes = bytes })
+first_between device shelf history posts bytes run room is none ready =
+    subst (λ (s : State). IsBetween s.moment s.session s.posts) (sym (first_state device shelf history posts bytes run run room is none refl)) (entry_between (device shelf) run ready)
+
+module _ {S : Type 0} (device : S → Device) (entry : Device) (run begun last : ℕ) (room : Room) (start : Stage S) (first_is : state_in device start begun ≡ entry_state entry run) (made : without_facts (history_in start) ≡ empty_log run room)
+    (it : Stage S) (closed : S) (kept : Log) (concludes : Concludes (history_in it).run (moment_in device it) (record { device = device closed; facts = kept.facts }) (session_in it)) (kept_is : without_facts kept ≡ without_facts (history_in it))
+    (rooms : without_facts (history_in it) ≡ without_facts (history_in start)) (why : Option Stop) (between : (why ≡ Some stop.Stuck → ⊥) → IsBetweenStage device it) (stuck_off : why ≡ Some stop.Stuck → session_in it ≡ None) where
+  abbrev exit : Moment
+  exit = record { device = device closed; facts = kept.facts }
 
   pub named : kept.run ≡ run
   named = ap (λ (l : Log). l.run) kept_is ∙ ap (λ (l : Log). l.run) rooms ∙ ap (λ (l : Log). l.run) made
 
-  log_is : without_facts history ≡ empty_log kept.run room
-  log_is = ap without_facts made ∙ ap (λ (n : ℕ). empty_log n room) (sym named)
+  of_run : (history_in it).run ≡ run
+  of_run = ap (λ (l : Log). l.run) rooms ∙ ap (λ (l : Log). l.run) made
 
-  first_state : state_in device (stage.Off shelf history) begun ≡ entry_state (device shelf) kept.run
-  first_state = ap (λ (l : Log). record { moment = record { device = device shelf; facts = l.facts }; session = None; last = begun }) made ∙ ap (λ (n : ℕ). entry_state (device shelf) n) (asked ∙ sym named)
+  concludes_run : Concludes run (moment_in device it) (record { device = device closed; facts = kept.facts }) (session_in it)
+  concludes_run = subst (λ (n : ℕ). Concludes n (moment_in device it) (record { device = device closed; facts = kept.facts }) (session_in it)) of_run concludes
 
-  kept_made : kept ≡ record (empty_log kept.run room) { facts = kept.facts }
-  kept_made = ap (λ (l : Log). record l { facts = kept.facts }) (ap without_facts kept_is ∙ rooms ∙ log_is)
+  pub kept_made : kept ≡ record (empty_log run room) { facts = kept.facts }
+  kept_made = ap (λ (l : Log). record l { facts = kept.facts }) (kept_is ∙ rooms ∙ made)
 
-  module _ (input output : Passage) (refused : ℕ) (goes : GoesUntil why (without_facts history) room (state_in device (stage.Off shelf history) begun) (state_in device it last) input output refused) where
-    pub the_lines : GoesUntil why (empty_log kept.run room) room (entry_state (device shelf) kept.run) (state_in device it last) input output refused
-    the_lines = subst (λ (s : State). GoesUntil why (empty_log kept.run room) room s (state_in device it last) input output refused) first_state
-        (subst (λ (l : Log). GoesUntil why l room (state_in device (stage.Off shelf history) begun) (state_in device it last) input output refused) log_is goes)
+  -- the power is on
+  lit : (device (shelf_in it)).power ≡ true → (device closed).power ≡ true
+  lit on = ⊎_elim
+      (λ stuck. subst (λ (m : Moment). m.device.power ≡ true) (sym (off_still run (moment_in device it) (record { device = device closed; facts = kept.facts }) (session_in it) concludes_run (stuck_off stuck))) on)
+      (λ heard. (concluded run (state_in device it last) (record { device = device closed; facts = kept.facts }) concludes_run (between heard)).power)
+      (how_stopped why)
 
-    they_went : Ended (without_facts history).run (StaysAlone goes.lines.script × EndsAlone goes.lines.ends) (state_in device (stage.Off shelf history) begun) (state_in device it last)
-    they_went = lines_ended (without_facts history) room (state_in device (stage.Off shelf history) begun) (state_in device it last) input output refused goes.lines
+  module _ (input output : Passage) (refused : ℕ) (goes : GoesUntil why (without_facts (history_in start)) room (state_in device start begun) (state_in device it last) input output refused) (ready : IsReady entry) where
+    pub the_lines : GoesUntil why (empty_log run room) room (entry_state entry run) (state_in device it last) input output refused
+    the_lines = subst (λ (s : State). GoesUntil why (empty_log run room) room s (state_in device it last) input output refused) first_is
+        (subst (λ (l : Log). GoesUntil why l room (state_in device start begun) (state_in device it last) input output refused) made goes)
+
+    they_went : Ended run (StaysAlone the_lines.lines.script × EndsAlone the_lines.lines.ends) (MakeRequests (the_lines.lines.lines ++ the_lines.lines.done)) (EndsHeard the_lines.lines.ends) (entry_state entry run) (state_in device it last)
+    they_went = lines_ended (empty_log run room) room (entry_state entry run) (state_in device it last) input output refused the_lines.lines
 
     pub later : run ≤ last
-    later = let e = they_went.clock in omega (arith, e, asked)
+    later = they_went.clock
 
-    pub the_ahead : IsBehind kept.run (device shelf) → IsAhead kept.run (last + 1) (device closed) kept.facts
-    the_ahead = run_ahead (empty_log kept.run room) room kept.run last (device shelf) (device closed) kept.facts (state_in device it last) input output refused refl end_is refl the_lines.lines
+    -- without requests nothing is under way behind the lines
+    rest : (MakeRequests (the_lines.lines.lines ++ the_lines.lines.done) → ⊥) → (why ≡ Some stop.Stuck → ⊥) → IsAtRest (state_in device it last)
+    rest none heard = they_went.rests (the_lines.heard heard) none (first_rests entry run ready)
 
-    pub the_run :
-        (status : ExitStatus) → status ≡ status_of why refused → IsReady (device shelf)
-        → IsRun (ran room (device shelf) (device closed) input output last (Some kept) status refused)
-    the_run status says ready =
-        lines_ran kept.run last room (device shelf) (device closed) input output kept kept_made (state_in device it last) (record { moment = end_is; clock = refl }) why refused status says the_lines
-        (λ no. subst IsReady (sym exit_same) (settled no).ready)
-        (subst (λ (d : Device). d.power ≡ true) (sym exit_same) (they_went.power ready.power))
+    still : (MakeRequests (the_lines.lines.lines ++ the_lines.lines.done) → ⊥) → record { device = device closed; facts = kept.facts } ≡ moment_in device it
+    still none = ⊎_elim
+        (λ stuck. off_still run (moment_in device it) (record { device = device closed; facts = kept.facts }) (session_in it) concludes_run (stuck_off stuck))
+        (λ heard. at_rest_still run (state_in device it last) (record { device = device closed; facts = kept.facts }) concludes_run (rest none heard))
+        (how_stopped why)
+
+    the_end : IsConcluded run (device closed) (Some kept) last (state_in device it last) (MakeRequests (the_lines.lines.lines ++ the_lines.lines.done)) (why ≡ Some stop.Stuck)
+    the_end = record {
+      concludes = concludes_run;
+      still = still;
+      rests = λ none heard. subst (λ (m : Moment). IsReady m.device) (sym (still none)) (rest none heard).ready;
+      clock = refl;
+    }
+
+    pub the_run : (status : ExitStatus) → status ≡ status_of why refused → IsRun (ran_so run last room entry (device closed) input output kept kept_made (state_in device it last) why refused status)
+    the_run status says = lines_ran run last room entry (device closed) input output kept kept_made (state_in device it last) why refused status says ready the_lines the_end (lit (they_went.power ready.power))
 
     -- all that is promised of it
     pub the_promises :
-        (clock : ℕ) (status : ExitStatus) → status ≡ status_of why refused → IsReady (device shelf) → Rose clock run
-        → Promises clock (ran room (device shelf) (device closed) input output last (Some kept) status refused)
-    the_promises clock status says ready rose = record {
+        (clock : ℕ) (status : ExitStatus) → status ≡ status_of why refused → Rose clock run
+        → Promises clock (ran room entry (device closed) input output last (Some kept) status refused)
+    unfolding the_run lines_ran
+    the_promises clock status says rose = subst (λ (n : ℕ). Promises clock (record (ran room entry (device closed) input output last (Some kept) status refused) { named = n })) (sym named) (record {
       clock = (subst (λ (n : ℕ). Rose clock n) (sym named) rose, (let is = named in let le = later in omega (arith, is, le)));
-      does = the_run status says ready;
+      does = the_run status says;
       upheld = run_upheld _;
       first = first_upheld _;
-      ahead = the_ahead;
-    }
+      ahead = ran_ahead _ (the_run status says) refl;
+    })
 
 -- and of one for which no memory was found
 pub nothing_promised : (asked last : ℕ) (room : Room) (device : Device) (input output : Stream) → IsReady device

@@ -1,113 +1,191 @@
 -- What is found after a volume was to be made or removed: what was found before, or what was to be committed.
-use Rattle.std.proofs.Common.{◌≡◌, ◌⊎◌, inl, inr, ⊎_elim, ℕ, List, Bool, false, Option, Some, Result, Ok, Err, sym, ap, subst, ◌∙◌}
-use Rattle.std.specs.Prelude.{IsSomeAnd}
+use Rattle.std.proofs.Common.{◌≡◌, ◌⊎◌, inl, inr, ⊎_elim, ℕ, [], ◌∷◌, List, Bool, false, Option, Some, None, IfSome, Result, Ok, Err, refl, sym, ap, subst, ◌∙◌}
+use Rattle.std.specs.Prelude.{IsSome, IsSomeAnd}
+use Rattle.lvm_num.specs.Votes.{all_disks}
+use Rattle.lvm_disk.specs.Device.{Media, image_of}
+use Rattle.lvm_steps.proofs.Making.{media_may}
+use Rattle.lvm_write.proofs.Writing.{told_at}
+use Rattle.lvm_commit.specs.Committed.{HoldsCommitted}
 use Rattle.lvm_num.specs.declared.descriptor.Descriptor.{Descriptor}
+use Rattle.lvm_num.specs.declared.descriptor.LvRow.{LvRow}
 use Rattle.lvm_num.specs.declared.descriptor.Mode.{Mode}
 use Rattle.lvm_num.specs.declared.descriptor.Policy.{Policy}
 use Rattle.lvm_num.specs.declared.place.Pp.{Pp}
 use Rattle.lvm_parse.specs.declared.command.Command.TheVariants as command
-use Rattle.lvm_write.proofs.Writing.{told_at}
+use Rattle.lvm_vol.specs.Facts.{Fact}
+use Rattle.lvm_steps.specs.Moments.{Begins}
 use Rattle.lvm_core.specs.Held.{IsHeld}
 use Rattle.lvm_core.specs.Looking.{IsNumberOf}
-use Rattle.lvm_session.specs.State.{Core, State as Session, state}
 use Rattle.lvm_core.specs.Leaves.{MayBeFound}
-use Rattle.lvm_volumes.specs.Volumes.{IsWith, IsChosen, MklvGives, RmlvGives}
-use Rattle.lvm_stage.specs.Ends.{patience_of_line}
-use Rattle.lvm_stage.specs.Moments.{IsBrokenOff}
-use Rattle.lvm_stage.specs.State.{State, AreHeld}
-use Rattle.lvm_volume_lines.specs.Volumes.{IsDone, StaysOn, MklvDoes, RmlvDoes, NoGroupForMklv, MakesVolume, MklvFails, NoGroupForRmlv, NoVolumeForRmlv, RemovesVolume, RmlvFails, MklvEnds, RmlvEnds, ends_session, refusal_for, wanted}
-use Rattle.lvm_stage.specs.declared.reply.Reply.{Reply}
-use Rattle.lvm_stage.specs.declared.reply.Reply.TheVariants as reply
-use Rattle.lvm_top.specs.Standing.{MayHaveCommitted}
-use Rattle.lvm_top.proofs.Devices.{NothingNew, same_nothing}
+use Rattle.lvm_session.specs.State.{Core, State as Session, is_there, state}
+use Rattle.lvm_line.specs.passed.DriverDrainDrainFault.{DrainFault}
+use Rattle.lvm_line.specs.passed.TieSpares.{LeavesDescriptors}
+use Rattle.lvm_line.specs.passed.TieTied.{IsGood, IsTied}
+use Rattle.lvm_line.proofs.passed.TieGroupsLeaving.{tied_holds}
+use Rattle.lvm_line.specs.passed.TieCommandsStanding.{StandsAfter}
+use Rattle.lvm_line.proofs.passed.TieCommandsResting.{rests}
+use Rattle.lvm_line.specs.passed.StageMoments.{IsBrokenOff, OfGroup}
+use Rattle.lvm_line.specs.passed.StageState.{State, StandsAlone}
+use Rattle.lvm_line.specs.passed.VolumeLinesVolumes.{Drains, IsDone, IsUndrained, StaysOn, MklvDoes, RmlvDoes, NoGroupForMklv, BusyMklv, UndrainedMklv, MakesVolume, MklvFails, NoGroupForRmlv, BusyRmlv, UndrainedRmlv, NoVolumeForRmlv, RemovesVolume, RmlvFails, MklvEnds, RmlvEnds, ends_session, refusal_for, wanted}
+use Rattle.lvm_line.specs.passed.StageReplyReply.{Reply}
+use Rattle.lvm_line.specs.passed.StageReplyReplyTheVariants as reply
+use Rattle.lvm_line.specs.Causes.{IsDrained}
+use Rattle.lvm_top.specs.Standing.{MayHaveCommitted, StoodBefore, HeldAtRest, StandsSince}
+use Rattle.lvm_top.proofs.Devices.{NothingNew, then_nothing, same_nothing}
+use Rattle.lvm_top.proofs.Quiet.{runs_nothing}
+use Rattle.lvm_top.proofs.Transfers.{relit_nothing}
 use Rattle.lvm_volume_plan.specs.declared.fault.GroupFault.{GroupFault}
 use Rattle.lvm_volume_plan.specs.declared.fault.GroupFault.TheVariants as fault
 use Rattle.lvm_volume_plan.specs.NewVolume.{without_volume}
 
--- where a session goes on at which nothing has happened
-idle_nothing : (core : Core) (left : Session) (old new : State) → left ≡ state old.moment.device core → StaysOn left new → NothingNew old.moment.device new.moment.device
-idle_nothing core left old new same stays = same_nothing old.moment.device new.moment.device (stays.device ∙ ap (λ (s : Session). s.device) same)
+pub some_of : {X : Type 0} (o : Option X) → IsSome o → (x : X) × (o ≡ Some x)
+some_of (Some x) some = (x, refl)
+some_of None some = absurd (cc (some))
 
-module _ (old new : State) (held : AreHeld old) (core : Core) (on : old.session ≡ Some core) where
-  holds : IsHeld old.moment.device core
-  holds = told_at old.session (λ c. IsHeld old.moment.device c) core on held
+module _ (run : ℕ) (old new : State) (leaves : LeavesDescriptors old.moment.device) (named : IfSome old.session (λ core. core.history.run ≡ run)) (stood : StoodBefore run OfGroup old new) where
+  -- ---- before the command
 
-  -- what the command finds, whatever became of it
-  done_finds : (Gives : Session → Session → Type 0) (IsNext : Core → Descriptor → Type 0) (IsPlace : Core → Pp → Type 0) (over : Bool) → IsDone Gives IsNext IsPlace over core old new
-      → (id : ℕ) (k : Descriptor) → MayBeFound new.moment.device id k → MayBeFound old.moment.device id k ⊎ ((id ≡ k.id) × IsSomeAnd old.session (λ c. IsNext c k))
-  done_finds Gives IsNext IsPlace over done id k it = ⊎_elim
-      (λ before. inl before)
-      (λ next. inr (next.0, subst (λ (o : Option Core). IsSomeAnd o (λ c. IsNext c k)) (sym on) next.1))
-      (done.finds holds id k it)
+  -- turns make nothing found
+  drained_nothing : (core : Core) (left : ℕ) (mid : Session) → Drains core old left mid → NothingNew old.moment.device mid.device
+  drained_nothing core left mid drains = runs_nothing (state old.moment.device core) mid leaves drains.runs
 
--- ---- `mklv`
+  of_session : (P : Core → Type 0) (core : Core) → old.session ≡ Some core → IfSome old.session P → P core
+  of_session P core some holds = subst (λ (o : Option Core). IfSome o P) some holds
 
-module _ (name : List ℕ) (copies : ℕ) (mode : Mode) (policy : Policy) (group : List ℕ) (lps : ℕ) (old new : State) (answer : Reply) (held : AreHeld old) where
-  abbrev FoundByMklv : Type 0
-  FoundByMklv = (id : ℕ) (k : Descriptor) → MayBeFound new.moment.device id k → MayBeFound old.moment.device id k ⊎ MayHaveCommitted (Ok (Some (command.Mklv name copies mode policy group lps))) answer old new id k
+  -- after them the disks hold what the session says, and are told where they were
+  pub held_so : (core : Core) (left : ℕ) (mid : Session) → old.session ≡ Some core → Drains core old left mid → IsHeld mid.device mid.core × (IsSome old.moment.device.media → IsSome mid.device.media)
+  held_so core left mid some drains = by_stood stood
+    where
+      same_told : mid ≡ state old.moment.device core → IsSome old.moment.device.media → IsSome mid.device.media
+      same_told same told = subst (λ (s : Session). IsSome s.device.media) (sym same) told
 
-  module _ (core : Core) (on : old.session ≡ Some core) where
-    tried_mklv : (given : Result ℕ GroupFault) (over : Bool) → (answer ≡ reply.Ok) ⊎ IsBrokenOff answer → MklvEnds (wanted name copies mode policy lps) given over core old new → FoundByMklv
-    tried_mklv given over tried done id k it = ⊎_elim
-        (λ before. inl before)
-        (λ next. inr (record { tried = tried; own = next.0; is = next.1 }))
-        (done_finds old new held core on (λ was is. MklvGives (wanted name copies mode policy lps) patience_of_line was is given) (IsWith (wanted name copies mode policy lps)) (IsChosen (wanted name copies mode policy lps)) over done id k it)
+      by_stood : StoodBefore run OfGroup old new → IsHeld mid.device mid.core × (IsSome old.moment.device.media → IsSome mid.device.media)
+      by_stood (HeldAtRest rest held) = (subst (λ (s : Session). IsHeld s.device s.core) (sym (drains.still rest)) (of_session (IsHeld old.moment.device) core some held), same_told (drains.still rest))
+      by_stood (StandsSince past first stands begins alone) = by_volumes core.descriptor.lvs refl
+        where
+          after : (before : List Fact) → Begins run before first → StandsAfter before old.moment.device core
+          after before begun = of_session (λ (c : Core). StandsAlone old.moment.device c → StandsAfter before old.moment.device c) core some (stands before begun) (of_session (StandsAlone old.moment.device) core some (alone.acts tt))
 
-    failed_mklv : (why : GroupFault) → answer ≡ reply.Refused (refusal_for why) → MklvEnds (wanted name copies mode policy lps) (Err why) (ends_session why) core old new → FoundByMklv
-    failed_mklv fault.Dark says done id k it = tried_mklv (Err fault.Dark) _ (inr (subst IsBrokenOff (sym says) tt)) done id k it
-    failed_mklv (fault.WentOff have total) says done id k it = tried_mklv (Err (fault.WentOff have total)) _ (inr (subst IsBrokenOff (sym says) tt)) done id k it
-    failed_mklv fault.Stuck says done id k it = tried_mklv (Err fault.Stuck) _ (inr (subst IsBrokenOff (sym says) tt)) done id k it
-    failed_mklv (fault.DiskFailed disk) says done id k it = tried_mklv (Err (fault.DiskFailed disk)) _ (inr (subst IsBrokenOff (sym says) tt)) done id k it
-    failed_mklv fault.Busy says done id k it = inl (idle_nothing core done.left old new done.gives.0 done.leaves id k it)
-    failed_mklv fault.NoVolume says done id k it = absurd done.gives
-    failed_mklv fault.VolumeExists says done id k it = inl (idle_nothing core done.left old new done.gives.0 done.leaves id k it)
-    failed_mklv (fault.CopyLimit now) says done id k it = inl (idle_nothing core done.left old new done.gives.0 done.leaves id k it)
-    failed_mklv (fault.LastFresh lp) says done id k it = absurd done.gives
-    failed_mklv (fault.TooMany limit) says done id k it = inl (idle_nothing core done.left old new done.gives.0 done.leaves id k it)
-    failed_mklv (fault.NoRoom free) says done id k it = inl (idle_nothing core done.left old new done.gives.0 done.leaves id k it)
-    failed_mklv fault.HistoryFull says done id k it = inl (idle_nothing core done.left old new done.gives.0 done.leaves id k it)
-    failed_mklv fault.Memory says done id k it = inl (idle_nothing core done.left old new done.gives.0 done.leaves id k it)
+          good : IsGood core.history.run first (state old.moment.device core) → IsTied past mid
+          good tied = (drains.runs.leaves.good first tied).0 drains.settled.power past (subst (λ (n : ℕ). Begins n past first) (sym (of_session (λ (c : Core). c.history.run ≡ run) core some named)) begins)
 
-  pub mklv_finds : MklvDoes (wanted name copies mode policy lps) group old new answer → FoundByMklv
-  mklv_finds (NoGroupForMklv none is) id k it = inl (same_nothing old.moment.device new.moment.device (ap (λ (s : State). s.moment.device) is.1) id k it)
-  mklv_finds (MakesVolume core number some on done is) id k it = tried_mklv core some (Ok number) false (inl is) done id k it
-  mklv_finds (MklvFails core why some on done is) id k it = failed_mklv core some why is done id k it
+          by_volumes : (lvs : List LvRow) → core.descriptor.lvs ≡ lvs → IsHeld mid.device mid.core × (IsSome old.moment.device.media → IsSome mid.device.media)
+          by_volumes [] none = (subst (λ (s : Session). IsHeld s.device s.core) (sym (drains.empty none)) ((after past begins).empty none).held, same_told (drains.empty none))
+          by_volumes (row ∷ rows) has =
+              let some_volume : core.descriptor.lvs ≡ [] → ⊥ = λ none. let e = sym has ∙ none in cc e in
+              let tied : IsTied past mid = good (λ on before begun. (after before (subst (λ (n : ℕ). Begins n before first) (of_session (λ (c : Core). c.history.run ≡ run) core some named) begun)).tied some_volume) in
+              (tied_holds past mid tied (rests mid tied.orderly.sound drains.settled) drains.settled.votes ((drains.runs.leaves.descriptors leaves).spares ((after past begins).spares some_volume)),
+              λ told. subst IsSome (sym tied.told) refl)
 
--- ---- `rmlv`
+  pub held_mid : (core : Core) (left : ℕ) (mid : Session) → old.session ≡ Some core → Drains core old left mid → IsHeld mid.device mid.core
+  held_mid core left mid some drains = (held_so core left mid some drains).0
 
-module _ (name : List ℕ) (old new : State) (answer : Reply) (held : AreHeld old) where
-  abbrev FoundByRmlv : Type 0
-  FoundByRmlv = (id : ℕ) (k : Descriptor) → MayBeFound new.moment.device id k → MayBeFound old.moment.device id k ⊎ MayHaveCommitted (Ok (Some (command.Rmlv name))) answer old new id k
+  -- so the group of the session was found before
+  pub found_before : IsSome old.moment.device.media → (core : Core) (left : ℕ) (mid : Session) → old.session ≡ Some core → Drains core old left mid → MayBeFound old.moment.device core.descriptor.id core.descriptor
+  found_before told core left mid some drains =
+      let so = held_so core left mid some drains in
+      let m = some_of mid.device.media (so.1 told) in
+      let shown = told_at mid.device.media (λ (x : Media). HoldsCommitted (image_of mid.device.sizes x) mid.core.descriptor mid.core.status.committed (is_there mid.core) mid.core.status.stamp mid.core.homes) m.0 m.1 so.0 in
+      let found : MayBeFound mid.device mid.core.descriptor.id mid.core.descriptor = (image_of mid.device.sizes m.0, media_may mid.device m.0 m.1, (all_disks, shown.shows.found)) in
+      drained_nothing core left mid drains core.descriptor.id core.descriptor (subst (λ (d : Descriptor). MayBeFound mid.device d.id d) drains.runs.leaves.keeps.descriptor found)
 
-  module _ (core : Core) (on : old.session ≡ Some core) (lv : ℕ) (its : IsNumberOf core.descriptor.lvs name lv) where
-    -- the volume's number is that of the name
-    named : (k : Descriptor) → IsSomeAnd old.session (λ c. k ≡ without_volume c.descriptor lv) → IsSomeAnd old.session (λ c. (n : ℕ) × IsNumberOf c.descriptor.lvs name n × (k ≡ without_volume c.descriptor n))
-    named k is = subst (λ (o : Option Core). IsSomeAnd o (λ c. (n : ℕ) × IsNumberOf c.descriptor.lvs name n × (k ≡ without_volume c.descriptor n))) (sym on)
-        (lv, its, subst (λ (o : Option Core). IsSomeAnd o (λ c. k ≡ without_volume c.descriptor lv)) on is)
+  -- what is told of the session of the command
+  pub drained : (core : Core) (left : ℕ) (mid : Session) → old.session ≡ Some core → Drains core old left mid → IsDrained old core mid.core
+  drained core left mid some drains = record { on = some; descriptor = drains.runs.leaves.keeps.descriptor; still = λ rest. ap (λ (s : Session). s.core) (drains.still rest) }
 
-    tried_rmlv : (given : Result (Unit {0}) GroupFault) (over : Bool) → (answer ≡ reply.Ok) ⊎ IsBrokenOff answer → RmlvEnds lv given over core old new → FoundByRmlv
-    tried_rmlv given over tried done id k it = ⊎_elim
-        (λ before. inl before)
-        (λ next. inr (record { tried = tried; own = next.0; is = named k next.1 }))
-        (done_finds old new held core on (λ was is. RmlvGives lv patience_of_line was is given) (λ c d. d ≡ without_volume c.descriptor lv) (λ c pp. ⊥) over done id k it)
+  -- where the turns end otherwise
+  pub undrained_nothing : (core : Core) (why : DrainFault) (answer : Reply) → IsUndrained core old new why answer → NothingNew old.moment.device new.moment.device
+  undrained_nothing core why answer un =
+      then_nothing old.moment.device un.end.device new.moment.device (runs_nothing (state old.moment.device core) un.end leaves un.runs) (relit_nothing un.end.device new.moment.device un.over.lit)
 
-    failed_rmlv : (why : GroupFault) → answer ≡ reply.Refused (refusal_for why) → RmlvEnds lv (Err why) (ends_session why) core old new → FoundByRmlv
-    failed_rmlv fault.Dark says done id k it = tried_rmlv (Err fault.Dark) _ (inr (subst IsBrokenOff (sym says) tt)) done id k it
-    failed_rmlv (fault.WentOff have total) says done id k it = tried_rmlv (Err (fault.WentOff have total)) _ (inr (subst IsBrokenOff (sym says) tt)) done id k it
-    failed_rmlv fault.Stuck says done id k it = tried_rmlv (Err fault.Stuck) _ (inr (subst IsBrokenOff (sym says) tt)) done id k it
-    failed_rmlv (fault.DiskFailed disk) says done id k it = absurd done.gives
-    failed_rmlv fault.Busy says done id k it = inl (idle_nothing core done.left old new done.gives.0 done.leaves id k it)
-    failed_rmlv fault.NoVolume says done id k it = inl (idle_nothing core done.left old new done.gives.0 done.leaves id k it)
-    failed_rmlv fault.VolumeExists says done id k it = absurd done.gives
-    failed_rmlv (fault.CopyLimit now) says done id k it = absurd done.gives
-    failed_rmlv (fault.LastFresh lp) says done id k it = absurd done.gives
-    failed_rmlv (fault.TooMany limit) says done id k it = absurd done.gives
-    failed_rmlv (fault.NoRoom free) says done id k it = absurd done.gives
-    failed_rmlv fault.HistoryFull says done id k it = inl (idle_nothing core done.left old new done.gives.0 done.leaves id k it)
-    failed_rmlv fault.Memory says done id k it = inl (idle_nothing core done.left old new done.gives.0 done.leaves id k it)
+  -- ---- the command
 
-  pub rmlv_finds : RmlvDoes name old new answer → FoundByRmlv
-  rmlv_finds (NoGroupForRmlv none is) id k it = inl (same_nothing old.moment.device new.moment.device (ap (λ (s : State). s.moment.device) is.1) id k it)
-  rmlv_finds (NoVolumeForRmlv core some none is) id k it = inl (same_nothing old.moment.device new.moment.device (ap (λ (s : State). s.moment.device) is.1) id k it)
-  rmlv_finds (RemovesVolume core lv some its done is) id k it = tried_rmlv core some lv its (Ok tt) false (inl is) done id k it
-  rmlv_finds (RmlvFails core lv why some its done is) id k it = failed_rmlv core some lv its why is done id k it
+  -- what it finds, whatever became of it
+  pub done_finds : {Gives : Session → Session → Type 0} {IsNext : Core → Descriptor → Type 0} {IsPlace : Core → Pp → Type 0} {over : Bool} (core : Core) (left : ℕ) (mid : Session) → old.session ≡ Some core → Drains core old left mid → IsDone Gives IsNext IsPlace over mid old new
+      → (id : ℕ) (k : Descriptor) → MayBeFound new.moment.device id k → MayBeFound old.moment.device id k ⊎ ((id ≡ k.id) × IsNext mid.core k)
+  done_finds core left mid some drains done id k it = ⊎_elim
+      (λ before. inl (drained_nothing core left mid drains id k before))
+      (λ next. inr next)
+      (done.finds (held_mid core left mid some drains) id k it)
+
+  -- where a session goes on at which nothing has happened
+  pub idle_nothing : (core : Core) (left : ℕ) (mid end : Session) → Drains core old left mid → end ≡ mid → StaysOn end old new → NothingNew old.moment.device new.moment.device
+  idle_nothing core left mid end drains same stays =
+      then_nothing old.moment.device mid.device new.moment.device (drained_nothing core left mid drains) (same_nothing mid.device new.moment.device (stays.device ∙ ap (λ (s : Session). s.device) same))
+
+  module _ (answer : Reply) where
+    -- ---- `mklv`
+
+    module _ (name : List ℕ) (copies : ℕ) (mode : Mode) (policy : Policy) (group : List ℕ) (lps : ℕ) where
+      abbrev FoundByMklv : Type 0
+      FoundByMklv = (id : ℕ) (k : Descriptor) → MayBeFound new.moment.device id k → MayBeFound old.moment.device id k ⊎ MayHaveCommitted (Ok (Some (command.Mklv name copies mode policy group lps))) answer old new id k
+
+      module _ (core : Core) (left : ℕ) (mid : Session) (on : old.session ≡ Some core) (drains : Drains core old left mid) where
+        tried_mklv : (given : Result ℕ GroupFault) (over : Bool) → (answer ≡ reply.Ok) ⊎ IsBrokenOff answer → MklvEnds (wanted name copies mode policy lps) given over left mid old new → FoundByMklv
+        tried_mklv given over tried done id k it = ⊎_elim
+            (λ before. inl before)
+            (λ next. inr (record { tried = tried; own = next.0; is = (core, mid.core, drained core left mid on drains, next.1) }))
+            (done_finds core left mid on drains done id k it)
+
+        failed_mklv : (why : GroupFault) → answer ≡ reply.Refused (refusal_for why) → MklvEnds (wanted name copies mode policy lps) (Err why) (ends_session why) left mid old new → FoundByMklv
+        failed_mklv fault.Dark says done id k it = tried_mklv (Err fault.Dark) _ (inr (subst IsBrokenOff (sym says) tt)) done id k it
+        failed_mklv (fault.WentOff have total) says done id k it = tried_mklv (Err (fault.WentOff have total)) _ (inr (subst IsBrokenOff (sym says) tt)) done id k it
+        failed_mklv fault.Stuck says done id k it = tried_mklv (Err fault.Stuck) _ (inr (subst IsBrokenOff (sym says) tt)) done id k it
+        failed_mklv (fault.DiskFailed disk) says done id k it = tried_mklv (Err (fault.DiskFailed disk)) _ (inr (subst IsBrokenOff (sym says) tt)) done id k it
+        failed_mklv fault.Busy says done id k it = inl (idle_nothing core left mid done.left drains done.gives.0 done.leaves id k it)
+        failed_mklv fault.NoVolume says done id k it = absurd done.gives
+        failed_mklv fault.VolumeExists says done id k it = inl (idle_nothing core left mid done.left drains done.gives.0 done.leaves id k it)
+        failed_mklv (fault.CopyLimit now) says done id k it = inl (idle_nothing core left mid done.left drains done.gives.0 done.leaves id k it)
+        failed_mklv (fault.LastFresh lp) says done id k it = absurd done.gives
+        failed_mklv (fault.TooMany limit) says done id k it = inl (idle_nothing core left mid done.left drains done.gives.0 done.leaves id k it)
+        failed_mklv (fault.NoRoom free) says done id k it = inl (idle_nothing core left mid done.left drains done.gives.0 done.leaves id k it)
+        failed_mklv fault.HistoryFull says done id k it = inl (idle_nothing core left mid done.left drains done.gives.0 done.leaves id k it)
+        failed_mklv fault.Memory says done id k it = inl (idle_nothing core left mid done.left drains done.gives.0 done.leaves id k it)
+
+      pub mklv_finds : MklvDoes (wanted name copies mode policy lps) group old new answer → FoundByMklv
+      mklv_finds (NoGroupForMklv none is) id k it = inl (same_nothing old.moment.device new.moment.device (ap (λ (s : State). s.moment.device) is.1) id k it)
+      mklv_finds (BusyMklv on busy is) id k it = inl (same_nothing old.moment.device new.moment.device (ap (λ (s : State). s.moment.device) is.1) id k it)
+      mklv_finds (UndrainedMklv core why some on un) id k it = inl (undrained_nothing core why answer un id k it)
+      mklv_finds (MakesVolume core left mid number some on drains done is) id k it = tried_mklv core left mid some drains (Ok number) false (inl is) done id k it
+      mklv_finds (MklvFails core left mid why some on drains done is) id k it = failed_mklv core left mid some drains why is done id k it
+
+    -- ---- `rmlv`
+
+    module _ (name : List ℕ) where
+      abbrev FoundByRmlv : Type 0
+      FoundByRmlv = (id : ℕ) (k : Descriptor) → MayBeFound new.moment.device id k → MayBeFound old.moment.device id k ⊎ MayHaveCommitted (Ok (Some (command.Rmlv name))) answer old new id k
+
+      module _ (core : Core) (left : ℕ) (mid : Session) (on : old.session ≡ Some core) (drains : Drains core old left mid) (lv : ℕ) (its : IsNumberOf mid.core.descriptor.lvs name lv) where
+        -- the volume's number is that of the name
+        without : (k : Descriptor) → k ≡ without_volume mid.core.descriptor lv → IsSomeAnd old.session (λ c. (n : ℕ) × IsNumberOf c.descriptor.lvs name n × (k ≡ without_volume c.descriptor n))
+        without k is = subst (λ (o : Option Core). IsSomeAnd o (λ c. (n : ℕ) × IsNumberOf c.descriptor.lvs name n × (k ≡ without_volume c.descriptor n))) (sym on)
+            (subst (λ (d : Descriptor). (n : ℕ) × IsNumberOf d.lvs name n × (k ≡ without_volume d n)) drains.runs.leaves.keeps.descriptor (lv, its, is))
+
+        tried_rmlv : (given : Result (Unit {0}) GroupFault) (over : Bool) → (answer ≡ reply.Ok) ⊎ IsBrokenOff answer → RmlvEnds lv given over left mid old new → FoundByRmlv
+        tried_rmlv given over tried done id k it = ⊎_elim
+            (λ before. inl before)
+            (λ next. inr (record { tried = tried; own = next.0; is = without k next.1 }))
+            (done_finds core left mid on drains done id k it)
+
+        failed_rmlv : (why : GroupFault) → answer ≡ reply.Refused (refusal_for why) → RmlvEnds lv (Err why) (ends_session why) left mid old new → FoundByRmlv
+        failed_rmlv fault.Dark says done id k it = tried_rmlv (Err fault.Dark) _ (inr (subst IsBrokenOff (sym says) tt)) done id k it
+        failed_rmlv (fault.WentOff have total) says done id k it = tried_rmlv (Err (fault.WentOff have total)) _ (inr (subst IsBrokenOff (sym says) tt)) done id k it
+        failed_rmlv fault.Stuck says done id k it = tried_rmlv (Err fault.Stuck) _ (inr (subst IsBrokenOff (sym says) tt)) done id k it
+        failed_rmlv (fault.DiskFailed disk) says done id k it = absurd done.gives
+        failed_rmlv fault.Busy says done id k it = inl (idle_nothing core left mid done.left drains done.gives.0 done.leaves id k it)
+        failed_rmlv fault.NoVolume says done id k it = inl (idle_nothing core left mid done.left drains done.gives.0 done.leaves id k it)
+        failed_rmlv fault.VolumeExists says done id k it = absurd done.gives
+        failed_rmlv (fault.CopyLimit now) says done id k it = absurd done.gives
+        failed_rmlv (fault.LastFresh lp) says done id k it = absurd done.gives
+        failed_rmlv (fault.TooMany limit) says done id k it = absurd done.gives
+        failed_rmlv (fault.NoRoom free) says done id k it = absurd done.gives
+        failed_rmlv fault.HistoryFull says done id k it = inl (idle_nothing core left mid done.left drains done.gives.0 done.leaves id k it)
+        failed_rmlv fault.Memory says done id k it = inl (idle_nothing core left mid done.left drains done.gives.0 done.leaves id k it)
+
+      pub rmlv_finds : RmlvDoes name old new answer → FoundByRmlv
+      rmlv_finds (NoGroupForRmlv none is) id k it = inl (same_nothing old.moment.device new.moment.device (ap (λ (s : State). s.moment.device) is.1) id k it)
+      rmlv_finds (BusyRmlv busy is) id k it = inl (same_nothing old.moment.device new.moment.device (ap (λ (s : State). s.moment.device) is.1) id k it)
+      rmlv_finds (UndrainedRmlv core why some un) id k it = inl (undrained_nothing core why answer un id k it)
+      rmlv_finds (NoVolumeForRmlv core left mid some drains none stays last says) id k it = inl (idle_nothing core left mid mid drains refl stays id k it)
+      rmlv_finds (RemovesVolume core left mid lv some drains its done is) id k it = tried_rmlv core left mid some drains lv its (Ok tt) false (inl is) done id k it
+      rmlv_finds (RmlvFails core left mid lv why some drains its done is) id k it = failed_rmlv core left mid some drains lv its why is done id k it

@@ -10,29 +10,31 @@ use Rattle.lvm_steps.specs.Moments.{Begins, IsEarlier}
 use Rattle.lvm_stamps.specs.Behind.{IsBehind}
 use Rattle.lvm_core.specs.declared.parts.Room.{Room}
 use Rattle.lvm_core.specs.Leaves.{MayBeFound}
-use Rattle.lvm_line.specs.Lines.{IsLine}
-use Rattle.lvm_stage.specs.State.{State, IsTimely, AreHeld}
-use Rattle.lvm_stage.specs.declared.reply.Reply.{Reply}
-use Rattle.lvm_stage.specs.declared.reply.Reply.TheVariants as reply
+use Rattle.lvm_line.specs.Lines.{IsLine, role_of}
+use Rattle.lvm_line.specs.passed.StageReplies.{IsStuck}
+use Rattle.lvm_line.specs.passed.StageState.{State, IsTimely}
+use Rattle.lvm_line.specs.passed.TieSpares.{LeavesDescriptors}
+use Rattle.lvm_line.specs.passed.StageReplyReply.{Reply}
+use Rattle.lvm_line.specs.passed.StageReplyReplyTheVariants as reply
 use Rattle.lvm_top.specs.declared.status.ExitStatus.TheVariants as ended
 use Rattle.lvm_top.specs.Run.{Run, IsRun, RanAlone}
 use Rattle.lvm_top.specs.Script.{Script, StaysAlone, entry_state}
-use Rattle.lvm_top.specs.Standing.{MayHaveCommitted, MayStand, MayStandAtEnd, HasFewDisks}
+use Rattle.lvm_top.specs.Standing.{MayHaveCommitted, MayStand, MayStandAtEnd, HasFewDisks, StoodBefore}
 
--- Whatever may be found after a line might be found before it, or is what the line may have committed; where nothing is under way before it nor after it,
--- the clock is ahead of the disks, and these hold what a session says.
+-- Whatever may be found after a line might be found before it, or is what the line may have committed; where no transfer that is out goes to a slot of descriptors
+-- and something was heard of all, the clock is ahead of each crash image, and the disks stand by a session.
 abbrev pub LineFindsNoMore : Type 0
 LineFindsNoMore =
     (log : Log) (room : Room) (line : List ℕ) (answer : Reply) (old new : State) → IsLine log room line answer old new
-    → HasFewDisks old.moment.device → IsReady old.moment.device → IsReady new.moment.device → IsTimely log.run old → AreHeld old
+    → HasFewDisks old.moment.device → LeavesDescriptors old.moment.device → (IsStuck answer → ⊥) → IsTimely log.run old → StoodBefore log.run (role_of (line_of line)) old new
     → (id : ℕ) (k : Descriptor) → MayBeFound new.moment.device id k → MayBeFound old.moment.device id k ⊎ MayHaveCommitted (line_of line) answer old new id k
 
--- A state from which a script may begin: no group is on, nothing is under way, the clock is ahead of the disks, of which there are at most 128, and an
--- earlier history is kept with them.
+-- A state from which a script may begin: no group is on, no transfer that is out goes to a slot of descriptors, the clock is ahead of each crash image of the
+-- disks, of which there are at most 128, and an earlier history is kept with them.
 pub record MayStart (run : ℕ) (past : List Fact) (first : State) : Type 0 where
   pub off : first.session ≡ None
   pub few : HasFewDisks first.moment.device
-  pub ready : IsReady first.moment.device
+  pub leaves : LeavesDescriptors first.moment.device
   pub timely : IsTimely run first
   pub begins : Begins run past first.moment
 
@@ -55,7 +57,7 @@ VaryonFindsWhatStands =
 abbrev pub RunMayStart : Type 0
 RunMayStart = (run : ℕ) (entry : Device) (past : List Fact) → HasFewDisks entry → IsReady entry → IsBehind run entry → IsEarlier run entry past → MayStart run (past ++ Cut ∷ []) (entry_state entry run)
 
--- So it is at the end of each run after which nothing is under way.
+-- So it is at the end of each run, unless nothing was heard of a transfer.
 abbrev pub RunFindsWhatStands : Type 0
 RunFindsWhatStands =
     (r : Run) (ran : IsRun r) (past : List Fact)

@@ -2,6 +2,7 @@ pub mod Blank
 pub mod Program
 pub mod Script
 pub mod Statuses
+pub mod Ending
 pub mod Run
 pub mod Runs
 pub mod Sim

@@ -1,5 +1,5 @@
 -- A run of a script: how it ends, and why.
-use Rattle.std.specs.Prelude.{◌≡◌, ◌<◌, ◌≤◌, ◌+◌, ℕ, [], length, Option, IfNone, IfSome, true}
+use Rattle.std.specs.Prelude.{◌≡◌, ◌<◌, ◌≤◌, ◌+◌, ◌++◌, ℕ, [], length, Option, IfNone, IfSome, None, true}
 use Rattle.lvm_steps.specs.Moments.{ImagesKept, IsUpheld}
 use Rattle.lvm_disk.specs.Device.{Device, IsReady}
 use Rattle.lvm_io.specs.Count.{Rose}
@@ -9,8 +9,10 @@ use Rattle.lvm_vol.specs.Legal.{Legal}
 use Rattle.lvm_vol.specs.Log.{Log}
 use Rattle.lvm_stamps.specs.Behind.{IsBehind, IsAhead}
 use Rattle.lvm_core.specs.declared.parts.Room.{Room}
-use Rattle.lvm_stage.specs.State.{State}
-use Rattle.lvm_top.specs.Script.{Passage, AreDone, AreAllRead, IsLineLeft, EndsStuck, StaysAlone, EndsAlone, empty_log, entry_state, facts_of, run_of}
+use Rattle.lvm_line.specs.passed.StageMoments.{IsAlone, OfRequests}
+use Rattle.lvm_line.specs.passed.StageState.{State}
+use Rattle.lvm_top.specs.Ending.{Concludes}
+use Rattle.lvm_top.specs.Script.{Passage, AreDone, AreAllRead, IsLineLeft, EndsHeard, EndsStuck, StaysAlone, EndsAlone, MakeRequests, empty_log, entry_state, facts_of, run_of}
 use Rattle.lvm_top.specs.Statuses.{at_end, IsAtEnd}
 use Rattle.lvm_top.specs.declared.status.ExitStatus.{ExitStatus}
 use Rattle.lvm_top.specs.declared.status.ExitStatus.TheVariants as ended
@@ -34,9 +36,16 @@ abbrev pub ran : Room → Device → Device → Passage → Passage → ℕ → 
 ran room entry exit input output last history status refused =
     record { named = run_of history; last = last; room = room; entry = entry; exit = exit; input = input; output = output; history = history; status = status; refused = refused }
 
--- A session that is on at the end is closed without a write. The clock was last asked by a line, or at the beginning.
-pub record IsClosed (exit : Device) (history : Option Log) (last : ℕ) (end : State) : Type 0 where
-  pub moment : end.moment ≡ record { device = exit; facts = facts_of history }
+-- the run's state once it has ended
+abbrev pub exit_state : Device → Option Log → State → State
+exit_state exit history end = record { moment = record { device = exit; facts = facts_of history }; session = None; posts = []; last = end.last }
+
+-- What the run does behind its last line: turns, where a session is on that has any to make. Where no line made requests of volumes nothing happens, and nothing is
+-- under way then unless nothing was heard of a transfer. The clock was last asked by a line, or at the beginning.
+pub record IsConcluded (run : ℕ) (exit : Device) (history : Option Log) (last : ℕ) (end : State) (Requests Stuck : Type 0) : Type 0 where
+  pub concludes : Concludes run end.moment (record { device = exit; facts = facts_of history }) end.session
+  pub still : (Requests → ⊥) → record { device = exit; facts = facts_of history } ≡ end.moment
+  pub rests : (Requests → ⊥) → (Stuck → ⊥) → IsReady exit
   pub clock : IfSome history (λ log. end.last ≡ last)
 
 -- the lines of the run, from its first state to its last
@@ -46,15 +55,16 @@ LinesOf r end = AreDone (empty_log r.named r.room) r.room (entry_state r.entry r
 -- The lines that were done are the input's first, each as it should be. At the input's end all of it was read and done, and the status says whether a line
 -- was refused. Any other status has its cause: a read failed, or a write did, which come at no other status but a write's where the last line was answered
 -- Stuck; that it was; exactly that too much was read; and for want of memory, which is free, that a line was left. But for a write and Stuck the run ended
--- between two lines. Without a history no memory was found for a run, and nothing was done.
+-- between two lines. Nothing was under way at entry. Without a history no memory was found for a run, and nothing was done.
 pub record IsRun (r : Run) : Type 0 where
+  pub ready : IsReady r.entry
   pub history_is : IfSome r.history (λ log. log ≡ record (empty_log r.named r.room) { facts = log.facts })
   pub none : IfNone r.history ((r.status ≡ ended.Memory) × (r.refused ≡ 0) × (r.exit ≡ r.entry))
   pub read_words : r.status ≡ ended.Usage → ⊥
   pub counted : IsAtEnd r.status → r.status ≡ at_end r.refused
   pub end : State
-  pub closed : IsClosed r.exit r.history r.last end
   pub lines : LinesOf r end
+  pub concluded : IsConcluded r.named r.exit r.history r.last end (MakeRequests (lines.lines ++ lines.done)) (r.status ≡ ended.Stuck)
   pub whole : IsAtEnd r.status → AreAllRead lines r.input
   pub between : (r.status ≡ ended.SinkFault → ⊥) → (r.status ≡ ended.Stuck → ⊥) → lines.done ≡ []
   pub wanting : r.status ≡ ended.Memory → IfSome r.history (λ log. IsLineLeft lines r.input)
@@ -63,21 +73,23 @@ pub record IsRun (r : Run) : Type 0 where
   pub read_well : (r.status ≡ ended.SourceFault → ⊥) → r.input.after.faults ≡ r.input.before.faults
   pub written_well : (r.status ≡ ended.SinkFault → ⊥) → (r.status ≡ ended.Stuck → ⊥) → r.output.after.faults ≡ r.output.before.faults
   pub stuck : r.status ≡ ended.Stuck → EndsStuck lines.ends
+  pub heard : (r.status ≡ ended.Stuck → ⊥) → EndsHeard lines.ends
   pub long : r.status ≡ ended.TooLong → WhereTold r.input.before.content r.input.after.content (λ a b. 16777216 + length b < length a)
   pub short : (r.status ≡ ended.TooLong → ⊥) → WhereTold r.input.before.content r.input.after.content (λ a b. length a ≤ 16777216 + length b)
-  pub ready : (r.status ≡ ended.Stuck → ⊥) → IsReady r.exit
   pub power : r.exit.power ≡ true
 
--- In each line of the run that entered a volume's making or removal at most one group had a quorum among all disks.
+-- In each line of the run that entered a volume's making or removal, or acted on the session of a group with volumes, at most one group had a quorum among all
+-- disks, and its volumes were in mode off; so it was behind the last line, where some line made requests.
 abbrev pub RanAlone : {r : Run} → IsRun r → Type 0
-RanAlone ran = StaysAlone ran.lines.script × EndsAlone ran.lines.ends
+RanAlone {r} ran = StaysAlone ran.lines.script × EndsAlone ran.lines.ends
+    × (MakeRequests (ran.lines.lines ++ ran.lines.done) → IsAlone OfRequests ran.end (exit_state r.exit r.history ran.end))
 
 -- What holds of such a run, whatever its lines were answered.
 abbrev pub WhereAlone : Run → Type 0 → Type 0
 WhereAlone r Holds = (ran : IsRun r) → RanAlone ran → Holds
 
 -- What every run promises. Its moment was answered by the clock in this call. Its lines are as they should be. Where its moment is later than what stands on
--- the disks, and no line made or removed a volume of one group among several with a quorum, the history is legal with what was told before, and each crash image that the
+-- the disks, and no line made, removed or acted on a volume of one group among several with a quorum, the history is legal with what was told before, and each crash image that the
 -- disks may leave is kept with it; over disks that hold nothing so it is without anything told before. The clock stays ahead of the disks.
 pub record Promises (asked : ℕ) (r : Run) : Type 0 where
   pub clock : IfSome r.history (λ log. Rose asked log.run × (log.run ≤ r.last))

@@ -1,6 +1,6 @@
 -- A script line by line, and what it is answered.
-use Rattle.std.specs.Prelude.{◌≡◌, ◌⊎◌, ◌≤◌, ◌++◌, ℕ, [], ◌∷◌, List, Option, Some, None, Bool, true, false, IsTrue, count_by, length}
-use Rattle.std.specs.List.{flat_map}
+use Rattle.std.specs.Prelude.{◌≡◌, ◌⊎◌, ◌≤◌, ◌++◌, ℕ, [], ◌∷◌, List, Option, Some, None, Bool, true, false, IsTrue, sum_by, length}
+use Rattle.std.specs.List.{flat_map, list_any}
 use Rattle.lvm_disk.specs.Device.{Device}
 use Rattle.lvm_io.specs.Count.{Rose}
 use Rattle.lvm_io.specs.Stream.{WhereTold}
@@ -8,23 +8,28 @@ use Rattle.lvm_io.specs.Lines.{lines_of}
 use Rattle.lvm_vol.specs.Facts.{Fact}
 use Rattle.lvm_vol.specs.Log.{Log}
 use Rattle.lvm_core.specs.declared.parts.Room.{Room}
-use Rattle.lvm_line.specs.Lines.{IsLine}
-use Rattle.lvm_stage.specs.Moments.{IsAlone}
-use Rattle.lvm_stage.specs.Replies.{reply_text, IsStuck}
-use Rattle.lvm_stage.specs.State.{State}
-use Rattle.lvm_stage.specs.declared.reply.Refusal.TheVariants as refusal
-use Rattle.lvm_stage.specs.declared.reply.Reply.{Reply}
-use Rattle.lvm_stage.specs.declared.reply.Reply.TheVariants as reply
+use Rattle.lvm_parse.specs.Grammar.{line_of}
+use Rattle.lvm_line.specs.Lines.{IsLine, role_of}
+use Rattle.lvm_line.specs.passed.StageMoments.{IsAlone, Role, Aside, OfGroup, OfRequests}
+use Rattle.lvm_line.specs.passed.StageReplies.{reply_text, refusals_of, IsStuck}
+use Rattle.lvm_line.specs.passed.StageState.{State}
+use Rattle.lvm_line.specs.passed.StageReplyRefusalTheVariants as refusal
+use Rattle.lvm_line.specs.passed.StageReplyReply.{Reply}
+use Rattle.lvm_line.specs.passed.StageReplyReplyTheVariants as reply
 
-abbrev pub is_refused : Reply → Bool
-is_refused (reply.Refused why) = true
-is_refused reply.Silent = false
-is_refused reply.Ok = false
-is_refused (reply.Lines text) = false
+-- its text is made as it is written, for which no memory may be found
+abbrev pub is_made_late : Reply → Bool
+is_made_late (reply.Refused why) = true
+is_made_late (reply.Stepped turns) = true
+is_made_late reply.Silent = false
+is_made_late reply.Ok = false
+is_made_late reply.Posted = false
+is_made_late (reply.Lines text) = false
+is_made_late (reply.Answers text refused) = false
 
--- the reply that is written: the answer, or where the line of a refusal found no memory that it didn't
+-- the reply that is written: the answer, or where the line of a refusal or of turns found no memory that it didn't
 abbrev pub Says : Reply → Reply → Type 0
-Says answer said = (said ≡ answer) ⊎ (IsTrue (is_refused answer) × (said ≡ reply.Refused refusal.Memory))
+Says answer said = (said ≡ answer) ⊎ (IsTrue (is_made_late answer) × (said ≡ reply.Refused refusal.Memory))
 
 -- these lines have these replies, one after another
 pub data Script (log : Log) (room : Room) (first : State) : List (List ℕ) → List Reply → State → Type 0 where
@@ -32,17 +37,32 @@ pub data Script (log : Log) (room : Room) (first : State) : List (List ℕ) → 
   NextLine : {lines : List (List ℕ)} {replies : List Reply} {mid new : State} (line : List ℕ) (answer said : Reply) → (IsStuck answer → ⊥) → Says answer said
       → Script log room first lines replies mid → IsLine log room line answer mid new → Script log room first (lines ++ line ∷ []) (replies ++ said ∷ []) new
 
--- In each of the lines that enters a volume's making or removal at most one group has a quorum among all disks.
+-- In each of the lines that enters a volume's making or removal, or acts on the session of a group with volumes, at most one group has a quorum among all disks,
+-- and the volumes of that group are in mode off.
 abbrev pub StaysAlone : {log : Log} {room : Room} {first : State} {lines : List (List ℕ)} {replies : List Reply} {last : State} → Script log room first lines replies last → Type 0
 StaysAlone NoLine = Unit {0}
-StaysAlone (NextLine {mid = mid} {new = new} line answer said goes says before does) = StaysAlone before × IsAlone mid new
+StaysAlone (NextLine {mid = mid} {new = new} line answer said goes says before does) = StaysAlone before × IsAlone (role_of (line_of line)) mid new
 
 -- the texts of the replies
 abbrev pub texts_of : List Reply → List ℕ
 texts_of replies = flat_map reply_text replies
 
+-- how many refusals they have
 abbrev pub refusals_in : List Reply → ℕ
-refusals_in replies = count_by is_refused replies
+refusals_in replies = sum_by refusals_of replies
+
+-- ---- requests
+
+abbrev pub is_requesting : Role → Bool
+is_requesting Aside = false
+is_requesting OfGroup = false
+is_requesting OfRequests = true
+
+-- one of the lines makes requests of volumes, or turns
+abbrev pub MakeRequests : List (List ℕ) → Type 0
+MakeRequests lines = IsTrue (list_any (λ line. is_requesting (role_of (line_of line))) lines)
+
+-- ---- the end of the lines
 
 -- what follows the lines that were answered whole: nothing, or one line more whose reply was written in part, or after which nothing was heard
 pub data Ends (log : Log) (room : Room) (mid last : State) : List (List ℕ) → List Reply → List ℕ → Type 0 where
@@ -51,12 +71,17 @@ pub data Ends (log : Log) (room : Room) (mid last : State) : List (List ℕ) →
 
 abbrev pub EndsAlone : {log : Log} {room : Room} {mid last : State} {done : List (List ℕ)} {said : List Reply} {front : List ℕ} → Ends log room mid last done said front → Type 0
 EndsAlone (AtLine same) = Unit {0}
-EndsAlone {mid = mid} {last = last} (InLine line answer said front rest says split does) = IsAlone mid last
+EndsAlone {mid = mid} {last = last} (InLine line answer said front rest says split does) = IsAlone (role_of (line_of line)) mid last
 
 -- nothing was heard of a transfer in the line after which no more were done
 abbrev pub EndsStuck : {log : Log} {room : Room} {mid last : State} {done : List (List ℕ)} {said : List Reply} {front : List ℕ} → Ends log room mid last done said front → Type 0
 EndsStuck (AtLine same) = ⊥
 EndsStuck (InLine line answer said front rest says split does) = IsStuck answer
+
+-- something was heard of each in the line after which no more were done
+abbrev pub EndsHeard : {log : Log} {room : Room} {mid last : State} {done : List (List ℕ)} {said : List Reply} {front : List ℕ} → Ends log room mid last done said front → Type 0
+EndsHeard (AtLine same) = Unit {0}
+EndsHeard (InLine line answer said front rest says split does) = IsStuck answer → ⊥
 
 -- what is told of a source or a sink, and how often it has failed
 pub record Stream : Type 0 where
@@ -115,4 +140,4 @@ run_of (Some log) = log.run
 
 -- a run's first state: its shelf at entry and the moment that the clock has just answered
 abbrev pub entry_state : Device → ℕ → State
-entry_state device run = record { moment = record { device = device; facts = [] }; session = None; last = run }
+entry_state device run = record { moment = record { device = device; facts = [] }; session = None; posts = []; last = run }

@@ -1,24 +1,29 @@
 -- Which descriptors may be found after a line, and after the lines of a script.
-use Rattle.std.specs.Prelude.{◌≡◌, ◌⊎◌, ◌≤◌, ℕ, Bool, true, false, List, Option, Some, Result, Ok, IsSomeAnd, length}
+use Rattle.std.specs.Prelude.{◌≡◌, ◌⊎◌, ◌≤◌, ℕ, Bool, true, false, List, Option, Some, Result, Ok, IfSome, IsSomeAnd, length}
 use Rattle.lvm_num.specs.declared.descriptor.Descriptor.{Descriptor}
 use Rattle.lvm_disk.specs.Device.{Device}
+use Rattle.lvm_vol.specs.Facts.{Fact}
 use Rattle.lvm_vol.specs.Log.{Log}
+use Rattle.lvm_kept.specs.Moments.{Moment}
+use Rattle.lvm_steps.specs.Moments.{Begins}
 use Rattle.lvm_parse.specs.declared.command.Command.{Command}
 use Rattle.lvm_parse.specs.declared.command.Command.TheVariants as command
 use Rattle.lvm_operands.specs.declared.rest.Misfit.{Misfit}
 use Rattle.lvm_parse.specs.Grammar.{line_of}
 use Rattle.lvm_core.specs.declared.parts.Room.{Room}
+use Rattle.lvm_core.specs.Held.{IsHeld}
 use Rattle.lvm_core.specs.Looking.{IsNumberOf}
 use Rattle.lvm_session.specs.State.{Core}
-use Rattle.lvm_group.specs.NewGroup.{new_group}
-use Rattle.lvm_volumes.specs.Volumes.{IsWith}
+use Rattle.lvm_line.specs.passed.GroupNewGroup.{new_group}
+use Rattle.lvm_line.specs.passed.VolumesVolumes.{IsWith}
 use Rattle.lvm_core.specs.Leaves.{MayBeFound}
-use Rattle.lvm_group_lines.specs.Groups.{asked_for}
-use Rattle.lvm_stage.specs.Moments.{IsBrokenOff}
-use Rattle.lvm_stage.specs.State.{State}
-use Rattle.lvm_volume_lines.specs.Volumes.{wanted}
-use Rattle.lvm_stage.specs.declared.reply.Reply.{Reply}
-use Rattle.lvm_stage.specs.declared.reply.Reply.TheVariants as reply
+use Rattle.lvm_line.specs.passed.GroupLinesGroups.{asked_for}
+use Rattle.lvm_line.specs.Causes.{IsDrained}
+use Rattle.lvm_line.specs.passed.StageMoments.{IsAlone, IsBrokenOff, Role}
+use Rattle.lvm_line.specs.passed.StageState.{IsAtRest, StandsBy, State}
+use Rattle.lvm_line.specs.passed.VolumeLinesVolumes.{wanted}
+use Rattle.lvm_line.specs.passed.StageReplyReply.{Reply}
+use Rattle.lvm_line.specs.passed.StageReplyReplyTheVariants as reply
 use Rattle.lvm_top.specs.Script.{Script, NoLine, NextLine, Ends, AtLine, InLine}
 use Rattle.lvm_volume_plan.specs.NewVolume.{without_volume}
 
@@ -27,7 +32,7 @@ use Rattle.lvm_volume_plan.specs.NewVolume.{without_volume}
 -- the descriptor that a line was to commit: of the group that is made, or of that which is on with a volume more or without one
 abbrev pub IsToCommit : Result (Option Command) Misfit → State → State → Descriptor → Type 0
 IsToCommit (Ok (Some (command.Mkvg force name mib disks))) old new k = k ≡ new_group old.moment.device.sizes (asked_for name mib disks force new.last)
-IsToCommit (Ok (Some (command.Mklv name copies mode policy group lps))) old new k = IsSomeAnd old.session (λ core. IsWith (wanted name copies mode policy lps) core k)
+IsToCommit (Ok (Some (command.Mklv name copies mode policy group lps))) old new k = (core : Core) × (mid : Core) × IsDrained old core mid × IsWith (wanted name copies mode policy lps) mid k
 IsToCommit (Ok (Some (command.Rmlv name))) old new k = IsSomeAnd old.session (λ core. (lv : ℕ) × IsNumberOf core.descriptor.lvs name lv × (k ≡ without_volume core.descriptor lv))
 IsToCommit other old new k = ⊥
 
@@ -37,12 +42,29 @@ pub record MayHaveCommitted (read : Result (Option Command) Misfit) (answer : Re
   pub own : id ≡ k.id
   pub is : IsToCommit read old new k
 
+-- the disks of a session hold what it says is committed
+abbrev pub AreHeld : State → Type 0
+AreHeld s = IfSome s.session (λ core. IsHeld s.moment.device core)
+
+-- What stands before a line that acts on the session so: nothing is under way, and the disks hold what the session says; or they stand by it after some earlier
+-- history, and no other group has a quorum where that is asked.
+pub data StoodBefore (run : ℕ) (role : Role) (old new : State) : Type 0 where
+  HeldAtRest : IsAtRest old → AreHeld old → StoodBefore run role old new
+  StandsSince : (past : List Fact) (first : Moment) → StandsBy run first old → Begins run past first → IsAlone role old new → StoodBefore run role old new
+
 -- the commands after which a group is on: it was made, varied on, or given a volume more or less
 abbrev pub is_group_command : Command → Bool
 is_group_command (command.Mkvg force name mib disks) = true
 is_group_command (command.Varyon name) = true
 is_group_command (command.Mklv name copies mode policy group lps) = true
 is_group_command (command.Rmlv name) = true
+is_group_command (command.Mklvcopy name copies) = false
+is_group_command (command.Rmlvcopy name copies) = false
+is_group_command (command.Rd name at count) = false
+is_group_command (command.Wr name at count word) = false
+is_group_command (command.Post name at count word) = false
+is_group_command command.Wait = false
+is_group_command (command.Step turns) = false
 is_group_command (command.Varyoff name) = false
 is_group_command (command.Lsvg volumes name) = false
 is_group_command (command.Lslv name) = false

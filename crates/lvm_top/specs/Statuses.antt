@@ -4,8 +4,8 @@ use Rattle.lvm_io.specs.Count.{Rose}
 use Rattle.lvm_io.specs.Stream.{WhereTold}
 use Rattle.lvm_vol.specs.Log.{Log}
 use Rattle.lvm_core.specs.declared.parts.Room.{Room}
-use Rattle.lvm_stage.specs.State.{State}
-use Rattle.lvm_top.specs.Script.{Passage, AreDone, AreAllRead, IsLineLeft, EndsStuck}
+use Rattle.lvm_line.specs.passed.StageState.{State}
+use Rattle.lvm_top.specs.Script.{Passage, AreDone, AreAllRead, IsLineLeft, EndsHeard, EndsStuck}
 use Rattle.lvm_top.specs.declared.status.ExitStatus.{ExitStatus}
 use Rattle.lvm_top.specs.declared.status.ExitStatus.TheVariants as ended
 use Rattle.lvm_top.specs.declared.script.Stop.{Stop}
@@ -52,5 +52,6 @@ pub record GoesUntil (why : Option Stop) (log : Log) (room : Room) (first last :
   pub read_well : (why ≡ Some stop.SourceFault → ⊥) → input.after.faults ≡ input.before.faults
   pub written_well : (why ≡ Some stop.SinkFault → ⊥) → (why ≡ Some stop.Stuck → ⊥) → output.after.faults ≡ output.before.faults
   pub stuck : why ≡ Some stop.Stuck → EndsStuck lines.ends
+  pub heard : (why ≡ Some stop.Stuck → ⊥) → EndsHeard lines.ends
   pub long : why ≡ Some stop.TooLong → WhereTold input.before.content input.after.content (λ a b. 16777216 + length b < length a)
   pub short : (why ≡ Some stop.TooLong → ⊥) → WhereTold input.before.content input.after.content (λ a b. length a ≤ 16777216 + length b)

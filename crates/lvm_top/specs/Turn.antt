@@ -1,12 +1,12 @@
 -- How a line of a run is read, and how its reply is written.
-use Rattle.std.specs.Prelude.{◌≡◌, ◌↔◌, ◌⊎◌, ◌≤◌, ◌<◌, ◌+◌, ◌++◌, if◌then◌else◌, ℕ, [], ◌∷◌, List, Option, Some, None, IfSome}
+use Rattle.std.specs.Prelude.{◌≡◌, ◌↔◌, ◌⊎◌, ◌≤◌, ◌<◌, ◌+◌, ◌++◌, ℕ, [], ◌∷◌, List, Option, Some, None, IfSome}
 use Rattle.lvm_io.specs.Count.{Rose}
 use Rattle.lvm_io.specs.Lines.{lines_of}
 use Rattle.lvm_io.specs.Reading.{Reading, to_come, lines_left, CountsGiven}
 use Rattle.lvm_io.specs.Stream.{WhereTold}
-use Rattle.lvm_stage.specs.Replies.{reply_text, IsStuck}
-use Rattle.lvm_stage.specs.declared.reply.Reply.{Reply}
-use Rattle.lvm_top.specs.Script.{Stream, Passage, Says, is_refused}
+use Rattle.lvm_line.specs.passed.StageReplies.{reply_text, refusals_of, IsStuck}
+use Rattle.lvm_line.specs.passed.StageReplyReply.{Reply}
+use Rattle.lvm_top.specs.Script.{Passage, Says}
 use Rattle.lvm_top.specs.declared.script.Stop.{Stop}
 use Rattle.lvm_top.specs.declared.script.Stop.TheVariants as stop
 
@@ -50,11 +50,11 @@ pub record WroteAll (text : List ℕ) (output : Passage) : Type 0 where
   pub whole : WhereTold output.before.content output.after.content (λ a b. b ≡ a ++ text)
   pub well : output.after.faults ≡ output.before.faults
 
--- the reply to a line was written, and counted if it is a refusal; the run goes on, or ends for this reason
+-- the reply to a line was written, and its refusals counted; the run goes on, or ends for this reason
 pub record Tells (answer : Reply) (refused now : ℕ) (output : Passage) (why : Option Stop) : Type 0 where
   pub said : Reply
   pub says : Says answer said
-  pub counted : now ≡ refused + (if is_refused said then 1 else 0)
+  pub counted : now ≡ refused + refusals_of said
   pub text : Wrote (reply_text said) output
   pub stuck : (why ≡ Some stop.Stuck) ↔ IsStuck answer
   pub goes_on : why ≡ None → WroteAll (reply_text said) output

@@ -1,8 +1,16 @@
 //! A run of a script.
-ghost use Rattle.std.specs.Prelude.{◌≡◌, None};
+ghost use Rattle.std.specs.Prelude.{◌≡◌, ◌⊎◌, ◌↔◌, None, IsTrue};
 ghost use Rattle.lvm_disk.specs.Device.{IsReady};
 ghost use Rattle.lvm_io.specs.Count.{Rose};
 ghost use Rattle.lvm_core.specs.Starting.{IsRoom};
+ghost use Rattle.lvm_session.specs.declared.open.Power.TheVariants as power;
+ghost use Rattle.lvm_session.specs.Fields.{core_of};
+ghost use Rattle.lvm_session.specs.Sound.{IsSound};
+ghost use Rattle.lvm_line.specs.passed.DriverAnswers.{state_of};
+ghost use Rattle.lvm_line.specs.passed.RunningRunning.{RunsOn};
+ghost use Rattle.lvm_line.specs.passed.StageStages.{history_in, moment_in, session_in, IsBetweenStage, IsClosed, IsFitting};
+ghost use Rattle.lvm_line.specs.passed.StageState.{without_facts};
+ghost use Rattle.lvm_top.specs.Ending.{Concludes, IsQuietNow, MakesTurns, RestsNow, RunsOut};
 ghost use Rattle.lvm_top.specs.Run.{Promises, ran};
 ghost use Rattle.lvm_top.specs.Script.{passage};
 ghost use Rattle.lvm_top.specs.Statuses.{status_of};
@@ -11,10 +19,14 @@ use crate::script::{Stop, do_lines};
 use crate::status::ExitStatus;
 use lvm_core::{Closed, Room};
 use lvm_disk::Shelf;
+use lvm_line::below::lvm_driver::Driver;
 use lvm_history::History;
 use lvm_io::{Clock, Lines, Sink, Source};
 use lvm_memory::MemShelf;
-use lvm_stage::Stage;
+use lvm_posts::Post;
+use lvm_session::{Session, Turned};
+use lvm_line::below::lvm_stage::{Holder, Stage, take_rooms};
+use lvm_status::Updater;
 use std::alloc::Global;
 
 /// How a run ended.
@@ -60,9 +72,109 @@ fn unbegun<S>(shelf: S) -> Ended<S>
     }
 }
 
+// Whether what is wanted is committed.
+fn is_committed(updater: &Updater) -> bool
+    ensures { IsTrue result ↔ (updater.now.committed ≡ updater.now.wanted) }
+{
+    updater.committed().as_status() == updater.wanted().as_status()
+}
+
+// Whether a session has no request open, no update in flight, and nothing wanted that isn't committed.
+fn is_quiet(session: &Session) -> bool
+    ensures { IsTrue result ↔ IsQuietNow (core_of session.now) }
+{
+    if !session.requests.is_empty() {
+        return false;
+    }
+    if session.updater.in_flight().is_some() {
+        return false;
+    }
+    is_committed(&session.updater)
+}
+
+// A session, and whether nothing is under way in it, with no transfer out.
+fn at_rest<S: Shelf>(driver: Driver<S>) -> (Driver<S>, bool)
+    ensures driver { result.0 ≡ driver }
+    ensures rests { IsTrue result.1 ↔ RestsNow (state_of S.device driver) }
+{
+    let (shelf, session) = driver.into_parts();
+    let rests = if is_quiet(&session) {
+        shelf.flights() == 0
+    } else {
+        false
+    };
+    (Driver::from_parts(shelf, session), rests)
+}
+
+// The session of a driver is sound.
+fn is_sound<S: Shelf>(driver: &Driver<S>)
+    ensures { IsSound (state_of S.device driver.now) }
+{
+    let _ = driver.power();
+}
+
+// Makes turns until one doesn't move.
+fn run_on<S: Shelf>(driver: &mut Driver<S>)
+    requires unstuck { driver.old.1.power ≡ power.Stuck → ⊥ }
+    ensures turns { MakesTurns (state_of S.device driver.old) (state_of S.device driver.new) }
+    ensures runs { RunsOn (state_of S.device driver.old) (state_of S.device driver.new) }
+    ensures sound { IsSound (state_of S.device driver.new) }
+{
+    loop {
+        match driver.turn() {
+            Turned::Moved => {}
+            _ => {
+                is_sound(driver);
+                return;
+            }
+        }
+    }
+}
+
+// Closes a session that is over or has nothing left to do. After a power cut the power is put on again.
+fn close_ended<S: Shelf>(driver: Driver<S>, posts: Vec<Post>, bytes: Vec<u8>) -> Closed<S>
+    ensures shelf { IsClosed driver.1.power (S.device driver.0) (S.device result.shelf) }
+    ensures history { result.history ≡ driver.1.history }
+{
+    Stage::ended(driver, posts, bytes).holder.close()
+}
+
+// Makes what turns are left of a session, and closes it. Answers the shelf and the history.
+fn run_out<S: Shelf>(driver: Driver<S>, posts: Vec<Post>, bytes: Vec<u8>) -> Closed<S>
+    requires on { driver.1.power ≡ power.On }
+    ensures ends { RunsOut (state_of S.device driver) (record { device = S.device result.shelf; facts = result.history.facts }) }
+    ensures rooms { without_facts result.history ≡ without_facts driver.1.history }
+{
+    let (mut driver, rests) = at_rest(driver);
+    if rests {
+        return close_ended(driver, posts, bytes);
+    }
+    run_on(&mut driver);
+    close_ended(driver, posts, bytes)
+}
+
+// Ends what stands after the last line: a session that is on makes turns until one doesn't move, and is closed.
+fn conclude<S: Shelf>(stage: Stage<S>) -> Closed<S>
+    requires between { (session_in stage ≡ None) ⊎ IsBetweenStage S.device stage }
+    requires fits { IsFitting stage }
+    ensures concludes { Concludes (history_in stage).run (moment_in S.device stage) (record { device = S.device result.shelf; facts = result.history.facts }) (session_in stage) }
+    ensures rooms { without_facts result.history ≡ without_facts (history_in stage) }
+{
+    let Stage {
+        holder,
+        posts,
+        bytes,
+    } = stage;
+    match holder {
+        Holder::Off { shelf, history } => Closed { shelf, history },
+        Holder::Empty { driver } => driver.close(),
+        Holder::Serving { driver } => run_out(driver, posts, bytes),
+    }
+}
+
 /// Runs a script: reads a line, does it, writes its reply, and goes on. The moment at which the run begins
-/// names it in its history. The clock is asked for it, and once in each line that varies a group on. A group
-/// that is on at the end is varied off without a write.
+/// names it in its history. The clock is asked for it, and once in each line that varies a group on. At the end a
+/// session that is on makes turns until one doesn't move, and is closed without a write.
 pub fn run_script<S: Shelf, I: Source, O: Sink, C: Clock>(
     alloc: Global,
     input: &mut I,
@@ -85,9 +197,16 @@ pub fn run_script<S: Shelf, I: Source, O: Sink, C: Clock>(
     let Ok(history) = History::new(alloc, run, room.entries, room.bytes) else {
         return unbegun(shelf);
     };
-    let stage = Stage::Off { shelf, history };
+    let Ok((posts, bytes)) = take_rooms(alloc, room.entries) else {
+        return unbegun(shelf);
+    };
+    let stage = Stage {
+        holder: Holder::Off { shelf, history },
+        posts,
+        bytes,
+    };
     let done = do_lines(alloc, &mut lines, input, out, stage, clock, room);
-    let Closed { shelf, history } = done.stage.close();
+    let Closed { shelf, history } = conclude(done.stage);
     Ended {
         status: status_of(done.stop, done.refused),
         refused: done.refused,

@@ -3,10 +3,10 @@ ghost use Rattle.std.specs.Prelude.{◌≡◌, ◌⊎◌, ◌↔◌, ◌+◌, �
 ghost use Rattle.lvm_io.specs.Count.{Rose};
 ghost use Rattle.lvm_io.specs.Stream.{WhereTold, WritesFront};
 ghost use Rattle.lvm_core.specs.Starting.{IsRoom};
-ghost use Rattle.lvm_stage.specs.Replies.{reply_text, IsStuck};
-ghost use Rattle.lvm_stage.specs.Stages.{shelf_in, history_in, session_in, state_in, IsSettledStage};
-ghost use Rattle.lvm_stage.specs.State.{without_facts};
-ghost use Rattle.lvm_top.specs.Script.{Says, is_refused, passage};
+ghost use Rattle.lvm_line.specs.passed.StageReplies.{reply_text, most_refusals, refusals_of, IsStuck};
+ghost use Rattle.lvm_line.specs.passed.StageStages.{shelf_in, history_in, session_in, state_in, IsBetweenStage, IsFitting};
+ghost use Rattle.lvm_line.specs.passed.StageState.{without_facts};
+ghost use Rattle.lvm_top.specs.Script.{Says, passage};
 ghost use Rattle.lvm_top.specs.Statuses.{GoesUntil};
 ghost use Rattle.lvm_top.specs.Turn.{ReadsLine, ReadsNone, Tells};
 
@@ -15,7 +15,8 @@ use lvm_disk::Shelf;
 use lvm_io::{Clock, Lines, NextLine, Sink, SinkFault, Source, write_all};
 use lvm_line::{answer_line, do_line};
 use lvm_num::{Memory, Rows};
-use lvm_stage::{Refusal, Reply, Stage, memory_text, refusal_line};
+use lvm_replies::show_stepped;
+use lvm_line::below::lvm_stage::{Refusal, Reply, Stage, memory_text, refusal_line};
 use std::alloc::Global;
 
 // Why a run ends before the input does.
@@ -47,6 +48,25 @@ fn say_refusal<O: Sink>(alloc: Global, out: &mut O, why: Refusal) -> (Reply, Res
     }
 }
 
+// Writes how many turns have moved, or where that finds no memory that it didn't. Answers which, and whether the sink took
+// it all.
+fn say_stepped<O: Sink>(alloc: Global, out: &mut O, turns: u32) -> (Reply, Result<(), SinkFault>)
+    ensures says { Says (Reply.Stepped turns) result.0 }
+    ensures whole { OnOk result.1 (WhereTold (O.held out.old) (O.held out.new) (λ a b. b ≡ a ++ reply_text result.0)) }
+    ensures front { OnErr result.1 (WhereTold (O.held out.old) (O.held out.new) (λ a b. WritesFront (reply_text result.0) a b)) }
+    ensures later { O.faults out.old ≤ O.faults out.new }
+    ensures cause { OnErr result.1 (Rose (O.faults out.old) (O.faults out.new)) }
+    ensures well { OnOk result.1 (O.faults out.new ≡ O.faults out.old) }
+{
+    match show_stepped(alloc, turns) {
+        Ok(line) => (Reply::Stepped(turns), write_all(out, line.as_bytes())),
+        Err(Memory) => (
+            Reply::Refused(Refusal::Memory),
+            write_all(out, memory_text()),
+        ),
+    }
+}
+
 // Writes the reply to a line, and nothing for a silent one. Answers what was written, and whether the sink
 // took it all.
 fn say<O: Sink>(alloc: Global, out: &mut O, answer: Reply) -> (Reply, Result<(), SinkFault>)
@@ -60,9 +80,15 @@ fn say<O: Sink>(alloc: Global, out: &mut O, answer: Reply) -> (Reply, Result<(),
     match answer {
         Reply::Silent => (Reply::Silent, write_all(out, b"")),
         Reply::Ok => (Reply::Ok, write_all(out, b"ok\n")),
+        Reply::Posted => (Reply::Posted, write_all(out, b"posted\n")),
+        Reply::Stepped(turns) => say_stepped(alloc, out, turns),
         Reply::Lines(text) => {
             let wrote = write_all(out, text.as_bytes());
             (Reply::Lines(text), wrote)
+        }
+        Reply::Answers { text, refused } => {
+            let wrote = write_all(out, text.as_bytes());
+            (Reply::Answers { text, refused }, wrote)
         }
         Reply::Refused(why) => say_refusal(alloc, out, why),
     }
@@ -78,14 +104,18 @@ fn is_stuck(reply: &Reply) -> bool
     }
 }
 
-// The count of refusals with this reply.
-fn with_refusal(refused: u32, reply: &Reply) -> u32
-    requires { refused + 1 < 2 ^ 32 }
-    ensures { result ≡ refused + (if is_refused reply.now then 1 else 0) }
+// The count of refusals with those of this reply.
+fn with_refusals(refused: u32, reply: &Reply) -> u32
+    requires { refused + refusals_of reply.now < 2 ^ 32 }
+    ensures { result ≡ refused + refusals_of reply.now }
 {
     match reply {
         Reply::Refused(_) => refused + 1,
-        Reply::Silent | Reply::Ok | Reply::Lines(_) => refused,
+        Reply::Answers {
+            text: _,
+            refused: more,
+        } => refused + *more,
+        Reply::Silent | Reply::Ok | Reply::Posted | Reply::Stepped(_) | Reply::Lines(_) => refused,
     }
 }
 
@@ -96,12 +126,12 @@ fn write_reply<O: Sink>(
     answer: Reply,
     refused: u32,
 ) -> (u32, Option<Stop>)
-    requires { refused + 1 < 2 ^ 32 }
+    requires { refused + most_refusals answer < 2 ^ 32 }
     ensures { Tells answer refused result.0 (passage O.held O.faults out.old out.new) result.1 }
 {
     let stuck = is_stuck(&answer);
     let (said, wrote) = say(alloc, out, answer);
-    let refused = with_refusal(refused, &said);
+    let refused = with_refusals(refused, &said);
     if stuck {
         (refused, Some(Stop::Stuck))
     } else if wrote.is_err() {
@@ -152,12 +182,15 @@ pub fn do_lines<S: Shelf, I: Source, O: Sink, C: Clock>(
     clock: &mut C,
     room: Room,
 ) -> Done<S>
-    requires settled { IsSettledStage S.device stage }
+    requires between { IsBetweenStage S.device stage }
+    requires fits { IsFitting stage }
+    requires none { stage.posts.items ≡ [] }
     requires room { IsRoom room }
     requires unread { lines.old ≡ record { front = []; block = []; given = 0 } }
     ensures goes { GoesUntil result.stop (without_facts (history_in stage)) room (state_in S.device stage (C.last clock.old)) (state_in S.device result.stage (C.last clock.new)) (passage I.left I.faults input.old input.new) (passage O.held O.faults out.old out.new) result.refused }
     ensures off { result.stop ≡ Some Stop.Stuck → session_in result.stage ≡ None }
-    ensures settled { (result.stop ≡ Some Stop.Stuck → ⊥) → IsSettledStage S.device result.stage }
+    ensures between { (result.stop ≡ Some Stop.Stuck → ⊥) → IsBetweenStage S.device result.stage }
+    ensures fits { IsFitting result.stage }
     ensures rooms { without_facts (history_in result.stage) ≡ without_facts (history_in stage) }
 {
     let mut stage = stage;

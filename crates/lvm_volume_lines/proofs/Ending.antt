@@ -1,17 +1,21 @@
 -- How `mklv` and `rmlv` end.
-use Rattle.std.proofs.Common.{◌≡◌, inl, inr, [], ℕ, true, false, Err, refl, sym, subst, Result, Ok}
+use Rattle.std.proofs.Common.{◌≡◌, ◌==◌, ◌≤◌, inl, inr, [], ℕ, List, true, false, Err, refl, sym, ◌∙◌, ap, subst, Result, Ok, arith}
+use Rattle.std.specs.List.{list_any}
+use Rattle.lvm_num.specs.declared.descriptor.PvRow.{PvRow}
 use Rattle.lvm_disk.specs.Counts.{Rose}
 use Rattle.lvm_disk.specs.Device.{Device, IsReady}
 use Rattle.lvm_transfer.specs.Transfer.{Relights}
 use Rattle.lvm_write.specs.Written.{IsGivenUp}
 use Rattle.lvm_commit.specs.Settling.{HasLostQuorum}
 use Rattle.lvm_session.specs.declared.open.Power.TheVariants as power
-use Rattle.lvm_session.specs.State.{State as Session}
-use Rattle.lvm_volumes.specs.Volumes.{MklvGives, RmlvGives}
-use Rattle.lvm_stage.specs.declared.reply.Refusal.TheVariants as refusal
-use Rattle.lvm_stage.specs.declared.reply.Reply.TheVariants as reply
-use Rattle.lvm_stage.proofs.Lighting.{LitUp}
-use Rattle.lvm_volume_lines.proofs.Commanding.{lit_rest, lit_dark, lit_stuck}
+use Rattle.lvm_session.specs.State.{Core, State as Session}
+use Rattle.lvm_stale.specs.Table.{has_row}
+use Rattle.lvm_status.specs.Members.{HasItsRows}
+use Rattle.lvm_range_lines.specs.passed.VolumesVolumes.{MklvGives, RmlvGives}
+use Rattle.lvm_range_lines.specs.passed.StageReplyRefusalTheVariants as refusal
+use Rattle.lvm_range_lines.specs.passed.StageReplyReplyTheVariants as reply
+use Rattle.lvm_range_lines.specs.passed.StageReplies.{most_refusals}
+use Rattle.lvm_volume_lines.proofs.Commanding.{ClosesWell, closes_dark, closes_lit}
 use Rattle.lvm_volume_lines.specs.Volumes.{is_over, volume_reply}
 use Rattle.lvm_volume_plan.specs.declared.fault.GroupFault.{GroupFault}
 use Rattle.lvm_volume_plan.specs.declared.fault.GroupFault.TheVariants as fault
@@ -88,10 +92,10 @@ module _ {X : Type 0} (patience : ℕ) (old new : Session) where
   dark_still given facts dark = (subst (λ (r : Result X GroupFault). Facts r patience old new) dark facts).0
 
   -- and where the session ended otherwise it is on;
-  pub lit_still : (given : Result X GroupFault) → Facts given patience old new → is_over given ≡ true → (given ≡ Err fault.Dark → ⊥) → new.device.power ≡ true
+  pub lit_still : (given : Result X GroupFault) → Facts given patience old new → is_over given ≡ true → (given ≡ Err fault.Dark → ⊥) → (new.device.power ≡ true) × (new.device.freed ≡ [])
   lit_still (Err fault.Dark) facts ends other = absurd (other refl)
-  lit_still (Err (fault.WentOff have total)) facts ends other = facts.1.power
-  lit_still (Err fault.Stuck) facts ends other = facts.power
+  lit_still (Err (fault.WentOff have total)) facts ends other = (facts.1.power, facts.1.freed)
+  lit_still (Err fault.Stuck) facts ends other = (facts.power, facts.freed)
   lit_still given facts ends other = absurd (cc (ends))
 
   -- it is ready where the session goes on,
@@ -112,8 +116,59 @@ module _ {X : Type 0} (patience : ℕ) (old new : Session) where
   ready_still (Err fault.Memory) ready facts ends = as_is old new ready facts
 
   -- and once it was closed and lit again.
-  pub lit_after : (given : Result X GroupFault) (shelf : Device) → Facts given patience old new → is_over given ≡ true → Relights new.device shelf → LitUp (volume_reply given) new.device shelf
-  lit_after (Err fault.Dark) shelf facts ends lit = lit_dark new.device shelf facts.0 lit
-  lit_after (Err (fault.WentOff have total)) shelf facts ends lit = lit_rest (reply.Refused (refusal.WentOff have total)) new.device shelf facts.1 lit
-  lit_after (Err fault.Stuck) shelf facts ends lit = lit_stuck new.device shelf facts.power facts.freed lit
-  lit_after given shelf facts ends lit = absurd (cc (ends))
+  pub closes_after : (given : Result X GroupFault) (shelf : Device) → Facts given patience old new → is_over given ≡ true → Relights new.device shelf → ClosesWell (volume_reply given) new.device shelf
+  closes_after (Err fault.Dark) shelf facts ends lit = closes_dark (reply.Refused refusal.Dark) new.device shelf facts.0 lit
+  closes_after (Err (fault.WentOff have total)) shelf facts ends lit = closes_lit (reply.Refused (refusal.WentOff have total)) new.device shelf facts.1.power facts.1.freed (λ heard. facts.1) lit
+  closes_after (Err fault.Stuck) shelf facts ends lit = closes_lit (reply.Refused refusal.Stuck) new.device shelf facts.power facts.freed (λ heard. absurd (heard refl)) lit
+  closes_after given shelf facts ends lit = absurd (cc (ends))
+
+  -- one refusal is answered at most
+  pub one_answer : (given : Result X GroupFault) → most_refusals (volume_reply given) ≤ 1
+  one_answer (Ok done) = omega arith
+  one_answer (Err why) = omega arith
+
+-- ---- what stays of the session
+
+-- its beginning, and the members of its group
+pub record SameShape (old new : Session) : Type 0 where
+  pub origin : new.core.origin ≡ old.core.origin
+  pub pvs : new.core.descriptor.pvs ≡ old.core.descriptor.pvs
+
+shape_as : (old new : Session) → new ≡ old → SameShape old new
+shape_as old new same = record { origin = ap (λ (s : Session). s.core.origin) same; pvs = ap (λ (s : Session). s.core.descriptor.pvs) same }
+
+pub mklv_shape : (v : NewVolume) (patience : ℕ) (old new : Session) (given : Result ℕ GroupFault) → MklvGives v patience old new given → is_over given ≡ false → SameShape old new
+mklv_shape v patience old new (Ok lv) made goes = record { origin = ap (λ (c : Core). c.origin) made.is; pvs = ap (λ (c : Core). c.descriptor.pvs) made.is }
+mklv_shape v patience old new (Err fault.Dark) gives goes = absurd (cc (goes))
+mklv_shape v patience old new (Err (fault.WentOff have total)) gives goes = absurd (cc (goes))
+mklv_shape v patience old new (Err fault.Stuck) gives goes = absurd (cc (goes))
+mklv_shape v patience old new (Err (fault.DiskFailed disk)) fails goes = record { origin = ap (λ (c : Core). c.origin) fails.ends.is; pvs = ap (λ (c : Core). c.descriptor.pvs) fails.ends.is }
+mklv_shape v patience old new (Err fault.Busy) refused goes = shape_as old new refused.0
+mklv_shape v patience old new (Err fault.NoVolume) none goes = absurd none
+mklv_shape v patience old new (Err fault.VolumeExists) refused goes = shape_as old new refused.0
+mklv_shape v patience old new (Err (fault.CopyLimit now)) refused goes = shape_as old new refused.0
+mklv_shape v patience old new (Err (fault.LastFresh lp)) none goes = absurd none
+mklv_shape v patience old new (Err (fault.TooMany limit)) refused goes = shape_as old new refused.0
+mklv_shape v patience old new (Err (fault.NoRoom free)) refused goes = shape_as old new refused.0
+mklv_shape v patience old new (Err fault.HistoryFull) refused goes = shape_as old new refused.0
+mklv_shape v patience old new (Err fault.Memory) refused goes = shape_as old new refused.0
+
+pub rmlv_shape : (lv patience : ℕ) (old new : Session) (given : Result (Unit {0}) GroupFault) → RmlvGives lv patience old new given → is_over given ≡ false → SameShape old new
+rmlv_shape lv patience old new (Ok done) made goes = record { origin = ap (λ (c : Core). c.origin) made.is; pvs = ap (λ (c : Core). c.descriptor.pvs) made.is }
+rmlv_shape lv patience old new (Err fault.Dark) gives goes = absurd (cc (goes))
+rmlv_shape lv patience old new (Err (fault.WentOff have total)) gives goes = absurd (cc (goes))
+rmlv_shape lv patience old new (Err fault.Stuck) gives goes = absurd (cc (goes))
+rmlv_shape lv patience old new (Err (fault.DiskFailed disk)) none goes = absurd none
+rmlv_shape lv patience old new (Err fault.Busy) refused goes = shape_as old new refused.0
+rmlv_shape lv patience old new (Err fault.NoVolume) refused goes = shape_as old new refused.0
+rmlv_shape lv patience old new (Err fault.VolumeExists) none goes = absurd none
+rmlv_shape lv patience old new (Err (fault.CopyLimit now)) none goes = absurd none
+rmlv_shape lv patience old new (Err (fault.LastFresh lp)) none goes = absurd none
+rmlv_shape lv patience old new (Err (fault.TooMany limit)) none goes = absurd none
+rmlv_shape lv patience old new (Err (fault.NoRoom free)) none goes = absurd none
+rmlv_shape lv patience old new (Err fault.HistoryFull) refused goes = shape_as old new refused.0
+rmlv_shape lv patience old new (Err fault.Memory) refused goes = shape_as old new refused.0
+
+-- so the status with which it began has the rows of the members
+pub rows_stay : (old new : Session) → SameShape old new → HasItsRows old.core.descriptor old.core.origin.table → HasItsRows new.core.descriptor new.core.origin.table
+rows_stay old new same rows disk = ap (λ o. has_row o.table disk) same.origin ∙ rows disk ∙ ap (λ (pvs : List PvRow). list_any (λ (row : PvRow). row.disk == disk) pvs) (sym same.pvs)

@@ -1,75 +1,102 @@
--- After `mklv` and `rmlv` each request has landed that had.
-use Rattle.std.proofs.Common.{◌≡◌, inl, inr, ◌∷◌, ◌++◌, [], ℕ, List, Result, Ok, Err, refl, sym, ◌∙◌, subst}
+-- What the entries of a command leave true of the history: each request has landed, and answers that aren't taken stay.
+use Rattle.std.proofs.Common.{◌≡◌, inl, inr, ◌++◌, ◌∷◌, [], ℕ, List, Result, Ok, Err, refl, sym, ◌∙◌, subst}
+use Rattle.lvm_num.specs.declared.descriptor.Mode.{Mode}
 use Rattle.lvm_num.specs.declared.place.Pp.{Pp}
 use Rattle.lvm_num.specs.Geometry.{volume_blocks}
 use Rattle.lvm_vol.specs.declared.entry.Vol.TheVariants.{Lv}
-use Rattle.lvm_vol.specs.Facts.{Making, Made, Removing, Removed}
+use Rattle.lvm_vol.specs.Facts.{Fact, Making, Made, Removing, Removed}
 use Rattle.lvm_vol.specs.Log.{Log}
 use Rattle.lvm_core.specs.Sound.{HaveAllLanded}
 use Rattle.lvm_session.specs.State.{Core, State as Session}
-use Rattle.lvm_volumes.specs.Volumes.{MklvGives, RmlvGives, HasEntered, making, removing}
-use Rattle.lvm_stage.proofs.Passive.{open_more, bears_cut, landed_bears}
+use Rattle.lvm_posts.specs.declared.asked.Asked.{Asked}
+use Rattle.lvm_posts.specs.Posts.{AreAnswered}
+use Rattle.lvm_range_lines.specs.passed.VolumesVolumes.{MklvGives, RmlvGives, HasEntered, making, removing}
+use Rattle.lvm_range_lines.proofs.passed.StagePassive.{Bears, open_more, bears_cut, landed_bears}
+use Rattle.lvm_range_lines.proofs.passed.StagePosting.{answered_bears, answered_on}
 use Rattle.lvm_volume_plan.specs.declared.fault.GroupFault.{GroupFault}
 use Rattle.lvm_volume_plan.specs.declared.fault.GroupFault.TheVariants as fault
 use Rattle.lvm_volume_plan.specs.declared.new_volume.NewVolume.{NewVolume}
 
-abbrev Landed : Log → Type 0
-Landed log = HaveAllLanded log.facts
+-- a volume's entries leave this true, and a cut does
+pub record BearsVolumes (P : List Fact → Type 0) : Type 0 where
+  pub making : (facts : List Fact) (lv blocks : ℕ) (mode : Mode) → P facts → P (facts ++ Making lv blocks mode ∷ [])
+  pub made : (facts : List Fact) (lv : ℕ) → P facts → P (facts ++ Made lv ∷ [])
+  pub removing : (facts : List Fact) (lv : ℕ) → P facts → P (facts ++ Removing (Lv lv) ∷ [])
+  pub removed : (facts : List Fact) (lv : ℕ) → P facts → P (facts ++ Removed (Lv lv) ∷ [])
+  pub cut : Bears P
 
--- a volume's entries open no request
-with_making : (v : NewVolume) (lv : ℕ) (s : Session) → Landed s.core.history → Landed (making v lv s)
-with_making v lv s landed id = open_more s.core.history.facts (Making lv (volume_blocks s.core.descriptor.mib v.lps) v.mode) id refl refl ∙ landed id
+pub landed_stays : BearsVolumes HaveAllLanded
+landed_stays = record {
+  making = λ facts lv blocks mode landed id. open_more facts (Making lv blocks mode) id refl refl ∙ landed id;
+  made = λ facts lv landed id. open_more facts (Made lv) id refl refl ∙ landed id;
+  removing = λ facts lv landed id. open_more facts (Removing (Lv lv)) id refl refl ∙ landed id;
+  removed = λ facts lv landed id. open_more facts (Removed (Lv lv)) id refl refl ∙ landed id;
+  cut = landed_bears;
+}
 
-with_made : (log : Log) (lv : ℕ) → Landed log → HaveAllLanded (log.facts ++ Made lv ∷ [])
-with_made log lv landed id = open_more log.facts (Made lv) id refl refl ∙ landed id
+pub answers_stay : (range : Asked) → BearsVolumes (λ (facts : List Fact). AreAnswered facts range)
+answers_stay range = record {
+  making = λ facts lv blocks mode answered. answered_on facts (Making lv blocks mode) range (λ id. refl) answered;
+  made = λ facts lv answered. answered_on facts (Made lv) range (λ id. refl) answered;
+  removing = λ facts lv answered. answered_on facts (Removing (Lv lv)) range (λ id. refl) answered;
+  removed = λ facts lv answered. answered_on facts (Removed (Lv lv)) range (λ id. refl) answered;
+  cut = answered_bears range;
+}
 
-with_removing : (lv : ℕ) (s : Session) → Landed s.core.history → Landed (removing lv s)
-with_removing lv s landed id = open_more s.core.history.facts (Removing (Lv lv)) id refl refl ∙ landed id
+module _ (P : List Fact → Type 0) (bears : BearsVolumes P) where
+  as_is : (log is : Log) → is ≡ log → P log.facts → P is.facts
+  as_is log is same holds = subst (λ (l : Log). P l.facts) (sym same) holds
 
-with_removed : (log : Log) (lv : ℕ) → Landed log → HaveAllLanded (log.facts ++ Removed (Lv lv) ∷ [])
-with_removed log lv landed id = open_more log.facts (Removed (Lv lv)) id refl refl ∙ landed id
+  module _ (v : NewVolume) (patience : ℕ) (old new : Session) (holds : P old.core.history.facts) where
+    with_making : (lv : ℕ) → P (making v lv old).facts
+    with_making lv = bears.making old.core.history.facts lv (volume_blocks old.core.descriptor.mib v.lps) v.mode holds
 
-as_is : (log is : Log) → is ≡ log → Landed log → Landed is
-as_is log is same landed = subst Landed (sym same) landed
+    entered : (map : List Pp) (log : Log) → HasEntered v map old new log → P log.facts
+    entered map log (inl same) = as_is old.core.history log same holds
+    entered map log (inr made) = as_is (making v made.0 old) log made.2 (with_making made.0)
 
-module _ (v : NewVolume) (patience : ℕ) (old new : Session) (landed : Landed old.core.history) where
-  entered : (map : List Pp) (log : Log) → HasEntered v map old new log → Landed log
-  entered map log (inl same) = as_is old.core.history log same landed
-  entered map log (inr made) = as_is (making v made.0 old) log made.2 (with_making v made.0 old landed)
+    unchanged : new ≡ old → P new.core.history.facts
+    unchanged same = subst (λ (s : Session). P s.core.history.facts) (sym same) holds
 
-  pub mklv_landed : (given : Result ℕ GroupFault) → MklvGives v patience old new given → Landed new.core.history
-  mklv_landed (Ok lv) made = subst (λ (c : Core). Landed c.history) (sym made.is) (with_made (making v lv old) lv (with_making v lv old landed))
-  mklv_landed (Err fault.Dark) (inl refused) = subst (λ (s : Session). Landed s.core.history) (sym refused.0) landed
-  mklv_landed (Err fault.Dark) (inr ends) = subst Landed (sym ends.ends.history) (bears_cut HaveAllLanded landed_bears ends.entered (entered ends.map ends.entered ends.so_far))
-  mklv_landed (Err (fault.WentOff have total)) (inl refused) = subst (λ (s : Session). Landed s.core.history) (sym refused.0) landed
-  mklv_landed (Err (fault.WentOff have total)) (inr ends) = subst Landed (sym ends.ends.history) (entered ends.map ends.entered ends.so_far)
-  mklv_landed (Err fault.Stuck) ends = subst Landed (sym ends.ends.history) (entered ends.map ends.entered ends.so_far)
-  mklv_landed (Err (fault.DiskFailed disk)) fails = subst (λ (c : Core). Landed c.history) (sym fails.ends.is) landed
-  mklv_landed (Err fault.Busy) refused = subst (λ (s : Session). Landed s.core.history) (sym refused.0) landed
-  mklv_landed (Err fault.NoVolume) none = absurd none
-  mklv_landed (Err fault.VolumeExists) refused = subst (λ (s : Session). Landed s.core.history) (sym refused.0) landed
-  mklv_landed (Err (fault.CopyLimit now)) refused = subst (λ (s : Session). Landed s.core.history) (sym refused.0) landed
-  mklv_landed (Err (fault.LastFresh lp)) none = absurd none
-  mklv_landed (Err (fault.TooMany limit)) refused = subst (λ (s : Session). Landed s.core.history) (sym refused.0) landed
-  mklv_landed (Err (fault.NoRoom free)) refused = subst (λ (s : Session). Landed s.core.history) (sym refused.0) landed
-  mklv_landed (Err fault.HistoryFull) refused = subst (λ (s : Session). Landed s.core.history) (sym refused.0) landed
-  mklv_landed (Err fault.Memory) refused = subst (λ (s : Session). Landed s.core.history) (sym refused.0) landed
+    pub mklv_bears : (given : Result ℕ GroupFault) → MklvGives v patience old new given → P new.core.history.facts
+    mklv_bears (Ok lv) made = subst (λ (c : Core). P c.history.facts) (sym made.is) (bears.made (making v lv old).facts lv (with_making lv))
+    mklv_bears (Err fault.Dark) (inl refused) = unchanged refused.0
+    mklv_bears (Err fault.Dark) (inr ends) = subst (λ (l : Log). P l.facts) (sym ends.ends.history) (bears_cut P bears.cut ends.entered (entered ends.map ends.entered ends.so_far))
+    mklv_bears (Err (fault.WentOff have total)) (inl refused) = unchanged refused.0
+    mklv_bears (Err (fault.WentOff have total)) (inr ends) = as_is ends.entered new.core.history ends.ends.history (entered ends.map ends.entered ends.so_far)
+    mklv_bears (Err fault.Stuck) ends = as_is ends.entered new.core.history ends.ends.history (entered ends.map ends.entered ends.so_far)
+    mklv_bears (Err (fault.DiskFailed disk)) fails = subst (λ (c : Core). P c.history.facts) (sym fails.ends.is) holds
+    mklv_bears (Err fault.Busy) refused = unchanged refused.0
+    mklv_bears (Err fault.NoVolume) none = absurd none
+    mklv_bears (Err fault.VolumeExists) refused = unchanged refused.0
+    mklv_bears (Err (fault.CopyLimit now)) refused = unchanged refused.0
+    mklv_bears (Err (fault.LastFresh lp)) none = absurd none
+    mklv_bears (Err (fault.TooMany limit)) refused = unchanged refused.0
+    mklv_bears (Err (fault.NoRoom free)) refused = unchanged refused.0
+    mklv_bears (Err fault.HistoryFull) refused = unchanged refused.0
+    mklv_bears (Err fault.Memory) refused = unchanged refused.0
 
-module _ (lv patience : ℕ) (old new : Session) (landed : Landed old.core.history) where
-  pub rmlv_landed : (given : Result (Unit {0}) GroupFault) → RmlvGives lv patience old new given → Landed new.core.history
-  rmlv_landed (Ok done) made = subst (λ (c : Core). Landed c.history) (sym made.is) (with_removed (removing lv old) lv (with_removing lv old landed))
-  rmlv_landed (Err fault.Dark) (inl refused) = subst (λ (s : Session). Landed s.core.history) (sym refused.0) landed
-  rmlv_landed (Err fault.Dark) (inr ends) = subst Landed (sym ends.ends.history) (bears_cut HaveAllLanded landed_bears (removing lv old) (with_removing lv old landed))
-  rmlv_landed (Err (fault.WentOff have total)) (inl refused) = subst (λ (s : Session). Landed s.core.history) (sym refused.0) landed
-  rmlv_landed (Err (fault.WentOff have total)) (inr ends) = subst Landed (sym ends.ends.history) (with_removing lv old landed)
-  rmlv_landed (Err fault.Stuck) ends = subst Landed (sym ends.ends.history) (with_removing lv old landed)
-  rmlv_landed (Err (fault.DiskFailed disk)) none = absurd none
-  rmlv_landed (Err fault.Busy) refused = subst (λ (s : Session). Landed s.core.history) (sym refused.0) landed
-  rmlv_landed (Err fault.NoVolume) refused = subst (λ (s : Session). Landed s.core.history) (sym refused.0) landed
-  rmlv_landed (Err fault.VolumeExists) none = absurd none
-  rmlv_landed (Err (fault.CopyLimit now)) none = absurd none
-  rmlv_landed (Err (fault.LastFresh lp)) none = absurd none
-  rmlv_landed (Err (fault.TooMany limit)) none = absurd none
-  rmlv_landed (Err (fault.NoRoom free)) none = absurd none
-  rmlv_landed (Err fault.HistoryFull) refused = subst (λ (s : Session). Landed s.core.history) (sym refused.0) landed
-  rmlv_landed (Err fault.Memory) refused = subst (λ (s : Session). Landed s.core.history) (sym refused.0) landed
+  module _ (lv patience : ℕ) (old new : Session) (holds : P old.core.history.facts) where
+    with_removing : P (removing lv old).facts
+    with_removing = bears.removing old.core.history.facts lv holds
+
+    kept : new ≡ old → P new.core.history.facts
+    kept same = subst (λ (s : Session). P s.core.history.facts) (sym same) holds
+
+    pub rmlv_bears : (given : Result (Unit {0}) GroupFault) → RmlvGives lv patience old new given → P new.core.history.facts
+    rmlv_bears (Ok done) made = subst (λ (c : Core). P c.history.facts) (sym made.is) (bears.removed (removing lv old).facts lv with_removing)
+    rmlv_bears (Err fault.Dark) (inl refused) = kept refused.0
+    rmlv_bears (Err fault.Dark) (inr ends) = subst (λ (l : Log). P l.facts) (sym ends.ends.history) (bears_cut P bears.cut (removing lv old) with_removing)
+    rmlv_bears (Err (fault.WentOff have total)) (inl refused) = kept refused.0
+    rmlv_bears (Err (fault.WentOff have total)) (inr ends) = as_is (removing lv old) new.core.history ends.ends.history with_removing
+    rmlv_bears (Err fault.Stuck) ends = as_is (removing lv old) new.core.history ends.ends.history with_removing
+    rmlv_bears (Err (fault.DiskFailed disk)) none = absurd none
+    rmlv_bears (Err fault.Busy) refused = kept refused.0
+    rmlv_bears (Err fault.NoVolume) refused = kept refused.0
+    rmlv_bears (Err fault.VolumeExists) none = absurd none
+    rmlv_bears (Err (fault.CopyLimit now)) none = absurd none
+    rmlv_bears (Err (fault.LastFresh lp)) none = absurd none
+    rmlv_bears (Err (fault.TooMany limit)) none = absurd none
+    rmlv_bears (Err (fault.NoRoom free)) none = absurd none
+    rmlv_bears (Err fault.HistoryFull) refused = kept refused.0
+    rmlv_bears (Err fault.Memory) refused = kept refused.0

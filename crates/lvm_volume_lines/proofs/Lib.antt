@@ -1,4 +1,10 @@
+pub mod passed
 pub mod Commanding
 pub mod Ending
 pub mod Landing
+pub mod Resting
+pub mod Rested
 pub mod OfVolumes
+pub mod Undrained
+pub mod Unnamed
+pub mod Lines

@@ -1,114 +1,294 @@
--- `mklv` and `rmlv` on the session of the group that is on.
-use Rattle.std.proofs.Common.{◌≡◌, ℕ, Bool, true, false, IsTrue, IsFalse, Err, refl, sym, ◌∙◌, ap, subst, List, Some, Result, Ok}
+-- `mklv` and `rmlv` on the session of the group that is on, from the session that has come to rest.
+use Rattle.std.proofs.Common.{◌≡◌, ◌≢◌, ◌⊎◌, inl, inr, ◌<◌, ◌^◌, ◌+◌, ℕ, Bool, true, false, not, Err, [], ◌∷◌, List, Option, Some, refl, sym, ◌∙◌, ap, subst, Result, length}
+use Rattle.std.specs.Prelude.{IfSome}
 use Rattle.lvm_num.specs.declared.place.Pp.{Pp}
 use Rattle.lvm_num.specs.declared.descriptor.Descriptor.{Descriptor}
-use Rattle.lvm_disk.specs.Device.{Device}
-use Rattle.lvm_write.specs.Written.{KeepsShelf}
+use Rattle.lvm_disk.specs.Device.{Device, HasSectors, IsReady}
+use Rattle.lvm_vol.specs.Facts.{Fact}
+use Rattle.lvm_vol.specs.Log.{Log}
+use Rattle.lvm_kept.specs.Moments.{Moment}
+use Rattle.lvm_steps.specs.Moments.{Keeps}
+use Rattle.lvm_status.specs.Members.{HasItsRows}
+use Rattle.lvm_session.specs.State.{Core, State as Session, state}
+use Rattle.lvm_core.specs.Committing.{moment_of}
+use Rattle.lvm_core.specs.Held.{IsHeld}
+use Rattle.lvm_core.specs.Leaves.{FindsOnly}
 use Rattle.lvm_core.specs.Settled.{IsSettled as IsSettledCore}
 use Rattle.lvm_core.specs.Sound.{HaveAllLanded}
-use Rattle.lvm_session.specs.State.{Core, State as Session, state}
-use Rattle.lvm_core.specs.Leaves.{FindsOnly, Leaves}
-use Rattle.lvm_volumes.specs.Endings.{IfOn, StillHeld, commanding}
-use Rattle.lvm_stage.specs.Ends.{patience_of_line}
-use Rattle.lvm_stage.specs.Moments.{GoesOn}
-use Rattle.lvm_stage.specs.Stages.{shelf_in, history_in, state_in, IsSettledStage, Between}
-use Rattle.lvm_volume_lines.specs.Volumes.{IsDone, IsOver, StaysOn, MklvDoes, MklvEnds, MakesVolume, MklvFails, RmlvDoes, RmlvEnds, RemovesVolume, RmlvFails, is_over, volume_reply}
-use Rattle.lvm_stage.specs.declared.reply.Reply.{Reply}
-use Rattle.lvm_stage.specs.declared.stage.Stage.{Stage}
-use Rattle.lvm_stage.specs.declared.stage.Stage.TheVariants as stage
-use Rattle.lvm_volume_lines.proofs.Commanding.{Promised, session_of, goes_on, goes_off, promised_by, rooms_stay}
-use Rattle.lvm_volume_lines.proofs.Ending.{Facts, ready_still, lit_after}
-use Rattle.lvm_vol.specs.Log.{Log}
-use Rattle.lvm_core.specs.Looking.{IsNumberOf}
-use Rattle.lvm_stage.specs.Ends.{EndsUnasked}
-use Rattle.lvm_stage.specs.Stages.{IsOn}
-use Rattle.lvm_stage.specs.State.{State, without_facts}
+use Rattle.lvm_core.specs.State.{state_of}
+use Rattle.lvm_disk.proofs.Paths.{last-path}
+use Rattle.lvm_range_lines.specs.passed.RunningRunning.{LeavesSession}
+use Rattle.lvm_range_lines.specs.passed.TieCommandsCommands.{IsAloneAtFirst, IsLeftStanding, IsLeftStandingSince, MayBeCommanded}
+use Rattle.lvm_range_lines.specs.passed.TieCommandsStanding.{HoldsEmpty, StandsAfter}
+use Rattle.lvm_range_lines.specs.passed.VolumesEndings.{IfOn, StillHeld, commanding}
 use Rattle.lvm_volume_plan.specs.declared.fault.GroupFault.{GroupFault}
 use Rattle.lvm_volume_plan.specs.declared.fault.GroupFault.TheVariants as fault
-use Rattle.lvm_volume_plan.specs.declared.new_volume.NewVolume.{NewVolume}
+use Rattle.lvm_range_lines.specs.passed.StageEnds.{CommandEnds, EndsUnasked, patience_of_line}
+use Rattle.lvm_range_lines.specs.passed.StageMoments.{GoesOn, OfGroup}
+use Rattle.lvm_range_lines.specs.passed.StageStages.{HaveRooms, IsBetweenStage, IsFitting, IsOfKind, history_of, open_in, session_in, session_of, shelf_in, history_in, state_in}
+use Rattle.lvm_range_lines.specs.passed.StageState.{IsAtRest, IsOnBetween, State, without_facts}
+use Rattle.lvm_range_lines.specs.passed.StageHolderHolder.{Holder}
+use Rattle.lvm_range_lines.specs.passed.StageHolderHolderTheVariants as holder
+use Rattle.lvm_range_lines.specs.passed.StageReplyReply.{Reply}
+use Rattle.lvm_range_lines.specs.passed.StageStageStage.{Stage}
+use Rattle.lvm_range_lines.proofs.passed.StagePosting.{LeavesAnswers}
+use Rattle.lvm_volume_lines.specs.Commands.{HasRested, IsCarriedOut, IsHeldAgain, IsLeftAs, IsLeftOff, IsLeftOn}
+use Rattle.lvm_volume_lines.specs.Volumes.{Drains, IsDone, StaysOn, is_over, volume_reply}
+use Rattle.lvm_volume_lines.proofs.Commanding.{AtMid, ClosesWell, Promised, empty_or, goes_off, goes_on, promised_by, ready_mid, rows_mid}
+use Rattle.lvm_volume_lines.proofs.Ending.{Facts, SameShape, closes_after, one_answer, ready_still, rows_stay}
+use Rattle.lvm_volume_lines.proofs.Resting.{IsStill, still_turns, turns_keep}
 
 -- ---- by the answer
 
 -- the session goes on after an answer that doesn't end it
-if_on : {X : Type 0} (given : Result X GroupFault) (P : Type 0) → IfOn given P → is_over given ≡ false → P
+pub if_on : {X : Type 0} (given : Result X GroupFault) (P : Type 0) → IfOn given P → is_over given ≡ false → P
 if_on (Err fault.Dark) P on goes = absurd (cc (goes))
 if_on (Err (fault.WentOff have total)) P on goes = absurd (cc (goes))
 if_on (Err fault.Stuck) P on goes = absurd (cc (goes))
 if_on given P on goes = on
 
-pub mklv_does : (w : NewVolume) (group : List ℕ) (core : Core) (given : Result ℕ GroupFault) (old new : State) → old.session ≡ Some core → IsOn group core → MklvEnds w given (is_over given) core old new → MklvDoes w group old new (volume_reply given)
-mklv_does w group core (Ok number) old new its on ends = MakesVolume core number its on ends refl
-mklv_does w group core (Err why) old new its on ends = MklvFails core why its on ends refl
+no_open : {X : Type 0} (xs : List X) → length xs ≡ 0 → xs ≡ []
+no_open [] none = refl
+no_open (x ∷ xs) none = absurd (cc (none))
 
-pub rmlv_does : (name : List ℕ) (lv : ℕ) (core : Core) (given : Result (Unit {0}) GroupFault) (old new : State) → old.session ≡ Some core → IsNumberOf core.descriptor.lvs name lv → RmlvEnds lv given (is_over given) core old new → RmlvDoes name old new (volume_reply given)
-rmlv_does name lv core (Ok done) old new its of ends = RemovesVolume core lv its of ends refl
-rmlv_does name lv core (Err why) old new its of ends = RmlvFails core lv why its of ends refl
+-- ---- a session that is held again
 
--- ---- the stage that is left
+module _ {S : Type 0} (device : S → Device) (driver : S × Core) (by : Holder S) (held : IsHeldAgain device driver by) where
+  same_group : held.core.descriptor ≡ driver.1.descriptor
+  same_group = ap (λ (c : Core). c.descriptor) held.is
 
--- what `leave` makes of a session
-pub record LeftSo {S X : Type 0} (device : S → Device) (is : S × Core) (given : Result X GroupFault) (it : Stage S) : Type 0 where
-  pub over : IsTrue (is_over given) → (last : ℕ) → IsOver (session_of device is) (state_in device it last)
-  pub on : IsFalse (is_over given) → it ≡ stage.On is
-  pub history : history_in it ≡ is.1.history
-
-module _ {S X : Type 0} (device : S → Device) (was is : S × Core) (settled : IsSettledStage device (stage.On was)) (given : Result X GroupFault) (facts : Facts given patience_of_line (session_of device was) (session_of device is))
-    (it : Stage S) (so : LeftSo device is given it) (IsNext : Core → Descriptor → Type 0) (IsPlace : Core → Pp → Type 0) (numbers before after : ℕ)
-    (leaves : Leaves (commanding (IsNext was.1) (IsPlace was.1) numbers) before after (session_of device was) (session_of device is)) where
-  promised : Promised (session_of device was) (session_of device is)
-  promised = promised_by (IsNext was.1) (IsPlace was.1) numbers before after (session_of device was) (session_of device is) leaves
-
-  done : (Gives : Session → Session → Type 0) → Gives (session_of device was) (session_of device is) → (last : ℕ) → IsDone Gives IsNext IsPlace (is_over given) was.1 (state_in device (stage.On was) last) (state_in device it last)
-  done Gives gives last = go (is_over given) refl
+  -- the status with which it began has the rows of the members
+  pub rows_again : HasItsRows driver.1.descriptor driver.1.origin.table → HasItsRows held.core.descriptor held.core.origin.table
+  rows_again rows = either (empty_or driver.1.descriptor.lvs)
     where
-      go : (b : Bool) → is_over given ≡ b → IsDone Gives IsNext IsPlace b was.1 (state_in device (stage.On was) last) (state_in device it last)
-      go true ends =
-          let lit = lit_after patience_of_line (session_of device was) (session_of device is) given (device (shelf_in it)) facts ends (so.over ends last).lit in
-          record {
-            on = settled.session.power;
-            left = session_of device is;
-            gives = gives;
-            leaves = so.over ends last;
-            finds = λ held id k may. leaves.finds held id k (may.0, lit.fewer may.0 may.1, may.2);
-            status = leaves.status;
-            writes = leaves.writes;
-            clock = refl;
-          }
-      go false goes = record {
-        on = settled.session.power;
-        left = session_of device is;
-        gives = gives;
-        leaves = subst (λ (s : Stage S). StaysOn (session_of device is) (state_in device s last)) (sym (so.on goes)) (record { device = refl; facts = refl; session = refl });
-        finds = subst (λ (s : Stage S). FindsOnly (IsNext was.1) (session_of device was) (state (device (shelf_in s)) is.1)) (sym (so.on goes)) leaves.finds;
-        status = leaves.status;
-        writes = leaves.writes;
-        clock = refl;
+      either : (driver.1.descriptor.lvs ≡ []) ⊎ (driver.1.descriptor.lvs ≢ []) → HasItsRows held.core.descriptor held.core.origin.table
+      either (inl none) = subst (λ (c : Core). HasItsRows c.descriptor c.origin.table) (sym (held.empty none)) rows
+      either (inr some) = subst (λ (d : Descriptor). HasItsRows d held.core.origin.table) (sym same_group) (λ disk. (held.served some).marks.rows disk ∙ rows disk)
+
+  -- and what stood on its disks stands
+  pub stands_again : (past : List Fact) → IsLeftStanding past (state_of device driver) → StandsAfter past (device driver.0) held.core
+  stands_again past stands =
+      let empty : held.core.descriptor.lvs ≡ [] → driver.1.descriptor.lvs ≡ [] = λ none. sym (ap (λ (d : Descriptor). d.lvs) same_group) ∙ none in
+      let some : held.core.descriptor.lvs ≢ [] → driver.1.descriptor.lvs ≢ [] = λ more none. more (ap (λ (d : Descriptor). d.lvs) same_group ∙ none) in
+      record {
+        empty = λ none. subst (HoldsEmpty (device driver.0)) (sym (held.empty (empty none))) (stands.empty (empty none));
+        tied = λ more. (stands.served [] held.core (held.served (some more)) held.sound).tied more;
+        spares = λ more. (stands.served [] held.core (held.served (some more)) held.sound).spares more;
       }
 
-  -- the command ends, by what it gives
-  pub ends_so : (Does : Log → State → State → Reply → Type 0) (Gives : Session → Session → Type 0)
-      → ((last : ℕ) → IsDone Gives IsNext IsPlace (is_over given) was.1 (state_in device (stage.On was) last) (state_in device it last) → Does (without_facts was.1.history) (state_in device (stage.On was) last) (state_in device it last) (volume_reply given))
-      → Gives (session_of device was) (session_of device is) → HaveAllLanded is.1.history.facts → IfOn given (IsSettledCore is.1) → IfOn given (StillHeld (session_of device was) (session_of device is))
-      → EndsUnasked device Does ⊥ (stage.On was) it (volume_reply given)
-  ends_so Does Gives does gives landed still held = λ last. record {
-    does = does last (done Gives gives last);
-    goes = goes (is_over given) refl last;
-    rooms = rooms_stay device was is (volume_reply given) settled.ready promised it so.history;
-    orders = λ none. orders (is_over given) refl;
-  }
-    where
-      goes : (b : Bool) → is_over given ≡ b → Between device (stage.On was) it (GoesOn was.1.history.run (volume_reply given))
-      goes true ends =
-          let over = so.over ends 0 in
-          goes_off device was is (volume_reply given) settled.ready promised it over.session so.history (lit_after patience_of_line (session_of device was) (session_of device is) given (device (shelf_in it)) facts ends over.lit) (λ heard. landed)
-      goes false lasts = λ last. subst (λ (s : Stage S). GoesOn was.1.history.run (volume_reply given) (state_in device (stage.On was) last) (state_in device s last)) (sym (so.on lasts))
-          (goes_on device was is (volume_reply given) settled.ready promised (record {
-            settled = if_on given (IsSettledCore is.1) still lasts;
-            ready = ready_still patience_of_line (session_of device was) (session_of device is) given settled.ready facts lasts;
-            landed = landed;
-            held = if_on given (StillHeld (session_of device was) (session_of device is)) held lasts;
-          }) last)
+-- what is known of the command by what it gives
+pub record IsKnown {X : Type 0} (run patience : ℕ) (mid left : Session) (given : Result X GroupFault) : Type 0 where
+  pub facts : Facts given patience mid left
+  pub landed : HaveAllLanded left.core.history.facts
+  pub answers : LeavesAnswers mid.core.history.facts left.core.history.facts
+  pub shape : is_over given ≡ false → SameShape mid left
+  pub goes : (first : Moment) → MayBeCommanded run first mid → IsAloneAtFirst mid left → Keeps run first (moment_of left) × IfOn given (IsLeftStandingSince run first left)
 
-      orders : (b : Bool) → is_over given ≡ b → (device (shelf_in it)).orders ≡ (device was.0).orders
-      orders true ends = (lit_after patience_of_line (session_of device was) (session_of device is) given (device (shelf_in it)) facts ends (so.over ends 0).lit).orders ∙ promised.orders
-      orders false lasts = ap (λ (s : Stage S). (device (shelf_in s)).orders) (so.on lasts) ∙ promised.orders
+-- ---- the session that has come to rest
+
+-- the history is its session's
+history_is : {S : Type 0} (by : Holder S) (core : Core) → session_of by ≡ Some core → history_of by ≡ core.history
+history_is (holder.Off shelf history) core its = absurd (cc (its))
+history_is (holder.Empty driver) core its = let same : driver.1 ≡ core = cc (its) in ap (λ (c : Core). c.history) same
+history_is (holder.Serving driver) core its = let same : driver.1 ≡ core = cc (its) in ap (λ (c : Core). c.history) same
+
+module _ {S : Type 0} (device : S → Device) (stage : Stage S) (fits : IsFitting stage) (between : IsBetweenStage device stage) (none : open_in (session_in stage) ≡ 0) where
+  -- the session that is on
+  module _ (core : Core) (its : session_in stage ≡ Some core) where
+    pub no_requests : core.requests ≡ []
+    no_requests = no_open core.requests (sym (ap open_in its) ∙ none)
+
+    pub was_on : IsOnBetween (device (shelf_in stage)) core
+    was_on = subst (λ (o : Option Core). IfSome o (IsOnBetween (device (shelf_in stage)))) its between.session
+
+    pub its_history : history_in stage ≡ core.history
+    its_history = history_is stage.holder core its
+
+  -- ---- once it has come to rest
+
+  module _ (patience : ℕ) (driver : S × Core) (rested : HasRested device stage.holder patience_of_line patience driver) where
+    abbrev core : Core
+    core = rested.turned.core
+
+    abbrev mid : Session
+    mid = state_of device driver
+
+    abbrev first : Session
+    first = state (device (shelf_in stage)) core
+
+    its : session_in stage ≡ Some core
+    its = rested.turned.its
+
+    abbrev leaves : LeavesSession first mid
+    leaves = rested.turned.runs.leaves
+
+    pub at_mid : (last : ℕ) → AtMid (state_in device stage last) core mid
+    at_mid last = record {
+      session = its;
+      facts = ap (λ (l : Log). l.facts) (its_history core its);
+      none = no_requests core its;
+      between = between;
+      leaves = leaves;
+      empty = rested.empty;
+      sound = rested.turned.sound;
+      settled = rested.settled;
+      rest = rested.between;
+      answers = λ range was k less. (turns_keep first mid (was_on core its).sound rested.turned.turns).table.answered 1 (range.first + k) (was k less);
+    }
+
+    pub drains : (last : ℕ) → Drains core (state_in device stage last) patience mid
+    drains last = record {
+      none = no_requests core its;
+      runs = rested.turned.runs;
+      still = λ rest. still_turns first mid (still rest) rested.turned.turns rested.settled.power;
+      empty = rested.empty;
+      settled = rested.settled;
+      few = rested.turned.few;
+      waited = rested.turned.waited;
+    }
+      where
+        still : IsAtRest (state_in device stage last) → IsStill first
+        still rest =
+            let settled = subst (λ (o : Option Core). IfSome o IsSettledCore) its rest.session in
+            record {
+              sound = (was_on core its).sound;
+              on = settled.power;
+              requests = no_requests core its;
+              copy = settled.quiet.copy;
+              in_flight = settled.quiet.status;
+              committed = settled.committed;
+              votes = ap not settled.votes;
+              idle = rest.ready.flights;
+            }
+
+    -- ---- and a command has been carried out
+
+    module _ {X : Type 0} (Gives : Session → Session → Result X GroupFault → Type 0) (IsNext : Core → Descriptor → Type 0) (IsPlace : Core → Pp → Type 0) (numbers : ℕ) (it : Stage S) (answer : Reply)
+        (done : IsCarriedOut device Gives (commanding (IsNext driver.1) (IsPlace driver.1) numbers) patience driver stage.posts stage.bytes it answer) (sectors : (shelf : S) → HasSectors (device shelf)) where
+      abbrev left : Session
+      left = state_of device done.left
+
+      abbrev run : ℕ
+      run = core.history.run
+
+      abbrev given : Result X GroupFault
+      given = done.given
+
+      module _ (known : IsKnown run patience mid left given) where
+        promised : Promised mid left
+        promised = promised_by (commanding (IsNext driver.1) (IsPlace driver.1) numbers) patience done.after mid left done.commanded.leaves
+
+        left_off : is_over given ≡ true → IsLeftOff device done.left stage.posts stage.bytes it
+        left_off over = subst (λ (b : Bool). IsLeftAs device b done.left stage.posts stage.bytes it) over done.is
+
+        left_on : is_over given ≡ false → IsLeftOn device done.left stage.posts stage.bytes it
+        left_on goes = subst (λ (b : Bool). IsLeftAs device b done.left stage.posts stage.bytes it) goes done.is
+
+        closed : (over : is_over given ≡ true) → ClosesWell (volume_reply given) left.device (device (shelf_in it))
+        closed over = closes_after patience mid left given (device (shelf_in it)) known.facts over (left_off over).lit
+
+        ready : is_over given ≡ false → IsReady left.device
+        ready goes = ready_still patience mid left given (ready_mid (state_in device stage 0) core mid (at_mid 0)) known.facts goes
+
+        settled : is_over given ≡ false → IsSettledCore left.core
+        settled goes = if_on given (IsSettledCore left.core) done.commanded.on goes
+
+        -- ---- its history
+
+        left_history : (b : Bool) → is_over given ≡ b → history_in it ≡ left.core.history
+        left_history true over = (left_off over).history
+        left_history false goes = ap (λ (s : Stage S). history_in s) (left_on goes).is ∙ (left_on goes).held.history
+
+        pub rooms : without_facts (history_in it) ≡ without_facts (history_in stage)
+        rooms = ap without_facts (left_history (is_over given) refl) ∙ promised.history.room ∙ leaves.keeps.log ∙ sym (ap without_facts (its_history core its))
+
+        orders : (b : Bool) → is_over given ≡ b → (device (shelf_in it)).orders ≡ (device (shelf_in stage)).orders
+        orders true over = (closed over).orders ∙ promised.orders ∙ rested.turned.runs.orders
+        orders false goes = ap (λ (s : Stage S). (device (shelf_in s)).orders) (left_on goes).is ∙ ap (λ (s : S). (device s).orders) (left_on goes).held.shelf ∙ promised.orders ∙ rested.turned.runs.orders
+
+        fits_then : (b : Bool) → is_over given ≡ b → IsFitting it
+        fits_then true over = record {
+          kind = (left_off over).kind;
+          few = subst (λ (l : Log). l.room < 2 ^ 32) (sym rooms) fits.few;
+          rooms = subst (λ (l : Log). HaveRooms l.room it.posts it.bytes) (sym rooms) ((left_off over).rooms (history_in stage).room fits.rooms);
+        }
+        fits_then false goes =
+            let on = left_on goes in
+            record {
+              kind = subst (λ (s : Stage S). IsOfKind s.holder) (sym on.is) on.held.kind;
+              few = subst (λ (l : Log). l.room < 2 ^ 32) (sym rooms) fits.few;
+              rooms = subst (λ (l : Log). HaveRooms l.room it.posts it.bytes) (sym rooms) (subst (λ (s : Stage S). HaveRooms (history_in stage).room s.posts s.bytes) (sym on.is) fits.rooms);
+            }
+
+        -- ---- what is done
+
+        abbrev stays_on : (goes : is_over given ≡ false) (last : ℕ) → StaysOn left (state_in device stage last) (state_in device it last)
+        stays_on goes last =
+            let on = left_on goes in
+            record {
+              core = on.held.core;
+              is = on.held.is;
+              session = ap (λ (s : Stage S). session_in s) on.is ∙ on.held.session;
+              device = ap (λ (s : Stage S). device (shelf_in s)) on.is ∙ ap device on.held.shelf;
+              facts = ap (λ (l : Log). l.facts) (left_history false goes);
+              posts = ap (λ (s : Stage S). s.posts.items) on.is;
+            }
+
+        is_done : (last : ℕ) → IsDone (λ was is. Gives was is given) IsNext IsPlace (is_over given) mid (state_in device stage last) (state_in device it last)
+        is_done last = go (is_over given) refl
+          where
+            held : is_over given ≡ false → IsHeld mid.device mid.core → IsHeld left.device left.core
+            held goes = (if_on given (StillHeld mid left) done.commanded.still goes).held
+
+            go : (b : Bool) → is_over given ≡ b → IsDone (λ was is. Gives was is given) IsNext IsPlace b mid (state_in device stage last) (state_in device it last)
+            go true over =
+                let off = left_off over in
+                record {
+                  left = left;
+                  gives = done.gives;
+                  leaves = record { lit = off.lit; facts = ap (λ (l : Log). l.facts) off.history; session = off.session; posts = off.posted };
+                  finds = λ was id k may. done.commanded.leaves.finds was id k (may.0, last-path (closed over).path may.0 may.1, may.2);
+                  status = done.commanded.leaves.status;
+                  writes = done.commanded.leaves.writes;
+                  held = λ goes. absurd (let e : true ≡ false = goes in cc (e));
+                  rests = λ goes. absurd (let e : true ≡ false = goes in cc (e));
+                  clock = refl;
+                }
+            go false goes = record {
+              left = left;
+              gives = done.gives;
+              leaves = stays_on goes last;
+              finds = subst (λ (d : Device). FindsOnly (IsNext driver.1) mid (state d left.core)) (sym (stays_on goes last).device) done.commanded.leaves.finds;
+              status = done.commanded.leaves.status;
+              writes = done.commanded.leaves.writes;
+              held = λ still. held goes;
+              rests = λ still. (settled goes, ready goes);
+              clock = refl;
+            }
+
+        -- ---- what goes on
+
+        goes : (b : Bool) → is_over given ≡ b → (last : ℕ) → GoesOn run OfGroup (volume_reply given) (state_in device stage last) (state_in device it last)
+        goes true over last =
+            let off = left_off over in
+            goes_off (state_in device stage last) core mid left (at_mid last) promised known.answers (volume_reply given) (state_in device it last) (ap (λ (l : Log). l.facts) off.history) refl (one_answer patience mid left given)
+            (λ m may alone. (known.goes m may alone).0) (closed over) off.session known.landed off.posted
+        goes false lasts last =
+            let on = left_on lasts in
+            let stays = stays_on lasts last in
+            goes_on (state_in device stage last) core mid left (at_mid last) promised known.answers (volume_reply given) (state_in device it last) stays.facts refl (one_answer patience mid left given)
+            (λ m may alone. (known.goes m may alone).0) on.held.core on.held.is stays.session stays.device stays.posts (ready lasts) (settled lasts) known.landed on.held.sound
+            (rows_again device done.left on.by on.held (rows_stay mid left (known.shape lasts) (rows_mid (state_in device stage last) core mid (at_mid last))))
+            (λ m may alone past begins. stands_again device done.left on.by on.held past (if_on given (IsLeftStandingSince run m left) (known.goes m may alone).1 lasts (sectors done.left.0) past begins))
+
+        -- the line ends so, by what it does
+        pub ends_so : (Does : Log → State → State → Reply → Type 0)
+            → ((last : ℕ) → IsDone (λ was is. Gives was is given) IsNext IsPlace (is_over given) mid (state_in device stage last) (state_in device it last) → Does (without_facts (history_in stage)) (state_in device stage last) (state_in device it last) (volume_reply given))
+            → EndsUnasked device Does ⊥ OfGroup stage it answer
+        ends_so Does does = λ last. subst (λ (a : Reply). CommandEnds device Does ⊥ OfGroup stage it a last last) (sym done.says) (record {
+          does = does last (is_done last);
+          goes = subst (λ (n : ℕ). GoesOn n OfGroup (volume_reply given) (state_in device stage last) (state_in device it last)) (sym (ap (λ (l : Log). l.run) (its_history core its))) (goes (is_over given) refl last);
+          rooms = rooms;
+          fits = fits_then (is_over given) refl;
+          orders = λ nothing. orders (is_over given) refl;
+        })

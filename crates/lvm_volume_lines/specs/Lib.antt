@@ -1,1 +1,3 @@
+pub mod passed
 pub mod Volumes
+pub mod Commands

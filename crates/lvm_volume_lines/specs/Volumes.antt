@@ -1,28 +1,35 @@
 -- What the lines do that make or remove a volume of the group that is on.
-use Rattle.std.specs.Prelude.{◌≡◌, ℕ, Bool, true, false, List, Some, None, Result, Ok, Err}
+use Rattle.std.specs.Prelude.{◌≡◌, ◌≤◌, ◌-◌, ℕ, Bool, true, false, [], List, Some, None, Result, Ok, Err, IfSome}
 use Rattle.lvm_num.specs.declared.descriptor.Descriptor.{Descriptor}
 use Rattle.lvm_num.specs.declared.descriptor.Mode.{Mode}
 use Rattle.lvm_num.specs.declared.descriptor.Policy.{Policy}
 use Rattle.lvm_num.specs.declared.place.Pp.{Pp}
+use Rattle.lvm_disk.specs.Counts.{RoseBy}
+use Rattle.lvm_disk.specs.Device.{IsReady}
 use Rattle.lvm_transfer.specs.Transfer.{Relights}
 use Rattle.lvm_write.specs.Written.{KeepsShelf}
-use Rattle.lvm_core.specs.Looking.{IsNumberOf, HasNoVolume}
-use Rattle.lvm_session.specs.declared.open.Power.TheVariants as power
 use Rattle.lvm_session.specs.State.{Core, State as Session, state, is_there}
+use Rattle.lvm_core.specs.Held.{IsHeld}
 use Rattle.lvm_core.specs.Leaves.{NoPartition, IsOfCommand, KeepsStatus, FindsOnly}
-use Rattle.lvm_volumes.specs.Volumes.{IsWith, IsChosen, MklvGives, RmlvGives}
-use Rattle.lvm_stage.specs.Ends.{patience_of_line}
-use Rattle.lvm_stage.specs.Stages.{IsOn, IsNotOn}
-use Rattle.lvm_stage.specs.Replies.{IsRefused}
-use Rattle.lvm_stage.specs.State.{State}
-use Rattle.lvm_stage.specs.declared.reply.Refusal.{Refusal}
-use Rattle.lvm_stage.specs.declared.reply.Refusal.TheVariants as refusal
-use Rattle.lvm_stage.specs.declared.reply.Reply.{Reply}
-use Rattle.lvm_stage.specs.declared.reply.Reply.TheVariants as reply
+use Rattle.lvm_core.specs.Looking.{IsNumberOf, HasNoVolume}
+use Rattle.lvm_core.specs.Settled.{IsSettled}
+use Rattle.lvm_range_lines.specs.passed.DriverDrainDrainFault.{DrainFault}
+use Rattle.lvm_range_lines.specs.passed.DriverDrainDrainFaultTheVariants as drain_fault
+use Rattle.lvm_range_lines.specs.passed.DriverDrains.{FailsSo}
+use Rattle.lvm_range_lines.specs.passed.RunningRunning.{RunsOn}
 use Rattle.lvm_volume_plan.specs.declared.fault.GroupFault.{GroupFault}
 use Rattle.lvm_volume_plan.specs.declared.fault.GroupFault.TheVariants as fault
 use Rattle.lvm_volume_plan.specs.declared.new_volume.NewVolume.{NewVolume}
 use Rattle.lvm_volume_plan.specs.NewVolume.{without_volume}
+use Rattle.lvm_range_lines.specs.passed.VolumesVolumes.{IsWith, IsChosen, MklvGives, RmlvGives}
+use Rattle.lvm_range_lines.specs.passed.StageEnds.{patience_of_line}
+use Rattle.lvm_range_lines.specs.passed.StageReplies.{IsRefused}
+use Rattle.lvm_range_lines.specs.passed.StageStages.{IsOn, IsNotOn, open_in, posts_ended}
+use Rattle.lvm_range_lines.specs.passed.StageState.{IsAtRest, State}
+use Rattle.lvm_range_lines.specs.passed.StageReplyRefusal.{Refusal}
+use Rattle.lvm_range_lines.specs.passed.StageReplyRefusalTheVariants as refusal
+use Rattle.lvm_range_lines.specs.passed.StageReplyReply.{Reply}
+use Rattle.lvm_range_lines.specs.passed.StageReplyReplyTheVariants as reply
 
 -- a fault of a command on a group, as the refusal of its line
 abbrev pub refusal_for : GroupFault → Refusal
@@ -39,6 +46,12 @@ refusal_for fault.HistoryFull = refusal.HistoryFull
 refusal_for (fault.DiskFailed disk) = refusal.DiskFailed disk
 refusal_for fault.Stuck = refusal.Stuck
 refusal_for fault.Memory = refusal.Memory
+
+-- so is why the turns before it have ended
+abbrev pub drain_refusal : DrainFault → Refusal
+drain_refusal drain_fault.Dark = refusal.Dark
+drain_refusal (drain_fault.WentOff have total) = refusal.WentOff have total
+drain_refusal drain_fault.Stuck = refusal.Stuck
 
 -- a power cut, the loss of the votes, and a transfer of which nothing is heard end the session
 abbrev pub ends_session : GroupFault → Bool
@@ -66,58 +79,103 @@ abbrev pub is_over : {X : Type 0} → Result X GroupFault → Bool
 is_over (Ok done) = false
 is_over (Err why) = ends_session why
 
--- the session goes on
-pub record StaysOn (left : Session) (new : State) : Type 0 where
+-- ---- what is left of a session
+
+-- The session goes on, and counts the members that are missing by now as missing since it began.
+pub record StaysOn (left : Session) (old new : State) : Type 0 where
+  pub core : Core
+  pub is : core ≡ record left.core { origin = core.origin }
+  pub session : new.session ≡ Some core
   pub device : new.moment.device ≡ left.device
   pub facts : new.moment.facts ≡ left.core.history.facts
-  pub session : new.session ≡ Some left.core
+  pub posts : new.posts ≡ old.posts
 
--- The session is over: it is closed without a write, and the power is on.
-pub record IsOver (left : Session) (new : State) : Type 0 where
+-- The session is over: it is closed without a write, its posts have ended, and the power is on.
+pub record IsOver (left : Session) (old new : State) : Type 0 where
   pub lit : Relights left.device new.moment.device
   pub facts : new.moment.facts ≡ left.core.history.facts
   pub session : new.session ≡ None
+  pub posts : new.posts ≡ posts_ended (Some left.core) old.posts
 
--- what is left of the session
-abbrev pub IsLeft : Bool → Session → State → Type 0
-IsLeft true left new = IsOver left new
-IsLeft false left new = StaysOn left new
+-- one or the other
+abbrev pub IsLeft : Bool → Session → State → State → Type 0
+IsLeft true left old new = IsOver left old new
+IsLeft false left old new = StaysOn left old new
+
+-- ---- before a command
+
+-- No request is open. Where the group has a volume turns were made until nothing was left, and so much patience is; else, and at rest, nothing has changed.
+pub record Drains (core : Core) (old : State) (left : ℕ) (mid : Session) : Type 0 where
+  pub none : core.requests ≡ []
+  pub runs : RunsOn (state old.moment.device core) mid
+  pub still : IsAtRest old → mid ≡ state old.moment.device core
+  pub empty : core.descriptor.lvs ≡ [] → mid ≡ state old.moment.device core
+  pub settled : IsSettled mid.core
+  pub few : left ≤ patience_of_line
+  pub waited : RoseBy (patience_of_line - left) old.moment.device.counts.waits mid.device.counts.waits
+
+-- No request is open, and the turns ended before nothing was left, for this.
+pub record IsUndrained (core : Core) (old new : State) (why : DrainFault) (answer : Reply) : Type 0 where
+  pub none : core.requests ≡ []
+  pub end : Session
+  pub runs : RunsOn (state old.moment.device core) end
+  pub left : ℕ
+  pub fails : FailsSo left end why
+  pub few : left ≤ patience_of_line
+  pub waited : RoseBy (patience_of_line - left) old.moment.device.counts.waits end.device.counts.waits
+  pub over : IsOver end old new
+  pub clock : new.last ≡ old.last
+  pub says : answer ≡ reply.Refused (drain_refusal why)
+
+-- ---- a command
 
 -- what `mklv` asks for
 abbrev pub wanted : List ℕ → ℕ → Mode → Policy → ℕ → NewVolume
 wanted name copies mode policy lps = record { name = name; copies = copies; mode = mode; policy = policy; lps = lps }
 
--- The command on the session, which was on, was answered so, the clock wasn't asked, and of descriptors none may be found then that might not be before,
--- but the one that was to be committed. Only statuses of the session, that descriptor, and zeros in these partitions were written to members; a member
--- became missing only after a transfer to it had failed, and a partition only of these was made fresh.
-pub record IsDone (Gives : Session → Session → Type 0) (IsNext : Core → Descriptor → Type 0) (IsPlace : Core → Pp → Type 0) (over : Bool) (core : Core) (old new : State) : Type 0 where
-  pub on : core.power ≡ power.On
+-- The command on the session, at which nothing was under way, was answered so, the clock wasn't asked, and of descriptors none may be found then that might not
+-- be before, but the one that was to be committed. Only statuses of the session, that descriptor, and zeros in these partitions were written to members; a
+-- member became missing only after a transfer to it had failed, and a partition only of these was made fresh. Where the session goes on it is at rest, and its
+-- disks hold what it says, where they did.
+pub record IsDone (Gives : Session → Session → Type 0) (IsNext : Core → Descriptor → Type 0) (IsPlace : Core → Pp → Type 0) (over : Bool) (mid : Session) (old new : State) : Type 0 where
   pub left : Session
-  pub gives : Gives (state old.moment.device core) left
-  pub leaves : IsLeft over left new
-  pub finds : FindsOnly (IsNext core) (state old.moment.device core) (state new.moment.device left.core)
-  pub status : KeepsStatus (IsNext core) NoPartition (IsPlace core) (state old.moment.device core) left
-  pub writes : KeepsShelf (is_there core) (IsOfCommand (IsNext core) (IsPlace core) (state old.moment.device core) left) old.moment.device left.device
+  pub gives : Gives mid left
+  pub leaves : IsLeft over left old new
+  pub finds : FindsOnly (IsNext mid.core) mid (state new.moment.device left.core)
+  pub status : KeepsStatus (IsNext mid.core) NoPartition (IsPlace mid.core) mid left
+  pub writes : KeepsShelf (is_there mid.core) (IsOfCommand (IsNext mid.core) (IsPlace mid.core) mid left) mid.device left.device
+  pub held : over ≡ false → IsHeld mid.device mid.core → IsHeld left.device left.core
+  pub rests : over ≡ false → IsSettled left.core × IsReady left.device
   pub clock : new.last ≡ old.last
 
--- so was `mklv`
-abbrev pub MklvEnds : NewVolume → Result ℕ GroupFault → Bool → Core → State → State → Type 0
-MklvEnds w given over core old new = IsDone (λ was is. MklvGives w patience_of_line was is given) (IsWith w) (IsChosen w) over core old new
+-- so was `mklv`, with so much patience
+abbrev pub MklvEnds : NewVolume → Result ℕ GroupFault → Bool → ℕ → Session → State → State → Type 0
+MklvEnds w given over patience mid old new = IsDone (λ was is. MklvGives w patience was is given) (IsWith w) (IsChosen w) over mid old new
 
 -- so was `rmlv`
-abbrev pub RmlvEnds : ℕ → Result (Unit {0}) GroupFault → Bool → Core → State → State → Type 0
-RmlvEnds lv given over core old new = IsDone (λ was is. RmlvGives lv patience_of_line was is given) (λ of next. next ≡ without_volume of.descriptor lv) (λ of pp. ⊥) over core old new
+abbrev pub RmlvEnds : ℕ → Result (Unit {0}) GroupFault → Bool → ℕ → Session → State → State → Type 0
+RmlvEnds lv given over patience mid old new = IsDone (λ was is. RmlvGives lv patience was is given) (λ of next. next ≡ without_volume of.descriptor lv) (λ of pp. ⊥) over mid old new
+
+-- ---- the lines
 
 -- `mklv`
 pub data MklvDoes (w : NewVolume) (group : List ℕ) (old new : State) (answer : Reply) : Type 0 where
   NoGroupForMklv : IsNotOn group old.session → IsRefused refusal.NoGroup answer old new → MklvDoes w group old new answer
-  MakesVolume : (core : Core) (number : ℕ) → old.session ≡ Some core → IsOn group core → MklvEnds w (Ok number) false core old new → answer ≡ reply.Ok → MklvDoes w group old new answer
-  MklvFails : (core : Core) (why : GroupFault) → old.session ≡ Some core → IsOn group core → MklvEnds w (Err why) (ends_session why) core old new → answer ≡ reply.Refused (refusal_for why) → MklvDoes w group old new answer
+  BusyMklv : IfSome old.session (IsOn group) → 1 ≤ open_in old.session → IsRefused refusal.Busy answer old new → MklvDoes w group old new answer
+  UndrainedMklv : (core : Core) (why : DrainFault) → old.session ≡ Some core → IsOn group core → IsUndrained core old new why answer → MklvDoes w group old new answer
+  MakesVolume : (core : Core) (left : ℕ) (mid : Session) (number : ℕ) → old.session ≡ Some core → IsOn group core → Drains core old left mid → MklvEnds w (Ok number) false left mid old new → answer ≡ reply.Ok
+      → MklvDoes w group old new answer
+  MklvFails : (core : Core) (left : ℕ) (mid : Session) (why : GroupFault) → old.session ≡ Some core → IsOn group core → Drains core old left mid → MklvEnds w (Err why) (ends_session why) left mid old new
+      → answer ≡ reply.Refused (refusal_for why) → MklvDoes w group old new answer
 
 -- `rmlv`, of the volume that has the name
 pub data RmlvDoes (name : List ℕ) (old new : State) (answer : Reply) : Type 0 where
   NoGroupForRmlv : old.session ≡ None → IsRefused refusal.NoGroup answer old new → RmlvDoes name old new answer
-  NoVolumeForRmlv : (core : Core) → old.session ≡ Some core → HasNoVolume core.descriptor.lvs name → IsRefused refusal.NoVolume answer old new → RmlvDoes name old new answer
-  RemovesVolume : (core : Core) (lv : ℕ) → old.session ≡ Some core → IsNumberOf core.descriptor.lvs name lv → RmlvEnds lv (Ok tt) false core old new → answer ≡ reply.Ok → RmlvDoes name old new answer
-  RmlvFails : (core : Core) (lv : ℕ) (why : GroupFault) → old.session ≡ Some core → IsNumberOf core.descriptor.lvs name lv → RmlvEnds lv (Err why) (ends_session why) core old new → answer ≡ reply.Refused (refusal_for why)
-      → RmlvDoes name old new answer
+  BusyRmlv : 1 ≤ open_in old.session → IsRefused refusal.Busy answer old new → RmlvDoes name old new answer
+  UndrainedRmlv : (core : Core) (why : DrainFault) → old.session ≡ Some core → IsUndrained core old new why answer → RmlvDoes name old new answer
+  NoVolumeForRmlv : (core : Core) (left : ℕ) (mid : Session) → old.session ≡ Some core → Drains core old left mid → HasNoVolume mid.core.descriptor.lvs name → StaysOn mid old new → new.last ≡ old.last
+      → answer ≡ reply.Refused refusal.NoVolume → RmlvDoes name old new answer
+  RemovesVolume : (core : Core) (left : ℕ) (mid : Session) (lv : ℕ) → old.session ≡ Some core → Drains core old left mid → IsNumberOf mid.core.descriptor.lvs name lv → RmlvEnds lv (Ok tt) false left mid old new
+      → answer ≡ reply.Ok → RmlvDoes name old new answer
+  RmlvFails : (core : Core) (left : ℕ) (mid : Session) (lv : ℕ) (why : GroupFault) → old.session ≡ Some core → Drains core old left mid → IsNumberOf mid.core.descriptor.lvs name lv
+      → RmlvEnds lv (Err why) (ends_session why) left mid old new → answer ≡ reply.Refused (refusal_for why) → RmlvDoes name old new answer

@@ -1,20 +1,30 @@
 //! The lines that make or remove a volume.
-ghost use Rattle.std.specs.Prelude.{◌≡◌, ◌≤◌, ℕ, [], List, Err, true, IsTrue, IsFalse};
+ghost use Rattle.std.specs.Prelude.{◌≡◌, ◌≤◌, ℕ, [], IfOk, IfErr, IfSome, IsSome, IsTrue, IsFalse, Err, true};
 ghost use Rattle.lvm_num.specs.declared.descriptor.Mode.TheVariants.{Off};
 ghost use Rattle.lvm_transfer.specs.Transfer.{Relights};
-ghost use Rattle.lvm_session.specs.State.{state};
+ghost use Rattle.lvm_status.specs.Members.{HasItsRows};
+ghost use Rattle.lvm_session.specs.Sound.{IsSound};
 ghost use Rattle.lvm_core.specs.Looking.{IsNumberOf};
-ghost use Rattle.lvm_stage.specs.Stages.{IsOn};
-ghost use Rattle.lvm_stage.specs.Ends.{EndsUnasked};
-ghost use Rattle.lvm_stage.specs.Stages.{history_in, state_in, IsSettledStage};
-ghost use Rattle.lvm_volume_lines.specs.Volumes.{MklvDoes, RmlvDoes, IsOver, ends_session, is_over, refusal_for, volume_reply, wanted};
+ghost use Rattle.lvm_core.specs.Settled.{IsSettled};
+ghost use Rattle.lvm_core.specs.State.{state_of};
+ghost use Rattle.lvm_range_lines.specs.passed.HandoverServing.{MayServe, StaysSound};
+ghost use Rattle.lvm_range_lines.specs.passed.VolumesVolumes.{MklvGives, RmlvGives, to_make, to_remove};
+ghost use Rattle.lvm_range_lines.specs.passed.StageEnds.{EndsUnasked};
+ghost use Rattle.lvm_range_lines.specs.passed.StageMoments.{OfGroup};
+ghost use Rattle.lvm_range_lines.specs.passed.StageStages.{IsBetweenStage, IsFitting, IsOfKind, open_in, session_of, shelf_of};
+ghost use Rattle.lvm_range_lines.specs.passed.StageState.{IsOnBetween};
+ghost use Rattle.lvm_volume_lines.specs.Commands.{HasBrokenOff, HasRested, IsCarriedOut, IsHeldAgain, IsLeftAs, IsLeftOff};
+ghost use Rattle.lvm_volume_lines.specs.Volumes.{MklvDoes, RmlvDoes, drain_refusal, ends_session, is_over, refusal_for, volume_reply, wanted};
 
 use lvm_core::{Closed, Driver};
 use lvm_disk::Shelf;
+use lvm_range_lines::below::lvm_driver::DrainFault;
+use lvm_range_lines::below::lvm_handover::{serve, settle};
 use lvm_num::{Mode, Name, Policy};
-use lvm_stage::{Answered, Refusal, Reply, Stage};
+use lvm_posts::Post;
+use lvm_range_lines::below::lvm_stage::{Answered, Holder, Refusal, Reply, Stage};
 use lvm_transfer::{Patience, relight};
-use lvm_volumes::{GroupFault, mklv, rmlv};
+use lvm_range_lines::below::lvm_volumes::{GroupFault, mklv, rmlv};
 use std::alloc::Global;
 
 // A fault of a command on a group, as the refusal of its line.
@@ -35,6 +45,17 @@ fn refusal_for(why: GroupFault) -> Refusal
         GroupFault::DiskFailed { disk } => Refusal::DiskFailed { disk },
         GroupFault::Stuck => Refusal::Stuck,
         GroupFault::Memory => Refusal::Memory,
+    }
+}
+
+// Why the turns before a command have ended, as the refusal of its line.
+fn drain_refusal(why: DrainFault) -> Refusal
+    ensures { result ≡ drain_refusal why }
+{
+    match why {
+        DrainFault::Dark => Refusal::Dark,
+        DrainFault::WentOff { have, total } => Refusal::WentOff { have, total },
+        DrainFault::Stuck => Refusal::Stuck,
     }
 }
 
@@ -71,45 +92,116 @@ fn relight_after<S: Shelf>(shelf: &mut S, why: GroupFault)
     }
 }
 
-// Closes a session that is over by a fault.
-fn close_after<S: Shelf>(driver: Driver<S>, why: GroupFault) -> Stage<S>
+// Closes a session that is over by a fault. Its posts have ended with its votes.
+fn close_after<S: Shelf>(
+    driver: Driver<S>,
+    posts: Vec<Post>,
+    bytes: Vec<u8>,
+    why: GroupFault,
+) -> Stage<S>
     requires dark { why ≡ GroupFault.Dark → (S.device driver.0).flights ≡ [] }
-    requires lit { (why ≡ GroupFault.Dark → ⊥) → (S.device driver.0).power ≡ true }
-    ensures over { (last : ℕ) → IsOver (state (S.device driver.0) driver.1) (state_in S.device result last) }
-    ensures history { history_in result ≡ driver.1.history }
+    requires lit { (why ≡ GroupFault.Dark → ⊥) → ((S.device driver.0).power ≡ true) × ((S.device driver.0).freed ≡ []) }
+    ensures { IsLeftOff S.device driver posts bytes result }
 {
-    let Closed { mut shelf, history } = driver.close();
+    let holder = Holder::Empty { driver };
+    let (closed, posts, bytes) = Stage {
+        holder,
+        posts,
+        bytes,
+    }
+    .close();
+    let Closed { mut shelf, history } = closed;
     relight_after(&mut shelf, why);
-    Stage::Off { shelf, history }
-}
-
-// What a fault leaves of a session.
-fn after<S: Shelf>(driver: Driver<S>, why: GroupFault) -> Stage<S>
-    requires dark { why ≡ GroupFault.Dark → (S.device driver.0).flights ≡ [] }
-    requires lit { IsTrue (ends_session why) → (why ≡ GroupFault.Dark → ⊥) → (S.device driver.0).power ≡ true }
-    ensures over { IsTrue (ends_session why) → (last : ℕ) → IsOver (state (S.device driver.0) driver.1) (state_in S.device result last) }
-    ensures on { IsFalse (ends_session why) → result ≡ Stage.On driver }
-    ensures history { history_in result ≡ driver.1.history }
-{
-    if ends_session(why) {
-        close_after(driver, why)
-    } else {
-        Stage::On { driver }
+    Stage {
+        holder: Holder::Off { shelf, history },
+        posts,
+        bytes,
     }
 }
 
-// Leaves a session as a command on a volume was answered.
-fn leave<S: Shelf, T: Copy>(driver: Driver<S>, done: Result<T, GroupFault>) -> Answered<S>
+// Who holds the session of a group on which a command has been carried out: it takes requests where it has a volume.
+fn hold<S: Shelf>(driver: Driver<S>) -> Holder<S>
+    requires rows { HasItsRows driver.1.descriptor driver.1.origin.table }
+    requires may { MayServe [] (state_of S.device driver) × StaysSound (state_of S.device driver) }
+    ensures { IsHeldAgain S.device driver result }
+{
+    let _ = driver.open();
+    if driver.descriptor().lvs.is_empty() {
+        Holder::Empty { driver }
+    } else {
+        let driver = serve(driver, &[]);
+        Holder::Serving { driver }
+    }
+}
+
+// What a command leaves of a session that was answered so.
+fn after<S: Shelf, T: Copy>(
+    driver: Driver<S>,
+    posts: Vec<Post>,
+    bytes: Vec<u8>,
+    done: Result<T, GroupFault>,
+) -> Answered<S>
     requires dark { done ≡ Err GroupFault.Dark → (S.device driver.0).flights ≡ [] }
-    requires lit { IsTrue (is_over done) → (done ≡ Err GroupFault.Dark → ⊥) → (S.device driver.0).power ≡ true }
-    ensures over { IsTrue (is_over done) → (last : ℕ) → IsOver (state (S.device driver.0) driver.1) (state_in S.device result.stage last) }
-    ensures on { IsFalse (is_over done) → result.stage ≡ Stage.On driver }
-    ensures history { history_in result.stage ≡ driver.1.history }
+    requires lit { IsTrue (is_over done) → (done ≡ Err GroupFault.Dark → ⊥) → ((S.device driver.0).power ≡ true) × ((S.device driver.0).freed ≡ []) }
+    requires rows { IsFalse (is_over done) → HasItsRows driver.1.descriptor driver.1.origin.table }
+    requires may { IsFalse (is_over done) → MayServe [] (state_of S.device driver) × StaysSound (state_of S.device driver) }
+    ensures stage { IsLeftAs S.device (is_over done) driver posts bytes result.stage }
     ensures reply { result.reply ≡ volume_reply done }
 {
     match done {
-        Ok(_) => Stage::On { driver }.answered(Reply::Ok),
-        Err(why) => after(driver, why).refused(refusal_for(why)),
+        Ok(_) => {
+            let holder = hold(driver);
+            Stage {
+                holder,
+                posts,
+                bytes,
+            }
+            .answered(Reply::Ok)
+        }
+        Err(why) => {
+            if ends_session(why) {
+                close_after(driver, posts, bytes, why).refused(refusal_for(why))
+            } else {
+                let holder = hold(driver);
+                Stage {
+                    holder,
+                    posts,
+                    bytes,
+                }
+                .refused(refusal_for(why))
+            }
+        }
+    }
+}
+
+// The session of a group that is on, with nothing under way: turns are made until nothing is left.
+fn come_to_rest<S: Shelf>(
+    holder: Holder<S>,
+    patience: &mut Patience,
+) -> Result<Driver<S>, (lvm_range_lines::below::lvm_driver::Driver<S>, DrainFault)>
+    requires kind { IsOfKind holder }
+    requires on { IsSome (session_of holder) }
+    requires between { IfSome (session_of holder) (IsOnBetween (S.device (shelf_of holder))) }
+    requires none { open_in (session_of holder) ≡ 0 }
+    ensures rests { IfOk result (HasRested S.device holder patience.old.left patience.new.left) }
+    ensures breaks_off { IfErr result (λ broken. HasBrokenOff S.device holder patience.old.left patience.new.left broken.0 broken.1) }
+{
+    match holder {
+        Holder::Off {
+            shelf: _,
+            history: _,
+        } => unreachable!(),
+        Holder::Empty { driver } => {
+            let _ = driver.open();
+            Ok(driver)
+        }
+        Holder::Serving { mut driver } => match driver.drain(patience) {
+            Ok(()) => Ok(settle(driver)),
+            Err(why) => {
+                let _ = driver.power();
+                Err((driver, why))
+            }
+        },
     }
 }
 
@@ -117,19 +209,24 @@ fn leave<S: Shelf, T: Copy>(driver: Driver<S>, done: Result<T, GroupFault>) -> A
 fn make_volume<S: Shelf>(
     alloc: Global,
     driver: Driver<S>,
+    posts: Vec<Post>,
+    bytes: Vec<u8>,
     name: Name,
     copies: u8,
     mode: Mode,
     policy: Policy,
     lps: u32,
+    patience: &mut Patience,
 ) -> Answered<S>
-    requires settled { IsSettledStage S.device (Stage.On driver) }
+    requires settled { IsSettled driver.1 }
+    requires sound { IsSound (state_of S.device driver) }
+    requires rows { HasItsRows driver.1.descriptor driver.1.origin.table }
     requires some { 1 ≤ lps }
     requires off { mode ≡ Off }
-    ensures { (group : List ℕ) → IsOn group driver.1 → EndsUnasked S.device (λ _. MklvDoes (wanted name copies mode policy lps) group) ⊥ (Stage.On driver) result.stage result.reply }
+    ensures { let w = wanted name copies mode policy lps in
+        IsCarriedOut S.device (λ was is given. MklvGives w patience.old.left was is given) (to_make w driver.1) patience.old.left driver posts bytes result.stage result.reply }
 {
     let mut driver = driver;
-    let mut patience = Patience::whole();
     let made = mklv(
         alloc,
         &mut driver,
@@ -138,23 +235,32 @@ fn make_volume<S: Shelf>(
         mode,
         policy,
         lps,
-        &mut patience,
+        patience,
     );
-    leave(driver, made)
+    after(driver, posts, bytes, made)
 }
 
 // Removes a volume of the group of a session.
-fn remove_volume<S: Shelf>(alloc: Global, driver: Driver<S>, lv: u16) -> Answered<S>
-    requires settled { IsSettledStage S.device (Stage.On driver) }
-    ensures { (name : List ℕ) → IsNumberOf driver.1.descriptor.lvs name lv → EndsUnasked S.device (λ _. RmlvDoes name) ⊥ (Stage.On driver) result.stage result.reply }
+fn remove_volume<S: Shelf>(
+    alloc: Global,
+    driver: Driver<S>,
+    posts: Vec<Post>,
+    bytes: Vec<u8>,
+    lv: u16,
+    patience: &mut Patience,
+) -> Answered<S>
+    requires settled { IsSettled driver.1 }
+    requires sound { IsSound (state_of S.device driver) }
+    requires rows { HasItsRows driver.1.descriptor driver.1.origin.table }
+    ensures { IsCarriedOut S.device (λ was is given. RmlvGives lv patience.old.left was is given) (to_remove lv driver.1) patience.old.left driver posts bytes result.stage result.reply }
 {
     let mut driver = driver;
-    let mut patience = Patience::whole();
-    let removed = rmlv(alloc, &mut driver, lv, &mut patience);
-    leave(driver, removed)
+    let removed = rmlv(alloc, &mut driver, lv, patience);
+    after(driver, posts, bytes, removed)
 }
 
-/// Makes a volume in a group, if that is on.
+/// Makes a volume in a group, if that is on and none of its requests is open. Turns are made first until nothing is
+/// under way.
 pub fn do_mklv<S: Shelf>(
     alloc: Global,
     stage: Stage<S>,
@@ -165,33 +271,73 @@ pub fn do_mklv<S: Shelf>(
     group: Name,
     lps: u32,
 ) -> Answered<S>
-    requires settled { IsSettledStage S.device stage }
+    requires fits { IsFitting stage }
+    requires between { IsBetweenStage S.device stage }
     requires some { 1 ≤ lps }
     requires off { mode ≡ Off }
-    ensures { EndsUnasked S.device (λ _. MklvDoes (wanted name copies mode policy lps) group) ⊥ stage result.stage result.reply }
+    ensures { EndsUnasked S.device (λ _. MklvDoes (wanted name copies mode policy lps) group) ⊥ OfGroup stage result.stage result.reply }
 {
-    match stage {
-        Stage::Off { shelf, history } => Stage::Off { shelf, history }.refused(Refusal::NoGroup),
-        Stage::On { driver } => {
-            if driver.descriptor().name == group {
-                make_volume(alloc, driver, name, copies, mode, policy, lps)
-            } else {
-                Stage::On { driver }.refused(Refusal::NoGroup)
-            }
-        }
+    if !stage.is_on(group) {
+        return stage.refused(Refusal::NoGroup);
+    }
+    if stage.holder.open() > 0 {
+        return stage.refused(Refusal::Busy);
+    }
+    let Stage {
+        holder,
+        posts,
+        bytes,
+    } = stage;
+    let mut patience = Patience::whole();
+    match come_to_rest(holder, &mut patience) {
+        Ok(driver) => make_volume(
+            alloc,
+            driver,
+            posts,
+            bytes,
+            name,
+            copies,
+            mode,
+            policy,
+            lps,
+            &mut patience,
+        ),
+        Err((driver, why)) => Stage::ended(driver, posts, bytes).refused(drain_refusal(why)),
     }
 }
 
-/// Removes the volume of the name from the group that is on.
+/// Removes the volume of the name from the group that is on, if none of its requests is open. Turns are made first until
+/// nothing is under way, and the name is looked up then.
 pub fn do_rmlv<S: Shelf>(alloc: Global, stage: Stage<S>, name: Name) -> Answered<S>
-    requires settled { IsSettledStage S.device stage }
-    ensures { EndsUnasked S.device (λ _. RmlvDoes name) ⊥ stage result.stage result.reply }
+    requires fits { IsFitting stage }
+    requires between { IsBetweenStage S.device stage }
+    ensures { EndsUnasked S.device (λ _. RmlvDoes name) ⊥ OfGroup stage result.stage result.reply }
 {
-    match stage {
-        Stage::Off { shelf, history } => Stage::Off { shelf, history }.refused(Refusal::NoGroup),
-        Stage::On { driver } => match driver.volume(name) {
-            None => Stage::On { driver }.refused(Refusal::NoVolume),
-            Some(lv) => remove_volume(alloc, driver, lv),
+    if stage.is_off() {
+        return stage.refused(Refusal::NoGroup);
+    }
+    if stage.holder.open() > 0 {
+        return stage.refused(Refusal::Busy);
+    }
+    let Stage {
+        holder,
+        posts,
+        bytes,
+    } = stage;
+    let mut patience = Patience::whole();
+    match come_to_rest(holder, &mut patience) {
+        Ok(driver) => match driver.volume(name) {
+            None => {
+                let holder = hold(driver);
+                Stage {
+                    holder,
+                    posts,
+                    bytes,
+                }
+                .refused(Refusal::NoVolume)
+            }
+            Some(lv) => remove_volume(alloc, driver, posts, bytes, lv, &mut patience),
         },
+        Err((driver, why)) => Stage::ended(driver, posts, bytes).refused(drain_refusal(why)),
     }
 }

@@ -1,23 +1,23 @@
-use Rattle.std.proofs.Common.{◌∙◌, ap, sym, subst, refl, ℕ, IfErr, is_some}
+use Rattle.std.proofs.Common.{ap, subst, refl, ℕ}
 use Rattle.lvm_steps.specs.Requests.{at}
-use Rattle.lvm_raw.specs.declared.fault.RawFault.TheVariants as fault
-use Rattle.lvm_raw.specs.Ends.{FaultHasCause}
-use Rattle.lvm_raw.specs.Raw.{ReadGives}
-use Rattle.lvm_disk_lines.specs.Disks.{ReadDoes, NoReadWhileOn}
-use Rattle.lvm_stage.specs.Stages.{session_in}
+use Rattle.lvm_stage.specs.passed.QuiesceRanges.{ReadOnceQuiet}
+use Rattle.lvm_raw.specs.Keeping.{AnswerHasCause}
+use Rattle.lvm_disk_lines.specs.Disks.{ReadDoes, NoReadWhileOn, ReadGoes}
+use Rattle.lvm_stage.specs.Moments.{Aside}
 use Rattle.lvm_stage.specs.State.{without_facts}
+use Rattle.lvm_stage.specs.declared.holder.Holder.{Holder}
 use Rattle.lvm_stage.specs.declared.reply.Refusal.TheVariants as refusal
-use Rattle.lvm_stage.specs.declared.stage.Stage.{Stage}
-use Rattle.lvm_stage.specs.declared.stage.Stage.TheVariants as stage
 use Rattle.lvm_stage.proofs.Ends.{unasked_as, refused_ends}
-use Rattle.lvm_disk_lines.proofs.Ranging.{range_ends, read_does, read_stuck}
-use Rattle.lvm_stage.proofs.Staging.{settled_as}
+use Rattle.lvm_stage.proofs.Staging.{between_as, fits_as}
+use Rattle.lvm_disk_lines.proofs.Ranging.{off, on_unless, range_ends, read_once, read_stuck, shows_read}
+use Rattle.lvm_disk_lines.proofs.Untaken.{read_leaves}
 use Rattle.lvm_disk_lines.proofs.disks.do_read.Goals as goal
 
-pub returns-in-On : goal.returns-in-On
-returns-in-On g c =
-    refused_ends g.S.Shelf.device (λ log. ReadDoes log c.args.disk c.args.at c.args.count) ⊥ c.args.stage c.refused.result.stage c.refused.result.reply c.requires.settled (c.refused.ensures.stage ∙ sym c.in-On.is) refusal.GroupOn c.refused.ensures.reply
-    (λ last is. NoReadWhileOn (ap (λ (s : Stage g.row.S.Denot). is_some (session_in s)) c.in-On.is) is)
+pub returns-in_default : goal.returns-in_default
+returns-in_default g c =
+    refused_ends g.S.Shelf.device (λ log. ReadDoes log c.args.disk c.args.at c.args.count) ⊥ Aside c.args.stage c.refused.result.stage c.refused.result.reply c.requires.fits c.requires.between
+    c.refused.ensures.stage refusal.GroupOn c.refused.ensures.reply
+    (λ last is. NoReadWhileOn (on_unless c.args.stage.holder c.in_default.not-Off) is)
 
 pub returns-in-Off : goal.returns-in-Off
 returns-in-Off g c =
@@ -26,10 +26,17 @@ returns-in-Off g c =
     let log = c.in-Off.history in
     let is = c.read_disk-read.new.history in
     let given = c.read_disk-read.result in
-    unasked_as g.S.Shelf.device (λ log. ReadDoes log c.args.disk c.args.at c.args.count) ⊥ _ _ _ _ _ _ c.in-Off.is c.answered.ensures.stage c.answered.ensures.reply
-    (range_ends g.S.Shelf.device old new log is (settled_as g.S.Shelf.device c.args.stage (stage.Off old log) c.in-Off.is c.requires.settled) c.args.disk _ _ given c.read_disk-read.ensures.keeps c.read_disk-read.ensures.rooms
-    c.read_reply.result (read_stuck given c.read_reply.result c.read_reply.ensures.fault) (λ log. ReadDoes log c.args.disk c.args.at c.args.count)
-    (λ last. read_does (without_facts log) c.args.disk c.args.at c.args.count _ _ c.read_reply.result given (record { before = refl; after = refl; clock = refl })
-    (subst (λ (n : ℕ). ReadGives (without_facts log) c.args.disk c.args.at c.args.count n (at (g.S.Shelf.device old) log.facts) (at (g.S.Shelf.device new) is.facts) given) c.whole-patience.ensures c.read_disk-read.ensures.does)
-    (subst (λ (n : ℕ). IfErr given (FaultHasCause fault.ReadFailed log c.args.disk c.args.at c.args.count n (g.S.Shelf.device old) (g.S.Shelf.device new))) c.whole-patience.ensures c.read_disk-read.ensures.ends.cause)
-    c.read_reply.ensures.blocks c.read_reply.ensures.fault))
+    let posts = c.args.stage.posts in
+    let bytes = c.args.stage.bytes in
+    let was = ap (λ (h : Holder g.row.S.Denot). record { holder = h; posts = posts; bytes = bytes }) c.in-Off.is in
+    let shows = shows_read c.args.at given c.read_reply.result c.read_reply.ensures.blocks c.read_reply.ensures.fault in
+    unasked_as g.S.Shelf.device (λ log. ReadDoes log c.args.disk c.args.at c.args.count) ⊥ Aside c.args.stage (off old log posts bytes) c.answered.result.stage (off new is posts bytes) c.answered.result.reply c.read_reply.result
+    was c.answered.ensures.stage c.answered.ensures.reply
+    (range_ends g.S.Shelf.device old new log is posts bytes (fits_as c.args.stage (off old log posts bytes) was c.requires.fits) (between_as g.S.Shelf.device c.args.stage (off old log posts bytes) was c.requires.between)
+    c.run.ensures.ordered c.args.disk _ _ given c.read_disk-read.ensures.keeps c.read_disk-read.ensures.rooms
+    (read_leaves (without_facts log) c.args.disk c.args.at c.args.count _ (at (g.S.Shelf.device old) log.facts) (at (g.S.Shelf.device new) is.facts) given c.run.ensures.ordered c.read_disk-read.ensures.does)
+    c.read_reply.result (read_stuck given c.read_reply.result c.read_reply.ensures.fault) (read_once c.args.at given c.read_reply.result shows) (λ log. ReadDoes log c.args.disk c.args.at c.args.count)
+    (λ last. ReadGoes given (record { before = refl; after = refl; posts = refl; clock = refl })
+    (subst (λ (n : ℕ). ReadOnceQuiet (without_facts log) c.args.disk c.args.at c.args.count n (at (g.S.Shelf.device old) log.facts) (at (g.S.Shelf.device new) is.facts) given) c.whole-patience.ensures c.read_disk-read.ensures.does)
+    (subst (λ (n : ℕ). AnswerHasCause c.args.disk n (g.S.Shelf.device old).counts (g.S.Shelf.device new).counts given) c.whole-patience.ensures c.read_disk-read.ensures.keeps.cause)
+    shows))

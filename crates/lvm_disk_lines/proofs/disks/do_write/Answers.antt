@@ -1,23 +1,23 @@
-use Rattle.std.proofs.Common.{◌∙◌, ap, sym, subst, refl, ℕ, IfErr, is_some}
+use Rattle.std.proofs.Common.{◌∙◌, ap, subst, refl, ℕ}
 use Rattle.lvm_steps.specs.Requests.{at}
-use Rattle.lvm_raw.specs.declared.fault.RawFault.TheVariants as fault
-use Rattle.lvm_raw.specs.Ends.{FaultHasCause}
-use Rattle.lvm_raw.specs.Raw.{WriteGives}
-use Rattle.lvm_disk_lines.specs.Disks.{WriteDoes, NoWriteWhileOn, write_reply}
-use Rattle.lvm_stage.specs.Stages.{session_in}
+use Rattle.lvm_stage.specs.passed.QuiesceRanges.{WriteOnceQuiet}
+use Rattle.lvm_raw.specs.Keeping.{AnswerHasCause}
+use Rattle.lvm_disk_lines.specs.Disks.{WriteDoes, NoWriteWhileOn, WriteGoes, write_reply}
+use Rattle.lvm_stage.specs.Moments.{Aside}
 use Rattle.lvm_stage.specs.State.{without_facts}
+use Rattle.lvm_stage.specs.declared.holder.Holder.{Holder}
 use Rattle.lvm_stage.specs.declared.reply.Refusal.TheVariants as refusal
-use Rattle.lvm_stage.specs.declared.stage.Stage.{Stage}
-use Rattle.lvm_stage.specs.declared.stage.Stage.TheVariants as stage
 use Rattle.lvm_stage.proofs.Ends.{unasked_as, refused_ends}
-use Rattle.lvm_disk_lines.proofs.Ranging.{range_ends, write_does, write_stuck}
-use Rattle.lvm_stage.proofs.Staging.{settled_as}
+use Rattle.lvm_stage.proofs.Staging.{between_as, fits_as}
+use Rattle.lvm_disk_lines.proofs.Ranging.{off, on_unless, range_ends, write_once, write_stuck}
+use Rattle.lvm_disk_lines.proofs.Untaken.{write_leaves}
 use Rattle.lvm_disk_lines.proofs.disks.do_write.Goals as goal
 
-pub returns-in-On : goal.returns-in-On
-returns-in-On g c =
-    refused_ends g.S.Shelf.device (λ log. WriteDoes log c.args.disk c.args.at c.args.count c.args.word) ⊥ c.args.stage c.refused.result.stage c.refused.result.reply c.requires.settled (c.refused.ensures.stage ∙ sym c.in-On.is) refusal.GroupOn c.refused.ensures.reply
-    (λ last is. NoWriteWhileOn (ap (λ (s : Stage g.row.S.Denot). is_some (session_in s)) c.in-On.is) is)
+pub returns-in_default : goal.returns-in_default
+returns-in_default g c =
+    refused_ends g.S.Shelf.device (λ log. WriteDoes log c.args.disk c.args.at c.args.count c.args.word) ⊥ Aside c.args.stage c.refused.result.stage c.refused.result.reply c.requires.fits c.requires.between
+    c.refused.ensures.stage refusal.GroupOn c.refused.ensures.reply
+    (λ last is. NoWriteWhileOn (on_unless c.args.stage.holder c.in_default.not-Off) is)
 
 pub returns-in-Off : goal.returns-in-Off
 returns-in-Off g c =
@@ -26,10 +26,16 @@ returns-in-Off g c =
     let log = c.in-Off.history in
     let is = c.write_disk-done.new.history in
     let given = c.write_disk-done.result in
-    unasked_as g.S.Shelf.device (λ log. WriteDoes log c.args.disk c.args.at c.args.count c.args.word) ⊥ _ _ _ _ _ _ c.in-Off.is c.answered.ensures.stage (c.answered.ensures.reply ∙ c.write_reply.ensures)
-    (range_ends g.S.Shelf.device old new log is (settled_as g.S.Shelf.device c.args.stage (stage.Off old log) c.in-Off.is c.requires.settled) c.args.disk _ _ given c.write_disk-done.ensures.keeps c.write_disk-done.ensures.rooms
-    (write_reply given) (write_stuck given (write_reply given) refl) (λ log. WriteDoes log c.args.disk c.args.at c.args.count c.args.word)
-    (λ last. write_does (without_facts log) c.args.disk c.args.at c.args.count c.args.word _ _ (write_reply given) given (record { before = refl; after = refl; clock = refl })
-    (subst (λ (n : ℕ). WriteGives (without_facts log) c.args.disk c.args.at c.args.count c.args.word n (at (g.S.Shelf.device old) log.facts) (at (g.S.Shelf.device new) is.facts) given) c.whole-patience.ensures c.write_disk-done.ensures.does)
-    (subst (λ (n : ℕ). IfErr given (FaultHasCause fault.Lost log c.args.disk c.args.at c.args.count n (g.S.Shelf.device old) (g.S.Shelf.device new))) c.whole-patience.ensures c.write_disk-done.ensures.ends.cause)
+    let posts = c.args.stage.posts in
+    let bytes = c.args.stage.bytes in
+    let was = ap (λ (h : Holder g.row.S.Denot). record { holder = h; posts = posts; bytes = bytes }) c.in-Off.is in
+    unasked_as g.S.Shelf.device (λ log. WriteDoes log c.args.disk c.args.at c.args.count c.args.word) ⊥ Aside c.args.stage (off old log posts bytes) c.answered.result.stage (off new is posts bytes) c.answered.result.reply (write_reply given)
+    was c.answered.ensures.stage (c.answered.ensures.reply ∙ c.write_reply.ensures)
+    (range_ends g.S.Shelf.device old new log is posts bytes (fits_as c.args.stage (off old log posts bytes) was c.requires.fits) (between_as g.S.Shelf.device c.args.stage (off old log posts bytes) was c.requires.between)
+    c.run.ensures.ordered c.args.disk _ _ given c.write_disk-done.ensures.keeps c.write_disk-done.ensures.rooms
+    (write_leaves (without_facts log) c.args.disk c.args.at c.args.count c.args.word _ (at (g.S.Shelf.device old) log.facts) (at (g.S.Shelf.device new) is.facts) given c.run.ensures.ordered c.write_disk-done.ensures.does)
+    (write_reply given) (write_stuck given (write_reply given) refl) (write_once given) (λ log. WriteDoes log c.args.disk c.args.at c.args.count c.args.word)
+    (λ last. WriteGoes given (record { before = refl; after = refl; posts = refl; clock = refl })
+    (subst (λ (n : ℕ). WriteOnceQuiet (without_facts log) c.args.disk c.args.at c.args.count c.args.word n (at (g.S.Shelf.device old) log.facts) (at (g.S.Shelf.device new) is.facts) given) c.whole-patience.ensures c.write_disk-done.ensures.does)
+    (subst (λ (n : ℕ). AnswerHasCause c.args.disk n (g.S.Shelf.device old).counts (g.S.Shelf.device new).counts given) c.whole-patience.ensures c.write_disk-done.ensures.keeps.cause)
     refl))

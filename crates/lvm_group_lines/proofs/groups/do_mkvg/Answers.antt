@@ -1,46 +1,70 @@
-use Rattle.std.proofs.Common.{◌∙◌, ℕ, ap, sym, subst, refl, is_some}
-use Rattle.lvm_group.specs.Made.{MkvgGives}
-use Rattle.lvm_group_lines.specs.Groups.{MkvgDoes, NoMkvgWhileOn, asked_for}
-use Rattle.lvm_stage.specs.Ends.{CommandEnds}
-use Rattle.lvm_stage.specs.Stages.{session_in}
-use Rattle.lvm_stage.specs.declared.stage.Stage.{Stage}
-use Rattle.lvm_stage.specs.declared.stage.Stage.TheVariants as stage
-use Rattle.lvm_group_lines.proofs.Coming.{Left, dark_still, outcome_ends}
-use Rattle.lvm_stage.proofs.Ends.{ends_as, asked_ends}
-use Rattle.lvm_stage.proofs.Staging.{settled_as, asked_stays}
-use Rattle.lvm_group_lines.proofs.Making.{came_on, stayed_off, does}
+use Rattle.std.proofs.Common.{ℕ, IfErr, ap, sym, subst}
+use Rattle.lvm_disk_lines.specs.passed.QuiesceGroups.{CauseRose, MkvgOnceQuiet}
+use Rattle.lvm_group_lines.specs.Groups.{MkvgDoes, NoMkvgWhileOn, Makes, asked_for, itself}
+use Rattle.lvm_disk_lines.specs.passed.StageEnds.{CommandEnds}
+use Rattle.lvm_disk_lines.specs.passed.StageMoments.{Aside}
+use Rattle.lvm_disk_lines.specs.passed.StageHolderHolder.{Holder}
+use Rattle.lvm_disk_lines.specs.passed.StageHolderHolderTheVariants as holder
+use Rattle.lvm_disk_lines.specs.passed.StageReplyRefusalTheVariants as refusal
+use Rattle.lvm_disk_lines.proofs.passed.StageEnds.{asked_ends, ends_as, one_refused}
+use Rattle.lvm_disk_lines.proofs.passed.StageStaging.{asked_stays, between_as, fits_as}
+use Rattle.lvm_group_lines.proofs.Coming.{Left, dark_still, held, on_unless, outcome_ends}
+use Rattle.lvm_group_lines.proofs.Lines.{all_serve, brings, may_hold}
+use Rattle.lvm_group_lines.proofs.Making.{came, itself_gives, serves, stands, stayed}
+use Rattle.lvm_group_lines.proofs.Quieting.{device_outcome}
 use Rattle.lvm_group_lines.proofs.groups.do_mkvg.Goals as goal
 
-pub returns-in-On-clause-ends : goal.returns-in-On-clause-ends
-returns-in-On-clause-ends g c =
-    let stays = c.refused.ensures.stage ∙ sym c.in-On.is in
-    let asked = asked_stays g.S.Shelf.device c.args.stage c.refused.result.stage (g.C.Clock.last c.args.clock.now) (g.C.Clock.last c.now-moment.new.self) c.now-moment.result c.now-moment.ensures.later c.now-moment.ensures.last stays in
-    asked_ends g.S.Shelf.device (λ log. MkvgDoes log c.args.room c.args.force c.args.name c.args.mib c.args.disks.now) ⊥ c.args.stage c.refused.result.stage c.refused.result.reply c.requires.settled stays _ _ asked
-    (NoMkvgWhileOn (ap (λ (s : Stage g.row.S.Denot). is_some (session_in s)) c.in-On.is) c.refused.ensures.reply asked)
+pub returns-in_default-clause-ends : goal.returns-in_default-clause-ends
+returns-in_default-clause-ends g c =
+    let asked = asked_stays g.S.Shelf.device c.args.stage c.refused.result.stage (g.C.Clock.last c.args.clock.now) (g.C.Clock.last c.now-moment.new.self) c.now-moment.result c.now-moment.ensures.later c.now-moment.ensures.last c.refused.ensures.stage in
+    asked_ends g.S.Shelf.device (λ log. MkvgDoes log c.args.room c.args.force c.args.name c.args.mib c.args.disks.now) ⊥ Aside c.args.stage c.refused.result.stage c.refused.result.reply c.requires.fits c.requires.between c.refused.ensures.stage
+    (one_refused c.refused.result.reply refusal.GroupOn c.refused.ensures.reply) _ _ asked (NoMkvgWhileOn (on_unless c.args.stage.holder c.in_default.not-Off) c.refused.ensures.reply asked)
 
-pub left-requires : goal.left-requires
-left-requires g c =
-    let settled = settled_as g.S.Shelf.device c.args.stage (stage.Off c.in-Off.shelf c.in-Off.history) c.in-Off.is c.requires.settled in
-    dark_still g.S.Shelf.device c.in-Off.shelf c.in-Off.history c.mkvg.result (stayed_off g.S.Shelf.device c.in-Off.shelf c.in-Off.history (asked_for c.args.name c.args.mib c.args.disks.now c.args.force c.now-moment.result) c.args.room _ c.mkvg.result settled.ready c.mkvg.ensures.gives)
+pub left-holder-requires-clause-may : goal.left-holder-requires-clause-may
+left-holder-requires-clause-may g c =
+    let shelf = c.in-Off.shelf in
+    let log = c.in-Off.history in
+    let w = asked_for c.args.name c.args.mib c.args.disks.now c.args.force c.now-moment.result in
+    may_hold g.S.Shelf.device log.run c.now-moment.result (g.S.Shelf.device shelf) log c.mkvg.result
+    (serves g.S.Shelf.device shelf log w c.args.room _ c.mkvg.result c.mkvg.ensures.gives (record { ordered = c.run.ensures.ordered; few = (fits_as c.args.stage (held (holder.Off shelf log) c.args.stage.posts c.args.stage.bytes) (ap (λ (h : Holder g.row.S.Denot). held h c.args.stage.posts c.args.stage.bytes) c.in-Off.is) c.requires.fits).few }))
+    c.mkvg.ensures.starts c.mkvg.ensures.faults
+
+pub left-holder-requires-clause-still : goal.left-holder-requires-clause-still
+left-holder-requires-clause-still g c =
+    let w = asked_for c.args.name c.args.mib c.args.disks.now c.args.force c.now-moment.result in
+    dark_still g.S.Shelf.device c.in-Off.shelf c.in-Off.history c.mkvg.result (stayed g.S.Shelf.device c.in-Off.shelf c.in-Off.history w c.args.room _ c.mkvg.result c.mkvg.ensures.gives)
 
 pub returns-in-Off-clause-ends : goal.returns-in-Off-clause-ends
 returns-in-Off-clause-ends g c =
+    let device = g.S.Shelf.device in
     let shelf = c.in-Off.shelf in
     let log = c.in-Off.history in
+    let posts = c.args.stage.posts in
+    let bytes = c.args.stage.bytes in
     let moment = c.now-moment.result in
     let last = g.C.Clock.last c.args.clock.now in
     let outcome = c.mkvg.result in
-    let settled = settled_as g.S.Shelf.device c.args.stage (stage.Off shelf log) c.in-Off.is c.requires.settled in
-    let gives = subst (λ (n : ℕ). MkvgGives g.S.Shelf.device (asked_for c.args.name c.args.mib c.args.disks.now c.args.force moment) c.args.room n log (g.S.Shelf.device shelf) outcome) c.whole-patience.ensures c.mkvg.ensures.gives in
-    let left : Left g.S.Shelf.device outcome c.left.result.stage c.left.result.reply = record { on = c.left.ensures.on; off = c.left.ensures.off; lit = c.left.ensures.lit } in
-    ends_as g.S.Shelf.device (λ log. MkvgDoes log c.args.room c.args.force c.args.name c.args.mib c.args.disks.now) ⊥ _ _ _ _ _ _ _ _ c.in-Off.is refl refl
-    (subst (λ (n : ℕ). CommandEnds g.S.Shelf.device (λ log. MkvgDoes log c.args.room c.args.force c.args.name c.args.mib c.args.disks.now) ⊥ (stage.Off shelf log) c.left.result.stage c.left.result.reply last n) (sym c.now-moment.ensures.last)
-    (outcome_ends g.S.Shelf.device shelf log moment last _ _ c.left.result.stage c.left.result.reply c.now-moment.ensures.later settled (λ log. MkvgDoes log c.args.room c.args.force c.args.name c.args.mib c.args.disks.now) outcome
+    let by = c.left-holder.result.0 in
+    let answer = c.left-holder.result.1 in
+    let w = asked_for c.args.name c.args.mib c.args.disks.now c.args.force moment in
+    let was = ap (λ (h : Holder g.row.S.Denot). held h posts bytes) c.in-Off.is in
+    let fits = fits_as c.args.stage (held (holder.Off shelf log) posts bytes) was c.requires.fits in
+    let left : Left device outcome by answer = record { on = c.left-holder.ensures.on; off = c.left-holder.ensures.off } in
+    let may = serves device shelf log w c.args.room _ outcome c.mkvg.ensures.gives (record { ordered = c.run.ensures.ordered; few = fits.few }) in
+    let gives = subst (λ (n : ℕ). MkvgOnceQuiet itself w c.args.room n log (device shelf) (device_outcome device outcome)) c.whole-patience.ensures (itself_gives device shelf log w c.args.room _ outcome c.mkvg.ensures.gives) in
+    let causes = subst (λ (n : ℕ). IfErr outcome (λ refused. CauseRose n (device shelf).counts (device refused.shelf).counts refused.cause)) c.whole-patience.ensures c.mkvg.ensures.causes in
+    ends_as device (λ log. MkvgDoes log c.args.room c.args.force c.args.name c.args.mib c.args.disks.now) ⊥ Aside c.args.stage (held (holder.Off shelf log) posts bytes) c.answered.result.stage (held by posts bytes) c.answered.result.reply answer _ _
+    was c.answered.ensures.stage c.answered.ensures.reply
+    (subst (λ (n : ℕ). CommandEnds device (λ log. MkvgDoes log c.args.room c.args.force c.args.name c.args.mib c.args.disks.now) ⊥ Aside (held (holder.Off shelf log) posts bytes) (held by posts bytes) answer last n) (sym c.now-moment.ensures.last)
+    (outcome_ends device shelf log posts bytes moment last _ _ by answer c.now-moment.ensures.later fits (between_as device c.args.stage (held (holder.Off shelf log) posts bytes) was c.requires.between) c.run.ensures.ordered
+    (λ log. MkvgDoes log c.args.room c.args.force c.args.name c.args.mib c.args.disks.now) outcome
     (record {
       starts = c.mkvg.ensures.starts;
       brings = c.mkvg.ensures.leaves;
-      came = came_on g.S.Shelf.device shelf log (asked_for c.args.name c.args.mib c.args.disks.now c.args.force c.now-moment.result) c.args.room _ outcome c.mkvg.ensures.gives;
-      stayed = stayed_off g.S.Shelf.device shelf log (asked_for c.args.name c.args.mib c.args.disks.now c.args.force c.now-moment.result) c.args.room _ outcome settled.ready c.mkvg.ensures.gives;
+      came = came device shelf log w c.args.room _ outcome c.mkvg.ensures.gives;
+      serves = all_serve device log.run moment (device shelf) log outcome by answer may c.mkvg.ensures.starts c.mkvg.ensures.faults left;
+      stands = stands device shelf log w c.args.room _ outcome c.mkvg.ensures.gives;
+      stayed = stayed device shelf log w c.args.room _ outcome c.mkvg.ensures.gives;
       left = left;
     })
-    (does g.S.Shelf.device shelf log c.args.force c.args.name c.args.mib c.args.disks.now moment last c.args.room c.left.result.stage c.left.result.reply c.now-moment.ensures.later outcome gives left)))
+    (Makes (brings device shelf log posts bytes moment last by answer c.now-moment.ensures.later _ outcome gives causes left))))

@@ -1,25 +1,29 @@
-use Rattle.std.proofs.Common.{◌∙◌, ap, sym, subst, rules, Option}
-use Rattle.lvm_session.specs.State.{Core}
-use Rattle.lvm_group_lines.specs.Groups.{VaryoffDoes, NoVaryoff}
-use Rattle.lvm_stage.specs.Stages.{IsOn, IsNotOn}
-use Rattle.lvm_stage.specs.Stages.{session_in}
-use Rattle.lvm_stage.specs.declared.reply.Refusal.TheVariants as refusal
+use Rattle.std.proofs.Common.{ap, refl, arith, ◌∙◌}
+use Rattle.lvm_group_lines.specs.Groups.{BusyVaryoff, NoVaryoff, VaryoffDoes}
+use Rattle.lvm_disk_lines.specs.passed.StageMoments.{Aside}
+use Rattle.lvm_disk_lines.specs.passed.StageStages.{IsOn, open_in, session_in}
+use Rattle.lvm_disk_lines.specs.passed.StageReplyRefusalTheVariants as refusal
+use Rattle.lvm_disk_lines.proofs.passed.StageEnds.{refused_ends}
+use Rattle.lvm_disk_lines.proofs.passed.StageStaging.{on_with}
 use Rattle.lvm_group_lines.proofs.Closing.{closed_ends}
-use Rattle.lvm_stage.proofs.Ends.{refused_ends}
+use Rattle.lvm_group_lines.proofs.Listing.{none_few}
 use Rattle.lvm_group_lines.proofs.groups.do_varyoff.Goals as goal
 
-pub returns-in-Off : goal.returns-in-Off
-returns-in-Off g c =
-    refused_ends g.S.Shelf.device (λ log. VaryoffDoes c.args.name) ⊥ c.args.stage c.refused.result.stage c.refused.result.reply c.requires.settled (c.refused.ensures.stage ∙ sym c.in-Off.is) refusal.NoGroup c.refused.ensures.reply
-    (λ last is. NoVaryoff (subst (λ (s : Option Core). IsNotOn c.args.name s) (sym (ap session_in c.in-Off.is)) tt) is)
+pub returns-then-not-is_on : goal.returns-then-not-is_on
+returns-then-not-is_on g c =
+    refused_ends g.S.Shelf.device (λ log. VaryoffDoes c.args.name) ⊥ Aside c.args.stage c.refused.result.stage c.refused.result.reply c.requires.fits c.requires.between c.refused.ensures.stage refusal.NoGroup c.refused.ensures.reply
+    (λ last is. NoVaryoff (c.if-not-is_on.ensures.off refl) is)
 
-pub returns-then-eq : goal.returns-then-eq
-returns-then-eq g c =
-    let on : IsOn c.args.name c.in-On.driver.1 = search rules in
-    closed_ends g.S.Shelf.device c.args.stage c.answered.result.stage c.in-On.driver c.close-shelf.result.shelf c.close-shelf.result.history c.in-On.is c.answered.ensures.stage c.requires.settled c.close-shelf.ensures.shelf c.close-shelf.ensures.history c.args.name c.answered.result.reply on c.answered.ensures.reply
+pub returns-then-open-gt0 : goal.returns-then-open-gt0
+returns-then-open-gt0 g c =
+    refused_ends g.S.Shelf.device (λ log. VaryoffDoes c.args.name) ⊥ Aside c.args.stage c.refused-then-open-gt0.result.stage c.refused-then-open-gt0.result.reply c.requires.fits c.requires.between c.refused-then-open-gt0.ensures.stage refusal.Busy c.refused-then-open-gt0.ensures.reply
+    (λ last is. BusyVaryoff (c.if-not-is_on.ensures.on refl) (let some = c.if-open-gt0.true in let count = c.open.ensures in omega (arith, some, count)) is)
 
-pub returns-else-eq : goal.returns-else-eq
-returns-else-eq g c =
-    let off : IsOn c.args.name c.in-On.driver.1 → ⊥ = search rules in
-    refused_ends g.S.Shelf.device (λ log. VaryoffDoes c.args.name) ⊥ c.args.stage c.refused-else-eq.result.stage c.refused-else-eq.result.reply c.requires.settled (c.refused-else-eq.ensures.stage ∙ sym c.in-On.is) refusal.NoGroup c.refused-else-eq.ensures.reply
-    (λ last is. NoVaryoff (subst (λ (s : Option Core). IsNotOn c.args.name s) (sym (ap session_in c.in-On.is)) off) is)
+pub returns : goal.returns
+returns g c =
+    let on = on_with (session_in c.args.stage) (IsOn c.args.name) (c.if-not-is_on.ensures.some refl) (c.if-not-is_on.ensures.on refl) in
+    let few = c.if-open-gt0.false in
+    let count = c.open.ensures ∙ ap open_in on.1 in
+    closed_ends g.S.Shelf.device c.args.stage c.requires.fits c.requires.between on.0 on.1 (none_few on.0.requests (omega (arith, few, count)))
+    c.close-closed.result.0.shelf c.close-closed.result.0.history c.close-closed.result.1 c.close-closed.result.2 c.close-closed.ensures.shelf c.close-closed.ensures.history c.close-closed.ensures.posts c.close-closed.ensures.rooms
+    c.answered.result.stage c.args.name c.answered.result.reply c.answered.ensures.stage on.2 c.answered.ensures.reply

@@ -1,13 +1,21 @@
-use Rattle.std.proofs.Common.{refl, subst, ℕ, List}
-use Rattle.lvm_stage.specs.Ends.{CommandEnds}
-use Rattle.lvm_group_lines.specs.Groups.{MkvgDoes}
-use Rattle.lvm_line.proofs.Lining.{done_by, listed_by}
+use Rattle.std.proofs.Common.{◌≡◌, ◌≤◌, refl, sym, subst, ℕ, List, length}
+use Rattle.lvm_volume_lines.specs.passed.StageEnds.{CommandEnds}
+use Rattle.lvm_volume_lines.specs.passed.StageMoments.{Aside}
+use Rattle.lvm_volume_lines.specs.passed.StageReplies.{most_refusals}
+use Rattle.lvm_volume_lines.specs.passed.StageStages.{session_in, shelf_in}
+use Rattle.lvm_volume_lines.specs.passed.StageReplyRefusalTheVariants as refusal
+use Rattle.lvm_volume_lines.specs.passed.StageReplyReply.{Reply}
+use Rattle.lvm_volume_lines.specs.passed.StageReplyReplyTheVariants as reply
+use Rattle.lvm_volume_lines.proofs.passed.StageEnds.{one_refused}
+use Rattle.lvm_volume_lines.specs.passed.GroupLinesGroups.{MkvgDoes}
+use Rattle.lvm_volume_lines.specs.passed.GroupLinesListings.{DiskShows, GroupShows, VolumeShows}
+use Rattle.lvm_line.proofs.Lining.{done_by, listed_by, one_disk, one_group, one_volume}
 use Rattle.lvm_line.proofs.line.do_command.Goals as goal
 
 pub returns-in-Mkvg : goal.returns-in-Mkvg
 returns-in-Mkvg g c =
     done_by g.S.Shelf.device c.args.room c.args.command _ _ _ c.do_mkvg.result.reply _ _ _ _ c.in-Mkvg.is
-    (subst (λ (disks : List ℕ). CommandEnds g.S.Shelf.device (λ log. MkvgDoes log c.args.room c.in-Mkvg.force c.in-Mkvg.name c.in-Mkvg.mib disks) ⊥ c.args.stage c.do_mkvg.result.stage c.do_mkvg.result.reply (g.C.Clock.last c.args.clock.now) (g.C.Clock.last c.do_mkvg.new.clock)) c.as_slice.ensures c.do_mkvg.ensures.ends)
+    (subst (λ (disks : List ℕ). CommandEnds g.S.Shelf.device (λ log. MkvgDoes log c.args.room c.in-Mkvg.force c.in-Mkvg.name c.in-Mkvg.mib disks) ⊥ Aside c.args.stage c.do_mkvg.result.stage c.do_mkvg.result.reply (g.C.Clock.last c.args.clock.now) (g.C.Clock.last c.do_mkvg.new.clock)) c.as_slice.ensures c.do_mkvg.ensures.ends)
     c.do_mkvg.ensures.asked
 
 pub returns-in-Varyon : goal.returns-in-Varyon
@@ -37,11 +45,48 @@ returns-in-Heal g c = done_by g.S.Shelf.device c.args.room c.args.command _ _ _ 
 pub returns-in-Cut : goal.returns-in-Cut
 returns-in-Cut g c = done_by g.S.Shelf.device c.args.room c.args.command _ _ _ c.do_cut.result.reply _ _ _ _ c.in-Cut.is (c.do_cut.ensures (g.C.Clock.last c.args.clock.now)) refl
 
+pub returns-in-Rd : goal.returns-in-Rd
+returns-in-Rd g c = done_by g.S.Shelf.device c.args.room c.args.command _ _ _ c.do_rd.result.reply _ _ _ _ c.in-Rd.is (c.do_rd.ensures (g.C.Clock.last c.args.clock.now)) refl
+
+pub returns-in-Wr : goal.returns-in-Wr
+returns-in-Wr g c = done_by g.S.Shelf.device c.args.room c.args.command _ _ _ c.do_wr.result.reply _ _ _ _ c.in-Wr.is (c.do_wr.ensures (g.C.Clock.last c.args.clock.now)) refl
+
+pub returns-in-Post : goal.returns-in-Post
+returns-in-Post g c = done_by g.S.Shelf.device c.args.room c.args.command _ _ _ c.do_post.result.reply _ _ _ _ c.in-Post.is (c.do_post.ensures (g.C.Clock.last c.args.clock.now)) refl
+
+pub returns-in-Wait : goal.returns-in-Wait
+returns-in-Wait g c = done_by g.S.Shelf.device c.args.room c.args.command _ _ _ c.do_wait.result.reply _ _ _ _ c.in-Wait.is (c.do_wait.ensures (g.C.Clock.last c.args.clock.now)) refl
+
+pub returns-in-Step : goal.returns-in-Step
+returns-in-Step g c = done_by g.S.Shelf.device c.args.room c.args.command _ _ _ c.do_step.result.reply _ _ _ _ c.in-Step.is (c.do_step.ensures (g.C.Clock.last c.args.clock.now)) refl
+
 pub returns-in-Lsvg : goal.returns-in-Lsvg
-returns-in-Lsvg g c = listed_by g.S.Shelf.device c.args.room c.args.command _ c.args.stage _ _ _ _ _ c.in-Lsvg.is c.requires.settled c.answered.ensures.stage c.answered.ensures.reply (λ log. (c.list_group-reply.ensures, refl)) refl
+returns-in-Lsvg g c =
+    let says = c.answered.ensures.reply in
+    listed_by g.S.Shelf.device c.args.room c.args.command _ c.args.stage _ c.answered.result.reply _ _ c.in-Lsvg.is c.requires.fits c.requires.between c.answered.ensures.stage
+    (subst (λ (r : Reply). most_refusals r ≤ 1) (sym says) (one_group c.in-Lsvg.volumes c.in-Lsvg.name (session_in c.args.stage) c.list_group-reply.result c.list_group-reply.ensures))
+    (λ log same. (subst (λ (r : Reply). GroupShows c.in-Lsvg.volumes c.in-Lsvg.name (session_in c.args.stage) r) (sym says) c.list_group-reply.ensures, same)) refl
 
 pub returns-in-Lslv : goal.returns-in-Lslv
-returns-in-Lslv g c = listed_by g.S.Shelf.device c.args.room c.args.command _ c.args.stage _ _ _ _ _ c.in-Lslv.is c.requires.settled c.answered-in-Lslv.ensures.stage c.answered-in-Lslv.ensures.reply (λ log. (c.list_volume-reply.ensures, refl)) refl
+returns-in-Lslv g c =
+    let says = c.answered-in-Lslv.ensures.reply in
+    listed_by g.S.Shelf.device c.args.room c.args.command _ c.args.stage _ c.answered-in-Lslv.result.reply _ _ c.in-Lslv.is c.requires.fits c.requires.between c.answered-in-Lslv.ensures.stage
+    (subst (λ (r : Reply). most_refusals r ≤ 1) (sym says) (one_volume c.in-Lslv.name (session_in c.args.stage) c.list_volume-reply.result c.list_volume-reply.ensures))
+    (λ log same. (subst (λ (r : Reply). VolumeShows c.in-Lslv.name (session_in c.args.stage) r) (sym says) c.list_volume-reply.ensures, same)) refl
 
 pub returns-in-Lspv : goal.returns-in-Lspv
-returns-in-Lspv g c = listed_by g.S.Shelf.device c.args.room c.args.command _ c.args.stage _ _ _ _ _ c.in-Lspv.is c.requires.settled c.answered-in-Lspv.ensures.stage c.answered-in-Lspv.ensures.reply (λ log. (c.list_disk-reply.ensures, refl)) refl
+returns-in-Lspv g c =
+    let says = c.answered-in-Lspv.ensures.reply in
+    listed_by g.S.Shelf.device c.args.room c.args.command _ c.args.stage _ c.answered-in-Lspv.result.reply _ _ c.in-Lspv.is c.requires.fits c.requires.between c.answered-in-Lspv.ensures.stage
+    (subst (λ (r : Reply). most_refusals r ≤ 1) (sym says) (one_disk c.in-Lspv.disk _ (session_in c.args.stage) c.list_disk-reply.result c.list_disk-reply.ensures))
+    (λ log same. (subst (λ (r : Reply). DiskShows c.in-Lspv.disk (length (g.S.Shelf.device (shelf_in c.args.stage)).sizes) (session_in c.args.stage) r) (sym says) c.list_disk-reply.ensures, same)) refl
+
+pub returns-in-Mklvcopy : goal.returns-in-Mklvcopy
+returns-in-Mklvcopy g c =
+    let says : c.refused.result.reply ≡ reply.Refused (refusal.BadLine 1) = cc in
+    listed_by g.S.Shelf.device c.args.room c.args.command _ c.args.stage _ c.refused.result.reply _ _ c.in-Mklvcopy.is c.requires.fits c.requires.between c.refused.ensures.stage (one_refused c.refused.result.reply (refusal.BadLine 1) says) (λ log same. (says, same)) refl
+
+pub returns-in-Rmlvcopy : goal.returns-in-Rmlvcopy
+returns-in-Rmlvcopy g c =
+    let says : c.refused-in-Rmlvcopy.result.reply ≡ reply.Refused (refusal.BadLine 1) = cc in
+    listed_by g.S.Shelf.device c.args.room c.args.command _ c.args.stage _ c.refused-in-Rmlvcopy.result.reply _ _ c.in-Rmlvcopy.is c.requires.fits c.requires.between c.refused-in-Rmlvcopy.ensures.stage (one_refused c.refused-in-Rmlvcopy.result.reply (refusal.BadLine 1) says) (λ log same. (says, same)) refl

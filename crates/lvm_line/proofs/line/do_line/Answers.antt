@@ -1,14 +1,17 @@
-use Rattle.std.proofs.Common.{◌≡◌, ◌∙◌, ap, refl, None, Some, Ok, Option}
+use Rattle.std.proofs.Common.{◌≡◌, ◌≤◌, ◌∙◌, ap, refl, sym, subst, arith, None, Some, Ok, Option}
 use Rattle.lvm_parse.specs.declared.command.Command.{Command}
 use Rattle.lvm_operands.specs.Reading.{misfit}
-use Rattle.lvm_stage.specs.Stages.{shelf_in, history_in, state_in}
-use Rattle.lvm_stage.specs.State.{without_facts}
-use Rattle.lvm_stage.specs.declared.reply.Refusal.TheVariants as refusal
-use Rattle.lvm_stage.specs.declared.reply.Reply.TheVariants as reply
-use Rattle.lvm_stage.specs.declared.stage.Stage.{Stage}
+use Rattle.lvm_volume_lines.specs.passed.StageReplies.{most_refusals}
+use Rattle.lvm_volume_lines.specs.passed.StageStages.{shelf_in, history_in, state_in}
+use Rattle.lvm_volume_lines.specs.passed.StageState.{without_facts}
+use Rattle.lvm_volume_lines.specs.passed.StageReplyRefusalTheVariants as refusal
+use Rattle.lvm_volume_lines.specs.passed.StageReplyReply.{Reply}
+use Rattle.lvm_volume_lines.specs.passed.StageReplyReplyTheVariants as reply
+use Rattle.lvm_volume_lines.proofs.passed.StageEnds.{one_refused}
+use Rattle.lvm_volume_lines.specs.passed.StageStageStage.{Stage}
 use Rattle.lvm_parse.proofs.Fields.{line_is_within}
-use Rattle.lvm_line.proofs.Lining.{line_read, line_still, line_unread, asked_once, asked_so}
-use Rattle.lvm_stage.proofs.Staging.{asked_stays}
+use Rattle.lvm_line.proofs.Lining.{line_read, line_still, line_unread, asked_once, asked_so, stage_named}
+use Rattle.lvm_volume_lines.proofs.passed.StageStaging.{asked_stays}
 use Rattle.lvm_line.proofs.line.do_line.Goals as goal
 
 pub do_command-requires-clause-within : goal.do_command-requires-clause-within
@@ -17,26 +20,26 @@ do_command-requires-clause-within g c = line_is_within c.args.line.now c.in-Ok-S
 pub returns-in-Ok-None-clause-line : goal.returns-in-Ok-None-clause-line
 returns-in-Ok-None-clause-line g c =
     line_still (without_facts (history_in c.args.stage)) c.args.room c.args.line.now (Ok None) c.answered.result.reply _ _ (c.in-Ok-None.ensures.read ∙ ap (λ (o : Option Command). Ok o) c.in-Ok-None.field-0-is)
-    (c.answered.ensures.reply, ap (λ (s : Stage g.row.S.Denot). state_in g.S.Shelf.device s (g.C.Clock.last c.args.clock.now)) c.answered.ensures.stage) c.requires.settled
-    (ap (λ (s : Stage g.row.S.Denot). state_in g.S.Shelf.device s (g.C.Clock.last c.args.clock.now)) c.answered.ensures.stage) (g.met.S.Shelf.sectors_are_whole (shelf_in c.args.stage))
+    (c.answered.ensures.reply, ap (λ (s : Stage g.row.S.Denot). state_in g.S.Shelf.device s (g.C.Clock.last c.args.clock.now)) c.answered.ensures.stage) (subst (λ (r : Reply). most_refusals r ≤ 1) (sym c.answered.ensures.reply) (omega arith))
+    (ap (λ (s : Stage g.row.S.Denot). state_in g.S.Shelf.device s (g.C.Clock.last c.args.clock.now)) c.answered.ensures.stage) (record { whole = g.met.S.Shelf.sectors_are_whole (shelf_in c.args.stage); between = c.requires.between; named = stage_named c.args.stage })
 
 pub returns-in-Ok-Some-clause-line : goal.returns-in-Ok-Some-clause-line
 returns-in-Ok-Some-clause-line g c =
     line_read (without_facts (history_in c.args.stage)) c.args.room c.args.line.now (Ok (Some c.in-Ok-Some.command)) c.do_command.result.reply _ _ (c.in-Ok-Some.ensures.read ∙ ap (λ (o : Option Command). Ok o) c.in-Ok-Some.field-0-is)
-    c.do_command.ensures.ends.does c.do_command.ensures.ends.goes c.do_command.ensures.ends.orders (g.met.S.Shelf.sectors_are_whole (shelf_in c.args.stage))
+    c.do_command.ensures.ends.does c.do_command.ensures.ends.goes c.do_command.ensures.ends.orders (record { whole = g.met.S.Shelf.sectors_are_whole (shelf_in c.args.stage); between = c.requires.between; named = stage_named c.args.stage })
 
 pub returns-in-Err-BadLine-clause-line : goal.returns-in-Err-BadLine-clause-line
 returns-in-Err-BadLine-clause-line g c =
     let says : c.refused.result.reply ≡ reply.Refused (refusal.BadLine c.in-Err-BadLine.column) = cc in
     line_still (without_facts (history_in c.args.stage)) c.args.room c.args.line.now (misfit c.in-Err-BadLine.column) c.refused.result.reply _ _ ((c.parse.ensures.bad_line c.in-Err-BadLine.column).0 (cc))
-    (says, ap (λ (s : Stage g.row.S.Denot). state_in g.S.Shelf.device s (g.C.Clock.last c.args.clock.now)) c.refused.ensures.stage) c.requires.settled
-    (ap (λ (s : Stage g.row.S.Denot). state_in g.S.Shelf.device s (g.C.Clock.last c.args.clock.now)) c.refused.ensures.stage) (g.met.S.Shelf.sectors_are_whole (shelf_in c.args.stage))
+    (says, ap (λ (s : Stage g.row.S.Denot). state_in g.S.Shelf.device s (g.C.Clock.last c.args.clock.now)) c.refused.ensures.stage) (one_refused c.refused.result.reply (refusal.BadLine c.in-Err-BadLine.column) says)
+    (ap (λ (s : Stage g.row.S.Denot). state_in g.S.Shelf.device s (g.C.Clock.last c.args.clock.now)) c.refused.ensures.stage) (record { whole = g.met.S.Shelf.sectors_are_whole (shelf_in c.args.stage); between = c.requires.between; named = stage_named c.args.stage })
 
 pub returns-in-Err-Memory-clause-line : goal.returns-in-Err-Memory-clause-line
 returns-in-Err-Memory-clause-line g c =
     line_unread (without_facts (history_in c.args.stage)) c.args.room c.args.line.now c.refuse_unread.result.reply _ _ (c.parse.ensures.memory (cc)) c.refuse_unread.ensures.on c.refuse_unread.ensures.off
     (asked_stays g.S.Shelf.device c.args.stage c.refuse_unread.result.stage (g.C.Clock.last c.args.clock.now) (g.C.Clock.last c.now.new.self) c.now.result c.now.ensures.later c.now.ensures.last c.refuse_unread.ensures.stage)
-    c.requires.settled (g.met.S.Shelf.sectors_are_whole (shelf_in c.args.stage))
+    (record { whole = g.met.S.Shelf.sectors_are_whole (shelf_in c.args.stage); between = c.requires.between; named = stage_named c.args.stage })
 
 pub returns-in-Ok-None-clause-asked : goal.returns-in-Ok-None-clause-asked
 returns-in-Ok-None-clause-asked g c = asked_so _ (Ok None) (g.C.Clock.asked c.args.clock.now) (g.C.Clock.asked c.args.clock.now) (c.in-Ok-None.ensures.read ∙ ap (λ (o : Option Command). Ok o) c.in-Ok-None.field-0-is) refl

@@ -1,5 +1,7 @@
-use Rattle.std.proofs.Common.{◌≤◌, arith}
-use Rattle.lvm_top.proofs.Stopping.{nothing_promised, later, the_promises}
+use Rattle.std.proofs.Common.{◌≤◌, ⊎_elim, inl, inr, ap, arith}
+use Rattle.lvm_line.specs.passed.StageState.{without_facts}
+use Rattle.lvm_line.specs.passed.StageHolderHolderTheVariants as holder
+use Rattle.lvm_top.proofs.Stopping.{first_between, first_state, how_stopped, later, nothing_promised, the_promises}
 use Rattle.lvm_top.proofs.run.run_script.Goals as goal
 
 pub returns-in_default-clause-run : goal.returns-in_default-clause-run
@@ -10,17 +12,29 @@ pub returns-in_default-new-clause-run : goal.returns-in_default-new-clause-run
 returns-in_default-new-clause-run g c =
     rw c.unbegun-in_default-new.ensures (nothing_promised (g.C.Clock.last c.args.clock.now) (g.C.Clock.last c.now-run.new.self) c.args.room (g.S.Shelf.device c.args.shelf) (record { content = g.I.Source.left c.args.input.now; faults = g.I.Source.faults c.args.input.now }) (record { content = g.O.Sink.held c.args.out.now; faults = g.O.Sink.faults c.args.out.now }) c.requires.ready)
 
+pub returns-in_default-take_rooms-clause-run : goal.returns-in_default-take_rooms-clause-run
+returns-in_default-take_rooms-clause-run g c =
+    rw c.unbegun-in_default-take_rooms.ensures (nothing_promised (g.C.Clock.last c.args.clock.now) (g.C.Clock.last c.now-run.new.self) c.args.room (g.S.Shelf.device c.args.shelf) (record { content = g.I.Source.left c.args.input.now; faults = g.I.Source.faults c.args.input.now }) (record { content = g.O.Sink.held c.args.out.now; faults = g.O.Sink.faults c.args.out.now }) c.requires.ready)
+
 pub returns-clause-run : goal.returns-clause-run
 returns-clause-run g c =
-    the_promises g.S.Shelf.device c.args.shelf c.in-Ok-new.history c.now-run.result (g.C.Clock.last c.now-run.new.self) (g.C.Clock.last c.do_lines-done.new.clock) c.args.room c.in-Ok-new.ensures c.now-run.ensures.last
-    c.do_lines-done.result.stage c.close-shelf.result.shelf c.close-shelf.result.history c.close-shelf.ensures.shelf c.close-shelf.ensures.off c.close-shelf.ensures.history c.do_lines-done.ensures.rooms c.do_lines-done.result.stop c.do_lines-done.ensures.settled c.do_lines-done.ensures.off
-    (record { before = record { content = g.I.Source.left c.args.input.now; faults = g.I.Source.faults c.args.input.now }; after = record { content = g.I.Source.left c.do_lines-done.new.input; faults = g.I.Source.faults c.do_lines-done.new.input } }) (record { before = record { content = g.O.Sink.held c.args.out.now; faults = g.O.Sink.faults c.args.out.now }; after = record { content = g.O.Sink.held c.do_lines-done.new.out; faults = g.O.Sink.faults c.do_lines-done.new.out } }) c.do_lines-done.result.refused c.do_lines-done.ensures.goes
-    (g.C.Clock.last c.args.clock.now) c.status_of.result c.status_of.ensures c.requires.ready c.now-run.ensures.later
+    the_promises g.S.Shelf.device (g.S.Shelf.device c.args.shelf) c.now-run.result (g.C.Clock.last c.now-run.new.self) (g.C.Clock.last c.do_lines-done.new.clock) c.args.room (record { holder = holder.Off c.args.shelf c.in-Ok-new.history; posts = c.in-Ok-take_rooms.posts; bytes = c.in-Ok-take_rooms.bytes })
+    (first_state g.S.Shelf.device c.args.shelf c.in-Ok-new.history c.in-Ok-take_rooms.posts c.in-Ok-take_rooms.bytes (g.C.Clock.last c.now-run.new.self) c.now-run.result c.args.room c.in-Ok-new.ensures c.in-Ok-take_rooms.ensures.0 c.now-run.ensures.last)
+    (ap without_facts c.in-Ok-new.ensures) c.do_lines-done.result.stage c.conclude-shelf.result.shelf c.conclude-shelf.result.history c.conclude-shelf.ensures.concludes c.conclude-shelf.ensures.rooms c.do_lines-done.ensures.rooms c.do_lines-done.result.stop c.do_lines-done.ensures.between c.do_lines-done.ensures.off
+    (record { before = record { content = g.I.Source.left c.args.input.now; faults = g.I.Source.faults c.args.input.now }; after = record { content = g.I.Source.left c.do_lines-done.new.input; faults = g.I.Source.faults c.do_lines-done.new.input } }) (record { before = record { content = g.O.Sink.held c.args.out.now; faults = g.O.Sink.faults c.args.out.now }; after = record { content = g.O.Sink.held c.do_lines-done.new.out; faults = g.O.Sink.faults c.do_lines-done.new.out } }) c.do_lines-done.result.refused c.do_lines-done.ensures.goes c.requires.ready
+    (g.C.Clock.last c.args.clock.now) c.status_of.result c.status_of.ensures c.now-run.ensures.later
 
 pub returns-clause-clock : goal.returns-clause-clock
 returns-clause-clock g c =
     let first = c.now-run.ensures.later in
-    let later : c.now-run.result ≤ g.C.Clock.last c.do_lines-done.new.clock = later g.S.Shelf.device c.args.shelf c.in-Ok-new.history c.now-run.result (g.C.Clock.last c.now-run.new.self) (g.C.Clock.last c.do_lines-done.new.clock) c.args.room c.in-Ok-new.ensures c.now-run.ensures.last
-    c.do_lines-done.result.stage c.close-shelf.result.shelf c.close-shelf.result.history c.close-shelf.ensures.shelf c.close-shelf.ensures.off c.close-shelf.ensures.history c.do_lines-done.ensures.rooms c.do_lines-done.result.stop c.do_lines-done.ensures.settled c.do_lines-done.ensures.off
-    (record { before = record { content = g.I.Source.left c.args.input.now; faults = g.I.Source.faults c.args.input.now }; after = record { content = g.I.Source.left c.do_lines-done.new.input; faults = g.I.Source.faults c.do_lines-done.new.input } }) (record { before = record { content = g.O.Sink.held c.args.out.now; faults = g.O.Sink.faults c.args.out.now }; after = record { content = g.O.Sink.held c.do_lines-done.new.out; faults = g.O.Sink.faults c.do_lines-done.new.out } }) c.do_lines-done.result.refused c.do_lines-done.ensures.goes in
+    let later : c.now-run.result ≤ g.C.Clock.last c.do_lines-done.new.clock = later g.S.Shelf.device (g.S.Shelf.device c.args.shelf) c.now-run.result (g.C.Clock.last c.now-run.new.self) (g.C.Clock.last c.do_lines-done.new.clock) c.args.room (record { holder = holder.Off c.args.shelf c.in-Ok-new.history; posts = c.in-Ok-take_rooms.posts; bytes = c.in-Ok-take_rooms.bytes })
+    (first_state g.S.Shelf.device c.args.shelf c.in-Ok-new.history c.in-Ok-take_rooms.posts c.in-Ok-take_rooms.bytes (g.C.Clock.last c.now-run.new.self) c.now-run.result c.args.room c.in-Ok-new.ensures c.in-Ok-take_rooms.ensures.0 c.now-run.ensures.last)
+    (ap without_facts c.in-Ok-new.ensures) c.do_lines-done.result.stage c.conclude-shelf.result.shelf c.conclude-shelf.result.history c.conclude-shelf.ensures.concludes c.conclude-shelf.ensures.rooms c.do_lines-done.ensures.rooms c.do_lines-done.result.stop c.do_lines-done.ensures.between c.do_lines-done.ensures.off
+    (record { before = record { content = g.I.Source.left c.args.input.now; faults = g.I.Source.faults c.args.input.now }; after = record { content = g.I.Source.left c.do_lines-done.new.input; faults = g.I.Source.faults c.do_lines-done.new.input } }) (record { before = record { content = g.O.Sink.held c.args.out.now; faults = g.O.Sink.faults c.args.out.now }; after = record { content = g.O.Sink.held c.do_lines-done.new.out; faults = g.O.Sink.faults c.do_lines-done.new.out } }) c.do_lines-done.result.refused c.do_lines-done.ensures.goes c.requires.ready in
     record { later = let a = first.later in omega (arith, a, later); risen = let a = first.risen in omega (arith, a, later) }
+
+pub do_lines-done-requires-clause-between : goal.do_lines-done-requires-clause-between
+do_lines-done-requires-clause-between g c = first_between g.S.Shelf.device c.args.shelf c.in-Ok-new.history c.in-Ok-take_rooms.posts c.in-Ok-take_rooms.bytes c.now-run.result c.args.room c.in-Ok-new.ensures c.in-Ok-take_rooms.ensures.0 c.requires.ready
+
+pub conclude-shelf-requires-clause-between : goal.conclude-shelf-requires-clause-between
+conclude-shelf-requires-clause-between g c = ⊎_elim (λ stuck. inl (c.do_lines-done.ensures.off stuck)) (λ heard. inr (c.do_lines-done.ensures.between heard)) (how_stopped c.do_lines-done.result.stop)

@@ -1,10 +1,8 @@
-use Rattle.std.proofs.Common.{◌≡◌, ◌∙◌, ℕ, Option, sym, refl, subst}
+use Rattle.std.proofs.Common.{◌∙◌, ℕ, sym, refl, subst, arith}
 use Rattle.lvm_io.specs.Reading.{Reading}
-use Rattle.lvm_stage.specs.Stages.{history_in, state_in}
-use Rattle.lvm_stage.specs.State.{without_facts}
+use Rattle.lvm_line.specs.passed.StageStages.{history_in, state_in}
+use Rattle.lvm_line.specs.passed.StageState.{without_facts}
 use Rattle.lvm_top.specs.Turn.{ReadsLine, ReadsNone, Tells}
-use Rattle.lvm_top.specs.declared.script.Stop.{Stop}
-use Rattle.lvm_top.specs.declared.script.Stop.TheVariants as stop
 use Rattle.lvm_top.proofs.Scripting.{RunSoFar, at_start, through, none_read, line_told, line_ends}
 use Rattle.lvm_top.proofs.Lining.{renamed, stuck_is_off, no_end, ended_not}
 use Rattle.lvm_top.proofs.script.do_lines.Goals as goal
@@ -12,8 +10,9 @@ use Rattle.lvm_top.proofs.script.do_lines.Goals as goal
 pub loop-init : goal.loop-init
 loop-init g c = record {
   done = subst (λ (r : Reading). RunSoFar (without_facts (history_in c.args.stage)) c.args.room (state_in g.S.Shelf.device c.args.stage (g.C.Clock.last c.args.clock.now)) (state_in g.S.Shelf.device c.args.stage (g.C.Clock.last c.args.clock.now)) r (g.I.Source.left c.args.input.now) (g.I.Source.left c.args.input.now) (g.O.Sink.held c.args.out.now) (g.O.Sink.held c.args.out.now) 0 0) (sym c.requires.unread)
-      (at_start (without_facts (history_in c.args.stage)) c.args.room (state_in g.S.Shelf.device c.args.stage (g.C.Clock.last c.args.clock.now)) (g.I.Source.left c.args.input.now) (g.O.Sink.held c.args.out.now));
-  settled = c.requires.settled;
+      (at_start (without_facts (history_in c.args.stage)) c.args.room (state_in g.S.Shelf.device c.args.stage (g.C.Clock.last c.args.clock.now)) (g.I.Source.left c.args.input.now) (g.O.Sink.held c.args.out.now) c.requires.none);
+  between = c.requires.between;
+  fits = c.requires.fits;
   rooms = refl;
   source = refl;
   sink = refl;
@@ -41,7 +40,8 @@ loop-preserved-in-Some g c =
           (sym c.is_some.ensures ∙ c.if-is_some.false) line
           (subst (λ (f : ℕ). ReadsLine c.loop.lines c.read_line.new.lines (through (g.I.Source.left c.loop.input) f (g.I.Source.left c.read_line.new.input) (g.I.Source.faults c.read_line.new.input)) c.in-Ok.line) c.loop.invariant.source c.in-Ok.ensures.line)
           (subst (λ (h : ℕ). Tells c.in-Some.reply c.loop.refused c.write_reply-count.result.0 (through (g.O.Sink.held c.loop.out) h (g.O.Sink.held c.write_reply-count.new.out) (g.O.Sink.faults c.write_reply-count.new.out)) c.write_reply-count.result.1) c.loop.invariant.sink c.write_reply-count.ensures);
-      settled = line.goes.settled c.in-Some.ensures.heard;
+      between = line.goes.between c.in-Some.ensures.heard;
+      fits = c.loop.invariant.fits;
       rooms = c.loop.invariant.rooms;
       source = c.in-Ok.ensures.line.well ∙ c.loop.invariant.source;
       sink = (c.write_reply-count.ensures.goes_on (ended_not c.write_reply-count.result.1 (sym c.is_some.ensures ∙ c.if-is_some.false))).well ∙ c.loop.invariant.sink;
@@ -64,7 +64,8 @@ loop-preserved g c =
           (sym c.is_some-in-loop.ensures ∙ c.if-is_some-2.false) line
           (subst (λ (f : ℕ). ReadsLine c.loop.lines c.read_line.new.lines (through (g.I.Source.left c.loop.input) f (g.I.Source.left c.read_line.new.input) (g.I.Source.faults c.read_line.new.input)) c.in-Ok.line) c.loop.invariant.source c.in-Ok.ensures.line)
           (subst (λ (h : ℕ). Tells c.do_line-answered.result.reply c.loop.refused c.write_reply-count-in-loop.result.0 (through (g.O.Sink.held c.loop.out) h (g.O.Sink.held c.write_reply-count-in-loop.new.out) (g.O.Sink.faults c.write_reply-count-in-loop.new.out)) c.write_reply-count-in-loop.result.1) c.loop.invariant.sink c.write_reply-count-in-loop.ensures);
-      settled = line.goes.settled (λ is. no_end c.write_reply-count-in-loop.result.1 (sym c.is_some-in-loop.ensures ∙ c.if-is_some-2.false) (c.write_reply-count-in-loop.ensures.stuck.1 is));
+      fits = c.do_line-answered.ensures.fits;
+      between = line.goes.between (λ is. no_end c.write_reply-count-in-loop.result.1 (sym c.is_some-in-loop.ensures ∙ c.if-is_some-2.false) (c.write_reply-count-in-loop.ensures.stuck.1 is));
       rooms = c.do_line-answered.ensures.rooms ∙ c.loop.invariant.rooms;
       source = c.in-Ok.ensures.line.well ∙ c.loop.invariant.source;
       sink = (c.write_reply-count-in-loop.ensures.goes_on (ended_not c.write_reply-count-in-loop.result.1 (sym c.is_some-in-loop.ensures ∙ c.if-is_some-2.false))).well ∙ c.loop.invariant.sink;
@@ -77,5 +78,13 @@ pub returns-then-is_some-2-clause-off : goal.returns-then-is_some-2-clause-off
 returns-then-is_some-2-clause-off g c is =
     stuck_is_off (without_facts (history_in c.loop.stage)) c.args.room c.as_slice-in-loop.result.now (state_in g.S.Shelf.device c.loop.stage (g.C.Clock.last c.loop.clock)) (state_in g.S.Shelf.device c.do_line-answered.result.stage (g.C.Clock.last c.do_line-answered.new.clock)) c.do_line-answered.result.reply c.do_line-answered.ensures.line (c.write_reply-count-in-loop.ensures.stuck.0 is)
 
-pub returns-then-is_some-2-clause-settled : goal.returns-then-is_some-2-clause-settled
-returns-then-is_some-2-clause-settled g c goes = c.do_line-answered.ensures.line.goes.settled (λ is. goes (c.write_reply-count-in-loop.ensures.stuck.1 is))
+pub returns-then-is_some-2-clause-between : goal.returns-then-is_some-2-clause-between
+returns-then-is_some-2-clause-between g c goes = c.do_line-answered.ensures.line.goes.between (λ is. goes (c.write_reply-count-in-loop.ensures.stuck.1 is))
+
+pub write_reply-count-requires : goal.write_reply-count-requires
+write_reply-count-requires g c =
+    let line = c.in-Some.ensures.line c.args.room (g.C.Clock.last c.loop.clock) in
+    let one = line.goes.few in
+    let few = c.loop.invariant.done.few in
+    let bounded = c.loop.invariant.done.bounded in
+    omega (arith, one, few, bounded)

@@ -1,24 +1,97 @@
-use Rattle.std.proofs.Common.{◌∙◌, refl, sym, ap}
-use Rattle.lvm_stage.specs.Stages.{session_in}
-use Rattle.lvm_volume_lines.specs.Volumes.{RmlvDoes, NoGroupForRmlv, NoVolumeForRmlv}
-use Rattle.lvm_stage.specs.declared.reply.Refusal.TheVariants as refusal
-use Rattle.lvm_stage.specs.declared.stage.Stage.TheVariants as stage
-use Rattle.lvm_stage.proofs.Ends.{unasked_as, refused_ends}
-use Rattle.lvm_stage.proofs.Staging.{settled_as}
+use Rattle.std.proofs.Common.{◌≡◌, ◌≤◌, ◌∙◌, ℕ, refl, sym, ap, subst, arith}
+use Rattle.lvm_core.specs.Leaves.{NoPartition}
+use Rattle.lvm_core.specs.State.{state_of}
+use Rattle.lvm_core.specs.Sound.{HaveAllLanded}
+use Rattle.lvm_range_lines.proofs.passed.TieCommandsRemoving.{rmlv_goes_on}
+use Rattle.lvm_posts.specs.Posts.{AreAnswered}
+use Rattle.lvm_volume_plan.specs.NewVolume.{without_volume}
+use Rattle.lvm_range_lines.specs.passed.VolumesVolumes.{RmlvGives}
+use Rattle.lvm_range_lines.specs.passed.StageEnds.{EndsUnasked}
+use Rattle.lvm_range_lines.specs.passed.StageMoments.{OfGroup}
+use Rattle.lvm_range_lines.specs.passed.StageStages.{open_in, session_in}
+use Rattle.lvm_range_lines.specs.passed.StageReplyRefusal.{Refusal}
+use Rattle.lvm_range_lines.specs.passed.StageReplyRefusalTheVariants as refusal
+use Rattle.lvm_range_lines.specs.passed.StageReplyReply.{Reply}
+use Rattle.lvm_range_lines.specs.passed.StageReplyReplyTheVariants as reply
+use Rattle.lvm_range_lines.specs.passed.StageStageStage.{Stage}
+use Rattle.lvm_range_lines.proofs.passed.StageEnds.{refused_ends}
+use Rattle.lvm_volume_lines.specs.Commands.{HasBrokenOff, HasRested}
+use Rattle.lvm_volume_lines.specs.Volumes.{RmlvDoes, BusyRmlv, NoGroupForRmlv, UndrainedRmlv, drain_refusal}
+use Rattle.lvm_volume_lines.proofs.Commanding.{rows_mid}
+use Rattle.lvm_volume_lines.proofs.Ending.{rmlv_facts, rmlv_shape}
+use Rattle.lvm_volume_lines.proofs.Landing.{answers_stay, landed_stays, rmlv_bears}
+use Rattle.lvm_volume_lines.proofs.OfVolumes.{at_mid, drains, ends_so}
+use Rattle.lvm_volume_lines.proofs.Lines.{rmlv_does}
+use Rattle.lvm_volume_lines.proofs.Undrained.{undrained_ends}
+use Rattle.lvm_volume_lines.proofs.Unnamed.{may_again, unnamed_ends}
 use Rattle.lvm_volume_lines.proofs.volumes.do_rmlv.Goals as goal
 
-pub returns-in-Off : goal.returns-in-Off
-returns-in-Off g c =
-    refused_ends g.S.Shelf.device (λ log. RmlvDoes c.args.name) ⊥ c.args.stage c.refused.result.stage c.refused.result.reply c.requires.settled (c.refused.ensures.stage ∙ sym c.in-Off.is) refusal.NoGroup c.refused.ensures.reply
-    (λ last is. NoGroupForRmlv (ap session_in c.in-Off.is) is)
+pub returns-then-is_off : goal.returns-then-is_off
+returns-then-is_off g c =
+    refused_ends g.S.Shelf.device (λ log. RmlvDoes c.args.name) ⊥ OfGroup c.args.stage c.refused.result.stage c.refused.result.reply
+    c.requires.fits c.requires.between c.refused.ensures.stage refusal.NoGroup c.refused.ensures.reply (λ last is. NoGroupForRmlv (c.is_off.ensures.0 c.if-is_off.true) is)
 
-pub remove_volume-requires : goal.remove_volume-requires
-remove_volume-requires g c = record { settled = settled_as g.S.Shelf.device c.args.stage (stage.On c.in-On.driver) c.in-On.is c.requires.settled }
+pub returns-then-open-gt0 : goal.returns-then-open-gt0
+returns-then-open-gt0 g c =
+    let some : 1 ≤ open_in (session_in c.args.stage) = let many = c.if-open-gt0.true in let same = c.open.ensures in omega (arith, many, same) in
+    refused_ends g.S.Shelf.device (λ log. RmlvDoes c.args.name) ⊥ OfGroup c.args.stage c.refused-then-open-gt0.result.stage c.refused-then-open-gt0.result.reply
+    c.requires.fits c.requires.between c.refused-then-open-gt0.ensures.stage refusal.Busy c.refused-then-open-gt0.ensures.reply (λ last is. BusyRmlv some is)
 
-pub returns-in-Some : goal.returns-in-Some
-returns-in-Some g c = unasked_as g.S.Shelf.device _ _ _ _ _ _ _ _ c.in-On.is refl refl (c.remove_volume.ensures c.args.name c.in-Some.ensures.some)
+pub hold-holder-requires-clause-rows : goal.hold-holder-requires-clause-rows
+hold-holder-requires-clause-rows g c =
+    let none : open_in (session_in c.args.stage) ≡ 0 = let few = c.if-open-gt0.false in let same = c.open.ensures in omega (arith, few, same) in
+    let rested = subst (λ (n : ℕ). HasRested g.S.Shelf.device c.args.stage.holder n c.come_to_rest.new.patience.left c.in-Ok.driver) c.whole-patience.ensures c.in-Ok.ensures.rests in
+    rows_mid _ _ _ (at_mid g.S.Shelf.device c.args.stage c.requires.fits c.requires.between none c.come_to_rest.new.patience.left c.in-Ok.driver rested 0)
+
+pub hold-holder-requires-clause-may : goal.hold-holder-requires-clause-may
+hold-holder-requires-clause-may g c =
+    let none : open_in (session_in c.args.stage) ≡ 0 = let few = c.if-open-gt0.false in let same = c.open.ensures in omega (arith, few, same) in
+    let rested = subst (λ (n : ℕ). HasRested g.S.Shelf.device c.args.stage.holder n c.come_to_rest.new.patience.left c.in-Ok.driver) c.whole-patience.ensures c.in-Ok.ensures.rests in
+    may_again g.S.Shelf.device c.args.stage c.requires.fits c.requires.between none c.come_to_rest.new.patience.left c.in-Ok.driver rested c.args.name c.in-None.ensures.none
+
+pub remove_volume-requires-clause-rows : goal.remove_volume-requires-clause-rows
+remove_volume-requires-clause-rows g c =
+    let none : open_in (session_in c.args.stage) ≡ 0 = let few = c.if-open-gt0.false in let same = c.open.ensures in omega (arith, few, same) in
+    let rested = subst (λ (n : ℕ). HasRested g.S.Shelf.device c.args.stage.holder n c.come_to_rest.new.patience.left c.in-Ok.driver) c.whole-patience.ensures c.in-Ok.ensures.rests in
+    rows_mid _ _ _ (at_mid g.S.Shelf.device c.args.stage c.requires.fits c.requires.between none c.come_to_rest.new.patience.left c.in-Ok.driver rested 0)
 
 pub returns-in-None : goal.returns-in-None
 returns-in-None g c =
-    refused_ends g.S.Shelf.device (λ log. RmlvDoes c.args.name) ⊥ c.args.stage c.refused-in-None.result.stage c.refused-in-None.result.reply c.requires.settled (c.refused-in-None.ensures.stage ∙ sym c.in-On.is) refusal.NoVolume c.refused-in-None.ensures.reply
-    (λ last is. NoVolumeForRmlv c.in-On.driver.1 (ap session_in c.in-On.is) c.in-None.ensures.none is)
+    let none : open_in (session_in c.args.stage) ≡ 0 = let few = c.if-open-gt0.false in let same = c.open.ensures in omega (arith, few, same) in
+    let rested = subst (λ (n : ℕ). HasRested g.S.Shelf.device c.args.stage.holder n c.come_to_rest.new.patience.left c.in-Ok.driver) c.whole-patience.ensures c.in-Ok.ensures.rests in
+    unnamed_ends g.S.Shelf.device c.args.stage c.requires.fits c.requires.between none c.come_to_rest.new.patience.left c.in-Ok.driver rested c.args.name c.in-None.ensures.none
+    c.hold-holder.result c.hold-holder.ensures c.refused-in-None.result.stage c.refused-in-None.ensures.stage c.refused-in-None.result.reply c.refused-in-None.ensures.reply g.met.S.Shelf.sectors_are_whole
+
+pub returns-in-Some : goal.returns-in-Some
+returns-in-Some g c =
+    let none : open_in (session_in c.args.stage) ≡ 0 = let few = c.if-open-gt0.false in let same = c.open.ensures in omega (arith, few, same) in
+    let left = c.come_to_rest.new.patience.left in
+    let driver = c.in-Ok.driver in
+    let rested = subst (λ (n : ℕ). HasRested g.S.Shelf.device c.args.stage.holder n left driver) c.whole-patience.ensures c.in-Ok.ensures.rests in
+    let lv : ℕ = c.in-Some.lv in
+    let done = c.remove_volume.ensures in
+    let mid = state_of g.S.Shelf.device driver in
+    let new = state_of g.S.Shelf.device done.left in
+    ends_so g.S.Shelf.device c.args.stage c.requires.fits c.requires.between none left driver rested (λ was is given. RmlvGives lv left was is given) (λ core next. next ≡ without_volume core.descriptor lv) (λ core. NoPartition) 1
+    c.remove_volume.result.stage c.remove_volume.result.reply done g.met.S.Shelf.sectors_are_whole
+    (record {
+      facts = rmlv_facts lv left mid new rested.settled.power done.given done.gives;
+      landed = rmlv_bears HaveAllLanded landed_stays lv left mid new rested.between.landed done.given done.gives;
+      answers = λ range was. rmlv_bears (λ facts. AreAnswered facts range) (answers_stay range) lv left mid new was done.given done.gives;
+      shape = rmlv_shape lv left mid new done.given done.gives;
+      goes = λ m may alone. rmlv_goes_on rested.turned.core.history.run m lv left done.after mid new done.given may done.commanded done.gives;
+    })
+    (λ log. RmlvDoes c.args.name)
+    (λ last is. rmlv_does c.args.name lv rested.turned.core left mid done.given _ _ rested.turned.its (drains g.S.Shelf.device c.args.stage c.requires.fits c.requires.between none left driver rested last) c.in-Some.ensures.some is)
+
+pub returns-in-Err : goal.returns-in-Err
+returns-in-Err g c =
+    let none : open_in (session_in c.args.stage) ≡ 0 = let few = c.if-open-gt0.false in let same = c.open.ensures in omega (arith, few, same) in
+    let left = c.come_to_rest.new.patience.left in
+    let broken = subst (λ (n : ℕ). HasBrokenOff g.S.Shelf.device c.args.stage.holder n left c.in-Err.driver c.in-Err.why) c.whole-patience.ensures c.in-Err.ensures.breaks_off in
+    subst (λ (a : Reply). EndsUnasked g.S.Shelf.device (λ log. RmlvDoes c.args.name) ⊥ OfGroup c.args.stage c.refused-in-Err.result.stage a)
+    (sym (c.refused-in-Err.ensures.reply ∙ ap (λ (r : Refusal). reply.Refused r) c.drain_refusal.ensures))
+    (subst (λ (s : Stage g.row.S.Denot). EndsUnasked g.S.Shelf.device (λ log. RmlvDoes c.args.name) ⊥ OfGroup c.args.stage s (reply.Refused (drain_refusal c.in-Err.why))) (sym c.refused-in-Err.ensures.stage)
+    (undrained_ends g.S.Shelf.device c.args.stage c.requires.fits c.requires.between none left c.in-Err.driver c.in-Err.why broken c.ended.result (reply.Refused (drain_refusal c.in-Err.why)) c.ended.ensures.ended c.ended.ensures.rooms refl
+    (λ log. RmlvDoes c.args.name)
+    (λ last is. UndrainedRmlv broken.turned.core c.in-Err.why broken.turned.its is)))

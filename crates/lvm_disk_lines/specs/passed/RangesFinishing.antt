@@ -1,0 +1,2 @@
+-- Passed on from `lvm_ranges`.
+pub use Rattle.lvm_stage.specs.passed.RangesFinishing.{FinishGives, Finished, TakesRange, WasStuck}

@@ -1,0 +1,2 @@
+-- Passed on from `lvm_tie`.
+pub use Rattle.lvm_tie.proofs.Words.{any_one, clash, not_true, or_true}

@@ -1,0 +1,17 @@
+pub mod DriverAnswers
+pub mod DriverDrains
+pub mod DriverDrainDrainFault
+pub mod DriverDrainDrainFaultTheVariants
+pub mod RangesAsking
+pub mod RangesFinishing
+pub mod RangesKeeping
+pub mod RangesLanding
+pub mod RangesReading
+pub mod RangesStepping
+pub mod RangesLandingStuck
+pub mod RangesRefusalAskRangeFault
+pub mod RangesRefusalAskRangeFaultTheVariants
+pub mod RunningRunning
+pub mod TieSpares
+pub mod TieStamps
+pub mod TieTied

@@ -1,0 +1,2 @@
+-- Passed on from `lvm_tie_commands`.
+pub use Rattle.lvm_disk_lines.proofs.passed.TieCommandsMaking.{mklv_goes_on}

@@ -1,0 +1,2 @@
+-- Passed on from `lvm_disk_lines`.
+pub use Rattle.lvm_disk_lines.specs.Shelves.{ArrangeDoes, CutDoes, CutNotPlanned, IsArranged, NotPlanned, NotThere, PowerIsCut}

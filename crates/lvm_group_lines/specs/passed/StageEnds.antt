@@ -1,0 +1,2 @@
+-- Passed on from `lvm_stage`.
+pub use Rattle.lvm_disk_lines.specs.passed.StageEnds.{CommandEnds, EndsUnasked, patience_of_line}

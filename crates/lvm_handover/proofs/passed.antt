@@ -1,0 +1,17 @@
+pub mod EarlierResting
+pub mod EarlierRunning
+pub mod GroupGroups
+pub mod GroupKeeping
+pub mod RangesAnswering
+pub mod RangesAsking
+pub mod RangesFinishing
+pub mod RangesGrowing
+pub mod RangesTables
+pub mod RunningCalls
+pub mod RunningRunning
+pub mod TieBeginsResting
+pub mod VaryonGrouping
+pub mod VaryonSizes
+pub mod VolumesFresh
+pub mod VolumesLeaving
+pub mod VolumesPlaces

@@ -1,0 +1,2 @@
+-- Passed on from `lvm_earlier`.
+pub use Rattle.lvm_earlier.proofs.Running.{stays_beside}

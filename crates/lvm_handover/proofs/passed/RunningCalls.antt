@@ -1,0 +1,2 @@
+-- Passed on from `lvm_running`.
+pub use Rattle.lvm_earlier.proofs.passed.RunningCalls.{calls_run_on}

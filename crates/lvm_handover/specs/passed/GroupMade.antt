@@ -1,0 +1,2 @@
+-- Passed on from `lvm_group`.
+pub use Rattle.lvm_group.specs.Made.{Breaks, IsAsBefore, IsMade, MkvgGives, Refuses, beginning_for}

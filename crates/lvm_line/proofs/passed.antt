@@ -1,0 +1,10 @@
+pub mod GroupGroups
+pub mod GroupKeeping
+pub mod QuiesceBehind
+pub mod QuiesceEnding
+pub mod RunningRunning
+pub mod StageRunning
+pub mod TieCommandsResting
+pub mod TieGroupsLeaving
+pub mod VaryonGrouping
+pub mod VaryonSizes

@@ -1,0 +1,16 @@
+pub mod passed
+pub mod Texts
+pub mod Posting
+pub mod Ending
+pub mod Steps
+pub mod Holding
+pub mod Naming
+pub mod Lines
+pub mod Refusing
+pub mod Adding
+pub mod Takings
+pub mod Awaiting
+pub mod Behind
+pub mod Landed
+pub mod Waits
+pub mod Resting

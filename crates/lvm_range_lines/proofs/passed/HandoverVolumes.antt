@@ -1,0 +1,2 @@
+-- Passed on from `lvm_handover`.
+pub use Rattle.lvm_group_lines.proofs.passed.HandoverVolumes.{mklv_serves, rmlv_serves}

@@ -1,0 +1,2 @@
+-- Passed on from `lvm_stage`.
+pub use Rattle.lvm_group_lines.proofs.passed.StagePassive.{Bears, bears_cut, landed_bears, open_more}

@@ -1,0 +1,38 @@
+use Rattle.std.proofs.Common.{◌≤◌, refl, sym, ◌∙◌, subst, arith}
+use Rattle.lvm_group_lines.specs.passed.DriverAnswers.{state_of}
+use Rattle.lvm_group_lines.specs.passed.StageReplyReply.{Reply}
+use Rattle.lvm_group_lines.specs.passed.StageStageStage.{Stage}
+use Rattle.lvm_group_lines.specs.passed.StageReplies.{most_refusals}
+use Rattle.lvm_group_lines.specs.passed.StageStages.{HaveRooms, IsCarried}
+use Rattle.lvm_range_lines.specs.Stepping.{StepDoes, Steps}
+use Rattle.lvm_range_lines.proofs.Ending.{RunsTo, carried_ends, carried_leaves}
+use Rattle.lvm_range_lines.proofs.Posting.{table_posts}
+use Rattle.lvm_range_lines.proofs.Steps.{step_few}
+use Rattle.lvm_range_lines.proofs.stepping.step_on.Goals as goal
+
+pub returns : goal.returns
+returns g c =
+    let device = g.S.Shelf.device in
+    let first = c.args.driver in
+    let end = c.step-moved.new.driver in
+    let made = c.step-moved.ensures in
+    let stage = c.answered.result.stage in
+    let answer = c.answered.result.reply in
+    let says = c.answered.ensures.reply ∙ c.step_reply-reply.ensures.reply in
+    let to : RunsTo device first end = record { runs = made.runs; sound = c.step_reply-reply.ensures.sound } in
+    let carried : IsCarried device end c.args.posts c.args.bytes end.1.power stage = subst (IsCarried device end c.args.posts c.args.bytes end.1.power) (sym c.answered.ensures.stage) c.carried.ensures.carried in
+    let one : most_refusals answer ≤ 1 = subst (λ (a : Reply). most_refusals a ≤ 1) (sym says) (step_few c.step-moved.result.0 (state_of device end) c.step-moved.result.1) in
+    let rooms_then = subst (λ (s : Stage g.row.S.Denot). HaveRooms first.1.history.room s.posts s.bytes) (sym c.answered.ensures.stage) (c.carried.ensures.rooms first.1.history.room c.requires.fits.rooms) in
+    carried_ends device first c.args.posts c.args.bytes c.requires.fits c.requires.between end to (λ log. StepDoes c.args.turns) c.args.posts c.args.bytes c.requires.fits.rooms stage answer
+    (omega (arith, one))
+    (λ last. Steps first.1 refl c.requires.fits.kind (record {
+      end = state_of device end;
+      moved = c.step-moved.result.0;
+      how = c.step-moved.result.1;
+      ends = made.ends;
+      runs = made.runs;
+      sound = c.step_reply-reply.ensures.sound;
+      leaves = carried_leaves device end c.args.posts c.args.bytes stage last carried;
+      says = says;
+    }))
+    (table_posts first.1 end.1 made.table c.args.posts.items c.requires.between.posted) rooms_then carried

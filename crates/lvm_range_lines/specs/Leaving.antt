@@ -1,0 +1,88 @@
+-- What turns and calls of a session leave between two lines.
+use Rattle.std.specs.Prelude.{◌≡◌, ◌-◌, ℕ, Bool, true, false, List, Some, None, Result, Ok, Err}
+use Rattle.std.specs.Global.{Vec}
+use Rattle.lvm_disk.specs.Counts.{RoseBy}
+use Rattle.lvm_disk.specs.Device.{Device}
+use Rattle.lvm_session.specs.declared.open.Power.{Power}
+use Rattle.lvm_session.specs.declared.open.Power.TheVariants as power
+use Rattle.lvm_session.specs.State.{Core, State as Session, state}
+use Rattle.lvm_posts.specs.declared.fault.RangeFault.{RangeFault}
+use Rattle.lvm_posts.specs.declared.posts.Post.{Post}
+use Rattle.lvm_group_lines.specs.passed.StageHolderHolderTheVariants as holder
+use Rattle.lvm_group_lines.specs.passed.StageStageStage.{Stage}
+use Rattle.lvm_group_lines.specs.passed.StageEnds.{patience_of_line}
+use Rattle.lvm_group_lines.specs.passed.StageStages.{IsCarried, IsClosed, IsEnded, posts_ended}
+use Rattle.lvm_group_lines.specs.passed.StageState.{ArePosted, State}
+use Rattle.lvm_range_lines.specs.Refusals.{is_stuck}
+
+-- ---- states
+
+-- the session over the shelf of a state
+abbrev pub session_over : State → Core → Session
+session_over s core = state s.moment.device core
+
+-- it goes on with these posts
+abbrev pub GoesOnWith : Session → List Post → ℕ → State → Type 0
+GoesOnWith end posts last new = new ≡ record { moment = record { device = end.device; facts = end.core.history.facts }; session = Some end.core; posts = posts; last = last }
+
+-- it is closed, and its posts have ended; after a power cut the power is on again
+pub record IsOverWith (end : Session) (posts : List Post) (last : ℕ) (new : State) : Type 0 where
+  pub shelf : IsClosed end.core.power end.device new.moment.device
+  pub facts : new.moment.facts ≡ end.core.history.facts
+  pub session : new.session ≡ None
+  pub posted : new.posts ≡ posts_ended (Some end.core) posts
+  pub clock : new.last ≡ last
+
+-- It goes on where it is on, and is closed where it is over.
+abbrev pub LeavesBy : Power → Session → List Post → ℕ → State → Type 0
+LeavesBy power.On end posts last new = GoesOnWith end posts last new
+LeavesBy power.Off end posts last new = IsOverWith end posts last new
+LeavesBy power.Dark end posts last new = IsOverWith end posts last new
+LeavesBy power.Stuck end posts last new = IsOverWith end posts last new
+
+abbrev pub Leaves : Session → List Post → ℕ → State → Type 0
+Leaves end posts last new = LeavesBy end.core.power end posts last new
+
+-- so it does behind a range that failed; one that is stuck is closed
+abbrev pub FailsIf : Bool → Session → List Post → ℕ → State → Type 0
+FailsIf true end posts last new = IsOverWith end posts last new
+FailsIf false end posts last new = Leaves end posts last new
+
+abbrev pub FailsBy : RangeFault → Session → List Post → ℕ → State → Type 0
+FailsBy why end posts last new = FailsIf (is_stuck why) end posts last new
+
+-- and behind one that was waited for
+abbrev pub EndsBy : {A : Type 0} → Result A RangeFault → Session → List Post → ℕ → State → Type 0
+EndsBy (Ok done) end posts last new = Leaves end posts last new
+EndsBy (Err why) end posts last new = FailsBy why end posts last new
+
+-- the patience of a line went with answers that nothing had ended, and so much of it is left
+abbrev pub Waited : ℕ → Session → Session → Type 0
+Waited left old new = RoseBy (patience_of_line - left) old.device.counts.waits new.device.counts.waits
+
+-- ---- stages
+
+-- the session of a group with volumes, with these posts
+abbrev pub serving : {S : Type 0} → S × Core → Vec Post → Vec ℕ → Stage S
+serving driver posts bytes = record { holder = holder.Serving driver; posts = posts; bytes = bytes }
+
+-- that of a group without one
+abbrev pub resting : {S : Type 0} → S × Core → Vec Post → Vec ℕ → Stage S
+resting driver posts bytes = record { holder = holder.Empty driver; posts = posts; bytes = bytes }
+
+-- what stands behind a range that failed
+abbrev pub StageFailsIf : {S : Type 0} → Bool → (S → Device) → S × Core → Vec Post → Vec ℕ → Stage S → Type 0
+StageFailsIf true device driver posts bytes stage = IsEnded device driver posts.items stage
+StageFailsIf false device driver posts bytes stage = IsCarried device driver posts bytes driver.1.power stage
+
+abbrev pub StageFails : {S : Type 0} → RangeFault → (S → Device) → S × Core → Vec Post → Vec ℕ → Stage S → Type 0
+StageFails why device driver posts bytes stage = StageFailsIf (is_stuck why) device driver posts bytes stage
+
+-- and behind one that was waited for
+abbrev pub StageEndsBy : {S A : Type 0} → Result A RangeFault → (S → Device) → S × Core → Vec Post → Vec ℕ → Stage S → Type 0
+StageEndsBy (Ok done) device driver posts bytes stage = IsCarried device driver posts bytes driver.1.power stage
+StageEndsBy (Err why) device driver posts bytes stage = StageFails why device driver posts bytes stage
+
+-- posts stay what they are
+abbrev pub KeepsPosts : Core → Core → Type 0
+KeepsPosts old new = (posts : List Post) → ArePosted old.history.facts (Some old) posts → ArePosted new.history.facts (Some new) posts

@@ -1,0 +1,39 @@
+-- What `step` does.
+use Rattle.std.specs.Prelude.{◌≡◌, ◌≢◌, ℕ, [], Some, None}
+use Rattle.lvm_num.specs.Votes.{total_votes}
+use Rattle.lvm_session.specs.declared.answers.Turned.{Turned}
+use Rattle.lvm_session.specs.declared.answers.Turned.TheVariants as turned
+use Rattle.lvm_session.specs.Sound.{IsSound}
+use Rattle.lvm_session.specs.State.{Core, State as Session, votes_there}
+use Rattle.lvm_group_lines.specs.passed.RunningRunning.{RunsOn}
+use Rattle.lvm_group_lines.specs.passed.RangesStepping.{StepEnds}
+use Rattle.lvm_group_lines.specs.passed.StageState.{State}
+use Rattle.lvm_group_lines.specs.passed.StageReplies.{IsRefused}
+use Rattle.lvm_group_lines.specs.passed.StageReplyRefusalTheVariants as refusal
+use Rattle.lvm_group_lines.specs.passed.StageReplyReply.{Reply}
+use Rattle.lvm_group_lines.specs.passed.StageReplyReplyTheVariants as reply
+use Rattle.lvm_range_lines.specs.Leaving.{Leaves, session_over}
+
+-- the reply where so many turns have moved, and the last one answered so
+abbrev pub step_reply : ℕ → Session → Turned → Reply
+step_reply moved end turned.Moved = reply.Stepped moved
+step_reply moved end turned.Idle = reply.Stepped moved
+step_reply moved end turned.Dark = reply.Refused refusal.Dark
+step_reply moved end turned.Off = reply.Refused (refusal.WentOff (votes_there end.core) (total_votes end.core.descriptor))
+
+-- the turns of a session are made
+pub record IsStepped (turns : ℕ) (core : Core) (old new : State) (answer : Reply) : Type 0 where
+  pub end : Session
+  pub moved : ℕ
+  pub how : Turned
+  pub ends : StepEnds turns (session_over old core) end moved how
+  pub runs : RunsOn (session_over old core) end
+  pub sound : IsSound end
+  pub leaves : Leaves end old.posts old.last new
+  pub says : answer ≡ step_reply moved end how
+
+-- It is refused while no group is on. In a group without volumes nothing is under way, so no turn moves. Else the turns are made.
+pub data StepDoes (turns : ℕ) (old new : State) (answer : Reply) : Type 0 where
+  NoStepWhileOff : old.session ≡ None → IsRefused refusal.NoGroup answer old new → StepDoes turns old new answer
+  NothingMoves : (core : Core) → old.session ≡ Some core → core.descriptor.lvs ≡ [] → answer ≡ reply.Stepped 0 → new ≡ old → StepDoes turns old new answer
+  Steps : (core : Core) → old.session ≡ Some core → core.descriptor.lvs ≢ [] → IsStepped turns core old new answer → StepDoes turns old new answer

@@ -1,0 +1,13 @@
+//! The lines that read and write volumes, at once or later, and make turns.
+#![tactic(auto)]
+
+pub mod below;
+mod answers;
+mod refusal;
+mod requests;
+mod stepping;
+mod waiting;
+
+pub use requests::{do_post, do_rd, do_wr};
+pub use stepping::do_step;
+pub use waiting::do_wait;

@@ -1,0 +1,2 @@
+pub mod RunningCalls
+pub mod RunningRunning

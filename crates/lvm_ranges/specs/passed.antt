@@ -1,0 +1,5 @@
+pub mod DriverAnswers
+pub mod DriverDrains
+pub mod DriverDrainDrainFault
+pub mod DriverDrainDrainFaultTheVariants
+pub mod RunningRunning

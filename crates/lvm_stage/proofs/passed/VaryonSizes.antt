@@ -1,0 +1,2 @@
+-- Passed on from `lvm_varyon`.
+pub use Rattle.lvm_tie_commands.proofs.passed.VaryonSizes.{status_fits}

@@ -1,0 +1,2 @@
+-- Passed on from `lvm_ranges`.
+pub use Rattle.lvm_tie_commands.specs.passed.RangesLanding.{AwaitEnds, HaveLanded, IsUnfinished, TurnsFor}

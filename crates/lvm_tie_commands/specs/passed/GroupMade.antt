@@ -1,0 +1,2 @@
+-- Passed on from `lvm_group`.
+pub use Rattle.lvm_handover.specs.passed.GroupMade.{Breaks, IsAsBefore, IsMade, MkvgGives, Refuses, beginning_for}

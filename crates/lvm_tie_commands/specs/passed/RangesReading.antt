@@ -1,0 +1,2 @@
+-- Passed on from `lvm_ranges`.
+pub use Rattle.lvm_handover.specs.passed.RangesReading.{AreGot, HasEndedWell, IsRead}

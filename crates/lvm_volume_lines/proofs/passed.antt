@@ -1,0 +1,14 @@
+pub mod GroupGroups
+pub mod GroupKeeping
+pub mod GroupLinesComing
+pub mod QuiesceBehind
+pub mod QuiesceEnding
+pub mod RunningRunning
+pub mod StageEnds
+pub mod StageGoing
+pub mod StageRunning
+pub mod StageStaging
+pub mod TieCommandsResting
+pub mod TieGroupsLeaving
+pub mod VaryonGrouping
+pub mod VaryonSizes

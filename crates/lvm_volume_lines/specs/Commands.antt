@@ -1,0 +1,96 @@
+-- How a session comes to rest before a command, and what is left of it.
+use Rattle.std.specs.Prelude.{◌≡◌, ◌≢◌, ◌≤◌, ◌-◌, ℕ, Bool, true, false, [], Some, None, Result, Vec}
+use Rattle.std.specs.declared.alloc.Global.{Global}
+use Rattle.lvm_disk.specs.Counts.{RoseBy}
+use Rattle.lvm_disk.specs.Device.{Device}
+use Rattle.lvm_disk.specs.Paths.{Path}
+use Rattle.lvm_transfer.specs.Transfer.{Relights}
+use Rattle.lvm_session.specs.State.{Core, State as Session, state}
+use Rattle.lvm_session.specs.Sound.{IsSound}
+use Rattle.lvm_core.specs.Leaves.{Scope}
+use Rattle.lvm_core.specs.Settled.{IsSettled}
+use Rattle.lvm_core.specs.Sound.{IsSound as IsSoundBetween}
+use Rattle.lvm_core.specs.State.{state_of}
+use Rattle.lvm_range_lines.specs.passed.DriverDrainDrainFault.{DrainFault}
+use Rattle.lvm_range_lines.specs.passed.DriverDrains.{FailsSo, IsAny, IsTurn}
+use Rattle.lvm_range_lines.specs.passed.RunningRunning.{RunsOn}
+use Rattle.lvm_range_lines.specs.passed.HandoverServing.{IsCommanded, IsServed}
+use Rattle.lvm_posts.specs.declared.posts.Post.{Post}
+use Rattle.lvm_volume_plan.specs.declared.fault.GroupFault.{GroupFault}
+use Rattle.lvm_range_lines.specs.passed.StageStages.{HaveRooms, IsOfKind, history_in, history_of, posts_ended, session_in, session_of, shelf_in, shelf_of}
+use Rattle.lvm_range_lines.specs.passed.StageHolderHolder.{Holder}
+use Rattle.lvm_range_lines.specs.passed.StageReplyReply.{Reply}
+use Rattle.lvm_range_lines.specs.passed.StageStageStage.{Stage}
+use Rattle.lvm_volume_lines.specs.Volumes.{is_over, volume_reply}
+
+-- ---- before it
+
+-- the session of a holder
+abbrev pub session_at : {S : Type 0} → (S → Device) → Holder S → Core → Session
+session_at device holder core = state (device (shelf_of holder)) core
+
+-- Turns have run the session on, and so much patience is left.
+pub record IsTurned {S : Type 0} (device : S → Device) (holder : Holder S) (before after : ℕ) (driver : S × Core) : Type 0 where
+  pub core : Core
+  pub its : session_of holder ≡ Some core
+  pub turns : Path IsTurn IsAny (session_at device holder core) (state_of device driver)
+  pub runs : RunsOn (session_at device holder core) (state_of device driver)
+  pub sound : IsSound (state_of device driver)
+  pub few : after ≤ before
+  pub waited : RoseBy (before - after) (device (shelf_of holder)).counts.waits (device driver.0).counts.waits
+
+-- Then nothing is under way; where the group has no volume nothing was.
+pub record HasRested {S : Type 0} (device : S → Device) (holder : Holder S) (before after : ℕ) (driver : S × Core) : Type 0 where
+  pub turned : IsTurned device holder before after driver
+  pub empty : turned.core.descriptor.lvs ≡ [] → state_of device driver ≡ session_at device holder turned.core
+  pub settled : IsSettled driver.1
+  pub between : IsSoundBetween (state_of device driver)
+
+-- Or they ended before, for this.
+pub record HasBrokenOff {S : Type 0} (device : S → Device) (holder : Holder S) (before after : ℕ) (driver : S × Core) (why : DrainFault) : Type 0 where
+  pub turned : IsTurned device holder before after driver
+  pub volumes : turned.core.descriptor.lvs ≢ []
+  pub fails : FailsSo after (state_of device driver) why
+
+-- ---- after it
+
+-- The session is held again: as it is where its group has no volume, else it takes requests.
+pub record IsHeldAgain {S : Type 0} (device : S → Device) (driver : S × Core) (by : Holder S) : Type 0 where
+  pub core : Core
+  pub session : session_of by ≡ Some core
+  pub shelf : shelf_of by ≡ driver.0
+  pub history : history_of by ≡ driver.1.history
+  pub is : core ≡ record driver.1 { origin = core.origin }
+  pub empty : driver.1.descriptor.lvs ≡ [] → core ≡ driver.1
+  pub served : driver.1.descriptor.lvs ≢ [] → IsServed [] driver.1 core
+  pub sound : IsSound (state (device driver.0) core)
+  pub kind : IsOfKind by
+
+-- so a stage holds it
+pub record IsLeftOn {S : Type 0} (device : S → Device) (driver : S × Core) (posts : Vec Post Global) (bytes : Vec ℕ Global) (stage : Stage S) : Type 0 where
+  pub by : Holder S
+  pub held : IsHeldAgain device driver by
+  pub is : stage ≡ record { holder = by; posts = posts; bytes = bytes }
+
+-- or it is closed, its posts have ended, and the power is on
+pub record IsLeftOff {S : Type 0} (device : S → Device) (driver : S × Core) (posts : Vec Post Global) (bytes : Vec ℕ Global) (stage : Stage S) : Type 0 where
+  pub session : session_in stage ≡ None
+  pub lit : Relights (device driver.0) (device (shelf_in stage))
+  pub history : history_in stage ≡ driver.1.history
+  pub posted : stage.posts.items ≡ posts_ended (Some driver.1) posts.items
+  pub rooms : (entries : ℕ) → HaveRooms entries posts bytes → HaveRooms entries stage.posts stage.bytes
+  pub kind : IsOfKind stage.holder
+
+abbrev pub IsLeftAs : {S : Type 0} → (S → Device) → Bool → S × Core → Vec Post Global → Vec ℕ Global → Stage S → Type 0
+IsLeftAs device true driver posts bytes stage = IsLeftOff device driver posts bytes stage
+IsLeftAs device false driver posts bytes stage = IsLeftOn device driver posts bytes stage
+
+-- The command was answered so, and left this of the session.
+pub record IsCarriedOut {S X : Type 0} (device : S → Device) (Gives : Session → Session → Result X GroupFault → Type 0) (scope : Scope) (before : ℕ) (driver : S × Core) (posts : Vec Post Global) (bytes : Vec ℕ Global) (stage : Stage S) (answer : Reply) : Type 0 where
+  pub given : Result X GroupFault
+  pub left : S × Core
+  pub after : ℕ
+  pub gives : Gives (state_of device driver) (state_of device left) given
+  pub commanded : IsCommanded scope before after (state_of device driver) (state_of device left) given
+  pub is : IsLeftAs device (is_over given) left posts bytes stage
+  pub says : answer ≡ volume_reply given

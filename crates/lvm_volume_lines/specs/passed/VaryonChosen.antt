@@ -1,0 +1,2 @@
+-- Passed on from `lvm_varyon`.
+pub use Rattle.lvm_range_lines.specs.passed.VaryonChosen.{MayComeOn, answering}
