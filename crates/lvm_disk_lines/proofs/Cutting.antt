@@ -28,13 +28,13 @@ use Rattle.lvm_keeps.proofs.Orders.{order_keeps}
 use Rattle.lvm_core.specs.Sound.{HaveAllLanded}
 use Rattle.lvm_core.specs.Settled.{IsSettled as IsSettledCore}
 use Rattle.lvm_core.proofs.Dark.{cut_landed}
-use Rattle.lvm_stage.proofs.passed.RunningCalls.{calls_run_on}
+use Rattle.lvm_stage.proofs.passed.Running.{calls_run_on}
 use Rattle.lvm_posts.specs.declared.posts.Post.{Post}
 use Rattle.lvm_posts.specs.Posts.{AreAnswered, ended_with}
 use Rattle.lvm_posts.proofs.Closed.{over_answered}
-use Rattle.lvm_stage.specs.passed.QuiesceBehind.{IsAheadEach}
-use Rattle.lvm_stage.proofs.passed.QuiesceBehind.{fewer_stay_behind}
-use Rattle.lvm_stage.specs.passed.TieCommandsStanding.{StandsAfter}
+use Rattle.lvm_stage.specs.passed.Quiesce.{IsAheadEach}
+use Rattle.lvm_stage.proofs.passed.Quiesce.{fewer_stay_behind}
+use Rattle.lvm_stage.specs.passed.TieCommands.{StandsAfter}
 use Rattle.lvm_stage.specs.Ends.{EndsUnasked}
 use Rattle.lvm_stage.specs.Moments.{Aside, GoesOn, HasBegunHeld}
 use Rattle.lvm_disk_lines.specs.Shelves.{IsCut, CutDoes, PowerIsCut}

@@ -19,10 +19,10 @@ use Rattle.lvm_session.specs.Sound.{IsSound}
 use Rattle.lvm_session.specs.State.{Core, state}
 use Rattle.lvm_session.specs.Turns.{Arranges as ArrangesSession}
 use Rattle.lvm_keeps.proofs.Orders.{order_keeps}
-use Rattle.lvm_stage.specs.passed.RunningRunning.{LeavesSession}
-use Rattle.lvm_stage.proofs.passed.RunningCalls.{calls_run_on}
-use Rattle.lvm_stage.specs.passed.TieCommandsStanding.{StandsAfter}
-use Rattle.lvm_stage.specs.passed.QuiesceBehind.{IsAheadEach}
+use Rattle.lvm_stage.specs.passed.Running.{LeavesSession}
+use Rattle.lvm_stage.proofs.passed.Running.{calls_run_on}
+use Rattle.lvm_stage.specs.passed.TieCommands.{StandsAfter}
+use Rattle.lvm_stage.specs.passed.Quiesce.{IsAheadEach}
 use Rattle.lvm_stage.specs.Ends.{EndsUnasked}
 use Rattle.lvm_stage.specs.Moments.{Aside, GoesOn}
 use Rattle.lvm_disk_lines.specs.Shelves.{ArrangeDoes, IsArranged, over}

@@ -8,13 +8,12 @@ use Rattle.lvm_kept.specs.Moments.{Moment}
 use Rattle.lvm_steps.specs.Requests.{at}
 use Rattle.lvm_vol.specs.Log.{Log}
 use Rattle.lvm_vol.specs.Order.{Ordered}
-use Rattle.lvm_stage.proofs.passed.TieCommandsLanded.{spans_follow}
+use Rattle.lvm_stage.proofs.passed.TieCommands.{spans_follow}
 use Rattle.lvm_raw.specs.Keeping.{IsUnstuck}
 use Rattle.lvm_raw.specs.declared.fault.RawFault.{RawFault}
 use Rattle.lvm_raw.specs.declared.fault.RawFault.TheVariants as fault
-use Rattle.lvm_stage.specs.passed.QuiesceBehind.{IsBehindEach}
-use Rattle.lvm_stage.specs.passed.QuiesceRanges.{RangeKeepsEach}
-use Rattle.lvm_stage.proofs.passed.QuiesceBehind.{still_is_behind_each}
+use Rattle.lvm_stage.specs.passed.Quiesce.{IsBehindEach, RangeKeepsEach}
+use Rattle.lvm_stage.proofs.passed.Quiesce.{still_is_behind_each}
 use Rattle.lvm_posts.specs.declared.posts.Post.{Post}
 use Rattle.lvm_disk_lines.specs.Disks.{ShowsRead, blocks_text, refusal_by, write_reply}
 use Rattle.lvm_stage.specs.Ends.{EndsUnasked}

@@ -20,7 +20,7 @@ use Rattle.lvm_raw.specs.declared.fault.RawFault.TheVariants as fault
 use Rattle.lvm_raw.specs.Looking.{look_ends}
 use Rattle.lvm_raw.specs.Pieces.{PiecesGo, NoPiece, OnePiece, RangeGoes, WentThrough, WasBroken, WritesGo, ReadsGo}
 use Rattle.lvm_raw.specs.Raw.{RawGives, Rejected, Unasked, Asked as WasAsked, log_with}
-use Rattle.lvm_stage.specs.passed.QuiesceRanges.{RangeOnceQuiet, RejectedAtOnce, KeptFrom, AskedAtRest, RangeStaysOut, WriteOnceQuiet, ReadOnceQuiet}
+use Rattle.lvm_stage.specs.passed.Quiesce.{RangeOnceQuiet, RejectedAtOnce, KeptFrom, AskedAtRest, RangeStaysOut, WriteOnceQuiet, ReadOnceQuiet}
 use Rattle.lvm_stage.proofs.Passive.{Bears, bears_cut}
 use Rattle.lvm_stage.proofs.Posting.{LeavesAnswers, answered_numbers}
 

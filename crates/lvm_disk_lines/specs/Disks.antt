@@ -2,7 +2,7 @@
 use Rattle.std.specs.Prelude.{◌≡◌, ◌∷◌, ◌++◌, ◌+◌, ℕ, [], List, None, IsSome, Result, Ok, Err}
 use Rattle.lvm_num.specs.Buffer.{Sector}
 use Rattle.lvm_kept.specs.Moments.{Moment}
-use Rattle.lvm_stage.specs.passed.QuiesceRanges.{ReadOnceQuiet, WriteOnceQuiet}
+use Rattle.lvm_stage.specs.passed.Quiesce.{ReadOnceQuiet, WriteOnceQuiet}
 use Rattle.lvm_vol.specs.Log.{Log}
 use Rattle.lvm_replies.specs.Blocks.{block_text}
 use Rattle.lvm_raw.specs.declared.fault.RawFault.{RawFault}

@@ -18,8 +18,8 @@ use Rattle.lvm_tie.proofs.LandingsCauses.{goes_on}
 use Rattle.lvm_tie.proofs.Spanning.{goes_entry}
 use Rattle.lvm_posts.specs.declared.asked.Asked.{Asked}
 use Rattle.lvm_posts.specs.Posts.{AreAnswered, takings}
-use Rattle.lvm_ranges.specs.passed.RunningRunning.{RunsOn}
-use Rattle.lvm_ranges.proofs.passed.RunningRunning.{runs_both, runs_none}
+use Rattle.lvm_ranges.specs.passed.Running.{RunsOn}
+use Rattle.lvm_ranges.proofs.passed.Running.{runs_both, runs_none}
 use Rattle.lvm_earlier.specs.Earlier.{AreGone, EarlierStaysBeside, StaysBeside, with_taken}
 use Rattle.lvm_earlier.proofs.Sound.{one_keeps}
 use Rattle.lvm_earlier.proofs.Tying.{tied_beside}

@@ -1,8 +1,3 @@
-pub mod RangesAnswering
-pub mod RangesAsking
-pub mod RangesFinishing
-pub mod RangesGrowing
-pub mod RangesTables
-pub mod RunningCalls
-pub mod RunningRunning
-pub mod TieWords
+pub mod Ranges
+pub mod Running
+pub mod Tie

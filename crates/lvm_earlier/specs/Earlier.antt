@@ -7,7 +7,7 @@ use Rattle.lvm_session.specs.Sound.{IsSound}
 use Rattle.lvm_session.specs.State.{Core, State, state}
 use Rattle.lvm_posts.specs.declared.asked.Asked.{Asked}
 use Rattle.lvm_posts.specs.Posts.{AreAnswered, takings}
-use Rattle.lvm_ranges.specs.passed.RunningRunning.{RunsOn}
+use Rattle.lvm_ranges.specs.passed.Running.{RunsOn}
 
 -- none of its pieces is a request of the table
 abbrev pub AreGone : Core → Asked → Type 0

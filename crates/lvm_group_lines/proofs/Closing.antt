@@ -8,19 +8,12 @@ use Rattle.lvm_vol.specs.Log.{Log}
 use Rattle.lvm_session.specs.State.{Core}
 use Rattle.lvm_posts.specs.declared.posts.Post.{Post}
 use Rattle.lvm_group_lines.specs.Groups.{VaryoffDoes, VariesOff}
-use Rattle.lvm_disk_lines.specs.passed.StageAsking.{EndsSession}
-use Rattle.lvm_disk_lines.specs.passed.StageEnds.{EndsUnasked}
-use Rattle.lvm_disk_lines.specs.passed.StageMoments.{Aside}
-use Rattle.lvm_disk_lines.specs.passed.StageReplies.{most_refusals}
-use Rattle.lvm_disk_lines.specs.passed.StageStages.{GivesBack, HaveRooms, IsBetweenStage, IsFitting, IsOn, history_in, history_of, posts_ended, session_in, session_of, shelf_in, state_in}
-use Rattle.lvm_disk_lines.specs.passed.StageState.{without_facts}
-use Rattle.lvm_disk_lines.specs.passed.StageHolderHolder.{Holder}
-use Rattle.lvm_disk_lines.specs.passed.StageHolderHolderTheVariants as holder
-use Rattle.lvm_disk_lines.specs.passed.StageReplyReply.{Reply}
-use Rattle.lvm_disk_lines.specs.passed.StageReplyReplyTheVariants as reply
-use Rattle.lvm_disk_lines.specs.passed.StageStageStage.{Stage}
-use Rattle.lvm_disk_lines.proofs.passed.StageEnds.{unasked_as}
-use Rattle.lvm_disk_lines.proofs.passed.StageGoing.{ended_goes}
+use Rattle.lvm_disk_lines.specs.passed.Stage.{EndsSession, EndsUnasked, Aside, most_refusals, GivesBack, HaveRooms, IsBetweenStage, IsFitting, IsOn}
+use Rattle.lvm_disk_lines.specs.passed.Stage.{history_in, history_of, posts_ended, session_in, session_of, shelf_in, state_in, without_facts, Holder}
+use Rattle.lvm_disk_lines.specs.passed.Stage.{Reply, Stage}
+use Rattle.lvm_disk_lines.specs.passed.HolderVariants as holder
+use Rattle.lvm_disk_lines.specs.passed.ReplyVariants as reply
+use Rattle.lvm_disk_lines.proofs.passed.Stage.{unasked_as, ended_goes}
 use Rattle.lvm_group_lines.proofs.Coming.{held}
 
 -- a session's history is its holder's

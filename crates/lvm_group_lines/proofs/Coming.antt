@@ -22,29 +22,21 @@ use Rattle.lvm_core.specs.Settled.{IsSettled as IsSettledCore}
 use Rattle.lvm_core.specs.Sound.{HaveAllLanded}
 use Rattle.lvm_core.specs.State.{state_of}
 use Rattle.lvm_session.specs.State.{Core, state}
-use Rattle.lvm_disk_lines.specs.passed.HandoverBeginning.{Serves}
-use Rattle.lvm_disk_lines.specs.passed.TieCommandsStanding.{StandsAfter}
-use Rattle.lvm_disk_lines.proofs.passed.TieCommandsLanded.{spans_follow}
+use Rattle.lvm_disk_lines.specs.passed.Handover.{Serves}
+use Rattle.lvm_disk_lines.specs.passed.TieCommands.{StandsAfter}
+use Rattle.lvm_disk_lines.proofs.passed.TieCommands.{spans_follow}
 use Rattle.lvm_posts.specs.declared.posts.Post.{Post}
 use Rattle.lvm_posts.specs.Posts.{AreAnswered}
-use Rattle.lvm_disk_lines.specs.passed.QuiesceBehind.{ClockIsAheadEach, IsAheadEach}
-use Rattle.lvm_disk_lines.specs.passed.QuiesceGroups.{BringsOnEach, IsStartedEach}
-use Rattle.lvm_disk_lines.proofs.passed.QuiesceBehind.{still_is_behind_each}
+use Rattle.lvm_disk_lines.specs.passed.Quiesce.{ClockIsAheadEach, IsAheadEach, BringsOnEach, IsStartedEach}
+use Rattle.lvm_disk_lines.proofs.passed.Quiesce.{still_is_behind_each}
 use Rattle.lvm_group_lines.specs.Groups.{IsHeldBy, IsLeftBy}
-use Rattle.lvm_disk_lines.specs.passed.StageEnds.{CommandEnds}
-use Rattle.lvm_disk_lines.specs.passed.StageLighting.{IsRelit, refusal_of}
-use Rattle.lvm_disk_lines.specs.passed.StageMoments.{Aside, GoesOn, HasBegunHeld}
-use Rattle.lvm_disk_lines.specs.passed.StageStages.{HaveRooms, IsBetweenStage, IsFitting, IsOfKind, history_of, session_of, shelf_of, state_in}
-use Rattle.lvm_disk_lines.specs.passed.StageState.{ArePosted, IsBetween, StandsAlone, State, without_facts}
-use Rattle.lvm_disk_lines.specs.passed.StageHolderHolder.{Holder}
-use Rattle.lvm_disk_lines.specs.passed.StageHolderHolderTheVariants as holder
-use Rattle.lvm_disk_lines.specs.passed.StageReplyReply.{Reply}
-use Rattle.lvm_disk_lines.specs.passed.StageReplyReplyTheVariants as reply
-use Rattle.lvm_disk_lines.specs.passed.StageStageStage.{Stage}
-use Rattle.lvm_disk_lines.proofs.passed.StageGoing.{ahead_later}
-use Rattle.lvm_disk_lines.proofs.passed.StageLighting.{Leaves, Rests, lit_up, ready_is_lit, still_leaves_descriptors}
-use Rattle.lvm_disk_lines.proofs.passed.StagePassive.{Bears, landed_bears, later_bears, open_more}
-use Rattle.lvm_disk_lines.proofs.passed.StagePosting.{LeavesAnswers, answered_bears, answered_on, off_posts, on_posts}
+use Rattle.lvm_disk_lines.specs.passed.Stage.{CommandEnds, IsRelit, refusal_of, Aside, GoesOn, HasBegunHeld, HaveRooms, IsBetweenStage, IsFitting}
+use Rattle.lvm_disk_lines.specs.passed.Stage.{IsOfKind, history_of, session_of, shelf_of, state_in, ArePosted, IsBetween, StandsAlone, State}
+use Rattle.lvm_disk_lines.specs.passed.Stage.{without_facts, Holder, Reply, Stage}
+use Rattle.lvm_disk_lines.specs.passed.HolderVariants as holder
+use Rattle.lvm_disk_lines.specs.passed.ReplyVariants as reply
+use Rattle.lvm_disk_lines.proofs.passed.Stage.{ahead_later, Leaves, Rests, lit_up, ready_is_lit, still_leaves_descriptors, Bears, landed_bears}
+use Rattle.lvm_disk_lines.proofs.passed.Stage.{later_bears, open_more, LeavesAnswers, answered_bears, answered_on, off_posts, on_posts}
 
 -- ---- the clock
 

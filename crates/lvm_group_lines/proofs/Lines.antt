@@ -11,15 +11,12 @@ use Rattle.lvm_core.specs.State.{state_of}
 use Rattle.lvm_session.specs.Sound.{IsSound}
 use Rattle.lvm_session.specs.State.{Core}
 use Rattle.lvm_session_start.specs.Beginning.{AreFaults}
-use Rattle.lvm_disk_lines.specs.passed.HandoverBeginning.{HasJustBegun, Serves}
+use Rattle.lvm_disk_lines.specs.passed.Handover.{HasJustBegun, Serves}
 use Rattle.lvm_posts.specs.declared.posts.Post.{Post}
-use Rattle.lvm_disk_lines.specs.passed.QuiesceGroups.{CauseRose, IsStartedEach}
+use Rattle.lvm_disk_lines.specs.passed.Quiesce.{CauseRose, IsStartedEach}
 use Rattle.lvm_group_lines.specs.Groups.{Brings}
-use Rattle.lvm_disk_lines.specs.passed.StageEnds.{patience_of_line}
-use Rattle.lvm_disk_lines.specs.passed.StageStages.{state_in}
-use Rattle.lvm_disk_lines.specs.passed.StageHolderHolder.{Holder}
-use Rattle.lvm_disk_lines.specs.passed.StageHolderHolderTheVariants as holder
-use Rattle.lvm_disk_lines.specs.passed.StageReplyReply.{Reply}
+use Rattle.lvm_disk_lines.specs.passed.Stage.{patience_of_line, state_in, Holder, Reply}
+use Rattle.lvm_disk_lines.specs.passed.HolderVariants as holder
 use Rattle.lvm_group_lines.proofs.Coming.{Left, held}
 use Rattle.lvm_group_lines.proofs.Quieting.{device_outcome}
 

@@ -13,19 +13,15 @@ use Rattle.lvm_core.specs.declared.refused.Refused.{Refused}
 use Rattle.lvm_core.specs.Held.{StartsHeld}
 use Rattle.lvm_core.specs.State.{state_of}
 use Rattle.lvm_session.specs.State.{Core}
-use Rattle.lvm_disk_lines.specs.passed.HandoverBeginning.{HasJustBegun, IsHistory, Serves}
-use Rattle.lvm_disk_lines.proofs.passed.HandoverBeginning.{made_begins}
-use Rattle.lvm_disk_lines.specs.passed.TieCommandsStanding.{StandsAfter}
-use Rattle.lvm_disk_lines.proofs.passed.TieCommandsBeginning.{made_stands}
-use Rattle.lvm_disk_lines.specs.passed.GroupMade.{IsMade, Refuses, MkvgGives}
-use Rattle.lvm_disk_lines.specs.passed.GroupNewGroup.{MayBegin, NewGroup, RefusesFirst, given_up}
-use Rattle.lvm_disk_lines.specs.passed.QuiesceEnds.{Quiesces}
-use Rattle.lvm_disk_lines.specs.passed.QuiesceGroups.{MkvgOnceQuiet}
+use Rattle.lvm_disk_lines.specs.passed.Handover.{HasJustBegun, IsHistory, Serves}
+use Rattle.lvm_disk_lines.proofs.passed.Handover.{made_begins}
+use Rattle.lvm_disk_lines.specs.passed.TieCommands.{StandsAfter}
+use Rattle.lvm_disk_lines.proofs.passed.TieCommands.{made_stands}
+use Rattle.lvm_disk_lines.specs.passed.Group.{IsMade, Refuses, MkvgGives, MayBegin, NewGroup, RefusesFirst, given_up}
+use Rattle.lvm_disk_lines.specs.passed.Quiesce.{Quiesces, MkvgOnceQuiet}
 use Rattle.lvm_group_lines.specs.Groups.{itself}
-use Rattle.lvm_disk_lines.specs.passed.StageState.{StandsAlone, without_facts}
-use Rattle.lvm_disk_lines.proofs.passed.StageCuts.{cut_rooms}
-use Rattle.lvm_disk_lines.proofs.passed.StageLighting.{Leaves, Rests}
-use Rattle.lvm_disk_lines.proofs.passed.StagePassive.{Bears, bears_cut, bears_given_up}
+use Rattle.lvm_disk_lines.specs.passed.Stage.{StandsAlone, without_facts}
+use Rattle.lvm_disk_lines.proofs.passed.Stage.{cut_rooms, Leaves, Rests, Bears, bears_cut, bears_given_up}
 use Rattle.lvm_group_lines.proofs.Coming.{CameOn, StayedOff, stays}
 use Rattle.lvm_group_lines.proofs.Quieting.{device_outcome, itself_once, on_once, quiet_orders, stayed_once}
 

@@ -15,18 +15,15 @@ use Rattle.lvm_core.specs.Held.{StartsHeld}
 use Rattle.lvm_core.specs.Settled.{IsSettled as IsSettledCore}
 use Rattle.lvm_core.specs.State.{state_of}
 use Rattle.lvm_session.specs.State.{Core}
-use Rattle.lvm_disk_lines.specs.passed.HandoverBeginning.{HasJustBegun, IsHistory, Serves}
-use Rattle.lvm_disk_lines.proofs.passed.HandoverBeginning.{varied_on_begins}
-use Rattle.lvm_disk_lines.specs.passed.TieCommandsStanding.{StandsAfter}
-use Rattle.lvm_disk_lines.proofs.passed.TieCommandsBeginning.{varied_on_stands}
-use Rattle.lvm_disk_lines.specs.passed.VaryonVaried.{ComesOn, Refuses, VaryonGives, log_after}
-use Rattle.lvm_disk_lines.specs.passed.QuiesceEnds.{Quiesces}
-use Rattle.lvm_disk_lines.specs.passed.QuiesceGroups.{IsFullFor, VariesOnAt, VaryonOnceQuiet}
+use Rattle.lvm_disk_lines.specs.passed.Handover.{HasJustBegun, IsHistory, Serves}
+use Rattle.lvm_disk_lines.proofs.passed.Handover.{varied_on_begins}
+use Rattle.lvm_disk_lines.specs.passed.TieCommands.{StandsAfter}
+use Rattle.lvm_disk_lines.proofs.passed.TieCommands.{varied_on_stands}
+use Rattle.lvm_disk_lines.specs.passed.Varyon.{ComesOn, Refuses, VaryonGives, log_after}
+use Rattle.lvm_disk_lines.specs.passed.Quiesce.{Quiesces, IsFullFor, VariesOnAt, VaryonOnceQuiet}
 use Rattle.lvm_group_lines.specs.Groups.{itself}
-use Rattle.lvm_disk_lines.specs.passed.StageState.{StandsAlone, without_facts}
-use Rattle.lvm_disk_lines.proofs.passed.StageCuts.{cut_rooms}
-use Rattle.lvm_disk_lines.proofs.passed.StageLighting.{Leaves, Rests}
-use Rattle.lvm_disk_lines.proofs.passed.StagePassive.{Bears, bears_cut}
+use Rattle.lvm_disk_lines.specs.passed.Stage.{StandsAlone, without_facts}
+use Rattle.lvm_disk_lines.proofs.passed.Stage.{cut_rooms, Leaves, Rests, Bears, bears_cut}
 use Rattle.lvm_group_lines.proofs.Coming.{CameOn, StayedOff, stays}
 use Rattle.lvm_group_lines.proofs.Quieting.{device_outcome, itself_once, on_once, quiet_orders, stayed_once}
 

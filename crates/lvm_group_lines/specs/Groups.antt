@@ -9,18 +9,12 @@ use Rattle.lvm_core.specs.Sound.{IsSound as IsSoundBetween}
 use Rattle.lvm_core.specs.State.{state_of}
 use Rattle.lvm_session.specs.Sound.{IsSound}
 use Rattle.lvm_session.specs.State.{Core}
-use Rattle.lvm_disk_lines.specs.passed.GroupNewGroup.{NewGroup}
-use Rattle.lvm_disk_lines.specs.passed.QuiesceGroups.{CauseRose, MkvgOnceQuiet, VaryonOnceQuiet}
-use Rattle.lvm_disk_lines.specs.passed.StageAsking.{Asks, IsAsked, EndsSession}
-use Rattle.lvm_disk_lines.specs.passed.StageEnds.{patience_of_line}
-use Rattle.lvm_disk_lines.specs.passed.StageLighting.{IsRelit, refusal_of}
-use Rattle.lvm_disk_lines.specs.passed.StageReplies.{IsRefused}
-use Rattle.lvm_disk_lines.specs.passed.StageStages.{IsNotOn, IsOfKind, IsOn, history_of, open_in, session_of, shelf_of}
-use Rattle.lvm_disk_lines.specs.passed.StageState.{State, log_with}
-use Rattle.lvm_disk_lines.specs.passed.StageHolderHolder.{Holder}
-use Rattle.lvm_disk_lines.specs.passed.StageReplyRefusalTheVariants as refusal
-use Rattle.lvm_disk_lines.specs.passed.StageReplyReply.{Reply}
-use Rattle.lvm_disk_lines.specs.passed.StageReplyReplyTheVariants as reply
+use Rattle.lvm_disk_lines.specs.passed.Group.{NewGroup}
+use Rattle.lvm_disk_lines.specs.passed.Quiesce.{CauseRose, MkvgOnceQuiet, VaryonOnceQuiet}
+use Rattle.lvm_disk_lines.specs.passed.Stage.{Asks, IsAsked, EndsSession, patience_of_line, IsRelit, refusal_of, IsRefused, IsNotOn, IsOfKind, IsOn}
+use Rattle.lvm_disk_lines.specs.passed.Stage.{history_of, open_in, session_of, shelf_of, State, log_with, Holder, Reply}
+use Rattle.lvm_disk_lines.specs.passed.RefusalVariants as refusal
+use Rattle.lvm_disk_lines.specs.passed.ReplyVariants as reply
 
 -- ---- what the call has left
 

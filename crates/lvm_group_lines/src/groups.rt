@@ -8,17 +8,15 @@ ghost use Rattle.lvm_core.specs.Sound.{IsSound as IsSoundBetween};
 ghost use Rattle.lvm_core.specs.Starting.{IsRoom};
 ghost use Rattle.lvm_core.specs.State.{state_of};
 ghost use Rattle.lvm_group_lines.specs.Groups.{IsHeldBy, IsLeftBy, MkvgDoes, VaryonDoes, VaryoffDoes};
-ghost use Rattle.lvm_disk_lines.specs.passed.StageLighting.{IsRelit, refusal_of};
-ghost use Rattle.lvm_disk_lines.specs.passed.StageEnds.{CommandEnds, EndsUnasked};
-ghost use Rattle.lvm_disk_lines.specs.passed.StageMoments.{Aside};
-ghost use Rattle.lvm_disk_lines.specs.passed.StageStages.{IsBetweenStage, IsFitting, IsOfKind, history_of, session_of, shelf_of};
+ghost use Rattle.lvm_disk_lines.specs.passed.Stage.{IsRelit, refusal_of, CommandEnds, EndsUnasked, Aside, IsBetweenStage, IsFitting, IsOfKind};
+ghost use Rattle.lvm_disk_lines.specs.passed.Stage.{history_of, session_of, shelf_of};
 
 use lvm_core::{Cause, Closed, Driver, Refused, Room};
 use lvm_disk::Shelf;
-use lvm_io::Clock;
-use lvm_num::Name;
 use lvm_disk_lines::below::lvm_quiesce::{mkvg, varyon};
 use lvm_disk_lines::below::lvm_stage::{Answered, Holder, Refusal, Reply, Stage};
+use lvm_io::Clock;
+use lvm_num::Name;
 use lvm_transfer::{Patience, relight};
 use std::alloc::Global;
 

@@ -2,13 +2,12 @@
 ghost use Rattle.std.specs.Prelude.{◌≡◌, ℕ, List, length, IfOk};
 ghost use Rattle.lvm_num.specs.Descriptor.{IsValid, is_member};
 ghost use Rattle.lvm_group_lines.specs.Listings.{CopiesShow, DiskShows, GroupShows, MemberShows, NamedShows, VolumeShows};
-ghost use Rattle.lvm_disk_lines.specs.passed.StageReplies.{Shows};
-ghost use Rattle.lvm_disk_lines.specs.passed.StageStages.{shelf_in, session_in};
+ghost use Rattle.lvm_disk_lines.specs.passed.Stage.{Shows, shelf_in, session_in};
 
 use lvm_disk::Shelf;
+use lvm_disk_lines::below::lvm_stage::{Holder, Refusal, Reply, Stage, number_of};
 use lvm_num::{Descriptor, Memory, Name, Text};
 use lvm_show::{show_disk, show_group, show_map, show_volumes};
-use lvm_disk_lines::below::lvm_stage::{Holder, Refusal, Reply, Stage, number_of};
 use lvm_stale::StaleTable;
 use std::alloc::Global;
 

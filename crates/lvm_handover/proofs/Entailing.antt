@@ -27,7 +27,7 @@ use Rattle.lvm_session.specs.Enabled.{same_status}
 use Rattle.lvm_session.specs.Events.{is_passive}
 use Rattle.lvm_session.specs.Marks.{can_replace, is_among, is_entailed, is_entailed_in, is_left_behind}
 use Rattle.lvm_session.specs.Left.{copy_updates, if_so, marks_later, updates_left}
-use Rattle.lvm_earlier.proofs.passed.TieWords.{any_one, clash, not_true, or_true}
+use Rattle.lvm_earlier.proofs.passed.Tie.{any_one, clash, not_true, or_true}
 use Rattle.lvm_tie_shelf.proofs.Writing.{and_both, pp_same}
 
 -- ---- lists

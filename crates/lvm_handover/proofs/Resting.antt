@@ -24,7 +24,7 @@ use Rattle.lvm_session.specs.Owners.{flies, same_owner}
 use Rattle.lvm_session.specs.Sound.{IsGoing, IsOn, IsSound, count_if}
 use Rattle.lvm_core.specs.Settled.{IsSettled}
 use Rattle.lvm_core.specs.Sound.{HasNoneOpen, IsSound as IsSoundBetween}
-use Rattle.lvm_earlier.specs.passed.DriverDrains.{IsDrained}
+use Rattle.lvm_earlier.specs.passed.Driver.{IsDrained}
 use Rattle.lvm_tie_begins.specs.Begins.{IsResting}
 use Rattle.lvm_handover.specs.Settling.{DrainedRests, MaySettle}
 use Rattle.lvm_handover.proofs.Between.{buffers_back, none_flown, rest_is_quiet, rest_is_sound}

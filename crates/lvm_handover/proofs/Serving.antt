@@ -40,7 +40,7 @@ use Rattle.lvm_session.proofs.Parts.{idle_is_sound}
 use Rattle.lvm_core.specs.Settled.{IsSettled}
 use Rattle.lvm_core.specs.Sound.{IsSound as IsSoundBetween}
 use Rattle.lvm_keeps.proofs.Lists.{count_cons}
-use Rattle.lvm_earlier.proofs.passed.TieWords.{any_one, clash, or_true}
+use Rattle.lvm_earlier.proofs.passed.Tie.{any_one, clash, or_true}
 use Rattle.lvm_volumes.specs.Endings.{HasFresh}
 use Rattle.lvm_handover.specs.Serving.{CommandsServe, GoesOnWith, IsServed, is_gone}
 use Rattle.lvm_handover.proofs.Entailing.{not_entailed, passes}

@@ -32,7 +32,7 @@ use Rattle.lvm_session.specs.Marks.{is_among}
 use Rattle.lvm_session.specs.Sound.{IsGoing, IsSound, may_be_fresh, stays_fresh}
 use Rattle.lvm_core.specs.Leaves.{KeepsStatus, Leaves, NoPartition, WasLeftBehind}
 use Rattle.lvm_core.specs.Settled.{IsSettled}
-use Rattle.lvm_earlier.proofs.passed.TieWords.{or_true}
+use Rattle.lvm_earlier.proofs.passed.Tie.{or_true}
 use Rattle.lvm_volume_plan.specs.declared.fault.GroupFault.TheVariants as fault
 use Rattle.lvm_volume_plan.specs.declared.new_volume.NewVolume.{NewVolume}
 use Rattle.lvm_volume_plan.specs.Faults.{HasSpareRoom}

@@ -14,7 +14,7 @@ use Rattle.lvm_core.specs.Sound.{IsSound as IsSoundBetween}
 use Rattle.lvm_varyon.specs.Varied.{ComesOn}
 use Rattle.lvm_group.specs.Made.{IsMade}
 use Rattle.lvm_group.specs.NewGroup.{NewGroup}
-use Rattle.lvm_earlier.specs.passed.TieStamps.{IsStamped}
+use Rattle.lvm_earlier.specs.passed.Tie.{IsStamped}
 
 -- what each history is that was made: its entries are in their order, and their numbers are of four bytes
 pub record IsHistory (log : Log) : Type 0 where

@@ -4,7 +4,7 @@ use Rattle.lvm_session.specs.State.{State}
 use Rattle.lvm_session.specs.Sound.{IsSound}
 use Rattle.lvm_core.specs.Sound.{HasNoneOpen}
 use Rattle.lvm_tie_begins.specs.Begins.{IsResting}
-use Rattle.lvm_earlier.specs.passed.DriverDrains.{IsDrained}
+use Rattle.lvm_earlier.specs.passed.Driver.{IsDrained}
 
 -- Nothing is left to be made of it, neither a request nor a copy is open, and the epoch of its stamps is some moment.
 pub record MaySettle (s : State) : Type 0 where

@@ -30,7 +30,10 @@ pub fn settle<S: Shelf>(driver: lvm_earlier::below::lvm_driver::Driver<S>) -> lv
 
 /// The session takes requests again. The partitions of copies that a command added count as stale since the session
 /// began, and members that are missing by now as missing since.
-pub fn serve<S: Shelf>(driver: lvm_core::Driver<S>, added: &[Pp]) -> lvm_earlier::below::lvm_driver::Driver<S>
+pub fn serve<S: Shelf>(
+    driver: lvm_core::Driver<S>,
+    added: &[Pp],
+) -> lvm_earlier::below::lvm_driver::Driver<S>
     requires rows { HasItsRows driver.1.descriptor driver.1.origin.table }
     requires markable { All (IsMarkable driver.1.origin.table) added.now }
     requires may { MayServe added.now (state (S.device driver.0) driver.1) }

@@ -16,35 +16,30 @@ use Rattle.lvm_raw.specs.Keeping.{FaultRose}
 use Rattle.lvm_raw.specs.Raw.{log_with as log_of}
 use Rattle.lvm_kept.specs.Moments.{Moment}
 use Rattle.lvm_steps.specs.Requests.{at as moment_of}
-use Rattle.lvm_volume_lines.specs.passed.QuiesceRanges.{AskedAtRest, KeptFrom, RangeOnceQuiet, RangeStaysOut, ReadOnceQuiet, ReadsAtRest, WriteOnceQuiet, WritesAtRest}
-use Rattle.lvm_volume_lines.specs.passed.QuiesceRanges.{RejectedAtOnce as RejectedAtOnceRange}
+use Rattle.lvm_volume_lines.specs.passed.Quiesce.{AskedAtRest, KeptFrom, RangeOnceQuiet, RangeStaysOut, ReadOnceQuiet, ReadsAtRest, WriteOnceQuiet}
+use Rattle.lvm_volume_lines.specs.passed.Quiesce.{WritesAtRest, RejectedAtOnce as RejectedAtOnceRange, Quiesces, CauseRose, IsFullFor, MkvgOnceQuiet}
+use Rattle.lvm_volume_lines.specs.passed.Quiesce.{RefusedAtOnce, StayedOut, StaysOut, VaryonOnceQuiet, WentQuiet}
 use Rattle.lvm_core.specs.declared.parts.Room.{Room}
 use Rattle.lvm_core.specs.declared.refused.Cause.{Cause}
 use Rattle.lvm_core.specs.declared.refused.Cause.TheVariants as cause
 use Rattle.lvm_core.specs.declared.refused.Refused.{Refused}
 use Rattle.lvm_session.specs.State.{Core}
-use Rattle.lvm_volume_lines.specs.passed.GroupNewGroup.{NewGroup, RefusesFirst}
-use Rattle.lvm_volume_lines.specs.passed.GroupMade.{Refuses as MkvgRefuses}
-use Rattle.lvm_volume_lines.specs.passed.VaryonVaried.{Refuses as VaryonRefuses}
-use Rattle.lvm_volume_lines.specs.passed.QuiesceEnds.{Quiesces}
-use Rattle.lvm_volume_lines.specs.passed.QuiesceGroups.{CauseRose, IsFullFor, MkvgOnceQuiet, RefusedAtOnce, StayedOut, StaysOut, VaryonOnceQuiet, WentQuiet}
-use Rattle.lvm_volume_lines.proofs.passed.QuiesceBehind.{quiet_is_ahead}
-use Rattle.lvm_volume_lines.proofs.passed.QuiesceEnding.{ends_only}
+use Rattle.lvm_volume_lines.specs.passed.Group.{NewGroup, RefusesFirst, Refuses as MkvgRefuses}
+use Rattle.lvm_volume_lines.specs.passed.Varyon.{Refuses as VaryonRefuses}
+use Rattle.lvm_volume_lines.proofs.passed.Quiesce.{quiet_is_ahead, ends_only}
 use Rattle.lvm_line.specs.Causes.{HasCause, HasFailed, IsBroughtBack, RoseOn, VaryonLaw, disk_of}
-use Rattle.lvm_volume_lines.specs.passed.StageEnds.{patience_of_line}
-use Rattle.lvm_volume_lines.specs.passed.DiskLinesDisks.{refusal_by, NoWriteWhileOn, WriteGoes, NoReadWhileOn, ReadGoes}
-use Rattle.lvm_volume_lines.specs.passed.StageLighting.{IsRelit, refusal_of}
-use Rattle.lvm_volume_lines.specs.passed.GroupLinesGroups.{Brings, IsLeft, asked_for, itself, outcome_of, NoVaryonWhileOn, Varies, NoMemoryForLine, NoMkvgWhileOn, Makes, NoVaryoff, BusyVaryoff, VariesOff}
+use Rattle.lvm_volume_lines.specs.passed.Stage.{patience_of_line, IsRelit, refusal_of, Shows, InFull, WithoutMemory, State, log_with, Refusal}
+use Rattle.lvm_volume_lines.specs.passed.DiskLines.{refusal_by, NoWriteWhileOn, WriteGoes, NoReadWhileOn, ReadGoes, NotThere, NotPlanned, IsArranged}
+use Rattle.lvm_volume_lines.specs.passed.DiskLines.{CutNotPlanned, PowerIsCut}
+use Rattle.lvm_volume_lines.specs.passed.GroupLines.{Brings, IsLeft, asked_for, itself, outcome_of, NoVaryonWhileOn, Varies, NoMemoryForLine}
+use Rattle.lvm_volume_lines.specs.passed.GroupLines.{NoMkvgWhileOn, Makes, NoVaryoff, BusyVaryoff, VariesOff, NoGroupToList, GroupThatIsOn}
+use Rattle.lvm_volume_lines.specs.passed.GroupLines.{OtherGroup, ListsGroup, NoGroupForVolume, VolumeOfGroup, NoSuchVolume, ListsVolume}
+use Rattle.lvm_volume_lines.specs.passed.GroupLines.{NoGroupForDisk, DiskOfGroup, NoSuchMember, ListsMember}
 use Rattle.lvm_line.specs.Lines.{LineDoes}
-use Rattle.lvm_volume_lines.specs.passed.GroupLinesListings.{NoGroupToList, GroupThatIsOn, OtherGroup, ListsGroup, NoGroupForVolume, VolumeOfGroup, NoSuchVolume, ListsVolume, NoGroupForDisk, DiskOfGroup, NoSuchMember, ListsMember}
-use Rattle.lvm_volume_lines.specs.passed.StageReplies.{Shows, InFull, WithoutMemory}
-use Rattle.lvm_volume_lines.specs.passed.DiskLinesShelves.{NotThere, NotPlanned, IsArranged, CutNotPlanned, PowerIsCut}
-use Rattle.lvm_volume_lines.specs.passed.StageState.{State, log_with}
 use Rattle.lvm_volume_lines.specs.Volumes.{NoGroupForMklv, BusyMklv, UndrainedMklv, MakesVolume, MklvFails, NoGroupForRmlv, BusyRmlv, UndrainedRmlv, NoVolumeForRmlv, RemovesVolume, RmlvFails, refusal_for, wanted}
-use Rattle.lvm_volume_lines.specs.passed.StageReplyRefusal.{Refusal}
-use Rattle.lvm_volume_lines.specs.passed.StageReplyRefusalTheVariants as refusal
-use Rattle.lvm_volume_lines.specs.passed.StageReplyReplyTheVariants as reply
-use Rattle.lvm_volume_lines.proofs.passed.GroupLinesComing.{clock_is_ahead}
+use Rattle.lvm_volume_lines.specs.passed.RefusalVariants as refusal
+use Rattle.lvm_volume_lines.specs.passed.ReplyVariants as reply
+use Rattle.lvm_volume_lines.proofs.passed.GroupLines.{clock_is_ahead}
 use Rattle.lvm_volume_lines.proofs.Ending.{mklv_facts, rmlv_facts}
 use Rattle.lvm_line.proofs.Faulting.{known_group, undrained}
 use Rattle.lvm_line.proofs.Knowing.{Known, by_reply, easy, has_by}
@@ -244,7 +239,7 @@ known log room (Ok (Some (command.Mklv name copies mode policy group lps))) why 
 known log room (Ok (Some (command.Mklv name copies mode policy group lps))) why old new (BusyMklv on busy is) = by_reply _ why refusal.Busy old new is.0 (easy _ refusal.Busy old new (inr tt) (λ e. cc) (λ h t e. cc))
 known log room (Ok (Some (command.Mklv name copies mode policy group lps))) why old new (UndrainedMklv core fault some on ends) = undrained (Ok (Some (command.Mklv name copies mode policy group lps))) why old new core fault some ends
 known log room (Ok (Some (command.Mklv name copies mode policy group lps))) why old new (MakesVolume core left mid number some on drains done is) = absurd (cc (is))
-known log room (Ok (Some (command.Mklv name copies mode policy group lps))) why old new (MklvFails core left mid reason some on drains done is) = 
+known log room (Ok (Some (command.Mklv name copies mode policy group lps))) why old new (MklvFails core left mid reason some on drains done is) =
     by_reply _ why (refusal_for reason) old new is
     (known_group (Ok (Some (command.Mklv name copies mode policy group lps))) (λ d a b rose. rose) reason old new core left mid done.left some drains (mklv_facts (wanted name copies mode policy lps) left mid done.left drains.settled.power (Err reason) done.gives) done.leaves)
 known log room (Ok (Some (command.Rmlv name))) why old new (NoGroupForRmlv none is) = by_reply _ why refusal.NoGroup old new is.0 (easy _ refusal.NoGroup old new (inr tt) (λ e. cc) (λ h t e. cc))
@@ -252,7 +247,7 @@ known log room (Ok (Some (command.Rmlv name))) why old new (BusyRmlv busy is) = 
 known log room (Ok (Some (command.Rmlv name))) why old new (UndrainedRmlv core fault some ends) = undrained (Ok (Some (command.Rmlv name))) why old new core fault some ends
 known log room (Ok (Some (command.Rmlv name))) why old new (NoVolumeForRmlv core left mid some drains none stays clock is) = by_reply _ why refusal.NoVolume old new is (easy _ refusal.NoVolume old new (inr tt) (λ e. cc) (λ h t e. cc))
 known log room (Ok (Some (command.Rmlv name))) why old new (RemovesVolume core left mid lv some drains its done is) = absurd (cc (is))
-known log room (Ok (Some (command.Rmlv name))) why old new (RmlvFails core left mid lv reason some drains its done is) = 
+known log room (Ok (Some (command.Rmlv name))) why old new (RmlvFails core left mid lv reason some drains its done is) =
     by_reply _ why (refusal_for reason) old new is
     (known_group (Ok (Some (command.Rmlv name))) (λ d a b rose. rose) reason old new core left mid done.left some drains (rmlv_facts lv left mid done.left drains.settled.power (Err reason) done.gives) done.leaves)
 known log room (Ok (Some (command.Mklvcopy name copies))) why old new does = by_reply _ why (refusal.BadLine 1) old new does.0 (easy _ (refusal.BadLine 1) old new (inr tt) (λ e. cc) (λ h t e. cc))
@@ -305,9 +300,15 @@ varyon_restates log room line name old new is it timely = of_varyon (subst (λ (
     brought shelf history (Ok core) asks (RefusedAtOnce refused same first left was) left_on = absurd (cc (same))
     brought shelf history (Ok core) asks (StayedOut refused same may out) left_on = absurd (cc (same))
     brought shelf history (Ok core) asks (WentQuiet may once) left_on =
-        let ahead = quiet_is_ahead log.run new.last old.moment.device once.mid old.moment.facts once.quiesces (clock_is_ahead log.run old.last new.last old.moment.device old.moment.facts asks timely.ahead) in
-        (core, left_on.2.after, (once.mid, once.quiesces,
-        subst (λ (d : Device). IsBroughtBack once.mid d core.descriptor) left_on.0 (record { restated = once.goes.restated ahead; recovered = once.goes.recovered ahead })))
+        let ahead = quiet_is_ahead log.run new.last old.moment.device once.mid old.moment.facts once.quiesces (clock_is_ahead log.run old.last new.last old.moment.device old.moment.facts asks timely.ahead) in (
+          core,
+          left_on.2.after,
+          (
+            once.mid,
+            once.quiesces,
+            subst (λ (d : Device). IsBroughtBack once.mid d core.descriptor) left_on.0 (record { restated = once.goes.restated ahead; recovered = once.goes.recovered ahead }),
+          ),
+        )
 
     of_varyon : LineDoes log room (Ok (Some (command.Varyon name))) old new reply.Ok → Back
     of_varyon (NoVaryonWhileOn some says asked) = absurd (cc (says))

@@ -7,21 +7,16 @@ use Rattle.lvm_posts.specs.declared.asked.Asked.{Asked}
 use Rattle.lvm_posts.specs.declared.fault.RangeFault.{RangeFault}
 use Rattle.lvm_posts.specs.declared.fault.RangeFault.TheVariants as fault
 use Rattle.lvm_posts.specs.declared.posts.Post.{Post}
-use Rattle.lvm_volume_lines.specs.passed.RangesRefusalAskRangeFault.{AskRangeFault}
-use Rattle.lvm_volume_lines.specs.passed.RangesRefusalAskRangeFaultTheVariants as ask
-use Rattle.lvm_volume_lines.specs.passed.RangeLinesAnswers.{Tells, TellsAll, TellsNone}
-use Rattle.lvm_volume_lines.specs.passed.RangeLinesLeaving.{EndsBy}
-use Rattle.lvm_volume_lines.specs.passed.RangeLinesRefusals.{Ending, ask_refusal, range_refusal}
-use Rattle.lvm_volume_lines.specs.passed.RangeLinesRequests.{EndsWell, Fails, Finishes, NoMemory, NotBegun, NotPosted, NotThere, OnVolume, Posted, Posts, PostDoes, RdDoes, ShowsBlocks, ShowsThem, There, WhileOff, WrDoes}
-use Rattle.lvm_volume_lines.specs.passed.RangeLinesStepping.{NoStepWhileOff, NothingMoves, StepDoes, Steps, step_reply}
-use Rattle.lvm_volume_lines.specs.passed.RangeLinesWaiting.{AtRest, Awaits, Goes, InVain, Over, WaitDoes, WaitEnds}
-use Rattle.lvm_volume_lines.specs.passed.RangeLinesWaiting.{WhileOff as WaitsWhileOff}
-use Rattle.lvm_volume_lines.specs.passed.StageReplies.{InFull, Shows, WithoutMemory}
-use Rattle.lvm_volume_lines.specs.passed.StageState.{State}
-use Rattle.lvm_volume_lines.specs.passed.StageReplyRefusal.{Refusal}
-use Rattle.lvm_volume_lines.specs.passed.StageReplyRefusalTheVariants as refusal
-use Rattle.lvm_volume_lines.specs.passed.StageReplyReply.{Reply}
-use Rattle.lvm_volume_lines.specs.passed.StageReplyReplyTheVariants as reply
+use Rattle.lvm_volume_lines.specs.passed.Ranges.{AskRangeFault}
+use Rattle.lvm_volume_lines.specs.passed.AskRangeFaultVariants as ask
+use Rattle.lvm_volume_lines.specs.passed.RangeLines.{Tells, TellsAll, TellsNone, EndsBy, Ending, ask_refusal, range_refusal, EndsWell, Fails}
+use Rattle.lvm_volume_lines.specs.passed.RangeLines.{Finishes, NoMemory, NotBegun, NotPosted, NotThere, OnVolume, Posted, Posts, PostDoes, RdDoes}
+use Rattle.lvm_volume_lines.specs.passed.RangeLines.{ShowsBlocks, ShowsThem, There, WhileOff, WrDoes, NoStepWhileOff, NothingMoves, StepDoes, Steps}
+use Rattle.lvm_volume_lines.specs.passed.RangeLines.{step_reply}
+use Rattle.lvm_volume_lines.specs.passed.RangeLinesWaiting.{AtRest, Awaits, Goes, InVain, Over, WaitDoes, WaitEnds, WhileOff as WaitsWhileOff}
+use Rattle.lvm_volume_lines.specs.passed.Stage.{InFull, Shows, WithoutMemory, State, Refusal, Reply}
+use Rattle.lvm_volume_lines.specs.passed.RefusalVariants as refusal
+use Rattle.lvm_volume_lines.specs.passed.ReplyVariants as reply
 
 -- no group is on where nothing was heard of a transfer, and it isn't that votes are lacking for a quorum
 pub record Told (why : Refusal) (new : State) : Type 0 where

@@ -1,10 +1,7 @@
-pub mod GroupGroups
-pub mod GroupKeeping
-pub mod QuiesceBehind
-pub mod QuiesceEnding
-pub mod RunningRunning
-pub mod StageRunning
-pub mod TieCommandsResting
-pub mod TieGroupsLeaving
-pub mod VaryonGrouping
-pub mod VaryonSizes
+pub mod Group
+pub mod Quiesce
+pub mod Running
+pub mod Stage
+pub mod TieCommands
+pub mod TieGroups
+pub mod Varyon

@@ -9,22 +9,14 @@ use Rattle.lvm_parse.specs.declared.command.Command.TheVariants as command
 use Rattle.lvm_operands.specs.declared.rest.Misfit.{Misfit}
 use Rattle.lvm_parse.specs.Grammar.{line_of}
 use Rattle.lvm_core.specs.declared.parts.Room.{Room}
-use Rattle.lvm_volume_lines.specs.passed.DiskLinesDisks.{ReadDoes, WriteDoes}
-use Rattle.lvm_volume_lines.specs.passed.StageEnds.{CommandEnds}
-use Rattle.lvm_volume_lines.specs.passed.GroupLinesGroups.{MkvgDoes, VaryonDoes, VaryoffDoes}
-use Rattle.lvm_volume_lines.specs.passed.GroupLinesListings.{GroupShows, VolumeShows, DiskShows}
-use Rattle.lvm_volume_lines.specs.passed.StageMoments.{GoesOn, Role, Aside, OfGroup, OfRequests}
-use Rattle.lvm_volume_lines.specs.passed.RangeLinesRequests.{RdDoes, WrDoes, PostDoes}
-use Rattle.lvm_volume_lines.specs.passed.RangeLinesStepping.{StepDoes}
+use Rattle.lvm_volume_lines.specs.passed.DiskLines.{ReadDoes, WriteDoes, ArrangeDoes, CutDoes}
+use Rattle.lvm_volume_lines.specs.passed.Stage.{CommandEnds, GoesOn, Role, Aside, OfGroup, OfRequests, IsRefused, IsBetween, State, Reply, Stage}
+use Rattle.lvm_volume_lines.specs.passed.GroupLines.{MkvgDoes, VaryonDoes, VaryoffDoes, GroupShows, VolumeShows, DiskShows}
+use Rattle.lvm_volume_lines.specs.passed.RangeLines.{RdDoes, WrDoes, PostDoes, StepDoes}
 use Rattle.lvm_volume_lines.specs.passed.RangeLinesWaiting.{WaitDoes}
-use Rattle.lvm_volume_lines.specs.passed.StageReplies.{IsRefused}
-use Rattle.lvm_volume_lines.specs.passed.DiskLinesShelves.{ArrangeDoes, CutDoes}
-use Rattle.lvm_volume_lines.specs.passed.StageState.{IsBetween, State}
 use Rattle.lvm_volume_lines.specs.Volumes.{MklvDoes, RmlvDoes, wanted}
-use Rattle.lvm_volume_lines.specs.passed.StageReplyRefusalTheVariants as refusal
-use Rattle.lvm_volume_lines.specs.passed.StageReplyReply.{Reply}
-use Rattle.lvm_volume_lines.specs.passed.StageReplyReplyTheVariants as reply
-use Rattle.lvm_volume_lines.specs.passed.StageStageStage.{Stage}
+use Rattle.lvm_volume_lines.specs.passed.RefusalVariants as refusal
+use Rattle.lvm_volume_lines.specs.passed.ReplyVariants as reply
 
 -- a listing leaves the whole state
 abbrev pub IsListed : State → State → Type 0 → Type 0

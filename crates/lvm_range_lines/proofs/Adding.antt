@@ -10,22 +10,16 @@ use Rattle.lvm_session.specs.declared.open.Power.{Power}
 use Rattle.lvm_session.specs.declared.open.Power.TheVariants as power
 use Rattle.lvm_session.specs.Sound.{IsSound}
 use Rattle.lvm_session.specs.State.{Core, state}
-use Rattle.lvm_group_lines.specs.passed.DriverAnswers.{state_of}
-use Rattle.lvm_group_lines.specs.passed.RunningRunning.{RunsOn}
+use Rattle.lvm_group_lines.specs.passed.Driver.{state_of}
+use Rattle.lvm_group_lines.specs.passed.Running.{RunsOn}
 use Rattle.lvm_posts.specs.declared.asked.Asked.{Asked}
 use Rattle.lvm_posts.specs.declared.posts.Post.{Post}
-use Rattle.lvm_group_lines.specs.passed.RangesRefusalAskRangeFault.{AskRangeFault}
-use Rattle.lvm_group_lines.specs.passed.RangesAsking.{Asks, IsAskedFor, range_fault}
-use Rattle.lvm_group_lines.proofs.passed.RangesAsking.{room_first}
-use Rattle.lvm_group_lines.specs.passed.StageReplyReply.{Reply}
-use Rattle.lvm_group_lines.specs.passed.StageReplyReplyTheVariants as reply
-use Rattle.lvm_group_lines.specs.passed.StageStageStage.{Stage}
-use Rattle.lvm_group_lines.specs.passed.StageEnds.{EndsUnasked}
-use Rattle.lvm_group_lines.specs.passed.StageMoments.{OfRequests}
-use Rattle.lvm_group_lines.specs.passed.StageReplies.{most_refusals}
-use Rattle.lvm_group_lines.specs.passed.StageStages.{HaveRooms, IsBetweenStage, IsCarried, IsFitting, state_in}
-use Rattle.lvm_group_lines.specs.passed.StageState.{ArePosted}
-use Rattle.lvm_group_lines.proofs.passed.StagePosting.{posts_need}
+use Rattle.lvm_group_lines.specs.passed.Ranges.{AskRangeFault, Asks, IsAskedFor, range_fault}
+use Rattle.lvm_group_lines.proofs.passed.Ranges.{room_first}
+use Rattle.lvm_group_lines.specs.passed.Stage.{Reply, Stage, EndsUnasked, OfRequests, most_refusals, HaveRooms, IsBetweenStage, IsCarried, IsFitting}
+use Rattle.lvm_group_lines.specs.passed.Stage.{state_in, ArePosted}
+use Rattle.lvm_group_lines.specs.passed.ReplyVariants as reply
+use Rattle.lvm_group_lines.proofs.passed.Stage.{posts_need}
 use Rattle.lvm_range_lines.specs.Leaving.{KeepsPosts, serving}
 use Rattle.lvm_range_lines.specs.Requests.{AsksByName, PostDoes, Posted, There, post_of}
 use Rattle.lvm_range_lines.proofs.Ending.{carried_ends}

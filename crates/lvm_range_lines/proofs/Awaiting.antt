@@ -7,14 +7,12 @@ use Rattle.lvm_disk.specs.Paths.{Path, Here, Then}
 use Rattle.lvm_disk.proofs.Paths.{append-path}
 use Rattle.lvm_disk.proofs.Rising.{rose_by_none}
 use Rattle.lvm_session.specs.State.{State as Session}
-use Rattle.lvm_group_lines.specs.passed.DriverDrains.{IsAny}
-use Rattle.lvm_group_lines.specs.passed.RunningRunning.{RunsOn}
-use Rattle.lvm_group_lines.proofs.passed.RunningRunning.{runs_both, runs_none}
+use Rattle.lvm_group_lines.specs.passed.Driver.{IsAny}
+use Rattle.lvm_group_lines.specs.passed.Running.{RunsOn}
+use Rattle.lvm_group_lines.proofs.passed.Running.{runs_both, runs_none}
 use Rattle.lvm_posts.specs.declared.posts.Post.{Post}
-use Rattle.lvm_group_lines.specs.passed.RangesLandingStuck.{Stuck}
-use Rattle.lvm_group_lines.specs.passed.RangesKeeping.{KeepsTable}
-use Rattle.lvm_group_lines.specs.passed.RangesLanding.{AwaitEnds, HaveLanded, IsUnfinished, TurnsFor}
-use Rattle.lvm_group_lines.proofs.passed.RangesTables.{table_same, table_then}
+use Rattle.lvm_group_lines.specs.passed.Ranges.{Stuck, KeepsTable, AwaitEnds, HaveLanded, IsUnfinished, TurnsFor}
+use Rattle.lvm_group_lines.proofs.passed.Ranges.{table_same, table_then}
 use Rattle.lvm_range_lines.specs.Taking.{AwaitsPost, AwaitsPosts, HasLanded, IsGone, IsInVain}
 use Rattle.lvm_range_lines.specs.Waiting.{IsAwaited, TurnsForPosts}
 

@@ -12,20 +12,16 @@ use Rattle.lvm_core.specs.Leaves.{is_of_volume}
 use Rattle.lvm_core.specs.Sound.{HaveAllLanded}
 use Rattle.lvm_keeps.proofs.Lists.{count_cons}
 use Rattle.lvm_session.specs.State.{Core, State as Session}
-use Rattle.lvm_group_lines.specs.passed.QuiesceBehind.{IsBehindEach}
+use Rattle.lvm_group_lines.specs.passed.Quiesce.{IsBehindEach}
 use Rattle.lvm_stamps.specs.Behind.{IsBehind}
 use Rattle.lvm_session.specs.Sound.{IsLit}
-use Rattle.lvm_group_lines.specs.passed.TieSpares.{LeavesDescriptors}
+use Rattle.lvm_group_lines.specs.passed.Tie.{LeavesDescriptors}
 use Rattle.lvm_posts.specs.declared.posts.Post.{Post}
 use Rattle.lvm_posts.specs.Posts.{takings}
-use Rattle.lvm_group_lines.specs.passed.StageHolderHolderTheVariants as holder
-use Rattle.lvm_group_lines.specs.passed.StageReplyReply.{Reply}
-use Rattle.lvm_group_lines.specs.passed.StageStageStage.{Stage}
-use Rattle.lvm_group_lines.specs.passed.TieCommandsStanding.{StandsAfter}
-use Rattle.lvm_group_lines.specs.passed.StageMoments.{GoesOn, HasBegunHeld, IsAlone, OfRequests}
-use Rattle.lvm_group_lines.specs.passed.StageReplies.{IsStuck, most_refusals}
-use Rattle.lvm_group_lines.specs.passed.StageStages.{HaveRooms, IsFitting, history_in, session_in, shelf_in, state_in}
-use Rattle.lvm_group_lines.specs.passed.StageState.{ArePosted, IsOnBetween, StandsAlone, State}
+use Rattle.lvm_group_lines.specs.passed.HolderVariants as holder
+use Rattle.lvm_group_lines.specs.passed.Stage.{Reply, Stage, GoesOn, HasBegunHeld, IsAlone, OfRequests, IsStuck, most_refusals, HaveRooms, IsFitting}
+use Rattle.lvm_group_lines.specs.passed.Stage.{history_in, session_in, shelf_in, state_in, ArePosted, IsOnBetween, StandsAlone, State}
+use Rattle.lvm_group_lines.specs.passed.TieCommands.{StandsAfter}
 use Rattle.lvm_range_lines.specs.declared.answers.Answers.{Answers}
 use Rattle.lvm_range_lines.specs.Answers.{Gathers, Tells, TellsAll, TellsNone}
 use Rattle.lvm_range_lines.specs.Refusals.{Ending}

@@ -17,27 +17,21 @@ use Rattle.lvm_session.specs.declared.open.Power.{Power}
 use Rattle.lvm_session.specs.declared.open.Power.TheVariants as power
 use Rattle.lvm_session.specs.Causes.{is_over}
 use Rattle.lvm_session.specs.Sound.{IsLit, IsSound, is_dark}
-use Rattle.lvm_group_lines.specs.passed.TieTied.{moment_of}
+use Rattle.lvm_group_lines.specs.passed.Tie.{moment_of}
 use Rattle.lvm_session.specs.State.{Core, votes_there}
-use Rattle.lvm_group_lines.specs.passed.DriverAnswers.{state_of}
-use Rattle.lvm_group_lines.specs.passed.RunningRunning.{RunsOn}
-use Rattle.lvm_group_lines.proofs.passed.RunningRunning.{stays_unstuck}
+use Rattle.lvm_group_lines.specs.passed.Driver.{state_of}
+use Rattle.lvm_group_lines.specs.passed.Running.{RunsOn}
+use Rattle.lvm_group_lines.proofs.passed.Running.{stays_unstuck}
 use Rattle.lvm_posts.specs.declared.posts.Post.{Post}
 use Rattle.lvm_posts.specs.Posts.{ended_with}
 use Rattle.lvm_posts.proofs.Closed.{over_answered}
-use Rattle.lvm_group_lines.specs.passed.StageHolderHolder.{Holder}
-use Rattle.lvm_group_lines.specs.passed.StageHolderHolderTheVariants as holder
-use Rattle.lvm_group_lines.specs.passed.StageReplyRefusalTheVariants as refusal
-use Rattle.lvm_group_lines.specs.passed.StageReplyReply.{Reply}
-use Rattle.lvm_group_lines.specs.passed.StageReplyReplyTheVariants as reply
-use Rattle.lvm_group_lines.specs.passed.StageStageStage.{Stage}
-use Rattle.lvm_group_lines.specs.passed.StageEnds.{EndsUnasked}
-use Rattle.lvm_group_lines.specs.passed.StageMoments.{GoesOn, OfRequests}
-use Rattle.lvm_group_lines.specs.passed.StageReplies.{most_refusals}
-use Rattle.lvm_group_lines.specs.passed.StageStages.{HaveRooms, IsBetweenStage, IsCarried, IsClosed, IsEnded, IsFitting, IsOfKind, history_in, moment_in, posts_ended, session_of, shelf_in, state_in}
-use Rattle.lvm_group_lines.specs.passed.StageState.{ArePosted, IsOnBetween, IsTimely, State, without_facts}
-use Rattle.lvm_group_lines.proofs.passed.StagePosting.{end_posts}
-use Rattle.lvm_group_lines.proofs.passed.StageRunning.{IsRun, before_end, later_end, over_goes, run_goes, spanned}
+use Rattle.lvm_group_lines.specs.passed.Stage.{Holder, Reply, Stage, EndsUnasked, GoesOn, OfRequests, most_refusals, HaveRooms, IsBetweenStage}
+use Rattle.lvm_group_lines.specs.passed.Stage.{IsCarried, IsClosed, IsEnded, IsFitting, IsOfKind, history_in, moment_in, posts_ended, session_of}
+use Rattle.lvm_group_lines.specs.passed.Stage.{shelf_in, state_in, ArePosted, IsOnBetween, IsTimely, State, without_facts}
+use Rattle.lvm_group_lines.specs.passed.HolderVariants as holder
+use Rattle.lvm_group_lines.specs.passed.RefusalVariants as refusal
+use Rattle.lvm_group_lines.specs.passed.ReplyVariants as reply
+use Rattle.lvm_group_lines.proofs.passed.Stage.{end_posts, IsRun, before_end, later_end, over_goes, run_goes, spanned}
 use Rattle.lvm_range_lines.specs.Leaving.{IsOverWith, Leaves, LeavesBy, serving}
 
 -- ---- as states

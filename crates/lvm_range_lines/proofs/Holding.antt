@@ -2,17 +2,10 @@
 use Rattle.std.proofs.Common.{◌≡◌, ◌≤◌, ℕ, refl, sym, ◌∙◌, ap, subst}
 use Rattle.lvm_disk.specs.Device.{Device}
 use Rattle.lvm_vol.specs.Log.{Log}
-use Rattle.lvm_group_lines.specs.passed.StageHolderHolder.{Holder}
-use Rattle.lvm_group_lines.specs.passed.StageReplyRefusal.{Refusal}
-use Rattle.lvm_group_lines.specs.passed.StageReplyReply.{Reply}
-use Rattle.lvm_group_lines.specs.passed.StageReplyReplyTheVariants as reply
-use Rattle.lvm_group_lines.specs.passed.StageStageStage.{Stage}
-use Rattle.lvm_group_lines.specs.passed.StageEnds.{EndsUnasked}
-use Rattle.lvm_group_lines.specs.passed.StageMoments.{OfRequests}
-use Rattle.lvm_group_lines.specs.passed.StageReplies.{IsRefused, most_refusals}
-use Rattle.lvm_group_lines.specs.passed.StageStages.{IsBetweenStage, IsFitting, history_in, state_in}
-use Rattle.lvm_group_lines.specs.passed.StageState.{State, without_facts}
-use Rattle.lvm_group_lines.proofs.passed.StageEnds.{refused_ends, still_ends, unasked_as}
+use Rattle.lvm_group_lines.specs.passed.Stage.{Holder, Refusal, Reply, Stage, EndsUnasked, OfRequests, IsRefused, most_refusals, IsBetweenStage}
+use Rattle.lvm_group_lines.specs.passed.Stage.{IsFitting, history_in, state_in, State, without_facts}
+use Rattle.lvm_group_lines.specs.passed.ReplyVariants as reply
+use Rattle.lvm_group_lines.proofs.passed.Stage.{refused_ends, still_ends, unasked_as}
 
 -- the stage with this holder
 abbrev pub held_by : {S : Type 0} → Stage S → Holder S → Stage S

@@ -12,16 +12,13 @@ use Rattle.lvm_session.specs.declared.open.Power.TheVariants as power
 use Rattle.lvm_session.specs.Causes.{is_over}
 use Rattle.lvm_session.specs.Sound.{IsSound}
 use Rattle.lvm_session.specs.State.{Core, votes_there}
-use Rattle.lvm_group_lines.specs.passed.DriverAnswers.{state_of}
-use Rattle.lvm_group_lines.specs.passed.RunningRunning.{RunsOn}
+use Rattle.lvm_group_lines.specs.passed.Driver.{state_of}
+use Rattle.lvm_group_lines.specs.passed.Running.{RunsOn}
 use Rattle.lvm_posts.specs.declared.posts.Post.{Post}
 use Rattle.lvm_posts.specs.Posts.{ended_with}
 use Rattle.lvm_posts.proofs.Closed.{over_answered}
-use Rattle.lvm_group_lines.specs.passed.StageReplyReply.{Reply}
-use Rattle.lvm_group_lines.specs.passed.StageStageStage.{Stage}
-use Rattle.lvm_group_lines.specs.passed.StageStages.{HaveRooms, IsEnded, IsFitting, history_in, posts_ended}
-use Rattle.lvm_group_lines.specs.passed.StageState.{ArePosted}
-use Rattle.lvm_group_lines.proofs.passed.StagePosting.{end_posts}
+use Rattle.lvm_group_lines.specs.passed.Stage.{Reply, Stage, HaveRooms, IsEnded, IsFitting, history_in, posts_ended, ArePosted}
+use Rattle.lvm_group_lines.proofs.passed.Stage.{end_posts}
 use Rattle.lvm_range_lines.specs.Leaving.{serving}
 use Rattle.lvm_range_lines.specs.Taking.{GoesBehind, IsClosedBehind, LandedEnds}
 use Rattle.lvm_range_lines.proofs.Ending.{off_kind}

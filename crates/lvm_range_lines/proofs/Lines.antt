@@ -13,29 +13,21 @@ use Rattle.lvm_session.specs.declared.open.Power.TheVariants as power
 use Rattle.lvm_session.specs.Causes.{is_over}
 use Rattle.lvm_session.specs.Sound.{IsSound}
 use Rattle.lvm_session.specs.State.{Core, State as Session, state, votes_there}
-use Rattle.lvm_group_lines.specs.passed.DriverAnswers.{state_of}
-use Rattle.lvm_group_lines.specs.passed.RunningRunning.{RunsOn}
-use Rattle.lvm_group_lines.proofs.passed.RunningRunning.{runs_both}
+use Rattle.lvm_group_lines.specs.passed.Driver.{state_of}
+use Rattle.lvm_group_lines.specs.passed.Running.{RunsOn}
+use Rattle.lvm_group_lines.proofs.passed.Running.{runs_both}
 use Rattle.lvm_posts.specs.declared.asked.Asked.{Asked}
 use Rattle.lvm_posts.specs.declared.fault.RangeFault.{RangeFault}
 use Rattle.lvm_posts.specs.declared.fault.RangeFault.TheVariants as fault
 use Rattle.lvm_posts.specs.declared.posts.Post.{Post}
 use Rattle.lvm_posts.specs.Deciding.{AllWell, FirstFails, RangeEnds, fault_by}
 use Rattle.lvm_posts.specs.Pieces.{piece_lp}
-use Rattle.lvm_group_lines.specs.passed.RangesAsking.{AskRangeGives, Asks, IsAskedFor, range_fault}
-use Rattle.lvm_group_lines.specs.passed.RangesRefusalAskRangeFault.{AskRangeFault}
-use Rattle.lvm_group_lines.specs.passed.RangesFinishing.{FinishGives, Finished, WasStuck}
-use Rattle.lvm_group_lines.specs.passed.RangesKeeping.{KeepsOthers}
-use Rattle.lvm_group_lines.specs.passed.RangesLanding.{IsUnfinished}
-use Rattle.lvm_group_lines.specs.passed.StageReplyReply.{Reply}
-use Rattle.lvm_group_lines.specs.passed.StageReplyReplyTheVariants as reply
-use Rattle.lvm_group_lines.specs.passed.StageStageStage.{Stage}
-use Rattle.lvm_group_lines.specs.passed.StageEnds.{EndsUnasked}
-use Rattle.lvm_group_lines.specs.passed.StageMoments.{OfRequests}
-use Rattle.lvm_group_lines.specs.passed.StageReplies.{InFull, Shows, WithoutMemory, most_refusals}
-use Rattle.lvm_group_lines.specs.passed.StageStages.{HaveRooms, IsBetweenStage, IsCarried, IsFitting, state_in}
-use Rattle.lvm_group_lines.specs.passed.StageState.{ArePosted, State}
-use Rattle.lvm_group_lines.proofs.passed.StageRunning.{over_landed}
+use Rattle.lvm_group_lines.specs.passed.Ranges.{AskRangeGives, Asks, IsAskedFor, range_fault, AskRangeFault, FinishGives, Finished, WasStuck}
+use Rattle.lvm_group_lines.specs.passed.Ranges.{KeepsOthers, IsUnfinished}
+use Rattle.lvm_group_lines.specs.passed.Stage.{Reply, Stage, EndsUnasked, OfRequests, InFull, Shows, WithoutMemory, most_refusals, HaveRooms}
+use Rattle.lvm_group_lines.specs.passed.Stage.{IsBetweenStage, IsCarried, IsFitting, state_in, ArePosted, State}
+use Rattle.lvm_group_lines.specs.passed.ReplyVariants as reply
+use Rattle.lvm_group_lines.proofs.passed.Stage.{over_landed}
 use Rattle.lvm_range_lines.specs.Leaving.{EndsBy, FailsIf, KeepsPosts, StageEndsBy, StageFailsIf, Waited, serving}
 use Rattle.lvm_range_lines.specs.Refusals.{Ending, ending_of, is_stuck, range_refusal, reply_of}
 use Rattle.lvm_range_lines.specs.Requests.{AsksByName, EndsWell, Fails, Finishes, IsFinished, NoMemory, OnVolume, ShowsBlocks, ShowsThem, There}

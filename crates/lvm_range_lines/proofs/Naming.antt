@@ -5,8 +5,7 @@ use Rattle.lvm_num.specs.declared.descriptor.LvRow.{LvRow}
 use Rattle.lvm_core.specs.Looking.{HasNoVolume, IsNumberOf}
 use Rattle.lvm_session.specs.State.{Core}
 use Rattle.lvm_posts.specs.declared.asked.Asked.{Asked}
-use Rattle.lvm_group_lines.specs.passed.RangesRefusalAskRangeFault.{AskRangeFault}
-use Rattle.lvm_group_lines.specs.passed.RangesAsking.{AskRangeGives, Asks, range_fault}
+use Rattle.lvm_group_lines.specs.passed.Ranges.{AskRangeFault, AskRangeGives, Asks, range_fault}
 use Rattle.lvm_range_lines.specs.Requests.{AsksByName, HasNone, Refuses, Takes}
 
 -- where there is no volume none has the name

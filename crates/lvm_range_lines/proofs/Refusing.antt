@@ -8,20 +8,14 @@ use Rattle.lvm_session.specs.declared.open.Power.{Power}
 use Rattle.lvm_session.specs.declared.open.Power.TheVariants as power
 use Rattle.lvm_session.specs.Sound.{IsSound}
 use Rattle.lvm_session.specs.State.{Core, state}
-use Rattle.lvm_group_lines.specs.passed.DriverAnswers.{state_of}
-use Rattle.lvm_group_lines.specs.passed.RunningRunning.{RunsOn}
+use Rattle.lvm_group_lines.specs.passed.Driver.{state_of}
+use Rattle.lvm_group_lines.specs.passed.Running.{RunsOn}
 use Rattle.lvm_posts.specs.declared.posts.Post.{Post}
-use Rattle.lvm_group_lines.specs.passed.RangesAsking.{AskRangeGives}
-use Rattle.lvm_group_lines.specs.passed.StageReplyRefusal.{Refusal}
-use Rattle.lvm_group_lines.specs.passed.StageReplyRefusalTheVariants as refusal
-use Rattle.lvm_group_lines.specs.passed.StageReplyReply.{Reply}
-use Rattle.lvm_group_lines.specs.passed.StageReplyReplyTheVariants as reply
-use Rattle.lvm_group_lines.specs.passed.StageStageStage.{Stage}
-use Rattle.lvm_group_lines.specs.passed.StageEnds.{EndsUnasked}
-use Rattle.lvm_group_lines.specs.passed.StageMoments.{OfRequests}
-use Rattle.lvm_group_lines.specs.passed.StageReplies.{most_refusals}
-use Rattle.lvm_group_lines.specs.passed.StageStages.{HaveRooms, IsBetweenStage, IsCarried, IsFitting, state_in}
-use Rattle.lvm_group_lines.specs.passed.StageState.{State}
+use Rattle.lvm_group_lines.specs.passed.Ranges.{AskRangeGives}
+use Rattle.lvm_group_lines.specs.passed.Stage.{Refusal, Reply, Stage, EndsUnasked, OfRequests, most_refusals, HaveRooms, IsBetweenStage, IsCarried}
+use Rattle.lvm_group_lines.specs.passed.Stage.{IsFitting, state_in, State}
+use Rattle.lvm_group_lines.specs.passed.RefusalVariants as refusal
+use Rattle.lvm_group_lines.specs.passed.ReplyVariants as reply
 use Rattle.lvm_range_lines.specs.Leaving.{KeepsPosts, serving}
 use Rattle.lvm_range_lines.specs.Refusals.{ask_refusal}
 use Rattle.lvm_range_lines.specs.Requests.{AsksByName, HasNone, IsNotAsked, NotThere, OnVolume, Refuses, Takes, There}

@@ -9,19 +9,14 @@ use Rattle.lvm_steps.specs.Requests.{at}
 use Rattle.lvm_session.specs.State.{Core, State as Session, state}
 use Rattle.lvm_session.specs.Sound.{IsSound}
 use Rattle.lvm_core.specs.Settled.{IsSettled as IsSettledCore}
-use Rattle.lvm_group_lines.specs.passed.DriverAnswers.{state_of}
-use Rattle.lvm_group_lines.specs.passed.RunningRunning.{RunsOn}
+use Rattle.lvm_group_lines.specs.passed.Driver.{state_of}
+use Rattle.lvm_group_lines.specs.passed.Running.{RunsOn}
 use Rattle.lvm_posts.specs.declared.posts.Post.{Post}
-use Rattle.lvm_group_lines.specs.passed.TieCommandsStanding.{StandsAfter}
-use Rattle.lvm_group_lines.specs.passed.StageReplyReply.{Reply}
-use Rattle.lvm_group_lines.specs.passed.StageReplyReplyTheVariants as reply
-use Rattle.lvm_group_lines.specs.passed.StageStageStage.{Stage}
-use Rattle.lvm_group_lines.specs.passed.StageEnds.{EndsUnasked}
-use Rattle.lvm_group_lines.specs.passed.StageMoments.{GoesOn, OfRequests}
-use Rattle.lvm_group_lines.specs.passed.StageStages.{HaveRooms, IsBetweenStage, IsFitting, history_in, session_in, shelf_in, state_in}
-use Rattle.lvm_group_lines.specs.passed.StageState.{ArePosted, IsOnBetween, State, without_facts}
-use Rattle.lvm_group_lines.proofs.passed.StageGoing.{still_goes}
-use Rattle.lvm_group_lines.proofs.passed.StagePosting.{IsToldOf, posts_few}
+use Rattle.lvm_group_lines.specs.passed.TieCommands.{StandsAfter}
+use Rattle.lvm_group_lines.specs.passed.Stage.{Reply, Stage, EndsUnasked, GoesOn, OfRequests, HaveRooms, IsBetweenStage, IsFitting, history_in}
+use Rattle.lvm_group_lines.specs.passed.Stage.{session_in, shelf_in, state_in, ArePosted, IsOnBetween, State, without_facts}
+use Rattle.lvm_group_lines.specs.passed.ReplyVariants as reply
+use Rattle.lvm_group_lines.proofs.passed.Stage.{still_goes, IsToldOf, posts_few}
 use Rattle.lvm_range_lines.specs.Answers.{Tells}
 use Rattle.lvm_range_lines.specs.Leaving.{resting}
 use Rattle.lvm_range_lines.specs.Refusals.{Ending}

@@ -3,7 +3,7 @@ use Rattle.std.proofs.Common.{◌≤◌, ℕ, arith}
 use Rattle.lvm_session.specs.declared.answers.Turned.{Turned}
 use Rattle.lvm_session.specs.declared.answers.Turned.TheVariants as turned
 use Rattle.lvm_session.specs.State.{State as Session}
-use Rattle.lvm_group_lines.specs.passed.StageReplies.{most_refusals}
+use Rattle.lvm_group_lines.specs.passed.Stage.{most_refusals}
 use Rattle.lvm_range_lines.specs.Stepping.{step_reply}
 
 -- it is one refusal at most

@@ -13,10 +13,10 @@ use Rattle.lvm_session.specs.State.{Core, State as Session, state}
 use Rattle.lvm_posts.specs.declared.asked.Asked.{Asked}
 use Rattle.lvm_posts.specs.declared.posts.Post.{Post}
 use Rattle.lvm_posts.specs.Posts.{AreAnswered, takings}
-use Rattle.lvm_group_lines.specs.passed.RangesKeeping.{AreApart, KeepsOthers}
-use Rattle.lvm_group_lines.specs.passed.EarlierEarlier.{AreGone, with_taken}
-use Rattle.lvm_group_lines.proofs.passed.EarlierResting.{open_with}
-use Rattle.lvm_group_lines.specs.passed.StageState.{ArePosted, IsPosted}
+use Rattle.lvm_group_lines.specs.passed.Ranges.{AreApart, KeepsOthers, HaveLanded}
+use Rattle.lvm_group_lines.specs.passed.Earlier.{AreGone, with_taken}
+use Rattle.lvm_group_lines.proofs.passed.Earlier.{open_with}
+use Rattle.lvm_group_lines.specs.passed.Stage.{ArePosted, IsPosted}
 use Rattle.lvm_disk.specs.Device.{Device}
 use Rattle.lvm_kept.specs.Moments.{Moment}
 use Rattle.lvm_steps.specs.Moments.{Keeps}
@@ -24,10 +24,9 @@ use Rattle.lvm_steps.specs.Requests.{at}
 use Rattle.lvm_session.specs.declared.open.Open.{Open}
 use Rattle.lvm_session.specs.declared.open.Power.TheVariants as power
 use Rattle.lvm_session.specs.Calls.{is_asked}
-use Rattle.lvm_group_lines.specs.passed.RunningRunning.{RunsOn}
-use Rattle.lvm_group_lines.proofs.passed.RunningRunning.{runs_both, runs_none}
+use Rattle.lvm_group_lines.specs.passed.Running.{RunsOn}
+use Rattle.lvm_group_lines.proofs.passed.Running.{runs_both, runs_none}
 use Rattle.lvm_posts.specs.Deciding.{RangeEnds}
-use Rattle.lvm_group_lines.specs.passed.RangesLanding.{HaveLanded}
 use Rattle.std.proofs.lemmas.List.{length-append}
 use Rattle.lvm_range_lines.specs.declared.answers.Answers.{Answers}
 use Rattle.lvm_range_lines.specs.Answers.{Gathers}

@@ -11,22 +11,16 @@ use Rattle.lvm_session.specs.declared.open.Power.TheVariants as power
 use Rattle.lvm_session.specs.Causes.{is_over}
 use Rattle.lvm_session.specs.Sound.{IsSound}
 use Rattle.lvm_session.specs.State.{Core}
-use Rattle.lvm_group_lines.specs.passed.DriverAnswers.{state_of}
-use Rattle.lvm_group_lines.specs.passed.DriverDrains.{IsAny}
-use Rattle.lvm_group_lines.proofs.passed.RangesAnswering.{answered_for}
-use Rattle.lvm_group_lines.specs.passed.RunningRunning.{RunsOn}
-use Rattle.lvm_group_lines.proofs.passed.RunningRunning.{runs_both}
+use Rattle.lvm_group_lines.specs.passed.Driver.{state_of, IsAny}
+use Rattle.lvm_group_lines.proofs.passed.Ranges.{answered_for}
+use Rattle.lvm_group_lines.specs.passed.Running.{RunsOn}
+use Rattle.lvm_group_lines.proofs.passed.Running.{runs_both}
 use Rattle.lvm_posts.specs.declared.posts.Post.{Post}
-use Rattle.lvm_group_lines.specs.passed.StageReplyRefusalTheVariants as refusal
-use Rattle.lvm_group_lines.specs.passed.StageReplyReply.{Reply}
-use Rattle.lvm_group_lines.specs.passed.StageReplyReplyTheVariants as reply
-use Rattle.lvm_group_lines.specs.passed.StageStageStage.{Stage}
-use Rattle.lvm_group_lines.specs.passed.StageEnds.{EndsUnasked}
-use Rattle.lvm_group_lines.specs.passed.StageMoments.{GoesOn, OfRequests}
-use Rattle.lvm_group_lines.specs.passed.StageReplies.{IsStuck, most_refusals}
-use Rattle.lvm_group_lines.specs.passed.StageStages.{HaveRooms, IsBetweenStage, IsCarried, IsEnded, IsFitting, history_in, shelf_in, state_in}
-use Rattle.lvm_group_lines.specs.passed.StageState.{ArePosted, State, without_facts}
-use Rattle.lvm_group_lines.proofs.passed.StageRunning.{over_goes}
+use Rattle.lvm_group_lines.specs.passed.RefusalVariants as refusal
+use Rattle.lvm_group_lines.specs.passed.Stage.{Reply, Stage, EndsUnasked, GoesOn, OfRequests, IsStuck, most_refusals, HaveRooms, IsBetweenStage}
+use Rattle.lvm_group_lines.specs.passed.Stage.{IsCarried, IsEnded, IsFitting, history_in, shelf_in, state_in, ArePosted, State, without_facts}
+use Rattle.lvm_group_lines.specs.passed.ReplyVariants as reply
+use Rattle.lvm_group_lines.proofs.passed.Stage.{over_goes}
 use Rattle.lvm_range_lines.specs.Leaving.{GoesOnWith, Waited, serving}
 use Rattle.lvm_range_lines.specs.Taking.{GoesBehind, IsClosedBehind, LandedEnds}
 use Rattle.lvm_range_lines.specs.Waiting.{AllHaveLanded, Awaits, Goes, InVain, IsAwaited, Over, TurnsForPosts, WaitDoes, WaitEnds}

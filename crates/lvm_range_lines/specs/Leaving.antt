@@ -8,11 +8,8 @@ use Rattle.lvm_session.specs.declared.open.Power.TheVariants as power
 use Rattle.lvm_session.specs.State.{Core, State as Session, state}
 use Rattle.lvm_posts.specs.declared.fault.RangeFault.{RangeFault}
 use Rattle.lvm_posts.specs.declared.posts.Post.{Post}
-use Rattle.lvm_group_lines.specs.passed.StageHolderHolderTheVariants as holder
-use Rattle.lvm_group_lines.specs.passed.StageStageStage.{Stage}
-use Rattle.lvm_group_lines.specs.passed.StageEnds.{patience_of_line}
-use Rattle.lvm_group_lines.specs.passed.StageStages.{IsCarried, IsClosed, IsEnded, posts_ended}
-use Rattle.lvm_group_lines.specs.passed.StageState.{ArePosted, State}
+use Rattle.lvm_group_lines.specs.passed.HolderVariants as holder
+use Rattle.lvm_group_lines.specs.passed.Stage.{Stage, patience_of_line, IsCarried, IsClosed, IsEnded, posts_ended, ArePosted, State}
 use Rattle.lvm_range_lines.specs.Refusals.{is_stuck}
 
 -- ---- states

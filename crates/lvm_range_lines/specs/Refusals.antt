@@ -4,13 +4,11 @@ use Rattle.lvm_num.specs.Buffer.{Sector}
 use Rattle.lvm_replies.specs.Blocks.{block_text}
 use Rattle.lvm_posts.specs.declared.fault.RangeFault.{RangeFault}
 use Rattle.lvm_posts.specs.declared.fault.RangeFault.TheVariants as fault
-use Rattle.lvm_group_lines.specs.passed.RangesRefusalAskRangeFault.{AskRangeFault}
-use Rattle.lvm_group_lines.specs.passed.RangesRefusalAskRangeFaultTheVariants as ask
-use Rattle.lvm_group_lines.specs.passed.StageReplyRefusal.{Refusal}
-use Rattle.lvm_group_lines.specs.passed.StageReplyRefusalTheVariants as refusal
-use Rattle.lvm_group_lines.specs.passed.StageReplyReply.{Reply}
-use Rattle.lvm_group_lines.specs.passed.StageReplyReplyTheVariants as reply
-use Rattle.lvm_group_lines.specs.passed.StageReplies.{reply_text}
+use Rattle.lvm_group_lines.specs.passed.Ranges.{AskRangeFault}
+use Rattle.lvm_group_lines.specs.passed.AskRangeFaultVariants as ask
+use Rattle.lvm_group_lines.specs.passed.Stage.{Refusal, Reply, reply_text}
+use Rattle.lvm_group_lines.specs.passed.RefusalVariants as refusal
+use Rattle.lvm_group_lines.specs.passed.ReplyVariants as reply
 
 -- why a range isn't asked for, as the refusal of its line
 abbrev pub ask_refusal : AskRangeFault → Refusal

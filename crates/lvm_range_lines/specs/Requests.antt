@@ -4,20 +4,14 @@ use Rattle.lvm_num.specs.Buffer.{Sector}
 use Rattle.lvm_core.specs.Looking.{IsNumberOf, HasNoVolume}
 use Rattle.lvm_session.specs.Sound.{IsSound}
 use Rattle.lvm_session.specs.State.{Core, State as Session}
-use Rattle.lvm_group_lines.specs.passed.RunningRunning.{RunsOn}
+use Rattle.lvm_group_lines.specs.passed.Running.{RunsOn}
 use Rattle.lvm_posts.specs.declared.asked.Asked.{Asked}
 use Rattle.lvm_posts.specs.declared.fault.RangeFault.{RangeFault}
 use Rattle.lvm_posts.specs.declared.posts.Post.{Post}
-use Rattle.lvm_group_lines.specs.passed.RangesRefusalAskRangeFault.{AskRangeFault}
-use Rattle.lvm_group_lines.specs.passed.RangesAsking.{AskRangeGives}
-use Rattle.lvm_group_lines.specs.passed.RangesFinishing.{FinishGives}
-use Rattle.lvm_group_lines.specs.passed.RangesReading.{AreGot}
-use Rattle.lvm_group_lines.specs.passed.StageState.{State}
-use Rattle.lvm_group_lines.specs.passed.StageReplies.{IsRefused, Shows}
-use Rattle.lvm_group_lines.specs.passed.StageReplyRefusal.{Refusal}
-use Rattle.lvm_group_lines.specs.passed.StageReplyRefusalTheVariants as refusal
-use Rattle.lvm_group_lines.specs.passed.StageReplyReply.{Reply}
-use Rattle.lvm_group_lines.specs.passed.StageReplyReplyTheVariants as reply
+use Rattle.lvm_group_lines.specs.passed.Ranges.{AskRangeFault, AskRangeGives, FinishGives, AreGot}
+use Rattle.lvm_group_lines.specs.passed.Stage.{State, IsRefused, Shows, Refusal, Reply}
+use Rattle.lvm_group_lines.specs.passed.RefusalVariants as refusal
+use Rattle.lvm_group_lines.specs.passed.ReplyVariants as reply
 use Rattle.lvm_range_lines.specs.Leaving.{EndsBy, GoesOnWith, Waited, session_over}
 use Rattle.lvm_range_lines.specs.Refusals.{ask_refusal, blocks_text, range_refusal}
 

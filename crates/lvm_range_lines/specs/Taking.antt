@@ -13,19 +13,14 @@ use Rattle.lvm_session.specs.declared.open.Power.{Power}
 use Rattle.lvm_session.specs.declared.open.Power.TheVariants as power
 use Rattle.lvm_session.specs.Sound.{IsSound}
 use Rattle.lvm_session.specs.State.{Core, State as Session, state}
-use Rattle.lvm_group_lines.specs.passed.DriverAnswers.{state_of}
-use Rattle.lvm_group_lines.specs.passed.DriverDrains.{IsAny}
+use Rattle.lvm_group_lines.specs.passed.Driver.{state_of, IsAny}
 use Rattle.lvm_posts.specs.declared.asked.Asked.{Asked}
 use Rattle.lvm_posts.specs.declared.posts.Post.{Post}
 use Rattle.lvm_posts.specs.Posts.{AreAnswered, AreHeld}
-use Rattle.lvm_group_lines.specs.passed.RangesLandingStuck.{Stuck}
-use Rattle.lvm_group_lines.specs.passed.RangesKeeping.{AreApart}
-use Rattle.lvm_group_lines.specs.passed.RangesLanding.{HaveLanded, IsUnfinished, TurnsFor}
-use Rattle.lvm_group_lines.specs.passed.EarlierEarlier.{AreGone}
-use Rattle.lvm_group_lines.specs.passed.RunningRunning.{RunsOn}
-use Rattle.lvm_group_lines.specs.passed.StageReplyReply.{Reply}
-use Rattle.lvm_group_lines.specs.passed.StageStageStage.{Stage}
-use Rattle.lvm_group_lines.specs.passed.StageStages.{IsEnded, history_in, session_in, shelf_in}
+use Rattle.lvm_group_lines.specs.passed.Ranges.{Stuck, AreApart, HaveLanded, IsUnfinished, TurnsFor}
+use Rattle.lvm_group_lines.specs.passed.Earlier.{AreGone}
+use Rattle.lvm_group_lines.specs.passed.Running.{RunsOn}
+use Rattle.lvm_group_lines.specs.passed.Stage.{Reply, Stage, IsEnded, history_in, session_in, shelf_in}
 use Rattle.lvm_range_lines.specs.declared.answers.Answers.{Answers}
 use Rattle.lvm_range_lines.specs.Answers.{Gathers, Tells}
 use Rattle.lvm_range_lines.specs.Leaving.{serving}

@@ -6,19 +6,16 @@ use Rattle.lvm_session.specs.declared.open.Power.TheVariants as power
 use Rattle.lvm_session.specs.Causes.{is_over}
 use Rattle.lvm_session.specs.Sound.{IsSound}
 use Rattle.lvm_session.specs.State.{Core, State as Session, state}
-use Rattle.lvm_group_lines.specs.passed.RunningRunning.{RunsOn}
-use Rattle.lvm_group_lines.specs.passed.DriverAnswers.{IsCausedFor}
-use Rattle.lvm_group_lines.specs.passed.DriverDrains.{IsAny, IsTurn}
+use Rattle.lvm_group_lines.specs.passed.Running.{RunsOn}
+use Rattle.lvm_group_lines.specs.passed.Driver.{IsCausedFor, IsAny, IsTurn}
 use Rattle.lvm_posts.specs.declared.posts.Post.{Post}
 use Rattle.lvm_posts.specs.Deciding.{RangeEnds}
 use Rattle.lvm_posts.specs.Posts.{takings}
-use Rattle.lvm_group_lines.specs.passed.RangesLanding.{HaveLanded, IsUnfinished}
-use Rattle.lvm_group_lines.specs.passed.RangesFinishing.{TakesRange}
-use Rattle.lvm_group_lines.specs.passed.EarlierEarlier.{with_taken}
-use Rattle.lvm_group_lines.specs.passed.StageState.{State}
-use Rattle.lvm_group_lines.specs.passed.StageReplyRefusalTheVariants as refusal
-use Rattle.lvm_group_lines.specs.passed.StageReplyReply.{Reply}
-use Rattle.lvm_group_lines.specs.passed.StageReplyReplyTheVariants as reply
+use Rattle.lvm_group_lines.specs.passed.Ranges.{HaveLanded, IsUnfinished, TakesRange}
+use Rattle.lvm_group_lines.specs.passed.Earlier.{with_taken}
+use Rattle.lvm_group_lines.specs.passed.Stage.{State, Reply}
+use Rattle.lvm_group_lines.specs.passed.RefusalVariants as refusal
+use Rattle.lvm_group_lines.specs.passed.ReplyVariants as reply
 use Rattle.lvm_range_lines.specs.Answers.{Tells}
 use Rattle.lvm_range_lines.specs.Leaving.{GoesOnWith, IsOverWith, Waited, session_over}
 use Rattle.lvm_range_lines.specs.Refusals.{Ending}

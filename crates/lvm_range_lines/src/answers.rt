@@ -5,9 +5,9 @@ ghost use Rattle.lvm_range_lines.specs.Answers.{Gathers, IsOf, Tells};
 ghost use Rattle.lvm_range_lines.specs.Refusals.{Ending, answer_text, refusal_in, refusals_in};
 
 use crate::refusal::range_refusal;
+use lvm_group_lines::below::lvm_stage::{Refusal, Reply, push_refusal_line};
 use lvm_num::Text;
 use lvm_posts::RangeFault;
-use lvm_group_lines::below::lvm_stage::{Refusal, Reply, push_refusal_line};
 use std::alloc::{AllocError, Global};
 
 /// The lines of the posts that were answered so far, while memory was found for them, and how many of them are refusals.

@@ -1,8 +1,8 @@
 //! The lines that read and write volumes, at once or later, and make turns.
 #![tactic(auto)]
 
-pub mod below;
 mod answers;
+pub mod below;
 mod refusal;
 mod requests;
 mod stepping;

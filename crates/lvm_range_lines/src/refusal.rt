@@ -2,9 +2,9 @@
 ghost use Rattle.std.specs.Prelude.{◌≡◌};
 ghost use Rattle.lvm_range_lines.specs.Refusals.{ask_refusal, is_stuck, range_refusal};
 
-use lvm_posts::RangeFault;
 use lvm_group_lines::below::lvm_ranges::AskRangeFault;
 use lvm_group_lines::below::lvm_stage::Refusal;
+use lvm_posts::RangeFault;
 
 /// Why a range isn't asked for.
 pub fn ask_refusal(fault: AskRangeFault) -> Refusal

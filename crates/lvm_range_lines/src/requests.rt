@@ -2,18 +2,12 @@
 ghost use Rattle.std.specs.Prelude.{◌≡◌, ◌≤◌, ◌<◌, ◌+◌, ◌++◌, ◌∷◌, ◌^◌, ℕ, [], Some, None, length, vec_capacity, vec_len, IfOk};
 ghost use Rattle.lvm_session.specs.declared.open.Power.TheVariants as power;
 ghost use Rattle.lvm_session.specs.Sound.{IsSound};
-ghost use Rattle.lvm_group_lines.specs.passed.DriverAnswers.{state_of};
+ghost use Rattle.lvm_group_lines.specs.passed.Driver.{state_of};
 ghost use Rattle.lvm_posts.specs.Pieces.{IsLaidOut};
 ghost use Rattle.lvm_posts.specs.Posts.{AreHeld};
-ghost use Rattle.lvm_group_lines.specs.passed.RangesAsking.{IsAskedFor};
-ghost use Rattle.lvm_group_lines.specs.passed.RangesFinishing.{FinishGives};
-ghost use Rattle.lvm_group_lines.specs.passed.RangesKeeping.{KeepsOthers};
-ghost use Rattle.lvm_group_lines.specs.passed.RangesReading.{HasEndedWell, IsRead};
-ghost use Rattle.lvm_group_lines.specs.passed.RunningRunning.{RunsOn};
-ghost use Rattle.lvm_group_lines.specs.passed.StageEnds.{EndsUnasked};
-ghost use Rattle.lvm_group_lines.specs.passed.StageMoments.{OfRequests};
-ghost use Rattle.lvm_group_lines.specs.passed.StageReplies.{Shows};
-ghost use Rattle.lvm_group_lines.specs.passed.StageStages.{HaveRooms, IsBetweenStage, IsFitting};
+ghost use Rattle.lvm_group_lines.specs.passed.Ranges.{IsAskedFor, FinishGives, KeepsOthers, HasEndedWell, IsRead};
+ghost use Rattle.lvm_group_lines.specs.passed.Running.{RunsOn};
+ghost use Rattle.lvm_group_lines.specs.passed.Stage.{EndsUnasked, OfRequests, Shows, HaveRooms, IsBetweenStage, IsFitting};
 ghost use Rattle.lvm_range_lines.specs.Leaving.{KeepsPosts, StageEndsBy, StageFails, Waited, serving};
 ghost use Rattle.lvm_range_lines.specs.Requests.{AsksByName, PostDoes, RdDoes, ShowsBlocks, WrDoes};
 ghost use Rattle.lvm_range_lines.specs.Refusals.{blocks_text, ending_of, range_refusal, reply_of};
@@ -21,11 +15,11 @@ ghost use Rattle.lvm_range_lines.specs.Refusals.{blocks_text, ending_of, range_r
 use crate::refusal::{ask_refusal, is_stuck, range_refusal};
 use lvm_disk::Shelf;
 use lvm_group_lines::below::lvm_driver::Driver;
+use lvm_group_lines::below::lvm_ranges::{ask_range, finish_range, read_blocks};
+use lvm_group_lines::below::lvm_stage::{Answered, Holder, Refusal, Reply, Stage, number_of};
 use lvm_num::{Memory, Name, Text};
 use lvm_posts::{Asked, Post, RangeFault};
-use lvm_group_lines::below::lvm_ranges::{ask_range, finish_range, read_blocks};
 use lvm_replies::show_block;
-use lvm_group_lines::below::lvm_stage::{Answered, Holder, Refusal, Reply, Stage, number_of};
 use lvm_transfer::Patience;
 use std::alloc::Global;
 

@@ -1,19 +1,17 @@
 //! The line that makes turns.
 ghost use Rattle.std.specs.Prelude.{◌≡◌, ℕ};
 ghost use Rattle.lvm_session.specs.Sound.{IsSound};
-ghost use Rattle.lvm_group_lines.specs.passed.DriverAnswers.{state_of};
-ghost use Rattle.lvm_group_lines.specs.passed.StageEnds.{EndsUnasked};
-ghost use Rattle.lvm_group_lines.specs.passed.StageMoments.{OfRequests};
-ghost use Rattle.lvm_group_lines.specs.passed.StageStages.{HaveRooms, IsBetweenStage, IsCarried, IsFitting};
+ghost use Rattle.lvm_group_lines.specs.passed.Driver.{state_of};
+ghost use Rattle.lvm_group_lines.specs.passed.Stage.{EndsUnasked, OfRequests, HaveRooms, IsBetweenStage, IsCarried, IsFitting};
 ghost use Rattle.lvm_range_lines.specs.Leaving.{serving};
 ghost use Rattle.lvm_range_lines.specs.Stepping.{StepDoes, step_reply};
 
 use lvm_disk::Shelf;
 use lvm_group_lines::below::lvm_driver::Driver;
-use lvm_posts::Post;
 use lvm_group_lines::below::lvm_ranges::step;
-use lvm_session::Turned;
 use lvm_group_lines::below::lvm_stage::{Answered, Holder, Refusal, Reply, Stage};
+use lvm_posts::Post;
+use lvm_session::Turned;
 
 // The reply where so many turns have moved, and the last one answered so.
 fn step_reply<S: Shelf>(driver: &Driver<S>, moved: u32, how: Turned) -> Reply

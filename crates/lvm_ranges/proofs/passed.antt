@@ -1,2 +1,1 @@
-pub mod RunningCalls
-pub mod RunningRunning
+pub mod Running

@@ -1,5 +1,3 @@
-pub mod DriverAnswers
-pub mod DriverDrains
-pub mod DriverDrainDrainFault
-pub mod DriverDrainDrainFaultTheVariants
-pub mod RunningRunning
+pub mod DrainFaultVariants
+pub mod Driver
+pub mod Running

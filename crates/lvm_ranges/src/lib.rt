@@ -1,8 +1,8 @@
 //! Ranges of volumes of the group that is on: they are asked for in pieces, and answered once all have landed.
 #![tactic(auto)]
 
-pub mod below;
 mod ask;
+pub mod below;
 mod landing;
 pub mod laws;
 mod reading;

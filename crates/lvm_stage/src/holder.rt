@@ -13,11 +13,18 @@ use lvm_history::History;
 #[derive(Drop)]
 pub enum Holder<S: Shelf> {
     /// No group is on: the shelf beside the history.
-    Off { shelf: S, history: History },
+    Off {
+        shelf: S,
+        history: History,
+    },
     /// The session of a group without volumes. It takes commands on the group at once, since nothing is under way.
-    Empty { driver: lvm_core::Driver<S> },
+    Empty {
+        driver: lvm_core::Driver<S>,
+    },
     /// The session of a group with volumes. It takes requests.
-    Serving { driver: lvm_tie_commands::below::lvm_driver::Driver<S> },
+    Serving {
+        driver: lvm_tie_commands::below::lvm_driver::Driver<S>,
+    },
 }
 
 impl<S: Shelf> Holder<S> {

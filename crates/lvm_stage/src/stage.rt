@@ -6,10 +6,10 @@ use crate::holder::Holder;
 use crate::reply::{Refusal, Reply};
 use lvm_core::Closed;
 use lvm_disk::Shelf;
-use lvm_tie_commands::below::lvm_driver::Driver;
 use lvm_num::{Memory, Name};
 use lvm_posts::{Post, end_posts};
 use lvm_session::Power;
+use lvm_tie_commands::below::lvm_driver::Driver;
 use lvm_transfer::relight;
 use std::alloc::Global;
 

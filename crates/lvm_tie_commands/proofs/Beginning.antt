@@ -20,9 +20,8 @@ use Rattle.lvm_session.specs.State.{Core, State as Session, is_there}
 use Rattle.lvm_core.specs.Committing.{moment_of}
 use Rattle.lvm_core.specs.Held.{NotesAreHome, StartsHeld}
 use Rattle.lvm_even.proofs.OffLemmas.{off_is_even}
-use Rattle.lvm_handover.specs.passed.TieSpares.{SparesDescriptors}
-use Rattle.lvm_handover.specs.passed.TieTied.{IsTied}
-use Rattle.lvm_handover.specs.passed.TieBeginsBegins.{shown_to}
+use Rattle.lvm_handover.specs.passed.Tie.{SparesDescriptors, IsTied}
+use Rattle.lvm_handover.specs.passed.TieBegins.{shown_to}
 use Rattle.lvm_tie_groups.specs.Coming.{AreOff}
 use Rattle.lvm_tie_commands.specs.Beginning.{HasBegun, MadeStands, VariedOnStands}
 use Rattle.lvm_tie_commands.specs.Standing.{HoldsEmpty}

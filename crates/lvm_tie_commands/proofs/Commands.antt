@@ -26,12 +26,11 @@ use Rattle.lvm_core.specs.Leaves.{EntersVolumes, IsOfCommand, Leaves, Scope}
 use Rattle.lvm_core.specs.Settled.{IsSettled}
 use Rattle.lvm_volume_plan.specs.declared.fault.GroupFault.{GroupFault}
 use Rattle.lvm_volume_plan.specs.declared.fault.GroupFault.TheVariants as fault
-use Rattle.lvm_handover.specs.passed.VolumesEndings.{IfAlone, IfOn, StillHeld}
+use Rattle.lvm_handover.specs.passed.Volumes.{IfAlone, IfOn, StillHeld}
 use Rattle.lvm_rest.specs.Rest.{IsEven}
 use Rattle.lvm_even.specs.Even.{AreWanted}
-use Rattle.lvm_handover.specs.passed.TieSpares.{SparesDescriptors}
-use Rattle.lvm_handover.specs.passed.TieTied.{IsTied}
-use Rattle.lvm_handover.specs.passed.TieBeginsBegins.{shown_to}
+use Rattle.lvm_handover.specs.passed.Tie.{SparesDescriptors, IsTied}
+use Rattle.lvm_handover.specs.passed.TieBegins.{shown_to}
 use Rattle.lvm_tie_commands.specs.Commands.{IsLeftStanding, MayBeCommanded}
 use Rattle.lvm_tie_commands.specs.Standing.{HoldsEmpty, StandsAfter}
 use Rattle.lvm_tie_commands.proofs.Alone.{only_is_one_on}

@@ -21,14 +21,13 @@ use Rattle.lvm_volume_plan.specs.declared.fault.GroupFault.{GroupFault}
 use Rattle.lvm_volume_plan.specs.declared.fault.GroupFault.TheVariants as fault
 use Rattle.lvm_volume_plan.specs.declared.new_volume.NewVolume.{NewVolume}
 use Rattle.lvm_volume_plan.specs.NewVolume.{row_for, with_volume}
-use Rattle.lvm_handover.specs.passed.VolumesEndings.{IfOn, StillHeld}
-use Rattle.lvm_handover.specs.passed.VolumesVolumes.{IsChosen, IsVolumeMade, MklvGives, making, to_make}
-use Rattle.lvm_handover.proofs.passed.VolumesPlaces.{free_of}
+use Rattle.lvm_handover.specs.passed.Volumes.{IfOn, StillHeld, IsChosen, IsVolumeMade, MklvGives, making, to_make}
+use Rattle.lvm_handover.proofs.passed.Volumes.{free_of}
 use Rattle.lvm_handover.specs.Serving.{IsCommanded}
 use Rattle.lvm_even.proofs.Even.{mklv_keeps_even}
 use Rattle.lvm_even.proofs.OffLemmas.{off_volume_is_even}
 use Rattle.lvm_rest.specs.Rest.{IsEven}
-use Rattle.lvm_handover.specs.passed.TieBeginsBegins.{shown_to}
+use Rattle.lvm_handover.specs.passed.TieBegins.{shown_to}
 use Rattle.lvm_tie_commands.specs.Commands.{IsAloneAtFirst, IsLeftStandingSince, MayBeCommanded, MklvGoesOn}
 use Rattle.lvm_tie_commands.proofs.Commands.{KeepsEven, is_alone, keeps_on, left_standing, on_all}
 

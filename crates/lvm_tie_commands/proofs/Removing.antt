@@ -14,13 +14,12 @@ use Rattle.lvm_core.specs.Settled.{IsSettled}
 use Rattle.lvm_volume_plan.specs.declared.fault.GroupFault.{GroupFault}
 use Rattle.lvm_volume_plan.specs.declared.fault.GroupFault.TheVariants as fault
 use Rattle.lvm_volume_plan.specs.NewVolume.{without_volume}
-use Rattle.lvm_handover.specs.passed.VolumesEndings.{IfOn, StillHeld}
-use Rattle.lvm_handover.specs.passed.VolumesVolumes.{RmlvGives, to_remove}
+use Rattle.lvm_handover.specs.passed.Volumes.{IfOn, StillHeld, RmlvGives, to_remove}
 use Rattle.lvm_handover.specs.Serving.{IsCommanded}
 use Rattle.lvm_even.proofs.Even.{rmlv_keeps_even}
 use Rattle.lvm_even.proofs.OffLemmas.{fewer_are_even}
 use Rattle.lvm_rest.specs.Rest.{IsEven}
-use Rattle.lvm_handover.specs.passed.TieBeginsBegins.{shown_to}
+use Rattle.lvm_handover.specs.passed.TieBegins.{shown_to}
 use Rattle.lvm_tie_commands.specs.Commands.{IsLeftStandingSince, MayBeCommanded, RmlvGoesOn}
 use Rattle.lvm_tie_commands.proofs.Commands.{KeepsEven, is_alone, keeps_on, left_standing, on_all}
 

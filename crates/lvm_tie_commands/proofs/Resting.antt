@@ -9,7 +9,7 @@ use Rattle.lvm_commit.specs.Settling.{NoneIsLeft}
 use Rattle.lvm_handover.proofs.Between.{rest_is_still}
 use Rattle.lvm_handover.proofs.Entailing.{none_left}
 use Rattle.lvm_handover.proofs.Serving.{nobody_flies, none_flying}
-use Rattle.lvm_handover.specs.passed.TieBeginsBegins.{IsResting}
+use Rattle.lvm_handover.specs.passed.TieBegins.{IsResting}
 
 module _ (s : Session) (sound : IsSound s) (settled : IsSettled s.core) where
   going : IsGoing s.core

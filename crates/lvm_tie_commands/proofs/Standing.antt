@@ -22,10 +22,9 @@ use Rattle.lvm_session.specs.Sound.{IsSound}
 use Rattle.lvm_core.specs.Settled.{IsSettled}
 use Rattle.lvm_rest.specs.Rest.{IsEven, NoneIsBehind}
 use Rattle.lvm_rest.proofs.Marking.{none_is_left_behind}
-use Rattle.lvm_handover.specs.passed.TieSpares.{SparesDescriptors}
-use Rattle.lvm_handover.specs.passed.TieTied.{IsTied, moment_of}
-use Rattle.lvm_handover.specs.passed.TieBeginsBegins.{AreNotesHome, MembersShow, StandsAtRest, shown_to}
-use Rattle.lvm_handover.proofs.passed.TieBeginsResting.{rest_spares, rest_ties}
+use Rattle.lvm_handover.specs.passed.Tie.{SparesDescriptors, IsTied, moment_of}
+use Rattle.lvm_handover.specs.passed.TieBegins.{AreNotesHome, MembersShow, StandsAtRest, shown_to}
+use Rattle.lvm_handover.proofs.passed.TieBegins.{rest_spares, rest_ties}
 use Rattle.lvm_tie_commands.proofs.Resting.{left, rests}
 
 -- what holds of the media that is told

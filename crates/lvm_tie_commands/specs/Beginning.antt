@@ -12,10 +12,9 @@ use Rattle.lvm_core.specs.declared.parts.Room.{Room}
 use Rattle.lvm_core.specs.Committing.{moment_of}
 use Rattle.lvm_core.specs.Held.{StartsHeld}
 use Rattle.lvm_core.specs.Settled.{IsSettled}
-use Rattle.lvm_handover.specs.passed.VaryonVaried.{ComesOn}
-use Rattle.lvm_handover.specs.passed.GroupMade.{IsMade}
-use Rattle.lvm_handover.specs.passed.GroupNewGroup.{NewGroup}
-use Rattle.lvm_handover.specs.passed.TieStamps.{IsStamped}
+use Rattle.lvm_handover.specs.passed.Varyon.{ComesOn}
+use Rattle.lvm_handover.specs.passed.Group.{IsMade, NewGroup}
+use Rattle.lvm_handover.specs.passed.Tie.{IsStamped}
 use Rattle.lvm_tie_groups.specs.Coming.{AreOff}
 use Rattle.lvm_tie_commands.specs.Standing.{StandsAfter, StandsSince}
 

@@ -6,8 +6,7 @@ use Rattle.lvm_kept.specs.Moments.{Moment}
 use Rattle.lvm_steps.specs.Moments.{Begins}
 use Rattle.lvm_session.specs.State.{Core, State as Session, state}
 use Rattle.lvm_core.specs.Held.{AreNotesHome, IsHeld}
-use Rattle.lvm_handover.specs.passed.TieSpares.{SparesDescriptors}
-use Rattle.lvm_handover.specs.passed.TieTied.{IsTied}
+use Rattle.lvm_handover.specs.passed.Tie.{SparesDescriptors, IsTied}
 
 -- Of a group without volumes: the disks hold what the session says is committed, and their notes name what its cache does.
 pub record HoldsEmpty (device : Device) (core : Core) : Type 0 where

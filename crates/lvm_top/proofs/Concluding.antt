@@ -19,16 +19,13 @@ use Rattle.lvm_session.specs.Sound.{IsSound}
 use Rattle.lvm_turn_answers.specs.Telling.{power_by}
 use Rattle.lvm_session.specs.declared.answers.Turned.TheVariants as turned
 use Rattle.lvm_session.specs.declared.open.Power.{Power}
-use Rattle.lvm_line.specs.passed.TieSpares.{LeavesDescriptors}
-use Rattle.lvm_line.specs.passed.RunningRunning.{RunsOn}
+use Rattle.lvm_line.specs.passed.Tie.{LeavesDescriptors}
+use Rattle.lvm_line.specs.passed.Running.{RunsOn}
 use Rattle.lvm_line.specs.Lines.{role_of}
-use Rattle.lvm_line.specs.passed.StageMoments.{GoesOn, IsAlone, OfRequests}
-use Rattle.lvm_line.specs.passed.StageStages.{IsClosed}
-use Rattle.lvm_line.specs.passed.StageState.{ArePosted, State, IsAtRest, IsBetween, IsTimely, StandsBy}
-use Rattle.lvm_line.specs.passed.StageReplyRefusalTheVariants as refusal
-use Rattle.lvm_line.specs.passed.StageReplyReply.{Reply}
-use Rattle.lvm_line.specs.passed.StageReplyReplyTheVariants as reply
-use Rattle.lvm_line.proofs.passed.StageRunning.{over_goes}
+use Rattle.lvm_line.specs.passed.Stage.{GoesOn, IsAlone, OfRequests, IsClosed, ArePosted, State, IsAtRest, IsBetween, IsTimely, StandsBy, Reply}
+use Rattle.lvm_line.specs.passed.RefusalVariants as refusal
+use Rattle.lvm_line.specs.passed.ReplyVariants as reply
+use Rattle.lvm_line.proofs.passed.Stage.{over_goes}
 use Rattle.lvm_top.specs.declared.status.ExitStatus.{ExitStatus}
 use Rattle.lvm_top.specs.declared.status.ExitStatus.TheVariants as ended
 use Rattle.lvm_top.specs.Ending.{Concludes, NoneIsOn, NoneIsServed, IsServed, NothingIsLeft, TurnsAreMade, MakesTurns, RestsNow}

@@ -13,25 +13,17 @@ use Rattle.lvm_core.specs.declared.parts.Room.{Room}
 use Rattle.lvm_core.specs.declared.refused.Cause.{Cause}
 use Rattle.lvm_core.specs.declared.refused.Cause.TheVariants as cause
 use Rattle.lvm_core.specs.Leaves.{MayBeFound}
-use Rattle.lvm_line.specs.passed.GroupNewGroup.{new_group}
-use Rattle.lvm_line.specs.passed.StageEnds.{patience_of_line}
-use Rattle.lvm_line.specs.passed.StageLighting.{refusal_of}
-use Rattle.lvm_line.specs.passed.StageReplies.{IsStuck}
-use Rattle.lvm_line.specs.passed.StageAsking.{Asks, IsAsked}
-use Rattle.lvm_line.specs.passed.GroupLinesGroups.{IsLeft, MkvgDoes, NoMemoryForLine, NoMkvgWhileOn, Makes, VaryonDoes, NoVaryonWhileOn, Varies, asked_for, itself, outcome_of}
-use Rattle.lvm_line.specs.passed.QuiesceEnds.{Quiesces}
-use Rattle.lvm_line.specs.passed.QuiesceGroups.{MkvgOnceQuiet, RefusedAtOnce, StayedOut, VaryonOnceQuiet, WentQuiet}
-use Rattle.lvm_line.proofs.passed.QuiesceBehind.{each_is_behind, fewer_stay_behind}
-use Rattle.lvm_line.proofs.passed.QuiesceEnding.{ends_leave, ends_only}
+use Rattle.lvm_line.specs.passed.Group.{new_group}
+use Rattle.lvm_line.specs.passed.Stage.{patience_of_line, refusal_of, IsStuck, Asks, IsAsked, IsBrokenOff, State, IsTimely, log_with, Reply}
+use Rattle.lvm_line.specs.passed.GroupLines.{IsLeft, MkvgDoes, NoMemoryForLine, NoMkvgWhileOn, Makes, VaryonDoes, NoVaryonWhileOn, Varies, asked_for}
+use Rattle.lvm_line.specs.passed.GroupLines.{itself, outcome_of}
+use Rattle.lvm_line.specs.passed.Quiesce.{Quiesces, MkvgOnceQuiet, RefusedAtOnce, StayedOut, VaryonOnceQuiet, WentQuiet}
+use Rattle.lvm_line.proofs.passed.Quiesce.{each_is_behind, fewer_stay_behind, ends_leave, ends_only}
 use Rattle.lvm_core.specs.declared.refused.Refused.{Refused}
 use Rattle.lvm_session.specs.State.{Core}
 use Rattle.lvm_stamps.proofs.Stamps.{later_is_ahead_too}
-use Rattle.lvm_line.specs.passed.StageMoments.{IsBrokenOff}
-use Rattle.lvm_line.specs.passed.StageState.{State, IsTimely, log_with}
-use Rattle.lvm_line.specs.passed.StageReplyReply.{Reply}
-use Rattle.lvm_line.specs.passed.StageReplyReplyTheVariants as reply
-use Rattle.lvm_line.specs.passed.VaryonVaried.{Refuses}
-use Rattle.lvm_line.specs.passed.VaryonWriting.{order}
+use Rattle.lvm_line.specs.passed.ReplyVariants as reply
+use Rattle.lvm_line.specs.passed.Varyon.{Refuses, order}
 use Rattle.lvm_top.specs.Standing.{MayHaveCommitted}
 use Rattle.lvm_top.proofs.Begun.{IsIts}
 use Rattle.lvm_top.proofs.Devices.{IsShelf, NothingNew, same_nothing, unwritten_nothing}
@@ -175,7 +167,7 @@ module _ (log : Log) (old new : State) (answer : Reply) (shelf : IsShelf old.mom
         let written = once.goes.gives.written in
         quiet_nothing old.moment.device once.mid once.quiesces id k
         (written_nothing once.mid left name new.last _ written (mid_shelf once.mid once.quiesces) (some_moment old.last new.last asks) (behind once.mid once.quiesces asks) (order written.group) written.writes.how.keeps
-            written.writes.how.rested.ready.flights id k (subst (λ (d : Device). MayBeFound d id k) (sym gone.0) it))
+        written.writes.how.rested.ready.flights id k (subst (λ (d : Device). MayBeFound d id k) (sym gone.0) it))
     outcome_nothing room left is (Err why) asks (WentQuiet may once) gone id k it =
         quiet_nothing old.moment.device once.mid once.quiesces id k
         (stops_nothing asks once.mid left once.quiesces once.left why (not_stuck why gone.answered) once.goes.gives.0 id k (lit_nothing why left new.moment.device gone.lit id k it))

@@ -13,29 +13,27 @@ use Rattle.lvm_operands.specs.declared.rest.Misfit.{Misfit}
 use Rattle.lvm_parse.specs.Grammar.{line_of}
 use Rattle.lvm_core.specs.declared.parts.Room.{Room}
 use Rattle.lvm_core.specs.Leaves.{MayBeFound}
-use Rattle.lvm_line.specs.passed.StageEnds.{patience_of_line}
-use Rattle.lvm_line.specs.passed.DiskLinesDisks.{WriteDoes, ReadDoes, NoWriteWhileOn, WriteGoes, NoReadWhileOn, ReadGoes}
-use Rattle.lvm_line.specs.passed.QuiesceRanges.{RejectedAtOnce, KeptFrom, AskedAtRest}
-use Rattle.lvm_line.specs.passed.GroupLinesGroups.{VaryoffDoes, NoVaryoff, BusyVaryoff, VariesOff}
+use Rattle.lvm_line.specs.passed.Stage.{patience_of_line, IsStuck, State, IsTimely, Reply}
+use Rattle.lvm_line.specs.passed.DiskLines.{WriteDoes, ReadDoes, NoWriteWhileOn, WriteGoes, NoReadWhileOn, ReadGoes, ArrangeDoes, NotThere}
+use Rattle.lvm_line.specs.passed.DiskLines.{NotPlanned, IsArranged, CutDoes, CutNotPlanned, PowerIsCut}
+use Rattle.lvm_line.specs.passed.Quiesce.{RejectedAtOnce, KeptFrom, AskedAtRest}
+use Rattle.lvm_line.specs.passed.GroupLines.{VaryoffDoes, NoVaryoff, BusyVaryoff, VariesOff}
 use Rattle.lvm_line.specs.Lines.{LineDoes, role_of}
 use Rattle.lvm_posts.specs.declared.asked.Asked.{Asked}
 use Rattle.lvm_posts.specs.declared.posts.Post.{Post}
 use Rattle.lvm_posts.specs.declared.fault.RangeFault.{RangeFault}
 use Rattle.lvm_posts.specs.declared.fault.RangeFault.TheVariants as range_fault
-use Rattle.lvm_line.specs.passed.RangeLinesLeaving.{EndsBy, GoesOnWith, IsOverWith, LeavesBy}
-use Rattle.lvm_line.specs.passed.RangeLinesRequests.{OnVolume, WhileOff, NotThere as VolumeNotThere, There, IsNotAsked, Posts, NotPosted, Posted, IsFinished, Finishes, NotBegun, EndsWell, Fails}
-use Rattle.lvm_line.specs.passed.RangeLinesStepping.{StepDoes, NoStepWhileOff, NothingMoves, Steps}
-use Rattle.lvm_line.specs.passed.RangeLinesWaiting.{WaitDoes, WhileOff as WaitsWhileOff, AtRest, Awaits, WaitsOff, WaitsOn, WaitEnds, Goes, Over, InVain}
-use Rattle.lvm_line.specs.passed.DiskLinesShelves.{ArrangeDoes, NotThere, NotPlanned, IsArranged, CutDoes, CutNotPlanned, PowerIsCut}
+use Rattle.lvm_line.specs.passed.RangeLines.{EndsBy, GoesOnWith, IsOverWith, LeavesBy, OnVolume, WhileOff, NotThere as VolumeNotThere, There}
+use Rattle.lvm_line.specs.passed.RangeLines.{IsNotAsked, Posts, NotPosted, Posted, IsFinished, Finishes, NotBegun, EndsWell, Fails, StepDoes}
+use Rattle.lvm_line.specs.passed.RangeLines.{NoStepWhileOff, NothingMoves, Steps}
+use Rattle.lvm_line.specs.passed.RangeLinesWaiting.{WaitDoes, WhileOff as WaitsWhileOff, AtRest, Awaits, WaitsOff, WaitsOn, WaitEnds, Goes, Over}
+use Rattle.lvm_line.specs.passed.RangeLinesWaiting.{InVain}
 use Rattle.lvm_steps.specs.Requests.{at as moment_of}
 use Rattle.lvm_session.specs.declared.open.Power.{Power}
 use Rattle.lvm_session.specs.declared.open.Power.TheVariants as power
 use Rattle.lvm_session.specs.State.{Core, State as Session, state}
-use Rattle.lvm_line.specs.passed.TieSpares.{LeavesDescriptors}
-use Rattle.lvm_line.specs.passed.RunningRunning.{RunsOn}
-use Rattle.lvm_line.specs.passed.StageReplies.{IsStuck}
-use Rattle.lvm_line.specs.passed.StageState.{State, IsTimely}
-use Rattle.lvm_line.specs.passed.StageReplyReply.{Reply}
+use Rattle.lvm_line.specs.passed.Tie.{LeavesDescriptors}
+use Rattle.lvm_line.specs.passed.Running.{RunsOn}
 use Rattle.lvm_top.specs.Laws.{LineFindsNoMore}
 use Rattle.lvm_top.specs.Standing.{MayHaveCommitted, StoodBefore}
 use Rattle.lvm_top.proofs.Devices.{IsShelf, NothingNew, then_nothing, same_nothing, fewer_nothing}

@@ -6,11 +6,9 @@ use Rattle.lvm_io.specs.Stream.{WhereTold, WritesFront}
 use Rattle.lvm_vol.specs.Log.{Log}
 use Rattle.lvm_core.specs.declared.parts.Room.{Room}
 use Rattle.lvm_line.specs.Lines.{IsLine}
-use Rattle.lvm_line.specs.passed.StageReplies.{IsStuck}
-use Rattle.lvm_line.specs.passed.StageState.{State}
-use Rattle.lvm_line.specs.passed.StageReplyRefusalTheVariants as refusal
-use Rattle.lvm_line.specs.passed.StageReplyReply.{Reply}
-use Rattle.lvm_line.specs.passed.StageReplyReplyTheVariants as reply
+use Rattle.lvm_line.specs.passed.Stage.{IsStuck, State, Reply}
+use Rattle.lvm_line.specs.passed.RefusalVariants as refusal
+use Rattle.lvm_line.specs.passed.ReplyVariants as reply
 use Rattle.std.specs.Prelude.{is_some}
 use Rattle.lvm_line.proofs.Causing.{stuck_off}
 use Rattle.lvm_top.specs.declared.script.Stop.{Stop}

@@ -15,14 +15,11 @@ use Rattle.lvm_begin.specs.Beginning.{Part, IsOfParts}
 use Rattle.lvm_core.specs.declared.refused.Cause.{Cause}
 use Rattle.lvm_core.specs.declared.refused.Cause.TheVariants as cause
 use Rattle.lvm_core.specs.Leaves.{MayBeFound}
-use Rattle.lvm_line.specs.passed.GroupNewGroup.{NewGroup, sizes_in_order, least_size, most_sectors, size_for, new_group, new_status}
-use Rattle.lvm_line.specs.passed.GroupMade.{beginning_for, IsAsBefore, Breaks, Refuses}
-use Rattle.lvm_line.specs.passed.GroupShown.{IsClear, SparesTold}
-use Rattle.lvm_line.proofs.passed.GroupGroups.{is_there, are_members, valid_group, valid_status, size_positive}
-use Rattle.lvm_line.proofs.passed.GroupKeeping.{IsBeginning, may_begin}
-use Rattle.lvm_line.specs.passed.StageLighting.{refusal_of}
-use Rattle.lvm_line.specs.passed.StageMoments.{IsBrokenOff}
-use Rattle.lvm_line.specs.passed.StageReplyReplyTheVariants as reply
+use Rattle.lvm_line.specs.passed.Group.{NewGroup, sizes_in_order, least_size, most_sectors, size_for, new_group, new_status, beginning_for}
+use Rattle.lvm_line.specs.passed.Group.{IsAsBefore, Breaks, Refuses, IsClear, SparesTold}
+use Rattle.lvm_line.proofs.passed.Group.{is_there, are_members, valid_group, valid_status, size_positive, IsBeginning, may_begin}
+use Rattle.lvm_line.specs.passed.Stage.{refusal_of, IsBrokenOff}
+use Rattle.lvm_line.specs.passed.ReplyVariants as reply
 use Rattle.lvm_top.proofs.Begun.{MayDescribe, IsIts, begun_finds}
 use Rattle.lvm_top.proofs.Devices.{IsShelf, same_nothing, unwritten_nothing}
 

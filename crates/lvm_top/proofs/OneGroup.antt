@@ -27,24 +27,19 @@ use Rattle.lvm_core.specs.declared.refused.Cause.{Cause}
 use Rattle.lvm_core.specs.declared.refused.Cause.TheVariants as cause
 use Rattle.lvm_core.specs.declared.refused.Refused.{Refused}
 use Rattle.lvm_session.specs.State.{Core, State as Session}
-use Rattle.lvm_line.specs.passed.QuiesceGroups.{MkvgOnceQuiet, RefusedAtOnce, StayedOut, WentQuiet}
-use Rattle.lvm_line.specs.passed.TieSpares.{LeavesDescriptors}
+use Rattle.lvm_line.specs.passed.Quiesce.{MkvgOnceQuiet, RefusedAtOnce, StayedOut, WentQuiet}
+use Rattle.lvm_line.specs.passed.Tie.{LeavesDescriptors}
 use Rattle.lvm_kept.specs.Moments.{Moment}
 use Rattle.lvm_core.specs.Leaves.{EntersVolumes, is_of_volume}
 use Rattle.lvm_volume_plan.specs.declared.new_volume.NewVolume.{NewVolume}
 use Rattle.lvm_core.specs.Leaves.{MayBeFound}
-use Rattle.lvm_line.specs.passed.GroupNewGroup.{NewGroup, new_group}
-use Rattle.lvm_line.specs.passed.GroupMade.{Refuses}
-use Rattle.lvm_line.specs.passed.GroupShown.{IfShown, HasGroup}
-use Rattle.lvm_line.specs.passed.StageEnds.{patience_of_line}
-use Rattle.lvm_line.specs.passed.GroupLinesGroups.{IsLeft, MkvgDoes, NoMemoryForLine, NoMkvgWhileOn, Makes, asked_for, itself, outcome_of}
+use Rattle.lvm_line.specs.passed.Group.{NewGroup, new_group, Refuses, IfShown, HasGroup}
+use Rattle.lvm_line.specs.passed.Stage.{patience_of_line, Asks, IsAlone, OfGroup, OfRequests, Role, IsStuck, State, IsTimely, StandsAlone, log_with}
+use Rattle.lvm_line.specs.passed.Stage.{Reply}
+use Rattle.lvm_line.specs.passed.GroupLines.{IsLeft, MkvgDoes, NoMemoryForLine, NoMkvgWhileOn, Makes, asked_for, itself, outcome_of}
 use Rattle.lvm_line.specs.Lines.{LineDoes, role_of}
-use Rattle.lvm_line.specs.passed.StageAsking.{Asks}
-use Rattle.lvm_line.specs.passed.StageMoments.{IsAlone, OfGroup, OfRequests, Role}
-use Rattle.lvm_line.specs.passed.StageReplies.{IsStuck}
-use Rattle.lvm_line.specs.passed.StageState.{State, IsTimely, StandsAlone, log_with}
-use Rattle.lvm_line.specs.passed.StageReplyReply.{Reply}
-use Rattle.lvm_line.specs.passed.VolumeLinesVolumes.{Drains, IsDone, MklvDoes, RmlvDoes, NoGroupForMklv, BusyMklv, UndrainedMklv, MakesVolume, MklvFails, NoGroupForRmlv, BusyRmlv, UndrainedRmlv, NoVolumeForRmlv, RemovesVolume, RmlvFails, wanted}
+use Rattle.lvm_line.specs.passed.VolumeLines.{Drains, IsDone, MklvDoes, RmlvDoes, NoGroupForMklv, BusyMklv, UndrainedMklv, MakesVolume, MklvFails}
+use Rattle.lvm_line.specs.passed.VolumeLines.{NoGroupForRmlv, BusyRmlv, UndrainedRmlv, NoVolumeForRmlv, RemovesVolume, RmlvFails, wanted}
 use Rattle.lvm_top.specs.Script.{Script, NoLine, NextLine, StaysAlone, Ends, AtLine, InLine, EndsAlone, EndsHeard, entry_state, empty_log, facts_of}
 use Rattle.lvm_top.specs.Run.{exit_state}
 use Rattle.lvm_top.proofs.Concluding.{how_ended, stuck_ends, stuck_still}
@@ -61,7 +56,7 @@ use Rattle.lvm_top.proofs.Groups.{asked, asked_nothing, not_stuck}
 use Rattle.lvm_top.proofs.Lines.{by_reading}
 use Rattle.lvm_top.proofs.Making.{parts_find, refused_finds}
 use Rattle.lvm_top.proofs.Scripts.{last_told, run_may_start, stood, went_so}
-use Rattle.lvm_line.specs.passed.TieGroupsComing.{AreOff}
+use Rattle.lvm_line.specs.passed.TieGroups.{AreOff}
 use Rattle.lvm_num.specs.declared.place.Pp.{Pp}
 
 -- ---- what is found is shown, and what has a quorum is found
@@ -191,8 +186,8 @@ module _ (log : Log) (old new : State) (answer : Reply) (shelf : IsShelf old.mom
     commanded_one core left mid some drains own done = no_new_one was now (λ id k it. ⊎_elim
         (λ (before : MayBeFound was id k). (k, before))
         (λ next.
-            let same : id ≡ core.descriptor.id = next.0 ∙ own k next.1 ∙ ap (λ (d : Descriptor). d.id) drains.runs.leaves.keeps.descriptor in
-            (core.descriptor, subst (λ (n : ℕ). MayBeFound was n core.descriptor) (sym same) (found_before log.run old new leaves named stood told core left mid some drains)))
+        let same : id ≡ core.descriptor.id = next.0 ∙ own k next.1 ∙ ap (λ (d : Descriptor). d.id) drains.runs.leaves.keeps.descriptor in
+        (core.descriptor, subst (λ (n : ℕ). MayBeFound was n core.descriptor) (sym same) (found_before log.run old new leaves named stood told core left mid some drains)))
         (done_finds log.run old new leaves named stood core left mid some drains done id k it)) one
 
     mklv_one : (w : NewVolume) (group : List ℕ) → MklvDoes w group old new answer → FindsOneGroup now
@@ -311,16 +306,16 @@ unforced_runs_alone r ran past few ready behind earlier one off unforced =
       all.alone,
       ends_alone (empty_log r.named r.room) r.room (past ++ Cut ∷ []) (entry_state r.entry r.named) begin one off ran.lines.ends all.finds_one all.session,
       λ requests. ⊎_elim
-      (λ stuck.
+          (λ stuck.
           let none : ran.end.session ≡ None = stuck_ends ran.lines.ends (ran.stuck stuck) in
           record {
             enters = λ enters. absurd (not_more ran.end.moment.facts (facts_of r.history) (ap (λ (m : Moment). m.facts) (stuck_still r ran stuck)) enters);
             acts = λ acting. subst (λ (o : Option Core). IfSome o (StandsAlone ran.end.moment.device)) (sym none) tt;
           })
-      (λ heard.
+          (λ heard.
           let last = ends_one (empty_log r.named r.room) r.room (past ++ Cut ∷ []) (entry_state r.entry r.named) begin one off ran.lines.script all unforced.0 ran.lines.ends (ran.heard heard) unforced.1 in
           alone_so OfRequests ran.end (exit_state r.exit r.history ran.end) last.0 last.1)
-      (how_ended r.status),
+          (how_ended r.status),
     )
 
 -- ---- disks of zeros

@@ -9,15 +9,12 @@ use Rattle.lvm_core.specs.declared.refused.Cause.TheVariants as cause
 use Rattle.lvm_session.specs.declared.open.Power.{Power}
 use Rattle.lvm_session.specs.declared.open.Power.TheVariants as power
 use Rattle.lvm_session.specs.State.{State as Session}
-use Rattle.lvm_line.specs.passed.QuiesceEndsQuiescedTheVariants as quiesced
-use Rattle.lvm_line.specs.passed.QuiesceEnds.{Quiesces}
-use Rattle.lvm_line.specs.passed.QuiesceGroups.{StaysOut}
-use Rattle.lvm_line.specs.passed.QuiesceRanges.{RangeStaysOut}
-use Rattle.lvm_line.proofs.passed.QuiesceEnding.{ends_leave, ends_leave_no_more}
-use Rattle.lvm_line.specs.passed.TieSpares.{LeavesDescriptors}
-use Rattle.lvm_line.specs.passed.RunningRunning.{RunsOn}
-use Rattle.lvm_line.specs.passed.StageLighting.{IsRelit}
-use Rattle.lvm_line.specs.passed.StageStages.{IsClosed}
+use Rattle.lvm_line.specs.passed.QuiescedVariants as quiesced
+use Rattle.lvm_line.specs.passed.Quiesce.{Quiesces, StaysOut, RangeStaysOut}
+use Rattle.lvm_line.proofs.passed.Quiesce.{ends_leave, ends_leave_no_more}
+use Rattle.lvm_line.specs.passed.Tie.{LeavesDescriptors}
+use Rattle.lvm_line.specs.passed.Running.{RunsOn}
+use Rattle.lvm_line.specs.passed.Stage.{IsRelit, IsClosed}
 use Rattle.lvm_top.proofs.Devices.{NothingNew, then_nothing, same_nothing, fewer_nothing}
 use Rattle.lvm_top.proofs.Transfers.{relit_nothing}
 

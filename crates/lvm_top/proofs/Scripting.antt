@@ -17,20 +17,18 @@ use Rattle.lvm_stamps.specs.Behind.{IsBehind, IsAhead}
 use Rattle.lvm_stamps.proofs.Stamps.{later_is_ahead_too}
 use Rattle.lvm_core.specs.declared.parts.Room.{Room}
 use Rattle.lvm_parse.specs.Grammar.{line_of}
-use Rattle.lvm_line.proofs.passed.QuiesceBehind.{still_is_behind_each, each_is_behind}
-use Rattle.lvm_line.specs.passed.TieSpares.{LeavesDescriptors}
+use Rattle.lvm_line.proofs.passed.Quiesce.{still_is_behind_each, each_is_behind}
+use Rattle.lvm_line.specs.passed.Tie.{LeavesDescriptors}
 use Rattle.lvm_posts.specs.declared.posts.Post.{Post}
 use Rattle.lvm_line.specs.Lines.{IsLine, role_of}
-use Rattle.lvm_line.specs.passed.StageMoments.{IsRequesting, Role, Aside, OfGroup, OfRequests}
-use Rattle.lvm_line.specs.passed.StageReplies.{reply_text, refusals_of, most_refusals, IsStuck}
-use Rattle.lvm_line.specs.passed.StageState.{State, IsAtRest, IsTimely, StandsBy}
+use Rattle.lvm_line.specs.passed.Stage.{IsRequesting, Role, Aside, OfGroup, OfRequests, reply_text, refusals_of, most_refusals, IsStuck, State}
+use Rattle.lvm_line.specs.passed.Stage.{IsAtRest, IsTimely, StandsBy, Reply}
 use Rattle.lvm_top.specs.Script.{Stream, Passage, Says, Script, NoLine, NextLine, StaysAlone, Ends, AtLine, InLine, EndsAlone, EndsHeard, AreDone, AreAllRead, IsLineLeft, MakeRequests, is_made_late, is_requesting, texts_of, refusals_in, entry_state}
 use Rattle.lvm_top.specs.Statuses.{GoesUntil}
 use Rattle.lvm_top.specs.declared.script.Stop.{Stop}
 use Rattle.lvm_top.specs.declared.script.Stop.TheVariants as stop
 use Rattle.lvm_top.specs.Turn.{Wrote, EndsFor, ReadsLine, ReadsNone, Tells}
-use Rattle.lvm_line.specs.passed.StageReplyReply.{Reply}
-use Rattle.lvm_line.specs.passed.StageReplyReplyTheVariants as reply
+use Rattle.lvm_line.specs.passed.ReplyVariants as reply
 
 -- nothing was read yet
 abbrev pub nothing_read : Reading

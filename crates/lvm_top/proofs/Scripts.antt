@@ -26,19 +26,15 @@ use Rattle.lvm_core.specs.declared.parts.Room.{Room}
 use Rattle.lvm_core.specs.declared.refused.Cause.{Cause}
 use Rattle.lvm_session.specs.declared.open.Power.TheVariants as power
 use Rattle.lvm_session.specs.State.{Core, state}
-use Rattle.lvm_line.specs.passed.TieSpares.{LeavesDescriptors}
-use Rattle.lvm_line.specs.passed.TieCommandsStanding.{StandsAfter as StandsAfterPast}
-use Rattle.lvm_line.specs.passed.QuiesceGroups.{RefusedAtOnce, StayedOut, VaryonOnceQuiet, WentQuiet}
-use Rattle.lvm_line.proofs.passed.QuiesceEnding.{ends_only}
+use Rattle.lvm_line.specs.passed.Tie.{LeavesDescriptors}
+use Rattle.lvm_line.specs.passed.TieCommands.{StandsAfter as StandsAfterPast}
+use Rattle.lvm_line.specs.passed.Quiesce.{RefusedAtOnce, StayedOut, VaryonOnceQuiet, WentQuiet}
+use Rattle.lvm_line.proofs.passed.Quiesce.{ends_only}
 use Rattle.lvm_core.specs.Leaves.{MayBeFound}
-use Rattle.lvm_line.specs.passed.GroupLinesGroups.{IsLeft, VaryonDoes, NoVaryonWhileOn, Varies, itself, outcome_of}
-use Rattle.lvm_line.specs.passed.StageEnds.{patience_of_line}
+use Rattle.lvm_line.specs.passed.GroupLines.{IsLeft, VaryonDoes, NoVaryonWhileOn, Varies, itself, outcome_of}
+use Rattle.lvm_line.specs.passed.Stage.{patience_of_line, IsAlone, Role, IsStuck, StandsAlone, StandsBy, State, log_with, Reply}
 use Rattle.lvm_line.specs.Lines.{LineDoes, IsLine, role_of}
-use Rattle.lvm_line.specs.passed.StageMoments.{IsAlone, Role}
-use Rattle.lvm_line.specs.passed.StageReplies.{IsStuck}
-use Rattle.lvm_line.specs.passed.StageState.{StandsAlone, StandsBy, State, log_with}
-use Rattle.lvm_line.specs.passed.StageReplyReply.{Reply}
-use Rattle.lvm_line.specs.passed.StageReplyReplyTheVariants as reply
+use Rattle.lvm_line.specs.passed.ReplyVariants as reply
 use Rattle.lvm_top.specs.Script.{Says, Script, NoLine, NextLine, StaysAlone, Ends, AtLine, InLine, EndsAlone, EndsHeard, entry_state, empty_log, facts_of}
 use Rattle.lvm_top.specs.Ending.{Concludes, NoneIsOn, NoneIsServed, IsServed, NothingIsLeft, TurnsAreMade}
 use Rattle.lvm_top.proofs.Concluding.{none_flies}

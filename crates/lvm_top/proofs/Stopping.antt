@@ -7,12 +7,11 @@ use Rattle.lvm_vol.specs.Log.{Log}
 use Rattle.lvm_stamps.specs.Behind.{IsBehind, IsAhead}
 use Rattle.lvm_stamps.proofs.Stamps.{later_is_ahead_too}
 use Rattle.lvm_core.specs.declared.parts.Room.{Room}
-use Rattle.lvm_line.specs.passed.StageStages.{shelf_in, history_in, moment_in, session_in, state_in, IsBetweenStage}
-use Rattle.lvm_line.specs.passed.StageStageStage.{Stage}
+use Rattle.lvm_line.specs.passed.Stage.{shelf_in, history_in, moment_in, session_in, state_in, IsBetweenStage, Stage, IsAtRest, IsBetween, State}
+use Rattle.lvm_line.specs.passed.Stage.{without_facts}
 use Rattle.std.specs.Global.{Vec}
 use Rattle.lvm_posts.specs.declared.posts.Post.{Post}
-use Rattle.lvm_line.specs.passed.StageHolderHolderTheVariants as holder
-use Rattle.lvm_line.specs.passed.StageState.{IsAtRest, IsBetween, State, without_facts}
+use Rattle.lvm_line.specs.passed.HolderVariants as holder
 use Rattle.lvm_kept.specs.Moments.{Moment}
 use Rattle.lvm_top.specs.Ending.{Concludes, NoneIsOn}
 use Rattle.lvm_top.specs.Run.{Run, IsConcluded, IsRun, Promises, ran}

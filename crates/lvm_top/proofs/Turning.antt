@@ -9,19 +9,17 @@ use Rattle.lvm_kept.specs.Moments.{Moment}
 use Rattle.lvm_session.specs.declared.open.Power.{Power}
 use Rattle.lvm_session.specs.Sound.{IsSound}
 use Rattle.lvm_posts.specs.declared.posts.Post.{Post}
-use Rattle.lvm_line.specs.passed.StageHolderHolder.{Holder}
-use Rattle.lvm_line.specs.passed.StageHolderHolderTheVariants as holder
-use Rattle.lvm_line.specs.passed.StageStages.{IsClosed, IsOfKind, history_of, session_of, shelf_of}
-use Rattle.lvm_line.specs.passed.StageState.{IsBetween}
+use Rattle.lvm_line.specs.passed.Stage.{Holder, IsClosed, IsOfKind, history_of, session_of, shelf_of, IsBetween}
+use Rattle.lvm_line.specs.passed.HolderVariants as holder
 use Rattle.lvm_session.specs.declared.answers.Turned.{Turned}
 use Rattle.lvm_session.specs.declared.answers.Turned.TheVariants as turned
 use Rattle.lvm_session.specs.declared.open.Power.TheVariants as power
 use Rattle.lvm_session.specs.State.{Core, State as Session, state}
 use Rattle.lvm_session.specs.Turns.{TurnMakes}
-use Rattle.lvm_line.specs.passed.RunningRunning.{RunsOn}
-use Rattle.lvm_line.proofs.passed.RunningRunning.{runs_both, runs_none}
+use Rattle.lvm_line.specs.passed.Running.{RunsOn}
+use Rattle.lvm_line.proofs.passed.Running.{runs_both, runs_none}
 use Rattle.lvm_turn_answers.specs.Telling.{TurnTells}
-use Rattle.lvm_line.specs.passed.RangesStepping.{Moves, NoMove, OneMove}
+use Rattle.lvm_line.specs.passed.Ranges.{Moves, NoMove, OneMove}
 use Rattle.lvm_top.specs.Ending.{Concludes, IsQuietNow, IsServed, MakesTurns, NoneIsServed, NothingIsLeft, RestsNow, RunsOut, TurnsAreMade}
 
 -- so far each turn has moved

@@ -35,12 +35,8 @@ use Rattle.lvm_write.proofs.Writing.{told_at}
 use Rattle.lvm_begin.specs.Beginning.{Beginning, Part, describes, states, IsOfParts}
 use Rattle.lvm_core.proofs.Sizes.{descriptor_fits}
 use Rattle.lvm_core.specs.Leaves.{MayBeFound}
-use Rattle.lvm_line.specs.passed.VaryonChosen.{answering, MayComeOn}
-use Rattle.lvm_line.specs.passed.VaryonFound.{records_on}
-use Rattle.lvm_line.specs.passed.VaryonVaried.{HasWritten}
-use Rattle.lvm_line.specs.passed.VaryonWriting.{beginning}
-use Rattle.lvm_line.proofs.passed.VaryonGrouping.{holds_finds}
-use Rattle.lvm_line.proofs.passed.VaryonSizes.{status_fits}
+use Rattle.lvm_line.specs.passed.Varyon.{answering, MayComeOn, records_on, HasWritten, beginning}
+use Rattle.lvm_line.proofs.passed.Varyon.{holds_finds, status_fits}
 use Rattle.lvm_top.proofs.Begun.{MayDescribe, IsIts, begun_finds}
 use Rattle.lvm_top.proofs.Devices.{IsShelf, NothingNew, unwritten_nothing}
 

@@ -18,17 +18,16 @@ use Rattle.lvm_core.specs.Held.{IsHeld}
 use Rattle.lvm_core.specs.Looking.{IsNumberOf}
 use Rattle.lvm_core.specs.Leaves.{MayBeFound}
 use Rattle.lvm_session.specs.State.{Core, State as Session, is_there, state}
-use Rattle.lvm_line.specs.passed.DriverDrainDrainFault.{DrainFault}
-use Rattle.lvm_line.specs.passed.TieSpares.{LeavesDescriptors}
-use Rattle.lvm_line.specs.passed.TieTied.{IsGood, IsTied}
-use Rattle.lvm_line.proofs.passed.TieGroupsLeaving.{tied_holds}
-use Rattle.lvm_line.specs.passed.TieCommandsStanding.{StandsAfter}
-use Rattle.lvm_line.proofs.passed.TieCommandsResting.{rests}
-use Rattle.lvm_line.specs.passed.StageMoments.{IsBrokenOff, OfGroup}
-use Rattle.lvm_line.specs.passed.StageState.{State, StandsAlone}
-use Rattle.lvm_line.specs.passed.VolumeLinesVolumes.{Drains, IsDone, IsUndrained, StaysOn, MklvDoes, RmlvDoes, NoGroupForMklv, BusyMklv, UndrainedMklv, MakesVolume, MklvFails, NoGroupForRmlv, BusyRmlv, UndrainedRmlv, NoVolumeForRmlv, RemovesVolume, RmlvFails, MklvEnds, RmlvEnds, ends_session, refusal_for, wanted}
-use Rattle.lvm_line.specs.passed.StageReplyReply.{Reply}
-use Rattle.lvm_line.specs.passed.StageReplyReplyTheVariants as reply
+use Rattle.lvm_line.specs.passed.Driver.{DrainFault}
+use Rattle.lvm_line.specs.passed.Tie.{LeavesDescriptors, IsGood, IsTied}
+use Rattle.lvm_line.proofs.passed.TieGroups.{tied_holds}
+use Rattle.lvm_line.specs.passed.TieCommands.{StandsAfter}
+use Rattle.lvm_line.proofs.passed.TieCommands.{rests}
+use Rattle.lvm_line.specs.passed.Stage.{IsBrokenOff, OfGroup, State, StandsAlone, Reply}
+use Rattle.lvm_line.specs.passed.VolumeLines.{Drains, IsDone, IsUndrained, StaysOn, MklvDoes, RmlvDoes, NoGroupForMklv, BusyMklv, UndrainedMklv}
+use Rattle.lvm_line.specs.passed.VolumeLines.{MakesVolume, MklvFails, NoGroupForRmlv, BusyRmlv, UndrainedRmlv, NoVolumeForRmlv, RemovesVolume}
+use Rattle.lvm_line.specs.passed.VolumeLines.{RmlvFails, MklvEnds, RmlvEnds, ends_session, refusal_for, wanted}
+use Rattle.lvm_line.specs.passed.ReplyVariants as reply
 use Rattle.lvm_line.specs.Causes.{IsDrained}
 use Rattle.lvm_top.specs.Standing.{MayHaveCommitted, StoodBefore, HeldAtRest, StandsSince}
 use Rattle.lvm_top.proofs.Devices.{NothingNew, then_nothing, same_nothing}
@@ -73,9 +72,10 @@ module _ (run : ℕ) (old new : State) (leaves : LeavesDescriptors old.moment.de
           by_volumes [] none = (subst (λ (s : Session). IsHeld s.device s.core) (sym (drains.empty none)) ((after past begins).empty none).held, same_told (drains.empty none))
           by_volumes (row ∷ rows) has =
               let some_volume : core.descriptor.lvs ≡ [] → ⊥ = λ none. let e = sym has ∙ none in cc e in
-              let tied : IsTied past mid = good (λ on before begun. (after before (subst (λ (n : ℕ). Begins n before first) (of_session (λ (c : Core). c.history.run ≡ run) core some named) begun)).tied some_volume) in
-              (tied_holds past mid tied (rests mid tied.orderly.sound drains.settled) drains.settled.votes ((drains.runs.leaves.descriptors leaves).spares ((after past begins).spares some_volume)),
-              λ told. subst IsSome (sym tied.told) refl)
+              let tied : IsTied past mid = good (λ on before begun. (after before (subst (λ (n : ℕ). Begins n before first) (of_session (λ (c : Core). c.history.run ≡ run) core some named) begun)).tied some_volume) in (
+                tied_holds past mid tied (rests mid tied.orderly.sound drains.settled) drains.settled.votes ((drains.runs.leaves.descriptors leaves).spares ((after past begins).spares some_volume)),
+                λ told. subst IsSome (sym tied.told) refl,
+              )
 
   pub held_mid : (core : Core) (left : ℕ) (mid : Session) → old.session ≡ Some core → Drains core old left mid → IsHeld mid.device mid.core
   held_mid core left mid some drains = (held_so core left mid some drains).0

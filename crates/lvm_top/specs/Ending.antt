@@ -7,9 +7,9 @@ use Rattle.lvm_session.specs.State.{Core, State as Session, state}
 use Rattle.lvm_session.specs.Sound.{IsSound}
 use Rattle.lvm_session.specs.Turns.{TurnMakes}
 use Rattle.lvm_turn_answers.specs.Telling.{TurnTells}
-use Rattle.lvm_line.specs.passed.RunningRunning.{RunsOn}
-use Rattle.lvm_line.specs.passed.RangesStepping.{Moves}
-use Rattle.lvm_line.specs.passed.StageStages.{IsClosed}
+use Rattle.lvm_line.specs.passed.Running.{RunsOn}
+use Rattle.lvm_line.specs.passed.Ranges.{Moves}
+use Rattle.lvm_line.specs.passed.Stage.{IsClosed}
 
 -- turns are made until one doesn't move, and no turn more
 pub record MakesTurns (old new : Session) : Type 0 where

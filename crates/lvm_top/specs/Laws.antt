@@ -11,11 +11,9 @@ use Rattle.lvm_stamps.specs.Behind.{IsBehind}
 use Rattle.lvm_core.specs.declared.parts.Room.{Room}
 use Rattle.lvm_core.specs.Leaves.{MayBeFound}
 use Rattle.lvm_line.specs.Lines.{IsLine, role_of}
-use Rattle.lvm_line.specs.passed.StageReplies.{IsStuck}
-use Rattle.lvm_line.specs.passed.StageState.{State, IsTimely}
-use Rattle.lvm_line.specs.passed.TieSpares.{LeavesDescriptors}
-use Rattle.lvm_line.specs.passed.StageReplyReply.{Reply}
-use Rattle.lvm_line.specs.passed.StageReplyReplyTheVariants as reply
+use Rattle.lvm_line.specs.passed.Stage.{IsStuck, State, IsTimely, Reply}
+use Rattle.lvm_line.specs.passed.Tie.{LeavesDescriptors}
+use Rattle.lvm_line.specs.passed.ReplyVariants as reply
 use Rattle.lvm_top.specs.declared.status.ExitStatus.TheVariants as ended
 use Rattle.lvm_top.specs.Run.{Run, IsRun, RanAlone}
 use Rattle.lvm_top.specs.Script.{Script, StaysAlone, entry_state}

@@ -10,9 +10,8 @@ use Rattle.lvm_steps.specs.Moments.{IsEarlier}
 use Rattle.lvm_stamps.specs.Behind.{IsBehind}
 use Rattle.lvm_core.specs.declared.parts.Room.{Room}
 use Rattle.lvm_core.specs.Leaves.{MayBeFound}
-use Rattle.lvm_line.specs.passed.TieGroupsComing.{AreOff}
-use Rattle.lvm_line.specs.passed.StageState.{State}
-use Rattle.lvm_line.specs.passed.StageReplyReply.{Reply}
+use Rattle.lvm_line.specs.passed.TieGroups.{AreOff}
+use Rattle.lvm_line.specs.passed.Stage.{State, Reply}
 use Rattle.lvm_top.specs.Run.{Run, IsRun, RanAlone}
 use Rattle.lvm_top.specs.Script.{Script, NoLine, NextLine, StaysAlone, Ends, AtLine, InLine}
 use Rattle.lvm_top.specs.Sim.{IsToldBlank}

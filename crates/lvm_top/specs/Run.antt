@@ -9,8 +9,7 @@ use Rattle.lvm_vol.specs.Legal.{Legal}
 use Rattle.lvm_vol.specs.Log.{Log}
 use Rattle.lvm_stamps.specs.Behind.{IsBehind, IsAhead}
 use Rattle.lvm_core.specs.declared.parts.Room.{Room}
-use Rattle.lvm_line.specs.passed.StageMoments.{IsAlone, OfRequests}
-use Rattle.lvm_line.specs.passed.StageState.{State}
+use Rattle.lvm_line.specs.passed.Stage.{IsAlone, OfRequests, State}
 use Rattle.lvm_top.specs.Ending.{Concludes}
 use Rattle.lvm_top.specs.Script.{Passage, AreDone, AreAllRead, IsLineLeft, EndsHeard, EndsStuck, StaysAlone, EndsAlone, MakeRequests, empty_log, entry_state, facts_of, run_of}
 use Rattle.lvm_top.specs.Statuses.{at_end, IsAtEnd}

@@ -10,12 +10,9 @@ use Rattle.lvm_vol.specs.Log.{Log}
 use Rattle.lvm_core.specs.declared.parts.Room.{Room}
 use Rattle.lvm_parse.specs.Grammar.{line_of}
 use Rattle.lvm_line.specs.Lines.{IsLine, role_of}
-use Rattle.lvm_line.specs.passed.StageMoments.{IsAlone, Role, Aside, OfGroup, OfRequests}
-use Rattle.lvm_line.specs.passed.StageReplies.{reply_text, refusals_of, IsStuck}
-use Rattle.lvm_line.specs.passed.StageState.{State}
-use Rattle.lvm_line.specs.passed.StageReplyRefusalTheVariants as refusal
-use Rattle.lvm_line.specs.passed.StageReplyReply.{Reply}
-use Rattle.lvm_line.specs.passed.StageReplyReplyTheVariants as reply
+use Rattle.lvm_line.specs.passed.Stage.{IsAlone, Role, Aside, OfGroup, OfRequests, reply_text, refusals_of, IsStuck, State, Reply}
+use Rattle.lvm_line.specs.passed.RefusalVariants as refusal
+use Rattle.lvm_line.specs.passed.ReplyVariants as reply
 
 -- its text is made as it is written, for which no memory may be found
 abbrev pub is_made_late : Reply → Bool

@@ -14,16 +14,14 @@ use Rattle.lvm_core.specs.declared.parts.Room.{Room}
 use Rattle.lvm_core.specs.Held.{IsHeld}
 use Rattle.lvm_core.specs.Looking.{IsNumberOf}
 use Rattle.lvm_session.specs.State.{Core}
-use Rattle.lvm_line.specs.passed.GroupNewGroup.{new_group}
-use Rattle.lvm_line.specs.passed.VolumesVolumes.{IsWith}
+use Rattle.lvm_line.specs.passed.Group.{new_group}
+use Rattle.lvm_line.specs.passed.Volumes.{IsWith}
 use Rattle.lvm_core.specs.Leaves.{MayBeFound}
-use Rattle.lvm_line.specs.passed.GroupLinesGroups.{asked_for}
+use Rattle.lvm_line.specs.passed.GroupLines.{asked_for}
 use Rattle.lvm_line.specs.Causes.{IsDrained}
-use Rattle.lvm_line.specs.passed.StageMoments.{IsAlone, IsBrokenOff, Role}
-use Rattle.lvm_line.specs.passed.StageState.{IsAtRest, StandsBy, State}
-use Rattle.lvm_line.specs.passed.VolumeLinesVolumes.{wanted}
-use Rattle.lvm_line.specs.passed.StageReplyReply.{Reply}
-use Rattle.lvm_line.specs.passed.StageReplyReplyTheVariants as reply
+use Rattle.lvm_line.specs.passed.Stage.{IsAlone, IsBrokenOff, Role, IsAtRest, StandsBy, State, Reply}
+use Rattle.lvm_line.specs.passed.VolumeLines.{wanted}
+use Rattle.lvm_line.specs.passed.ReplyVariants as reply
 use Rattle.lvm_top.specs.Script.{Script, NoLine, NextLine, Ends, AtLine, InLine}
 use Rattle.lvm_volume_plan.specs.NewVolume.{without_volume}
 

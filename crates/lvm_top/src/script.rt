@@ -3,9 +3,8 @@ ghost use Rattle.std.specs.Prelude.{◌≡◌, ◌⊎◌, ◌↔◌, ◌+◌, �
 ghost use Rattle.lvm_io.specs.Count.{Rose};
 ghost use Rattle.lvm_io.specs.Stream.{WhereTold, WritesFront};
 ghost use Rattle.lvm_core.specs.Starting.{IsRoom};
-ghost use Rattle.lvm_line.specs.passed.StageReplies.{reply_text, most_refusals, refusals_of, IsStuck};
-ghost use Rattle.lvm_line.specs.passed.StageStages.{shelf_in, history_in, session_in, state_in, IsBetweenStage, IsFitting};
-ghost use Rattle.lvm_line.specs.passed.StageState.{without_facts};
+ghost use Rattle.lvm_line.specs.passed.Stage.{reply_text, most_refusals, refusals_of, IsStuck, shelf_in, history_in, session_in, state_in};
+ghost use Rattle.lvm_line.specs.passed.Stage.{IsBetweenStage, IsFitting, without_facts};
 ghost use Rattle.lvm_top.specs.Script.{Says, passage};
 ghost use Rattle.lvm_top.specs.Statuses.{GoesUntil};
 ghost use Rattle.lvm_top.specs.Turn.{ReadsLine, ReadsNone, Tells};
@@ -13,10 +12,10 @@ ghost use Rattle.lvm_top.specs.Turn.{ReadsLine, ReadsNone, Tells};
 use lvm_core::Room;
 use lvm_disk::Shelf;
 use lvm_io::{Clock, Lines, NextLine, Sink, SinkFault, Source, write_all};
+use lvm_line::below::lvm_stage::{Refusal, Reply, Stage, memory_text, refusal_line};
 use lvm_line::{answer_line, do_line};
 use lvm_num::{Memory, Rows};
 use lvm_replies::show_stepped;
-use lvm_line::below::lvm_stage::{Refusal, Reply, Stage, memory_text, refusal_line};
 use std::alloc::Global;
 
 // Why a run ends before the input does.

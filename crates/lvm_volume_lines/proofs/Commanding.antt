@@ -30,22 +30,16 @@ use Rattle.lvm_core.specs.Leaves.{EntersVolumes, KeepsHistory, Leaves, Scope}
 use Rattle.lvm_core.specs.Settled.{IsSettled as IsSettledCore}
 use Rattle.lvm_core.specs.Sound.{HaveAllLanded, IsSound as IsSoundBetween}
 use Rattle.lvm_commit.specs.LawsOfVolumes.{IsOneByAllOn}
-use Rattle.lvm_range_lines.proofs.passed.QuiesceBehind.{each_is_behind, still_is_behind_each}
+use Rattle.lvm_range_lines.proofs.passed.Quiesce.{each_is_behind, still_is_behind_each}
 use Rattle.lvm_posts.specs.declared.posts.Post.{Post}
 use Rattle.lvm_posts.specs.Posts.{AreAnswered, AreHeld, ended_with}
-use Rattle.lvm_range_lines.specs.passed.RunningRunning.{IsBefore, LeavesSession}
-use Rattle.lvm_range_lines.specs.passed.TieStamps.{IsStamped}
-use Rattle.lvm_range_lines.specs.passed.TieTied.{IsGood}
-use Rattle.lvm_range_lines.specs.passed.TieCommandsCommands.{IsAloneAtFirst, MayBeCommanded}
-use Rattle.lvm_range_lines.specs.passed.TieCommandsStanding.{StandsAfter, StandsSince}
-use Rattle.lvm_range_lines.specs.passed.StageMoments.{GoesOn, HasBegunHeld, IsAlone, OfGroup}
-use Rattle.lvm_range_lines.specs.passed.StageReplies.{IsStuck, most_refusals}
-use Rattle.lvm_range_lines.specs.passed.StageStages.{posts_ended}
-use Rattle.lvm_range_lines.specs.passed.StageState.{ArePosted, IsBetween, IsOnBetween, IsTimely, StandsAlone, StandsBy, State}
-use Rattle.lvm_range_lines.specs.passed.StageReplyReply.{Reply}
-use Rattle.lvm_range_lines.proofs.passed.StageGoing.{relit_path, was_session}
-use Rattle.lvm_range_lines.proofs.passed.StageLighting.{ready_is_lit, still_leaves_descriptors}
-use Rattle.lvm_range_lines.proofs.passed.StagePosting.{LeavesAnswers, end_posts, none_held, on_posts}
+use Rattle.lvm_range_lines.specs.passed.Running.{IsBefore, LeavesSession}
+use Rattle.lvm_range_lines.specs.passed.Tie.{IsStamped, IsGood}
+use Rattle.lvm_range_lines.specs.passed.TieCommands.{IsAloneAtFirst, MayBeCommanded, StandsAfter, StandsSince}
+use Rattle.lvm_range_lines.specs.passed.Stage.{GoesOn, HasBegunHeld, IsAlone, OfGroup, IsStuck, most_refusals, posts_ended, ArePosted, IsBetween}
+use Rattle.lvm_range_lines.specs.passed.Stage.{IsOnBetween, IsTimely, StandsAlone, StandsBy, State, Reply}
+use Rattle.lvm_range_lines.proofs.passed.Stage.{relit_path, was_session, ready_is_lit, still_leaves_descriptors, LeavesAnswers, end_posts, none_held}
+use Rattle.lvm_range_lines.proofs.passed.Stage.{on_posts}
 
 -- ---- what a command promises, whatever its answer
 

@@ -11,10 +11,10 @@ use Rattle.lvm_session.specs.declared.open.Power.TheVariants as power
 use Rattle.lvm_session.specs.State.{Core, State as Session}
 use Rattle.lvm_stale.specs.Table.{has_row}
 use Rattle.lvm_status.specs.Members.{HasItsRows}
-use Rattle.lvm_range_lines.specs.passed.VolumesVolumes.{MklvGives, RmlvGives}
-use Rattle.lvm_range_lines.specs.passed.StageReplyRefusalTheVariants as refusal
-use Rattle.lvm_range_lines.specs.passed.StageReplyReplyTheVariants as reply
-use Rattle.lvm_range_lines.specs.passed.StageReplies.{most_refusals}
+use Rattle.lvm_range_lines.specs.passed.Volumes.{MklvGives, RmlvGives}
+use Rattle.lvm_range_lines.specs.passed.RefusalVariants as refusal
+use Rattle.lvm_range_lines.specs.passed.ReplyVariants as reply
+use Rattle.lvm_range_lines.specs.passed.Stage.{most_refusals}
 use Rattle.lvm_volume_lines.proofs.Commanding.{ClosesWell, closes_dark, closes_lit}
 use Rattle.lvm_volume_lines.specs.Volumes.{is_over, volume_reply}
 use Rattle.lvm_volume_plan.specs.declared.fault.GroupFault.{GroupFault}

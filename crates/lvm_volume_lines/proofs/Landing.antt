@@ -10,9 +10,8 @@ use Rattle.lvm_core.specs.Sound.{HaveAllLanded}
 use Rattle.lvm_session.specs.State.{Core, State as Session}
 use Rattle.lvm_posts.specs.declared.asked.Asked.{Asked}
 use Rattle.lvm_posts.specs.Posts.{AreAnswered}
-use Rattle.lvm_range_lines.specs.passed.VolumesVolumes.{MklvGives, RmlvGives, HasEntered, making, removing}
-use Rattle.lvm_range_lines.proofs.passed.StagePassive.{Bears, open_more, bears_cut, landed_bears}
-use Rattle.lvm_range_lines.proofs.passed.StagePosting.{answered_bears, answered_on}
+use Rattle.lvm_range_lines.specs.passed.Volumes.{MklvGives, RmlvGives, HasEntered, making, removing}
+use Rattle.lvm_range_lines.proofs.passed.Stage.{Bears, open_more, bears_cut, landed_bears, answered_bears, answered_on}
 use Rattle.lvm_volume_plan.specs.declared.fault.GroupFault.{GroupFault}
 use Rattle.lvm_volume_plan.specs.declared.fault.GroupFault.TheVariants as fault
 use Rattle.lvm_volume_plan.specs.declared.new_volume.NewVolume.{NewVolume}

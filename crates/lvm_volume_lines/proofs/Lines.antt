@@ -4,8 +4,7 @@ use Rattle.lvm_session.specs.State.{Core, State as Session}
 use Rattle.lvm_core.specs.Looking.{IsNumberOf}
 use Rattle.lvm_volume_plan.specs.declared.fault.GroupFault.{GroupFault}
 use Rattle.lvm_volume_plan.specs.declared.new_volume.NewVolume.{NewVolume}
-use Rattle.lvm_range_lines.specs.passed.StageStages.{IsOn}
-use Rattle.lvm_range_lines.specs.passed.StageState.{State}
+use Rattle.lvm_range_lines.specs.passed.Stage.{IsOn, State}
 use Rattle.lvm_volume_lines.specs.Volumes.{Drains, MklvDoes, MklvEnds, MakesVolume, MklvFails, RmlvDoes, RmlvEnds, RemovesVolume, RmlvFails, is_over, volume_reply}
 
 -- what holds of the session that is on

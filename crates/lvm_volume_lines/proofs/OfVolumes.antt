@@ -17,21 +17,16 @@ use Rattle.lvm_core.specs.Settled.{IsSettled as IsSettledCore}
 use Rattle.lvm_core.specs.Sound.{HaveAllLanded}
 use Rattle.lvm_core.specs.State.{state_of}
 use Rattle.lvm_disk.proofs.Paths.{last-path}
-use Rattle.lvm_range_lines.specs.passed.RunningRunning.{LeavesSession}
-use Rattle.lvm_range_lines.specs.passed.TieCommandsCommands.{IsAloneAtFirst, IsLeftStanding, IsLeftStandingSince, MayBeCommanded}
-use Rattle.lvm_range_lines.specs.passed.TieCommandsStanding.{HoldsEmpty, StandsAfter}
-use Rattle.lvm_range_lines.specs.passed.VolumesEndings.{IfOn, StillHeld, commanding}
+use Rattle.lvm_range_lines.specs.passed.Running.{LeavesSession}
+use Rattle.lvm_range_lines.specs.passed.TieCommands.{IsAloneAtFirst, IsLeftStanding, IsLeftStandingSince, MayBeCommanded, HoldsEmpty, StandsAfter}
+use Rattle.lvm_range_lines.specs.passed.Volumes.{IfOn, StillHeld, commanding}
 use Rattle.lvm_volume_plan.specs.declared.fault.GroupFault.{GroupFault}
 use Rattle.lvm_volume_plan.specs.declared.fault.GroupFault.TheVariants as fault
-use Rattle.lvm_range_lines.specs.passed.StageEnds.{CommandEnds, EndsUnasked, patience_of_line}
-use Rattle.lvm_range_lines.specs.passed.StageMoments.{GoesOn, OfGroup}
-use Rattle.lvm_range_lines.specs.passed.StageStages.{HaveRooms, IsBetweenStage, IsFitting, IsOfKind, history_of, open_in, session_in, session_of, shelf_in, history_in, state_in}
-use Rattle.lvm_range_lines.specs.passed.StageState.{IsAtRest, IsOnBetween, State, without_facts}
-use Rattle.lvm_range_lines.specs.passed.StageHolderHolder.{Holder}
-use Rattle.lvm_range_lines.specs.passed.StageHolderHolderTheVariants as holder
-use Rattle.lvm_range_lines.specs.passed.StageReplyReply.{Reply}
-use Rattle.lvm_range_lines.specs.passed.StageStageStage.{Stage}
-use Rattle.lvm_range_lines.proofs.passed.StagePosting.{LeavesAnswers}
+use Rattle.lvm_range_lines.specs.passed.Stage.{CommandEnds, EndsUnasked, patience_of_line, GoesOn, OfGroup, HaveRooms, IsBetweenStage, IsFitting}
+use Rattle.lvm_range_lines.specs.passed.Stage.{IsOfKind, history_of, open_in, session_in, session_of, shelf_in, history_in, state_in, IsAtRest}
+use Rattle.lvm_range_lines.specs.passed.Stage.{IsOnBetween, State, without_facts, Holder, Reply, Stage}
+use Rattle.lvm_range_lines.specs.passed.HolderVariants as holder
+use Rattle.lvm_range_lines.proofs.passed.Stage.{LeavesAnswers}
 use Rattle.lvm_volume_lines.specs.Commands.{HasRested, IsCarriedOut, IsHeldAgain, IsLeftAs, IsLeftOff, IsLeftOn}
 use Rattle.lvm_volume_lines.specs.Volumes.{Drains, IsDone, StaysOn, is_over, volume_reply}
 use Rattle.lvm_volume_lines.proofs.Commanding.{AtMid, ClosesWell, Promised, empty_or, goes_off, goes_on, promised_by, ready_mid, rows_mid}

@@ -9,15 +9,12 @@ use Rattle.lvm_session.specs.State.{Core, State as Session}
 use Rattle.lvm_core.specs.Settled.{IsSettled}
 use Rattle.lvm_core.specs.Sound.{IsSound as IsSoundBetween}
 use Rattle.lvm_core.specs.State.{state_of}
-use Rattle.lvm_range_lines.specs.passed.DriverDrainDrainFault.{DrainFault}
-use Rattle.lvm_range_lines.specs.passed.DriverDrains.{FailsSo, IsAny, IsDrained, IsTurn}
-use Rattle.lvm_range_lines.specs.passed.RunningRunning.{RunsOn}
-use Rattle.lvm_range_lines.proofs.passed.RunningRunning.{runs_none}
-use Rattle.lvm_range_lines.specs.passed.HandoverSettling.{MaySettle}
-use Rattle.lvm_range_lines.specs.passed.StageStages.{IsOfKind, open_in, session_of, shelf_of}
-use Rattle.lvm_range_lines.specs.passed.StageState.{IsOnBetween}
-use Rattle.lvm_range_lines.specs.passed.StageHolderHolder.{Holder}
-use Rattle.lvm_range_lines.specs.passed.StageHolderHolderTheVariants as holder
+use Rattle.lvm_range_lines.specs.passed.Driver.{DrainFault, FailsSo, IsAny, IsDrained, IsTurn}
+use Rattle.lvm_range_lines.specs.passed.Running.{RunsOn}
+use Rattle.lvm_range_lines.proofs.passed.Running.{runs_none}
+use Rattle.lvm_range_lines.specs.passed.Handover.{MaySettle}
+use Rattle.lvm_range_lines.specs.passed.Stage.{IsOfKind, open_in, session_of, shelf_of, IsOnBetween, Holder}
+use Rattle.lvm_range_lines.specs.passed.HolderVariants as holder
 use Rattle.lvm_volume_lines.specs.Commands.{HasBrokenOff, HasRested}
 use Rattle.lvm_volume_lines.proofs.Resting.{none_stay, turns_keep}
 

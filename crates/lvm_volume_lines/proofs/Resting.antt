@@ -23,11 +23,11 @@ use Rattle.lvm_session.specs.State.{Core, State as Session}
 use Rattle.lvm_session.specs.Enabled.{admission_at, data_at, first_event, first_from, first_of, has_buffer, is_lost, is_status_due, landing, landing_at, may_read, may_write, note_at, or_next, parts_to_settle, parts_to_start, pinning_at, same_rows, same_status}
 use Rattle.lvm_session.specs.Sound.{IsSound}
 use Rattle.lvm_session.specs.Turns.{FinishMakes, OnMakes, TurnMakes, WasDark, WasOff, WasOn, Moves, NoStart, Finishes}
-use Rattle.lvm_range_lines.specs.passed.DriverDrains.{IsAny, IsTurn}
+use Rattle.lvm_range_lines.specs.passed.Driver.{IsAny, IsTurn}
 use Rattle.lvm_keeps_turn.proofs.Turning.{turn_keeps}
-use Rattle.lvm_range_lines.proofs.passed.HandoverBetween.{none_flown}
-use Rattle.lvm_range_lines.specs.passed.RangesKeeping.{KeepsTable}
-use Rattle.lvm_range_lines.proofs.passed.RangesTables.{table_same, table_then, turn_table}
+use Rattle.lvm_range_lines.proofs.passed.Handover.{none_flown}
+use Rattle.lvm_range_lines.specs.passed.Ranges.{KeepsTable}
+use Rattle.lvm_range_lines.proofs.passed.Ranges.{table_same, table_then, turn_table}
 
 -- ---- the table
 

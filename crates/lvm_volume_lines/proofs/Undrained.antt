@@ -14,25 +14,17 @@ use Rattle.lvm_session.specs.State.{Core, State as Session, state, votes_there}
 use Rattle.lvm_core.specs.Settled.{IsSettled as IsSettledCore}
 use Rattle.lvm_core.specs.Sound.{HaveAllLanded}
 use Rattle.lvm_core.specs.State.{state_of}
-use Rattle.lvm_range_lines.specs.passed.DriverDrainDrainFault.{DrainFault}
-use Rattle.lvm_range_lines.specs.passed.DriverDrainDrainFaultTheVariants as drain_fault
-use Rattle.lvm_range_lines.specs.passed.DriverDrains.{FailsSo}
+use Rattle.lvm_range_lines.specs.passed.Driver.{DrainFault, FailsSo}
+use Rattle.lvm_range_lines.specs.passed.DrainFaultVariants as drain_fault
 use Rattle.lvm_posts.specs.Posts.{AreAnswered, ended_with}
-use Rattle.lvm_range_lines.specs.passed.RunningRunning.{LeavesSession}
-use Rattle.lvm_range_lines.proofs.passed.RunningRunning.{stays_unstuck}
-use Rattle.lvm_range_lines.specs.passed.StageEnds.{EndsUnasked, patience_of_line}
-use Rattle.lvm_range_lines.specs.passed.StageMoments.{GoesOn, OfGroup}
-use Rattle.lvm_range_lines.specs.passed.StageReplies.{IsStuck, most_refusals}
-use Rattle.lvm_range_lines.specs.passed.StageStages.{HaveRooms, IsBetweenStage, IsClosed, IsEnded, IsFitting, IsOfKind, history_in, open_in, posts_ended, session_in, session_of, shelf_in, state_in}
-use Rattle.lvm_range_lines.specs.passed.StageState.{ArePosted, IsAtRest, State, without_facts}
-use Rattle.lvm_range_lines.specs.passed.StageHolderHolder.{Holder}
-use Rattle.lvm_range_lines.specs.passed.StageHolderHolderTheVariants as holder
-use Rattle.lvm_range_lines.specs.passed.StageReplyReply.{Reply}
-use Rattle.lvm_range_lines.specs.passed.StageReplyReplyTheVariants as reply
-use Rattle.lvm_range_lines.specs.passed.StageStageStage.{Stage}
-use Rattle.lvm_range_lines.proofs.passed.StageEnds.{one_refused}
-use Rattle.lvm_range_lines.proofs.passed.StagePosting.{LeavesAnswers, end_posts, none_held}
-use Rattle.lvm_range_lines.proofs.passed.StageRunning.{IsRun, over_goes, over_landed}
+use Rattle.lvm_range_lines.specs.passed.Running.{LeavesSession}
+use Rattle.lvm_range_lines.proofs.passed.Running.{stays_unstuck}
+use Rattle.lvm_range_lines.specs.passed.Stage.{EndsUnasked, patience_of_line, GoesOn, OfGroup, IsStuck, most_refusals, HaveRooms, IsBetweenStage}
+use Rattle.lvm_range_lines.specs.passed.Stage.{IsClosed, IsEnded, IsFitting, IsOfKind, history_in, open_in, posts_ended, session_in, session_of}
+use Rattle.lvm_range_lines.specs.passed.Stage.{shelf_in, state_in, ArePosted, IsAtRest, State, without_facts, Holder, Reply, Stage}
+use Rattle.lvm_range_lines.specs.passed.HolderVariants as holder
+use Rattle.lvm_range_lines.specs.passed.ReplyVariants as reply
+use Rattle.lvm_range_lines.proofs.passed.Stage.{one_refused, LeavesAnswers, end_posts, none_held, IsRun, over_goes, over_landed}
 use Rattle.lvm_volume_lines.specs.Commands.{HasBrokenOff}
 use Rattle.lvm_volume_lines.specs.Volumes.{IsUndrained, drain_refusal}
 use Rattle.lvm_volume_lines.proofs.OfVolumes.{its_history, no_requests, was_on}

@@ -7,24 +7,18 @@ use Rattle.lvm_vol.specs.Log.{Log}
 use Rattle.lvm_session.specs.State.{Core, State as Session}
 use Rattle.lvm_core.specs.Looking.{HasNoVolume}
 use Rattle.lvm_core.specs.State.{state_of}
-use Rattle.lvm_range_lines.specs.passed.HandoverServing.{IsCommanded, MayServe, StaysSound}
-use Rattle.lvm_range_lines.proofs.passed.HandoverVolumes.{mklv_serves}
-use Rattle.lvm_range_lines.proofs.passed.TieCommandsMaking.{mklv_goes_on}
+use Rattle.lvm_range_lines.specs.passed.Handover.{IsCommanded, MayServe, StaysSound}
+use Rattle.lvm_range_lines.proofs.passed.Handover.{mklv_serves}
+use Rattle.lvm_range_lines.proofs.passed.TieCommands.{mklv_goes_on}
 use Rattle.lvm_volume_plan.specs.declared.fault.GroupFault.{GroupFault}
 use Rattle.lvm_volume_plan.specs.declared.fault.GroupFault.TheVariants as fault
 use Rattle.lvm_volume_plan.specs.declared.new_volume.NewVolume.{NewVolume}
-use Rattle.lvm_range_lines.specs.passed.VolumesVolumes.{MklvGives, to_make}
-use Rattle.lvm_range_lines.proofs.passed.VolumesFresh.{keeps_none}
-use Rattle.lvm_range_lines.proofs.passed.VolumesLeaving.{leaves_none}
-use Rattle.lvm_range_lines.specs.passed.StageEnds.{EndsUnasked, patience_of_line}
-use Rattle.lvm_range_lines.specs.passed.StageMoments.{GoesOn, OfGroup}
-use Rattle.lvm_range_lines.specs.passed.StageStages.{HaveRooms, IsBetweenStage, IsFitting, IsOfKind, history_in, open_in, session_in, shelf_in, state_in}
-use Rattle.lvm_range_lines.specs.passed.StageState.{without_facts}
-use Rattle.lvm_range_lines.specs.passed.StageHolderHolder.{Holder}
-use Rattle.lvm_range_lines.specs.passed.StageReplyRefusalTheVariants as refusal
-use Rattle.lvm_range_lines.specs.passed.StageReplyReply.{Reply}
-use Rattle.lvm_range_lines.specs.passed.StageReplyReplyTheVariants as reply
-use Rattle.lvm_range_lines.specs.passed.StageStageStage.{Stage}
+use Rattle.lvm_range_lines.specs.passed.Volumes.{MklvGives, to_make}
+use Rattle.lvm_range_lines.proofs.passed.Volumes.{keeps_none, leaves_none}
+use Rattle.lvm_range_lines.specs.passed.Stage.{EndsUnasked, patience_of_line, GoesOn, OfGroup, HaveRooms, IsBetweenStage, IsFitting, IsOfKind}
+use Rattle.lvm_range_lines.specs.passed.Stage.{history_in, open_in, session_in, shelf_in, state_in, without_facts, Holder, Reply, Stage}
+use Rattle.lvm_range_lines.specs.passed.RefusalVariants as refusal
+use Rattle.lvm_range_lines.specs.passed.ReplyVariants as reply
 use Rattle.lvm_volume_lines.specs.Commands.{HasRested, IsHeldAgain}
 use Rattle.lvm_volume_lines.specs.Volumes.{RmlvDoes, NoVolumeForRmlv, StaysOn}
 use Rattle.lvm_volume_lines.proofs.Commanding.{Promised, goes_on, promised_by, ready_mid, rows_mid}

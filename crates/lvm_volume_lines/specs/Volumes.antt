@@ -13,23 +13,17 @@ use Rattle.lvm_core.specs.Held.{IsHeld}
 use Rattle.lvm_core.specs.Leaves.{NoPartition, IsOfCommand, KeepsStatus, FindsOnly}
 use Rattle.lvm_core.specs.Looking.{IsNumberOf, HasNoVolume}
 use Rattle.lvm_core.specs.Settled.{IsSettled}
-use Rattle.lvm_range_lines.specs.passed.DriverDrainDrainFault.{DrainFault}
-use Rattle.lvm_range_lines.specs.passed.DriverDrainDrainFaultTheVariants as drain_fault
-use Rattle.lvm_range_lines.specs.passed.DriverDrains.{FailsSo}
-use Rattle.lvm_range_lines.specs.passed.RunningRunning.{RunsOn}
+use Rattle.lvm_range_lines.specs.passed.Driver.{DrainFault, FailsSo}
+use Rattle.lvm_range_lines.specs.passed.DrainFaultVariants as drain_fault
+use Rattle.lvm_range_lines.specs.passed.Running.{RunsOn}
 use Rattle.lvm_volume_plan.specs.declared.fault.GroupFault.{GroupFault}
 use Rattle.lvm_volume_plan.specs.declared.fault.GroupFault.TheVariants as fault
 use Rattle.lvm_volume_plan.specs.declared.new_volume.NewVolume.{NewVolume}
 use Rattle.lvm_volume_plan.specs.NewVolume.{without_volume}
-use Rattle.lvm_range_lines.specs.passed.VolumesVolumes.{IsWith, IsChosen, MklvGives, RmlvGives}
-use Rattle.lvm_range_lines.specs.passed.StageEnds.{patience_of_line}
-use Rattle.lvm_range_lines.specs.passed.StageReplies.{IsRefused}
-use Rattle.lvm_range_lines.specs.passed.StageStages.{IsOn, IsNotOn, open_in, posts_ended}
-use Rattle.lvm_range_lines.specs.passed.StageState.{IsAtRest, State}
-use Rattle.lvm_range_lines.specs.passed.StageReplyRefusal.{Refusal}
-use Rattle.lvm_range_lines.specs.passed.StageReplyRefusalTheVariants as refusal
-use Rattle.lvm_range_lines.specs.passed.StageReplyReply.{Reply}
-use Rattle.lvm_range_lines.specs.passed.StageReplyReplyTheVariants as reply
+use Rattle.lvm_range_lines.specs.passed.Volumes.{IsWith, IsChosen, MklvGives, RmlvGives}
+use Rattle.lvm_range_lines.specs.passed.Stage.{patience_of_line, IsRefused, IsOn, IsNotOn, open_in, posts_ended, IsAtRest, State, Refusal, Reply}
+use Rattle.lvm_range_lines.specs.passed.RefusalVariants as refusal
+use Rattle.lvm_range_lines.specs.passed.ReplyVariants as reply
 
 -- a fault of a command on a group, as the refusal of its line
 abbrev pub refusal_for : GroupFault → Refusal

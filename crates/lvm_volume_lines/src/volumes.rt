@@ -7,24 +7,22 @@ ghost use Rattle.lvm_session.specs.Sound.{IsSound};
 ghost use Rattle.lvm_core.specs.Looking.{IsNumberOf};
 ghost use Rattle.lvm_core.specs.Settled.{IsSettled};
 ghost use Rattle.lvm_core.specs.State.{state_of};
-ghost use Rattle.lvm_range_lines.specs.passed.HandoverServing.{MayServe, StaysSound};
-ghost use Rattle.lvm_range_lines.specs.passed.VolumesVolumes.{MklvGives, RmlvGives, to_make, to_remove};
-ghost use Rattle.lvm_range_lines.specs.passed.StageEnds.{EndsUnasked};
-ghost use Rattle.lvm_range_lines.specs.passed.StageMoments.{OfGroup};
-ghost use Rattle.lvm_range_lines.specs.passed.StageStages.{IsBetweenStage, IsFitting, IsOfKind, open_in, session_of, shelf_of};
-ghost use Rattle.lvm_range_lines.specs.passed.StageState.{IsOnBetween};
+ghost use Rattle.lvm_range_lines.specs.passed.Handover.{MayServe, StaysSound};
+ghost use Rattle.lvm_range_lines.specs.passed.Volumes.{MklvGives, RmlvGives, to_make, to_remove};
+ghost use Rattle.lvm_range_lines.specs.passed.Stage.{EndsUnasked, OfGroup, IsBetweenStage, IsFitting, IsOfKind, open_in, session_of, shelf_of};
+ghost use Rattle.lvm_range_lines.specs.passed.Stage.{IsOnBetween};
 ghost use Rattle.lvm_volume_lines.specs.Commands.{HasBrokenOff, HasRested, IsCarriedOut, IsHeldAgain, IsLeftAs, IsLeftOff};
 ghost use Rattle.lvm_volume_lines.specs.Volumes.{MklvDoes, RmlvDoes, drain_refusal, ends_session, is_over, refusal_for, volume_reply, wanted};
 
 use lvm_core::{Closed, Driver};
 use lvm_disk::Shelf;
-use lvm_range_lines::below::lvm_driver::DrainFault;
-use lvm_range_lines::below::lvm_handover::{serve, settle};
 use lvm_num::{Mode, Name, Policy};
 use lvm_posts::Post;
+use lvm_range_lines::below::lvm_driver::DrainFault;
+use lvm_range_lines::below::lvm_handover::{serve, settle};
 use lvm_range_lines::below::lvm_stage::{Answered, Holder, Refusal, Reply, Stage};
-use lvm_transfer::{Patience, relight};
 use lvm_range_lines::below::lvm_volumes::{GroupFault, mklv, rmlv};
+use lvm_transfer::{Patience, relight};
 use std::alloc::Global;
 
 // A fault of a command on a group, as the refusal of its line.

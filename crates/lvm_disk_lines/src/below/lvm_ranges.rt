@@ -1,3 +1,5 @@
 //! Passed on from `lvm_ranges`.
 
-pub use lvm_stage::below::lvm_ranges::{AskRangeFault, Stuck, ask_range, await_range, finish_range, read_blocks, step, take_range};
+pub use lvm_stage::below::lvm_ranges::{
+    AskRangeFault, Stuck, ask_range, await_range, finish_range, read_blocks, step, take_range,
+};

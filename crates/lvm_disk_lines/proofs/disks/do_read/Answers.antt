@@ -1,6 +1,6 @@
 use Rattle.std.proofs.Common.{ap, subst, refl, ℕ}
 use Rattle.lvm_steps.specs.Requests.{at}
-use Rattle.lvm_stage.specs.passed.QuiesceRanges.{ReadOnceQuiet}
+use Rattle.lvm_stage.specs.passed.Quiesce.{ReadOnceQuiet}
 use Rattle.lvm_raw.specs.Keeping.{AnswerHasCause}
 use Rattle.lvm_disk_lines.specs.Disks.{ReadDoes, NoReadWhileOn, ReadGoes}
 use Rattle.lvm_stage.specs.Moments.{Aside}

@@ -1,6 +1,6 @@
 use Rattle.std.proofs.Common.{◌∙◌, ap, subst, refl, ℕ}
 use Rattle.lvm_steps.specs.Requests.{at}
-use Rattle.lvm_stage.specs.passed.QuiesceRanges.{WriteOnceQuiet}
+use Rattle.lvm_stage.specs.passed.Quiesce.{WriteOnceQuiet}
 use Rattle.lvm_raw.specs.Keeping.{AnswerHasCause}
 use Rattle.lvm_disk_lines.specs.Disks.{WriteDoes, NoWriteWhileOn, WriteGoes, write_reply}
 use Rattle.lvm_stage.specs.Moments.{Aside}

@@ -1,13 +1,10 @@
 use Rattle.std.proofs.Common.{ℕ, IfErr, ap, sym, subst}
-use Rattle.lvm_disk_lines.specs.passed.QuiesceGroups.{CauseRose, VaryonOnceQuiet}
+use Rattle.lvm_disk_lines.specs.passed.Quiesce.{CauseRose, VaryonOnceQuiet}
 use Rattle.lvm_group_lines.specs.Groups.{VaryonDoes, NoVaryonWhileOn, Varies, itself}
-use Rattle.lvm_disk_lines.specs.passed.StageEnds.{CommandEnds}
-use Rattle.lvm_disk_lines.specs.passed.StageMoments.{Aside}
-use Rattle.lvm_disk_lines.specs.passed.StageHolderHolder.{Holder}
-use Rattle.lvm_disk_lines.specs.passed.StageHolderHolderTheVariants as holder
-use Rattle.lvm_disk_lines.specs.passed.StageReplyRefusalTheVariants as refusal
-use Rattle.lvm_disk_lines.proofs.passed.StageEnds.{asked_ends, ends_as, one_refused}
-use Rattle.lvm_disk_lines.proofs.passed.StageStaging.{asked_stays, between_as, fits_as}
+use Rattle.lvm_disk_lines.specs.passed.Stage.{CommandEnds, Aside, Holder}
+use Rattle.lvm_disk_lines.specs.passed.HolderVariants as holder
+use Rattle.lvm_disk_lines.specs.passed.RefusalVariants as refusal
+use Rattle.lvm_disk_lines.proofs.passed.Stage.{asked_ends, ends_as, one_refused, asked_stays, between_as, fits_as}
 use Rattle.lvm_group_lines.proofs.Coming.{Left, dark_still, held, on_unless, outcome_ends}
 use Rattle.lvm_group_lines.proofs.Lines.{all_serve, all_stand, brings, may_hold}
 use Rattle.lvm_group_lines.proofs.Varying.{came, itself_gives, serves, stands, stayed}

@@ -1,14 +1,9 @@
 use Rattle.std.proofs.Common.{◌≡◌, ◌≤◌, refl, sym, subst, ℕ, List, length}
-use Rattle.lvm_volume_lines.specs.passed.StageEnds.{CommandEnds}
-use Rattle.lvm_volume_lines.specs.passed.StageMoments.{Aside}
-use Rattle.lvm_volume_lines.specs.passed.StageReplies.{most_refusals}
-use Rattle.lvm_volume_lines.specs.passed.StageStages.{session_in, shelf_in}
-use Rattle.lvm_volume_lines.specs.passed.StageReplyRefusalTheVariants as refusal
-use Rattle.lvm_volume_lines.specs.passed.StageReplyReply.{Reply}
-use Rattle.lvm_volume_lines.specs.passed.StageReplyReplyTheVariants as reply
-use Rattle.lvm_volume_lines.proofs.passed.StageEnds.{one_refused}
-use Rattle.lvm_volume_lines.specs.passed.GroupLinesGroups.{MkvgDoes}
-use Rattle.lvm_volume_lines.specs.passed.GroupLinesListings.{DiskShows, GroupShows, VolumeShows}
+use Rattle.lvm_volume_lines.specs.passed.Stage.{CommandEnds, Aside, most_refusals, session_in, shelf_in, Reply}
+use Rattle.lvm_volume_lines.specs.passed.RefusalVariants as refusal
+use Rattle.lvm_volume_lines.specs.passed.ReplyVariants as reply
+use Rattle.lvm_volume_lines.proofs.passed.Stage.{one_refused}
+use Rattle.lvm_volume_lines.specs.passed.GroupLines.{MkvgDoes, DiskShows, GroupShows, VolumeShows}
 use Rattle.lvm_line.proofs.Lining.{done_by, listed_by, one_disk, one_group, one_volume}
 use Rattle.lvm_line.proofs.line.do_command.Goals as goal
 

@@ -1,17 +1,12 @@
 use Rattle.std.proofs.Common.{◌≡◌, ◌≤◌, ◌∙◌, ap, refl, sym, subst, arith, None, Some, Ok, Option}
 use Rattle.lvm_parse.specs.declared.command.Command.{Command}
 use Rattle.lvm_operands.specs.Reading.{misfit}
-use Rattle.lvm_volume_lines.specs.passed.StageReplies.{most_refusals}
-use Rattle.lvm_volume_lines.specs.passed.StageStages.{shelf_in, history_in, state_in}
-use Rattle.lvm_volume_lines.specs.passed.StageState.{without_facts}
-use Rattle.lvm_volume_lines.specs.passed.StageReplyRefusalTheVariants as refusal
-use Rattle.lvm_volume_lines.specs.passed.StageReplyReply.{Reply}
-use Rattle.lvm_volume_lines.specs.passed.StageReplyReplyTheVariants as reply
-use Rattle.lvm_volume_lines.proofs.passed.StageEnds.{one_refused}
-use Rattle.lvm_volume_lines.specs.passed.StageStageStage.{Stage}
+use Rattle.lvm_volume_lines.specs.passed.Stage.{most_refusals, shelf_in, history_in, state_in, without_facts, Reply, Stage}
+use Rattle.lvm_volume_lines.specs.passed.RefusalVariants as refusal
+use Rattle.lvm_volume_lines.specs.passed.ReplyVariants as reply
+use Rattle.lvm_volume_lines.proofs.passed.Stage.{one_refused, asked_stays}
 use Rattle.lvm_parse.proofs.Fields.{line_is_within}
 use Rattle.lvm_line.proofs.Lining.{line_read, line_still, line_unread, asked_once, asked_so, stage_named}
-use Rattle.lvm_volume_lines.proofs.passed.StageStaging.{asked_stays}
 use Rattle.lvm_line.proofs.line.do_line.Goals as goal
 
 pub do_command-requires-clause-within : goal.do_command-requires-clause-within

@@ -3,10 +3,9 @@ use Rattle.std.specs.Prelude.{Result, Err}
 use Rattle.lvm_num.specs.declared.descriptor.Descriptor.{Descriptor}
 use Rattle.lvm_core.specs.Looking.{HasNoVolume, IsNumberOf}
 use Rattle.lvm_posts.specs.declared.asked.Asked.{Asked}
-use Rattle.lvm_group_lines.specs.passed.RangesRefusalAskRangeFault.{AskRangeFault}
-use Rattle.lvm_group_lines.specs.passed.RangesAsking.{AskRangeGives}
-use Rattle.lvm_group_lines.proofs.passed.RunningRunning.{runs_none}
-use Rattle.lvm_group_lines.specs.passed.DriverAnswers.{state_of}
+use Rattle.lvm_group_lines.specs.passed.Ranges.{AskRangeFault, AskRangeGives}
+use Rattle.lvm_group_lines.proofs.passed.Running.{runs_none}
+use Rattle.lvm_group_lines.specs.passed.Driver.{state_of}
 use Rattle.lvm_range_lines.specs.Requests.{HasNone, Refuses, Takes}
 use Rattle.lvm_range_lines.proofs.Naming.{fault_same}
 use Rattle.lvm_range_lines.proofs.Posting.{earlier_posts}

@@ -1,7 +1,7 @@
 use Rattle.std.proofs.Common.{ap, subst}
-use Rattle.lvm_group_lines.specs.passed.StageHolderHolderTheVariants as holder
-use Rattle.lvm_group_lines.specs.passed.StageReplyRefusalTheVariants as refusal
-use Rattle.lvm_group_lines.specs.passed.StageStages.{IsOfKind, session_of}
+use Rattle.lvm_group_lines.specs.passed.HolderVariants as holder
+use Rattle.lvm_group_lines.specs.passed.RefusalVariants as refusal
+use Rattle.lvm_group_lines.specs.passed.Stage.{IsOfKind, session_of}
 use Rattle.lvm_range_lines.specs.Requests.{WrDoes, NotThere, WhileOff}
 use Rattle.lvm_range_lines.proofs.Holding.{between_now, ends_with, fits_now, refused_as}
 use Rattle.lvm_range_lines.proofs.Naming.{none_named}

@@ -1,7 +1,6 @@
 use Rattle.std.proofs.Common.{Bool, sym, ◌∙◌, ap, subst}
-use Rattle.lvm_group_lines.specs.passed.StageReplyReplyTheVariants as reply
-use Rattle.lvm_group_lines.specs.passed.StageStageStage.{Stage}
-use Rattle.lvm_group_lines.specs.passed.StageStages.{HaveRooms, IsCarried, IsEnded}
+use Rattle.lvm_group_lines.specs.passed.ReplyVariants as reply
+use Rattle.lvm_group_lines.specs.passed.Stage.{Stage, HaveRooms, IsCarried, IsEnded}
 use Rattle.lvm_range_lines.specs.Leaving.{StageFailsIf}
 use Rattle.lvm_range_lines.proofs.requests.failed.Goals as goal
 

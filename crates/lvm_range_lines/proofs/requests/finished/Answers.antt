@@ -1,9 +1,7 @@
 use Rattle.std.proofs.Common.{sym, ◌∙◌, ap, subst}
 use Rattle.std.specs.Prelude.{Result}
 use Rattle.lvm_posts.specs.declared.fault.RangeFault.{RangeFault}
-use Rattle.lvm_group_lines.specs.passed.StageReplyReply.{Reply}
-use Rattle.lvm_group_lines.specs.passed.StageStageStage.{Stage}
-use Rattle.lvm_group_lines.specs.passed.StageStages.{HaveRooms, IsCarried}
+use Rattle.lvm_group_lines.specs.passed.Stage.{Reply, Stage, HaveRooms, IsCarried}
 use Rattle.lvm_range_lines.specs.Leaving.{StageEndsBy}
 use Rattle.lvm_range_lines.specs.Refusals.{reply_of}
 use Rattle.lvm_range_lines.proofs.requests.finished.Goals as goal

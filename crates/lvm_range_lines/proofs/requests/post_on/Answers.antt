@@ -1,9 +1,7 @@
 use Rattle.std.proofs.Common.{Some, sym, subst}
 use Rattle.std.specs.Prelude.{Result}
 use Rattle.lvm_posts.specs.declared.asked.Asked.{Asked}
-use Rattle.lvm_group_lines.specs.passed.StageReplyRefusal.{Refusal}
-use Rattle.lvm_group_lines.specs.passed.StageStageStage.{Stage}
-use Rattle.lvm_group_lines.specs.passed.StageStages.{HaveRooms, IsCarried}
+use Rattle.lvm_group_lines.specs.passed.Stage.{Refusal, Stage, HaveRooms, IsCarried}
 use Rattle.lvm_range_lines.specs.Requests.{AsksByName, NotPosted, Posts}
 use Rattle.lvm_range_lines.proofs.Adding.{has_place, posted_ends}
 use Rattle.lvm_range_lines.proofs.Refusing.{refusing_ends}

@@ -1,12 +1,10 @@
 use Rattle.std.proofs.Common.{◌≡◌, None, refl, sym, ◌∙◌, subst}
 use Rattle.lvm_session.specs.declared.open.Power.TheVariants as power
-use Rattle.lvm_group_lines.specs.passed.DriverAnswers.{state_of}
-use Rattle.lvm_group_lines.specs.passed.StageStageStage.{Stage}
-use Rattle.lvm_group_lines.specs.passed.StageStages.{HaveRooms, IsCarried}
+use Rattle.lvm_group_lines.specs.passed.Driver.{state_of}
+use Rattle.lvm_group_lines.specs.passed.Stage.{Stage, HaveRooms, IsCarried, Refusal}
 use Rattle.lvm_range_lines.specs.Requests.{AsksByName, Finishes, NotBegun, ShowsBlocks}
 use Rattle.std.specs.Prelude.{Result}
 use Rattle.lvm_posts.specs.declared.asked.Asked.{Asked}
-use Rattle.lvm_group_lines.specs.passed.StageReplyRefusal.{Refusal}
 use Rattle.lvm_range_lines.proofs.Lines.{asks_at, at_range, blocks_few, finished_ends}
 use Rattle.lvm_range_lines.proofs.Refusing.{refusing_ends}
 use Rattle.lvm_range_lines.proofs.requests.rd_on.Goals as goal

@@ -1,11 +1,10 @@
 use Rattle.std.proofs.Common.{◌-◌, subst}
 use Rattle.std.specs.Prelude.{Result}
 use Rattle.lvm_disk.specs.Counts.{RoseBy}
-use Rattle.lvm_group_lines.specs.passed.DriverAnswers.{state_of}
+use Rattle.lvm_group_lines.specs.passed.Driver.{state_of}
 use Rattle.lvm_posts.specs.declared.fault.RangeFault.{RangeFault}
-use Rattle.lvm_group_lines.specs.passed.RangesFinishing.{FinishGives}
-use Rattle.lvm_group_lines.proofs.passed.RangesFinishing.{ended_well}
-use Rattle.lvm_group_lines.proofs.passed.RangesGrowing.{reads_on}
+use Rattle.lvm_group_lines.specs.passed.Ranges.{FinishGives}
+use Rattle.lvm_group_lines.proofs.passed.Ranges.{ended_well, reads_on}
 use Rattle.lvm_range_lines.proofs.requests.read_reply.Goals as goal
 
 pub returns-in-Ok : goal.returns-in-Ok

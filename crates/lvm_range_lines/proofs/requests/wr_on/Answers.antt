@@ -1,14 +1,10 @@
 use Rattle.std.proofs.Common.{◌≡◌, ◌≤◌, Some, sym, ◌∙◌, subst, arith}
 use Rattle.lvm_session.specs.declared.open.Power.TheVariants as power
-use Rattle.lvm_group_lines.specs.passed.StageReplyReply.{Reply}
-use Rattle.lvm_group_lines.specs.passed.StageReplyReplyTheVariants as reply
-use Rattle.lvm_group_lines.specs.passed.StageStageStage.{Stage}
-use Rattle.lvm_group_lines.specs.passed.StageReplies.{most_refusals}
-use Rattle.lvm_group_lines.specs.passed.StageStages.{HaveRooms, IsCarried}
+use Rattle.lvm_group_lines.specs.passed.Stage.{Reply, Stage, most_refusals, HaveRooms, IsCarried, Refusal}
+use Rattle.lvm_group_lines.specs.passed.ReplyVariants as reply
 use Rattle.lvm_range_lines.specs.Requests.{AsksByName, Finishes, NotBegun}
 use Rattle.std.specs.Prelude.{Result}
 use Rattle.lvm_posts.specs.declared.asked.Asked.{Asked}
-use Rattle.lvm_group_lines.specs.passed.StageReplyRefusal.{Refusal}
 use Rattle.lvm_range_lines.proofs.Lines.{finished_ends}
 use Rattle.lvm_range_lines.proofs.Refusing.{refusing_ends}
 use Rattle.lvm_range_lines.proofs.requests.wr_on.Goals as goal

@@ -1,9 +1,9 @@
 use Rattle.std.proofs.Common.{◌-◌, refl, subst}
 use Rattle.std.specs.Prelude.{Result}
 use Rattle.lvm_disk.specs.Counts.{RoseBy}
-use Rattle.lvm_group_lines.specs.passed.DriverAnswers.{state_of}
+use Rattle.lvm_group_lines.specs.passed.Driver.{state_of}
 use Rattle.lvm_posts.specs.declared.fault.RangeFault.{RangeFault}
-use Rattle.lvm_group_lines.specs.passed.RangesFinishing.{FinishGives}
+use Rattle.lvm_group_lines.specs.passed.Ranges.{FinishGives}
 use Rattle.lvm_range_lines.proofs.requests.write_reply.Goals as goal
 
 pub returns-in-Ok : goal.returns-in-Ok

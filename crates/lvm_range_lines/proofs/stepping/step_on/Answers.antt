@@ -1,9 +1,6 @@
 use Rattle.std.proofs.Common.{◌≤◌, refl, sym, ◌∙◌, subst, arith}
-use Rattle.lvm_group_lines.specs.passed.DriverAnswers.{state_of}
-use Rattle.lvm_group_lines.specs.passed.StageReplyReply.{Reply}
-use Rattle.lvm_group_lines.specs.passed.StageStageStage.{Stage}
-use Rattle.lvm_group_lines.specs.passed.StageReplies.{most_refusals}
-use Rattle.lvm_group_lines.specs.passed.StageStages.{HaveRooms, IsCarried}
+use Rattle.lvm_group_lines.specs.passed.Driver.{state_of}
+use Rattle.lvm_group_lines.specs.passed.Stage.{Reply, Stage, most_refusals, HaveRooms, IsCarried}
 use Rattle.lvm_range_lines.specs.Stepping.{StepDoes, Steps}
 use Rattle.lvm_range_lines.proofs.Ending.{RunsTo, carried_ends, carried_leaves}
 use Rattle.lvm_range_lines.proofs.Posting.{table_posts}

@@ -6,14 +6,13 @@ use Rattle.lvm_session.specs.Calls.{is_asked}
 use Rattle.lvm_session.specs.Fields.{core_of}
 use Rattle.lvm_session.specs.Sound.{IsSound}
 use Rattle.lvm_session.specs.State.{Core, state}
-use Rattle.lvm_group_lines.specs.passed.DriverAnswers.{state_of}
-use Rattle.lvm_group_lines.specs.passed.RunningRunning.{RunsOn}
-use Rattle.lvm_group_lines.specs.passed.EarlierEarlier.{with_taken}
+use Rattle.lvm_group_lines.specs.passed.Driver.{state_of}
+use Rattle.lvm_group_lines.specs.passed.Running.{RunsOn}
+use Rattle.lvm_group_lines.specs.passed.Earlier.{with_taken}
 use Rattle.lvm_core.specs.Sound.{IsSound as IsSoundAtRest}
 use Rattle.lvm_posts.specs.Deciding.{RangeEnds}
 use Rattle.lvm_posts.specs.Posts.{AreAnswered}
-use Rattle.lvm_group_lines.proofs.passed.EarlierResting.{resting_with}
-use Rattle.lvm_group_lines.proofs.passed.EarlierRunning.{stays_beside}
+use Rattle.lvm_group_lines.proofs.passed.Earlier.{resting_with, stays_beside}
 use Rattle.lvm_range_lines.specs.Taking.{LeavesOthers, StaysKept}
 use Rattle.lvm_range_lines.specs.Waiting.{OfEarlier}
 use Rattle.lvm_range_lines.proofs.Takings.{earlier_leaves, enters_taken, gone_rest}

@@ -1,8 +1,7 @@
 use Rattle.std.proofs.Common.{◌<◌, ◌^◌, List, Some, length, sym, subst, arith}
-use Rattle.lvm_group_lines.specs.passed.DriverAnswers.{state_of}
+use Rattle.lvm_group_lines.specs.passed.Driver.{state_of}
 use Rattle.lvm_posts.specs.declared.posts.Post.{Post}
-use Rattle.lvm_group_lines.specs.passed.StageStages.{HaveRooms}
-use Rattle.lvm_group_lines.specs.passed.StageState.{ArePosted}
+use Rattle.lvm_group_lines.specs.passed.Stage.{HaveRooms, ArePosted}
 use Rattle.lvm_range_lines.specs.Answers.{Tells}
 use Rattle.lvm_range_lines.specs.Waiting.{TakesPosts}
 use Rattle.lvm_range_lines.proofs.Resting.{rest_ends}

@@ -3,13 +3,11 @@ use Rattle.std.specs.Prelude.{All}
 use Rattle.lvm_disk.specs.Counts.{RoseBy}
 use Rattle.lvm_disk.specs.Paths.{Path}
 use Rattle.lvm_session.specs.declared.open.Power.TheVariants as power
-use Rattle.lvm_group_lines.specs.passed.DriverAnswers.{state_of}
-use Rattle.lvm_group_lines.specs.passed.DriverDrains.{IsAny}
-use Rattle.lvm_group_lines.proofs.passed.RunningRunning.{stays_unstuck}
+use Rattle.lvm_group_lines.specs.passed.Driver.{state_of, IsAny}
+use Rattle.lvm_group_lines.proofs.passed.Running.{stays_unstuck}
 use Rattle.lvm_posts.specs.declared.posts.Post.{Post}
 use Rattle.lvm_posts.specs.Pieces.{IsLaidOut}
-use Rattle.lvm_group_lines.specs.passed.StageStageStage.{Stage}
-use Rattle.lvm_group_lines.specs.passed.StageStages.{HaveRooms, IsEnded}
+use Rattle.lvm_group_lines.specs.passed.Stage.{Stage, HaveRooms, IsEnded}
 use Rattle.lvm_range_lines.specs.Waiting.{AllHaveLanded, IsAwaited, TurnsForPosts}
 use Rattle.lvm_range_lines.proofs.Posting.{table_posts}
 use Rattle.lvm_range_lines.proofs.Landed.{fits_on}

@@ -1,7 +1,6 @@
 use Rattle.std.proofs.Common.{◌∙◌, ℕ, sym, refl, subst, arith}
 use Rattle.lvm_io.specs.Reading.{Reading}
-use Rattle.lvm_line.specs.passed.StageStages.{history_in, state_in}
-use Rattle.lvm_line.specs.passed.StageState.{without_facts}
+use Rattle.lvm_line.specs.passed.Stage.{history_in, state_in, without_facts}
 use Rattle.lvm_top.specs.Turn.{ReadsLine, ReadsNone, Tells}
 use Rattle.lvm_top.proofs.Scripting.{RunSoFar, at_start, through, none_read, line_told, line_ends}
 use Rattle.lvm_top.proofs.Lining.{renamed, stuck_is_off, no_end, ended_not}

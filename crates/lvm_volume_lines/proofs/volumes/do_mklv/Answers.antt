@@ -1,18 +1,13 @@
 use Rattle.std.proofs.Common.{◌≡◌, ◌≤◌, ◌∙◌, ℕ, refl, sym, ap, subst, arith}
 use Rattle.lvm_core.specs.State.{state_of}
 use Rattle.lvm_core.specs.Sound.{HaveAllLanded}
-use Rattle.lvm_range_lines.proofs.passed.TieCommandsMaking.{mklv_goes_on}
+use Rattle.lvm_range_lines.proofs.passed.TieCommands.{mklv_goes_on}
 use Rattle.lvm_posts.specs.Posts.{AreAnswered}
-use Rattle.lvm_range_lines.specs.passed.VolumesVolumes.{IsChosen, IsWith, MklvGives}
-use Rattle.lvm_range_lines.specs.passed.StageEnds.{EndsUnasked}
-use Rattle.lvm_range_lines.specs.passed.StageMoments.{OfGroup}
-use Rattle.lvm_range_lines.specs.passed.StageStages.{IsOn, open_in, session_in}
-use Rattle.lvm_range_lines.specs.passed.StageReplyRefusal.{Refusal}
-use Rattle.lvm_range_lines.specs.passed.StageReplyRefusalTheVariants as refusal
-use Rattle.lvm_range_lines.specs.passed.StageReplyReply.{Reply}
-use Rattle.lvm_range_lines.specs.passed.StageReplyReplyTheVariants as reply
-use Rattle.lvm_range_lines.specs.passed.StageStageStage.{Stage}
-use Rattle.lvm_range_lines.proofs.passed.StageEnds.{refused_ends}
+use Rattle.lvm_range_lines.specs.passed.Volumes.{IsChosen, IsWith, MklvGives}
+use Rattle.lvm_range_lines.specs.passed.Stage.{EndsUnasked, OfGroup, IsOn, open_in, session_in, Refusal, Reply, Stage}
+use Rattle.lvm_range_lines.specs.passed.RefusalVariants as refusal
+use Rattle.lvm_range_lines.specs.passed.ReplyVariants as reply
+use Rattle.lvm_range_lines.proofs.passed.Stage.{refused_ends}
 use Rattle.lvm_volume_lines.specs.Commands.{HasBrokenOff, HasRested}
 use Rattle.lvm_volume_lines.specs.Volumes.{MklvDoes, BusyMklv, NoGroupForMklv, UndrainedMklv, drain_refusal, wanted}
 use Rattle.lvm_volume_lines.proofs.Commanding.{rows_mid}

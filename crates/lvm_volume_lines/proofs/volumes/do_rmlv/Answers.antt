@@ -2,19 +2,14 @@ use Rattle.std.proofs.Common.{◌≡◌, ◌≤◌, ◌∙◌, ℕ, refl, sym, a
 use Rattle.lvm_core.specs.Leaves.{NoPartition}
 use Rattle.lvm_core.specs.State.{state_of}
 use Rattle.lvm_core.specs.Sound.{HaveAllLanded}
-use Rattle.lvm_range_lines.proofs.passed.TieCommandsRemoving.{rmlv_goes_on}
+use Rattle.lvm_range_lines.proofs.passed.TieCommands.{rmlv_goes_on}
 use Rattle.lvm_posts.specs.Posts.{AreAnswered}
 use Rattle.lvm_volume_plan.specs.NewVolume.{without_volume}
-use Rattle.lvm_range_lines.specs.passed.VolumesVolumes.{RmlvGives}
-use Rattle.lvm_range_lines.specs.passed.StageEnds.{EndsUnasked}
-use Rattle.lvm_range_lines.specs.passed.StageMoments.{OfGroup}
-use Rattle.lvm_range_lines.specs.passed.StageStages.{open_in, session_in}
-use Rattle.lvm_range_lines.specs.passed.StageReplyRefusal.{Refusal}
-use Rattle.lvm_range_lines.specs.passed.StageReplyRefusalTheVariants as refusal
-use Rattle.lvm_range_lines.specs.passed.StageReplyReply.{Reply}
-use Rattle.lvm_range_lines.specs.passed.StageReplyReplyTheVariants as reply
-use Rattle.lvm_range_lines.specs.passed.StageStageStage.{Stage}
-use Rattle.lvm_range_lines.proofs.passed.StageEnds.{refused_ends}
+use Rattle.lvm_range_lines.specs.passed.Volumes.{RmlvGives}
+use Rattle.lvm_range_lines.specs.passed.Stage.{EndsUnasked, OfGroup, open_in, session_in, Refusal, Reply, Stage}
+use Rattle.lvm_range_lines.specs.passed.RefusalVariants as refusal
+use Rattle.lvm_range_lines.specs.passed.ReplyVariants as reply
+use Rattle.lvm_range_lines.proofs.passed.Stage.{refused_ends}
 use Rattle.lvm_volume_lines.specs.Commands.{HasBrokenOff, HasRested}
 use Rattle.lvm_volume_lines.specs.Volumes.{RmlvDoes, BusyRmlv, NoGroupForRmlv, UndrainedRmlv, drain_refusal}
 use Rattle.lvm_volume_lines.proofs.Commanding.{rows_mid}

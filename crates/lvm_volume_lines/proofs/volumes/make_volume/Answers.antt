@@ -1,7 +1,7 @@
 use Rattle.std.proofs.Common.{[]}
 use Rattle.lvm_core.specs.State.{state_of}
-use Rattle.lvm_range_lines.specs.passed.HandoverServing.{MayServe, StaysSound}
-use Rattle.lvm_range_lines.proofs.passed.HandoverVolumes.{mklv_serves}
+use Rattle.lvm_range_lines.specs.passed.Handover.{MayServe, StaysSound}
+use Rattle.lvm_range_lines.proofs.passed.Handover.{mklv_serves}
 use Rattle.lvm_volume_lines.specs.Volumes.{wanted}
 use Rattle.lvm_volume_lines.proofs.Ending.{dark_still, lit_still, mklv_facts, mklv_shape, rows_stay}
 use Rattle.lvm_volume_lines.proofs.OfVolumes.{if_on}

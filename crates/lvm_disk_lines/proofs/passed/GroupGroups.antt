@@ -1,2 +1,0 @@
--- Passed on from `lvm_group`.
-pub use Rattle.lvm_stage.proofs.passed.GroupGroups.{are_members, is_there, size_positive, valid_group, valid_status}

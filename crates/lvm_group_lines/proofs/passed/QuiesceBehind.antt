@@ -1,2 +1,0 @@
--- Passed on from `lvm_quiesce`.
-pub use Rattle.lvm_disk_lines.proofs.passed.QuiesceBehind.{each_is_behind, fewer_stay_behind, quiet_is_ahead, still_is_behind_each}

@@ -1,2 +1,0 @@
--- Passed on from `lvm_stage`.
-pub use Rattle.lvm_disk_lines.proofs.passed.StageLighting.{ready_is_lit, still_leaves_descriptors}

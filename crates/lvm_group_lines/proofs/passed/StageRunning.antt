@@ -1,2 +1,0 @@
--- Passed on from `lvm_stage`.
-pub use Rattle.lvm_disk_lines.proofs.passed.StageRunning.{IsRun, before_end, later_end, over_goes, over_landed, run_goes, spanned}

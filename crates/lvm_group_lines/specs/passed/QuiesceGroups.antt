@@ -1,2 +1,0 @@
--- Passed on from `lvm_quiesce`.
-pub use Rattle.lvm_disk_lines.specs.passed.QuiesceGroups.{CauseRose, IsFullFor, MkvgOnceQuiet, RefusedAtOnce, StayedOut, StaysOut, VaryonOnceQuiet, WentQuiet}

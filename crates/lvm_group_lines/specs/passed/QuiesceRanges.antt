@@ -1,2 +1,0 @@
--- Passed on from `lvm_quiesce`.
-pub use Rattle.lvm_disk_lines.specs.passed.QuiesceRanges.{AskedAtRest, KeptFrom, RangeOnceQuiet, RangeStaysOut, ReadOnceQuiet, ReadsAtRest, RejectedAtOnce, WriteOnceQuiet, WritesAtRest}

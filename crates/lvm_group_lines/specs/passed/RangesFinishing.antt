@@ -1,2 +1,0 @@
--- Passed on from `lvm_ranges`.
-pub use Rattle.lvm_disk_lines.specs.passed.RangesFinishing.{FinishGives, Finished, TakesRange, WasStuck}

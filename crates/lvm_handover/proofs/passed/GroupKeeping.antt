@@ -1,2 +1,0 @@
--- Passed on from `lvm_group`.
-pub use Rattle.lvm_group.proofs.Keeping.{IsBeginning, may_begin}

@@ -1,2 +1,0 @@
--- Passed on from `lvm_ranges`.
-pub use Rattle.lvm_earlier.specs.passed.RangesStepping.{Moves, NoMove, OneMove, StepEnds}

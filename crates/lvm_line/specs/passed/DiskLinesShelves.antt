@@ -1,2 +1,0 @@
--- Passed on from `lvm_disk_lines`.
-pub use Rattle.lvm_volume_lines.specs.passed.DiskLinesShelves.{ArrangeDoes, CutDoes, CutNotPlanned, IsArranged, NotPlanned, NotThere, PowerIsCut}

@@ -1,2 +1,0 @@
--- Passed on from `lvm_group_lines`.
-pub use Rattle.lvm_volume_lines.specs.passed.GroupLinesGroups.{BusyVaryoff, IsLeft, Makes, MkvgDoes, NoMemoryForLine, NoMkvgWhileOn, NoVaryoff, NoVaryonWhileOn, Varies, VariesOff, VaryoffDoes, VaryonDoes, asked_for, itself, outcome_of}

@@ -1,0 +1,2 @@
+-- Passed on from `lvm_tie_commands`.
+pub use Rattle.lvm_group_lines.proofs.passed.TieCommands.{mklv_goes_on, rests, rmlv_goes_on}

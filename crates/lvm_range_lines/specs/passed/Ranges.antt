@@ -1,0 +1,2 @@
+-- Passed on from `lvm_ranges`.
+pub use Rattle.lvm_group_lines.specs.passed.Ranges.{AskRangeFault, KeepsTable, Moves, NoMove, OneMove}

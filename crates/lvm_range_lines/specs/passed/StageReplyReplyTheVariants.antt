@@ -1,2 +1,0 @@
--- Passed on from `lvm_stage`.
-pub use Rattle.lvm_group_lines.specs.passed.StageReplyReplyTheVariants.{Answers, Lines, Ok, Posted, Refused, Silent, Stepped, ensures, result}

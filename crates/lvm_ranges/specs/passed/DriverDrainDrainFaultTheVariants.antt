@@ -1,2 +1,0 @@
--- Passed on from `lvm_driver`.
-pub use Rattle.lvm_driver.specs.declared.drain.DrainFault.TheVariants.{Dark, Stuck, WentOff}

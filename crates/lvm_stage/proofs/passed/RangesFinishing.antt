@@ -1,2 +1,0 @@
--- Passed on from `lvm_ranges`.
-pub use Rattle.lvm_tie_commands.proofs.passed.RangesFinishing.{ended_well}

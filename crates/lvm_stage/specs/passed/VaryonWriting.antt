@@ -1,2 +1,0 @@
--- Passed on from `lvm_varyon`.
-pub use Rattle.lvm_tie_commands.specs.passed.VaryonWriting.{beginning, order}

@@ -1,2 +1,0 @@
--- Passed on from `lvm_ranges`.
-pub use Rattle.lvm_handover.proofs.passed.RangesAsking.{room_first}

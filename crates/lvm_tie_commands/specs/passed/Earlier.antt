@@ -1,0 +1,2 @@
+-- Passed on from `lvm_earlier`.
+pub use Rattle.lvm_handover.specs.passed.Earlier.{AreGone, with_taken}

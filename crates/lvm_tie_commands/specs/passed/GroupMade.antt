@@ -1,2 +1,0 @@
--- Passed on from `lvm_group`.
-pub use Rattle.lvm_handover.specs.passed.GroupMade.{Breaks, IsAsBefore, IsMade, MkvgGives, Refuses, beginning_for}

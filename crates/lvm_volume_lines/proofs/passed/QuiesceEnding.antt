@@ -1,2 +1,0 @@
--- Passed on from `lvm_quiesce`.
-pub use Rattle.lvm_range_lines.proofs.passed.QuiesceEnding.{ends_leave, ends_leave_no_more, ends_only}
