@@ -4,9 +4,9 @@ use crate::fixtures::{
     turn, write, written,
 };
 use lvm_disk::{Arrange, Shelf};
-use lvm_driver::Driver;
 use lvm_faults::{Act, Planned};
 use lvm_num::Mode;
+use lvm_ranges::below::lvm_driver::Driver;
 use lvm_session::{CopyFault, CopyState, Taken};
 use std::process::Abort;
 

@@ -6,9 +6,9 @@ use crate::fixtures::{
     turn, write, written,
 };
 use lvm_disk::{Arrange, Shelf};
-use lvm_driver::{DrainFault, Driver};
 use lvm_faults::{Act, Planned};
 use lvm_num::{Mode, Policy};
+use lvm_ranges::below::lvm_driver::{DrainFault, Driver};
 use lvm_session::{AskFault, CopyFault, Taken, Turned};
 use std::process::Abort;
 

@@ -3,8 +3,8 @@ use crate::fixtures::{
     MIRROR, MODES, POLICIES, Setup, answer, begin, check, close, drain, got, read, write, written,
 };
 use lvm_disk::Shelf;
-use lvm_driver::Driver;
 use lvm_num::Mode;
+use lvm_ranges::below::lvm_driver::Driver;
 use lvm_session::{AskFault, Taken};
 use std::process::Abort;
 

@@ -1,8 +1,8 @@
 //! Writes that wait for an entry of the cache, or for a note.
 use crate::fixtures::{MIRROR, Setup, begin, check, close, drain, turn, write};
 use lvm_disk::Shelf;
-use lvm_driver::Driver;
 use lvm_faults::{Act, Planned};
+use lvm_ranges::below::lvm_driver::Driver;
 use lvm_session::{Taken, Turned};
 use std::process::Abort;
 

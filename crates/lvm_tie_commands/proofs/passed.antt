@@ -1,4 +1,5 @@
 pub mod Earlier
+pub mod Even
 pub mod Group
 pub mod Handover
 pub mod Ranges

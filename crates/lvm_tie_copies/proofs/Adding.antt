@@ -25,8 +25,8 @@ use Rattle.lvm_copy_plan.specs.Copies.{further_copies, with_copies, with_map}
 use Rattle.lvm_copy_plan.specs.Faults.{HasFurtherPlaces}
 use Rattle.lvm_mirrors.specs.Mirrors.{AreAdded, IsFurther, IsWithMore, MklvcopyGives, to_add}
 use Rattle.lvm_mirrors.proofs.Even.{more_are_even}
-use Rattle.lvm_handover.specs.Serving.{IsCommanded}
-use Rattle.lvm_even.proofs.Even.{kept_even}
+use Rattle.lvm_tie_commands.specs.passed.Handover.{IsCommanded}
+use Rattle.lvm_tie_commands.proofs.passed.Even.{kept_even}
 use Rattle.lvm_rest.specs.Rest.{IsEven}
 use Rattle.lvm_tie_begins.specs.Begins.{shown_to}
 use Rattle.lvm_tie_commands.specs.Commands.{IsLeftStandingSince, MayBeCommanded}

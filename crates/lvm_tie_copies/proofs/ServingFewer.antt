@@ -18,7 +18,7 @@ use Rattle.lvm_volumes.specs.Endings.{HasFresh, KeepsFresh, StillHeld}
 use Rattle.lvm_copy_plan.specs.Copies.{first_copies, with_copies}
 use Rattle.lvm_copy_plan.proofs.Fewer as fewer
 use Rattle.lvm_mirrors.specs.Mirrors.{AreTaken, IsWithFirst, to_take}
-use Rattle.lvm_handover.proofs.Volumes.{found, had_fresh, its_row, may_serve}
+use Rattle.lvm_tie_commands.proofs.passed.Handover.{found, had_fresh, its_row, may_serve}
 use Rattle.lvm_tie_copies.specs.Serving.{MayServeWith, RmlvcopyServes}
 use Rattle.lvm_tie_copies.proofs.Rows.{IsCopyIn, were_or}
 use Rattle.lvm_tie_copies.proofs.ServingMore.{among_copies, its_member, refused}

@@ -24,7 +24,7 @@ use Rattle.lvm_copy_plan.specs.Copies.{further_copies, with_copies, with_map}
 use Rattle.lvm_copy_plan.specs.Faults.{HasFurtherPlaces}
 use Rattle.lvm_copy_plan.proofs.More as more
 use Rattle.lvm_mirrors.specs.Mirrors.{AreAdded, IsFurther, IsWithMore, to_add}
-use Rattle.lvm_handover.proofs.Volumes.{copies_at, found, had_fresh, its_row, may_serve, refused_serves}
+use Rattle.lvm_tie_commands.proofs.passed.Handover.{copies_at, found, had_fresh, its_row, may_serve, refused_serves}
 use Rattle.lvm_tie_copies.specs.Serving.{MayServeWith, MklvcopyServes}
 use Rattle.lvm_tie_copies.proofs.Adding.{same_further}
 use Rattle.lvm_tie_copies.proofs.Rows.{IsCopyIn, among_is, were_or}

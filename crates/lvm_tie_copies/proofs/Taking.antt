@@ -18,8 +18,8 @@ use Rattle.lvm_copy_plan.specs.Copies.{first_copies, with_copies}
 use Rattle.lvm_copy_plan.specs.Faults.{MayBeTaken}
 use Rattle.lvm_mirrors.specs.Mirrors.{AreTaken, IsWithFirst, RmlvcopyGives, to_take}
 use Rattle.lvm_mirrors.proofs.Even.{first_are_even}
-use Rattle.lvm_handover.specs.Serving.{IsCommanded}
-use Rattle.lvm_even.proofs.Even.{kept_even}
+use Rattle.lvm_tie_commands.specs.passed.Handover.{IsCommanded}
+use Rattle.lvm_tie_commands.proofs.passed.Even.{kept_even}
 use Rattle.lvm_rest.specs.Rest.{IsEven}
 use Rattle.lvm_tie_begins.specs.Begins.{shown_to}
 use Rattle.lvm_tie_commands.specs.Commands.{IsLeftStandingSince, MayBeCommanded}

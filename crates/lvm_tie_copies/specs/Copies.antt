@@ -10,7 +10,7 @@ use Rattle.lvm_volume_plan.specs.declared.fault.GroupFault.{GroupFault}
 use Rattle.lvm_volumes.specs.Endings.{IfOn}
 use Rattle.lvm_copy_plan.specs.Faults.{MayBeTaken}
 use Rattle.lvm_mirrors.specs.Mirrors.{IfShown, MklvcopyGives, RmlvcopyGives, to_add, to_take}
-use Rattle.lvm_handover.specs.Serving.{IsCommanded}
+use Rattle.lvm_tie_commands.specs.passed.Handover.{IsCommanded}
 use Rattle.lvm_tie_commands.specs.Commands.{IsLeftStandingSince, MayBeCommanded}
 
 -- A span goes on over the addition of copies, whatever its answer, and where the session does, what stood stands again;

@@ -6,7 +6,7 @@ use Rattle.lvm_session.specs.Sound.{IsSound}
 use Rattle.lvm_volume_plan.specs.declared.fault.GroupFault.{GroupFault}
 use Rattle.lvm_volumes.specs.Endings.{IfOn}
 use Rattle.lvm_mirrors.specs.Mirrors.{MklvcopyGives, RmlvcopyGives, to_add, to_take}
-use Rattle.lvm_handover.specs.Serving.{IsCommanded, MayServe, StaysSound}
+use Rattle.lvm_tie_commands.specs.passed.Handover.{IsCommanded, MayServe, StaysSound}
 
 -- It may be handed over with these copies; where there are none, it is sound as it is too.
 abbrev pub MayServeWith : List Pp → State → Type 0
