@@ -6,6 +6,7 @@ pub mod Earlier
 pub mod Group
 pub mod Handover
 pub mod HolderVariants
+pub mod Mirrors
 pub mod Quiesce
 pub mod QuiescedVariants
 pub mod Ranges
@@ -15,6 +16,7 @@ pub mod Running
 pub mod Stage
 pub mod Tie
 pub mod TieCommands
+pub mod TieCopies
 pub mod TieGroups
 pub mod Varyon
 pub mod Volumes

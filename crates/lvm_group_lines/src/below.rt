@@ -4,6 +4,7 @@ pub mod lvm_disk_lines;
 pub mod lvm_driver;
 pub mod lvm_earlier;
 pub mod lvm_handover;
+pub mod lvm_mirrors;
 pub mod lvm_ranges;
 pub mod lvm_stage;
 pub mod lvm_volumes;

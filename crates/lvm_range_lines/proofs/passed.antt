@@ -6,6 +6,7 @@ pub mod Ranges
 pub mod Running
 pub mod Stage
 pub mod TieCommands
+pub mod TieCopies
 pub mod TieGroups
 pub mod Varyon
 pub mod Volumes

@@ -4,5 +4,6 @@ pub mod lvm_disk_lines;
 pub mod lvm_driver;
 pub mod lvm_group_lines;
 pub mod lvm_handover;
+pub mod lvm_mirrors;
 pub mod lvm_stage;
 pub mod lvm_volumes;

@@ -10,7 +10,7 @@ use Rattle.lvm_steps.proofs.Spans.{keeps_steps}
 use Rattle.lvm_stamps.specs.Behind.{IsBehind}
 use Rattle.lvm_stamps.proofs.Shelves.{no_more_stays_behind}
 use Rattle.lvm_session.specs.Sound.{IsLit}
-use Rattle.lvm_tie_commands.specs.passed.Tie.{LeavesDescriptors}
+use Rattle.lvm_tie_copies.specs.passed.Tie.{LeavesDescriptors}
 use Rattle.lvm_quiesce.specs.Behind.{IsBehindEach}
 use Rattle.lvm_quiesce.proofs.Behind.{still_is_behind_each}
 use Rattle.lvm_core.specs.declared.refused.Cause.{Cause}

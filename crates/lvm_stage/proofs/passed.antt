@@ -5,6 +5,7 @@ pub mod Quiesce
 pub mod Ranges
 pub mod Running
 pub mod TieCommands
+pub mod TieCopies
 pub mod TieGroups
 pub mod Varyon
 pub mod Volumes

@@ -10,16 +10,16 @@ use Rattle.lvm_status.specs.Members.{HasItsRows}
 use Rattle.lvm_session.specs.declared.open.Power.TheVariants as power
 use Rattle.lvm_session.specs.State.{Core, state}
 use Rattle.lvm_session.specs.Sound.{IsLit, IsSound}
-use Rattle.lvm_tie_commands.specs.passed.Tie.{LeavesDescriptors, IsStamped}
+use Rattle.lvm_tie_copies.specs.passed.Tie.{LeavesDescriptors, IsStamped}
 use Rattle.lvm_core.specs.Sound.{HaveAllLanded}
 use Rattle.lvm_core.specs.Settled.{IsSettled as IsSettledCore}
 use Rattle.lvm_posts.specs.declared.posts.Post.{Post}
 use Rattle.lvm_posts.specs.Pieces.{IsLaidOut}
 use Rattle.lvm_posts.specs.Posts.{AreAnswered, AreHeld}
 use Rattle.lvm_quiesce.specs.Behind.{IsAheadEach}
-use Rattle.lvm_tie_commands.specs.passed.Earlier.{AreGone}
-use Rattle.lvm_tie_commands.specs.Standing.{StandsAfter}
-use Rattle.lvm_tie_commands.specs.passed.TieGroups.{AreOff}
+use Rattle.lvm_tie_copies.specs.passed.Earlier.{AreGone}
+use Rattle.lvm_tie_copies.specs.passed.TieCommands.{StandsAfter}
+use Rattle.lvm_tie_copies.specs.passed.TieGroups.{AreOff}
 
 -- The shelf and what the history has so far, the session of the group that is on, if one is, the posts whose answers aren't taken, and the clock's last moment.
 pub record State : Type 0 where

@@ -4,12 +4,14 @@ pub mod Driver
 pub mod Earlier
 pub mod Group
 pub mod Handover
+pub mod Mirrors
 pub mod Quiesce
 pub mod QuiescedVariants
 pub mod Ranges
 pub mod Running
 pub mod Tie
 pub mod TieCommands
+pub mod TieCopies
 pub mod TieGroups
 pub mod Varyon
 pub mod Volumes

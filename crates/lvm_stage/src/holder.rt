@@ -23,7 +23,7 @@ pub enum Holder<S: Shelf> {
     },
     /// The session of a group with volumes. It takes requests.
     Serving {
-        driver: lvm_tie_commands::below::lvm_driver::Driver<S>,
+        driver: lvm_tie_copies::below::lvm_driver::Driver<S>,
     },
 }
 
@@ -78,7 +78,7 @@ impl<S: Shelf> Holder<S> {
             Holder::Off { shelf, history } => Closed { shelf, history },
             Holder::Empty { driver } => driver.close(),
             Holder::Serving { driver } => {
-                let lvm_tie_commands::below::lvm_driver::Closed { shelf, history } = driver.close();
+                let lvm_tie_copies::below::lvm_driver::Closed { shelf, history } = driver.close();
                 Closed { shelf, history }
             }
         }

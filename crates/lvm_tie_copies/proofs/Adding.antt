@@ -9,6 +9,8 @@ use Rattle.lvm_num.specs.declared.status.Status.{Status}
 use Rattle.lvm_num.specs.Descriptor.{is_member, volume_of}
 use Rattle.lvm_num.specs.Record.{Stamped}
 use Rattle.lvm_num.specs.Status.{calls_stale}
+use Rattle.lvm_disk.specs.Device.{image_of}
+use Rattle.lvm_kept.specs.Contents.{contents_of}
 use Rattle.lvm_kept.specs.Moments.{Moment}
 use Rattle.lvm_steps.specs.Moments.{Keeps}
 use Rattle.lvm_commit.specs.LawsOfVolumes.{IsOneByAllOn}
@@ -28,7 +30,6 @@ use Rattle.lvm_mirrors.proofs.Even.{more_are_even}
 use Rattle.lvm_tie_commands.specs.passed.Handover.{IsCommanded}
 use Rattle.lvm_tie_commands.proofs.passed.Even.{kept_even}
 use Rattle.lvm_rest.specs.Rest.{IsEven}
-use Rattle.lvm_tie_begins.specs.Begins.{shown_to}
 use Rattle.lvm_tie_commands.specs.Commands.{IsLeftStandingSince, MayBeCommanded}
 use Rattle.lvm_tie_commands.proofs.Commands.{KeepsEven, keeps_on, left_standing, on_all}
 use Rattle.lvm_tie_copies.specs.Copies.{MklvcopyGoesOn}
@@ -92,11 +93,11 @@ module _ (run : ℕ) (first : Moment) (lv copies before after : ℕ) (old new : 
 
     keeps_even : KeepsEven old new
     keeps_even was is stood stands told told_new wanted even =
-        let kept : IsEven (shown_to new is) old.core.descriptor (Some stands) (is_there new.core) = kept_even (IsWithMore lv copies old.core) (IsFurther lv copies old.core) NoPartition old new was is stood stands c.leaves.writes c.leaves.status (λ pp none. absurd none) told told_new wanted even in
+        let kept : IsEven (contents_of (image_of new.device.sizes is)) old.core.descriptor (Some stands) (is_there new.core) = kept_even (IsWithMore lv copies old.core) (IsFurther lv copies old.core) NoPartition old new was is stood stands c.leaves.writes c.leaves.status (λ pp none. absurd none) told told_new wanted even in
         ⊎_elim
-        (λ (same : new.core.descriptor ≡ old.core.descriptor). subst (λ (g : Descriptor). IsEven (shown_to new is) g (Some stands) (is_there new.core)) (sym same) kept)
-        (λ (it : (added : List Pp) × AreAdded lv copies old new added). subst (λ (g : Descriptor). IsEven (shown_to new is) g (Some stands) (is_there new.core)) (sym (descriptor_is it))
-        (more_are_even (shown_to new is) old lv copies it.1.row it.1.pps stands (is_there new.core) may.sound.fitting.valid it.1.may (further_stale it stands wanted.after) kept))
+        (λ (same : new.core.descriptor ≡ old.core.descriptor). subst (λ (g : Descriptor). IsEven (contents_of (image_of new.device.sizes is)) g (Some stands) (is_there new.core)) (sym same) kept)
+        (λ (it : (added : List Pp) × AreAdded lv copies old new added). subst (λ (g : Descriptor). IsEven (contents_of (image_of new.device.sizes is)) g (Some stands) (is_there new.core)) (sym (descriptor_is it))
+        (more_are_even (contents_of (image_of new.device.sizes is)) old lv copies it.1.row it.1.pps stands (is_there new.core) may.sound.fitting.valid it.1.may (further_stale it stands wanted.after) kept))
         added
 
     had_some : new.core.descriptor.lvs ≢ [] → old.core.descriptor.lvs ≡ [] → IsOneByAllOn old.device

@@ -1,5 +1,7 @@
+pub mod passed
 pub mod Rows
 pub mod Adding
 pub mod Taking
 pub mod ServingMore
 pub mod ServingFewer
+pub mod Marking

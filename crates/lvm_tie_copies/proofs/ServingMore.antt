@@ -1,5 +1,5 @@
 -- A session is sound with requests after copies were added.
-use Rattle.std.proofs.Common.{◌≡◌, ◌⊎◌, inr, ⊎_elim, ℕ, ◌==◌, [], List, Some, Ok, Err, refl, sym, ap, subst, arith}
+use Rattle.std.proofs.Common.{◌≡◌, ◌⊎◌, inr, ⊎_elim, ℕ, ◌==◌, [], List, Bool, true, false, Some, Ok, Err, refl, sym, ap, subst, ◌∙◌, arith}
 use Rattle.std.specs.Prelude.{Contains, IsFalse, IsTrue}
 use Rattle.std.proofs.lemmas.Bool.{eqb-true}
 use Rattle.std.proofs.lemmas.List.Elements.{All-contains}
@@ -17,7 +17,6 @@ use Rattle.lvm_core.specs.Leaves.{Leaves, NoPartition}
 use Rattle.lvm_core.specs.Settled.{IsSettled}
 use Rattle.lvm_next.proofs.Building.{copy_is_placed, is_member_of}
 use Rattle.lvm_rest.proofs.Rows.{row_is_volume}
-use Rattle.lvm_tie.proofs.Words.{clash}
 use Rattle.lvm_volume_plan.specs.declared.fault.GroupFault.TheVariants as fault
 use Rattle.lvm_volumes.specs.Endings.{HasFresh, KeepsFresh, StillHeld}
 use Rattle.lvm_copy_plan.specs.Copies.{further_copies, with_copies, with_map}
@@ -80,7 +79,7 @@ module _ (lv copies before after : ℕ) (old new : State) (sound : IsSound old) 
         let before : IsOneOf (copies_in d n lp) p = subst (λ (m : ℕ). IsOneOf (copies_in d m lp) p) (eqb-true its.row.number n at.1) (among_copies d valid its.row.number lp p old_one) in
         keeps n lp p here (inr (had_fresh old sound began n lp p before was)))
         (λ (further : Contains (further_copies (with_map it.row copies it.pps) it.row.copies) p).
-        absurd (clash (is_among added p) (among_is added p (subst (λ (l : List Pp). Contains l p) (sym it.added_is) further)) apart))
+        absurd (let same : true ≡ false = sym (among_is added p (subst (λ (l : List Pp). Contains l p) (sym it.added_is) further)) ∙ apart in cc same))
         (old_or_further it.row it.pps it.may.places its.row lp p at.0 its.one)
 
     serves : MayServeWith added new

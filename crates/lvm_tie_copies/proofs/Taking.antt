@@ -4,6 +4,8 @@ use Rattle.std.specs.Prelude.{◌≢◌}
 use Rattle.lvm_num.specs.declared.descriptor.Descriptor.{Descriptor}
 use Rattle.lvm_num.specs.declared.descriptor.LvRow.{LvRow}
 use Rattle.lvm_num.specs.Descriptor.{is_member}
+use Rattle.lvm_disk.specs.Device.{image_of}
+use Rattle.lvm_kept.specs.Contents.{contents_of}
 use Rattle.lvm_kept.specs.Moments.{Moment}
 use Rattle.lvm_steps.specs.Moments.{Keeps}
 use Rattle.lvm_commit.specs.LawsOfVolumes.{IsOneByAllOn}
@@ -21,7 +23,6 @@ use Rattle.lvm_mirrors.proofs.Even.{first_are_even}
 use Rattle.lvm_tie_commands.specs.passed.Handover.{IsCommanded}
 use Rattle.lvm_tie_commands.proofs.passed.Even.{kept_even}
 use Rattle.lvm_rest.specs.Rest.{IsEven}
-use Rattle.lvm_tie_begins.specs.Begins.{shown_to}
 use Rattle.lvm_tie_commands.specs.Commands.{IsLeftStandingSince, MayBeCommanded}
 use Rattle.lvm_tie_commands.proofs.Commands.{KeepsEven, keeps_on, left_standing, on_all}
 use Rattle.lvm_tie_copies.specs.Copies.{KeepsShownIfTaken, RmlvcopyGoesOn}
@@ -87,11 +88,11 @@ module _ (run : ℕ) (first : Moment) (lv copies before after : ℕ) (old new : 
 
     keeps_even : KeepsEven old new
     keeps_even was is stood stands told told_new wanted even =
-        let kept : IsEven (shown_to new is) old.core.descriptor (Some stands) (is_there new.core) = kept_even (IsWithFirst lv copies old.core) NoPartition NoPartition old new was is stood stands c.leaves.writes c.leaves.status (λ pp none. absurd none) told told_new wanted even in
+        let kept : IsEven (contents_of (image_of new.device.sizes is)) old.core.descriptor (Some stands) (is_there new.core) = kept_even (IsWithFirst lv copies old.core) NoPartition NoPartition old new was is stood stands c.leaves.writes c.leaves.status (λ pp none. absurd none) told told_new wanted even in
         ⊎_elim
-        (λ (same : new.core.descriptor ≡ old.core.descriptor). subst (λ (g : Descriptor). IsEven (shown_to new is) g (Some stands) (is_there new.core)) (sym same) kept)
-        (λ (it : AreTaken lv copies old new). subst (λ (g : Descriptor). IsEven (shown_to new is) g (Some stands) (is_there new.core)) (sym (descriptor_is it))
-        (first_are_even (shown_to new is) old lv copies it.row stands (is_there new.core) may.sound.fitting.valid it.may kept))
+        (λ (same : new.core.descriptor ≡ old.core.descriptor). subst (λ (g : Descriptor). IsEven (contents_of (image_of new.device.sizes is)) g (Some stands) (is_there new.core)) (sym same) kept)
+        (λ (it : AreTaken lv copies old new). subst (λ (g : Descriptor). IsEven (contents_of (image_of new.device.sizes is)) g (Some stands) (is_there new.core)) (sym (descriptor_is it))
+        (first_are_even (contents_of (image_of new.device.sizes is)) old lv copies it.row stands (is_there new.core) may.sound.fitting.valid it.may kept))
         taken
 
     had_some : new.core.descriptor.lvs ≢ [] → old.core.descriptor.lvs ≡ [] → IsOneByAllOn old.device

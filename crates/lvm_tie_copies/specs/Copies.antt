@@ -9,7 +9,8 @@ use Rattle.lvm_core.specs.Committing.{moment_of}
 use Rattle.lvm_volume_plan.specs.declared.fault.GroupFault.{GroupFault}
 use Rattle.lvm_volumes.specs.Endings.{IfOn}
 use Rattle.lvm_copy_plan.specs.Faults.{MayBeTaken}
-use Rattle.lvm_mirrors.specs.Mirrors.{IfShown, MklvcopyGives, RmlvcopyGives, to_add, to_take}
+use Rattle.lvm_core.specs.Looking.{IsNumberOf}
+use Rattle.lvm_mirrors.specs.Mirrors.{IfShown, KeepsShown, MklvcopyGives, RmlvcopyGives, to_add, to_take}
 use Rattle.lvm_tie_commands.specs.passed.Handover.{IsCommanded}
 use Rattle.lvm_tie_commands.specs.Commands.{IsLeftStandingSince, MayBeCommanded}
 
@@ -28,3 +29,7 @@ abbrev pub RmlvcopyGoesOn : Type 0
 RmlvcopyGoesOn = (run : ℕ) (first : Moment) (lv copies before after : ℕ) (old new : Session) (answer : Result (Unit {0}) GroupFault)
     → MayBeCommanded run first old → KeepsShownIfTaken run first lv copies old new → IsCommanded (to_take lv copies old.core) before after old new answer → RmlvcopyGives lv copies before old new answer
     → Keeps run first (moment_of new) × IfOn answer (IsLeftStandingSince run first new)
+
+-- where the volume of the name may be left with so many copies, each logical partition keeps a fresh one on a member that shows the group
+abbrev pub KeepsShownOf : List ℕ → ℕ → Session → Type 0
+KeepsShownOf name copies s = (lv : ℕ) (row : LvRow) → IsNumberOf s.core.descriptor.lvs name lv → MayBeTaken lv copies s.core row → KeepsShown lv copies s

@@ -2,6 +2,7 @@
 //! requests.
 #![tactic(auto)]
 
+pub mod below;
 mod laws;
 
 pub use laws::{mklvcopy_goes_on, mklvcopy_serves, rmlvcopy_goes_on, rmlvcopy_serves};

@@ -34,7 +34,7 @@ use Rattle.lvm_core.specs.Leaves.{EntersVolumes, is_of_volume}
 use Rattle.lvm_volume_plan.specs.declared.new_volume.NewVolume.{NewVolume}
 use Rattle.lvm_core.specs.Leaves.{MayBeFound}
 use Rattle.lvm_line.specs.passed.Group.{NewGroup, new_group, Refuses, IfShown, HasGroup}
-use Rattle.lvm_line.specs.passed.Stage.{patience_of_line, Asks, IsAlone, OfGroup, OfRequests, Role, IsStuck, State, IsTimely, StandsAlone, log_with}
+use Rattle.lvm_line.specs.passed.Stage.{patience_of_line, Asks, IsAllowed, IsAlone, OfGroup, OfRequests, Role, IsStuck, State, IsTimely, StandsAlone, log_with}
 use Rattle.lvm_line.specs.passed.Stage.{Reply}
 use Rattle.lvm_line.specs.passed.GroupLines.{IsLeft, MkvgDoes, NoMemoryForLine, NoMkvgWhileOn, Makes, asked_for, itself, outcome_of}
 use Rattle.lvm_line.specs.Lines.{LineDoes, role_of}
@@ -241,9 +241,34 @@ module _ (log : Log) (old new : State) (answer : Reply) (shelf : IsShelf old.mom
 
 -- ---- the lines of a script
 
+-- no line asks for more of its session
+allowed_so : (read : Result (Option Command) Misfit) (old : State) → IsAllowed (role_of read) old
+allowed_so (Err misfit) old = tt
+allowed_so (Ok None) old = tt
+allowed_so (Ok (Some (command.Mkvg force name mib disks))) old = tt
+allowed_so (Ok (Some (command.Varyon name))) old = tt
+allowed_so (Ok (Some (command.Varyoff name))) old = tt
+allowed_so (Ok (Some (command.Lsvg volumes name))) old = tt
+allowed_so (Ok (Some (command.Mklv name copies mode policy group lps))) old = tt
+allowed_so (Ok (Some (command.Rmlv name))) old = tt
+allowed_so (Ok (Some (command.Mklvcopy name copies))) old = tt
+allowed_so (Ok (Some (command.Rmlvcopy name copies))) old = tt
+allowed_so (Ok (Some (command.Rd name at count))) old = tt
+allowed_so (Ok (Some (command.Wr name at count word))) old = tt
+allowed_so (Ok (Some (command.Post name at count word))) old = tt
+allowed_so (Ok (Some command.Wait)) old = tt
+allowed_so (Ok (Some (command.Step turns))) old = tt
+allowed_so (Ok (Some (command.Lslv name))) old = tt
+allowed_so (Ok (Some (command.Lspv disk))) old = tt
+allowed_so (Ok (Some (command.RawRd disk at count))) old = tt
+allowed_so (Ok (Some (command.RawWr disk at count word))) old = tt
+allowed_so (Ok (Some (command.Fail disk))) old = tt
+allowed_so (Ok (Some (command.Heal disk))) old = tt
+allowed_so (Ok (Some (command.Cut word))) old = tt
+
 -- where one group may be found, with such volumes, and a session has no other
-alone_so : (role : Role) (old new : State) → FindsOneGroup old.moment.device → IsOffOn old → IsAlone role old new
-alone_so role old new one off = record { enters = λ enters. one_by_all old.moment.device one; acts = λ acting. by_session old.session off }
+alone_so : (role : Role) (old new : State) → IsAllowed role old → FindsOneGroup old.moment.device → IsOffOn old → IsAlone role old new
+alone_so role old new allowed one off = record { enters = λ enters. one_by_all old.moment.device one; acts = λ acting. by_session old.session off; allowed = allowed }
   where
     by_session : (o : Option Core) → IfSome o (λ core. AreOff core.descriptor) → IfSome o (StandsAlone old.moment.device)
     by_session None off = tt
@@ -262,7 +287,7 @@ module _ (log : Log) (room : Room) (past : List Fact) (first : State) (begin : M
   script_one (NextLine {mid = mid} {new = new} line answer said heard says before it) unforced =
       let so_far = script_one before unforced.0 in
       let went = script_went log room first before in
-      let now : IsAlone (role_of (line_of line)) mid new = alone_so (role_of (line_of line)) mid new so_far.finds_one so_far.session in
+      let now : IsAlone (role_of (line_of line)) mid new = alone_so (role_of (line_of line)) mid new (allowed_so (line_of line) mid) so_far.finds_one so_far.session in
       let few : length mid.moment.device.sizes ≤ 128 = subst (λ (sizes : List ℕ). length sizes ≤ 128) (sym (span_sizes (went_so log room past first begin before so_far.alone).0)) begin.few in
       let shelf : IsShelf mid.moment.device = record { few = few; whole = it.whole } in
       let leaves = went.leaves begin.leaves in
@@ -280,7 +305,7 @@ module _ (log : Log) (room : Room) (past : List Fact) (first : State) (begin : M
 
   ends_alone : {mid last : State} {done : List (List ℕ)} {said : List Reply} {front : List ℕ} (ends : Ends log room mid last done said front) → FindsOneGroup mid.moment.device → IsOffOn mid → EndsAlone ends
   ends_alone (AtLine same) found session = tt
-  ends_alone {mid = mid} {last = last} (InLine line answer said front rest says split it) found session = alone_so (role_of (line_of line)) mid last found session
+  ends_alone {mid = mid} {last = last} (InLine line answer said front rest says split it) found session = alone_so (role_of (line_of line)) mid last (allowed_so (line_of line) mid) found session
 
   -- what is so where they end, unless nothing was heard of a transfer
   ends_one : {lines : List (List ℕ)} {replies : List Reply} {mid last : State} {done : List (List ℕ)} {said : List Reply} {front : List ℕ} (script : Script log room first lines replies mid) → ScriptOff script → AreUnforced script
@@ -311,10 +336,11 @@ unforced_runs_alone r ran past few ready behind earlier one off unforced =
           record {
             enters = λ enters. absurd (not_more ran.end.moment.facts (facts_of r.history) (ap (λ (m : Moment). m.facts) (stuck_still r ran stuck)) enters);
             acts = λ acting. subst (λ (o : Option Core). IfSome o (StandsAlone ran.end.moment.device)) (sym none) tt;
+            allowed = tt;
           })
           (λ heard.
           let last = ends_one (empty_log r.named r.room) r.room (past ++ Cut ∷ []) (entry_state r.entry r.named) begin one off ran.lines.script all unforced.0 ran.lines.ends (ran.heard heard) unforced.1 in
-          alone_so OfRequests ran.end (exit_state r.exit r.history ran.end) last.0 last.1)
+          alone_so OfRequests ran.end (exit_state r.exit r.history ran.end) tt last.0 last.1)
           (how_ended r.status),
     )
 

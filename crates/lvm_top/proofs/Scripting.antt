@@ -21,7 +21,7 @@ use Rattle.lvm_line.proofs.passed.Quiesce.{still_is_behind_each, each_is_behind}
 use Rattle.lvm_line.specs.passed.Tie.{LeavesDescriptors}
 use Rattle.lvm_posts.specs.declared.posts.Post.{Post}
 use Rattle.lvm_line.specs.Lines.{IsLine, role_of}
-use Rattle.lvm_line.specs.passed.Stage.{IsRequesting, Role, Aside, OfGroup, OfRequests, reply_text, refusals_of, most_refusals, IsStuck, State}
+use Rattle.lvm_line.specs.passed.Stage.{IsRequesting, Role, Aside, OfGroup, OfGroupWhere, OfRequests, reply_text, refusals_of, most_refusals, IsStuck, State}
 use Rattle.lvm_line.specs.passed.Stage.{IsAtRest, IsTimely, StandsBy, Reply}
 use Rattle.lvm_top.specs.Script.{Stream, Passage, Says, Script, NoLine, NextLine, StaysAlone, Ends, AtLine, InLine, EndsAlone, EndsHeard, AreDone, AreAllRead, IsLineLeft, MakeRequests, is_made_late, is_requesting, texts_of, refusals_in, entry_state}
 use Rattle.lvm_top.specs.Statuses.{GoesUntil}
@@ -336,6 +336,7 @@ last_requests (other ∷ lines) line its = by (is_requesting (role_of (line_of o
 asks : (role : Role) → IsRequesting role → IsTrue (is_requesting role)
 asks Aside asking = absurd asking
 asks OfGroup asking = absurd asking
+asks (OfGroupWhere Holds) asking = absurd asking
 asks OfRequests asking = refl
 
 no_requests : (lines : List (List ℕ)) (line : List ℕ) → (MakeRequests (lines ++ line ∷ []) → ⊥) → IsRequesting (role_of (line_of line)) → ⊥

@@ -10,7 +10,7 @@ use Rattle.lvm_vol.specs.Log.{Log}
 use Rattle.lvm_core.specs.declared.parts.Room.{Room}
 use Rattle.lvm_parse.specs.Grammar.{line_of}
 use Rattle.lvm_line.specs.Lines.{IsLine, role_of}
-use Rattle.lvm_line.specs.passed.Stage.{IsAlone, Role, Aside, OfGroup, OfRequests, reply_text, refusals_of, IsStuck, State, Reply}
+use Rattle.lvm_line.specs.passed.Stage.{IsAlone, Role, Aside, OfGroup, OfGroupWhere, OfRequests, reply_text, refusals_of, IsStuck, State, Reply}
 use Rattle.lvm_line.specs.passed.RefusalVariants as refusal
 use Rattle.lvm_line.specs.passed.ReplyVariants as reply
 
@@ -53,6 +53,7 @@ refusals_in replies = sum_by refusals_of replies
 abbrev pub is_requesting : Role → Bool
 is_requesting Aside = false
 is_requesting OfGroup = false
+is_requesting (OfGroupWhere Holds) = false
 is_requesting OfRequests = true
 
 -- one of the lines makes requests of volumes, or turns

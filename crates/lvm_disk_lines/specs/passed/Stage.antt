@@ -12,3 +12,4 @@ pub use Rattle.lvm_stage.specs.declared.holder.Holder.{Holder}
 pub use Rattle.lvm_stage.specs.declared.reply.Refusal.{Refusal}
 pub use Rattle.lvm_stage.specs.declared.reply.Reply.{Reply}
 pub use Rattle.lvm_stage.specs.declared.stage.Stage.{Stage}
+pub use Rattle.lvm_stage.specs.Moments.{AtRestEach, IsAllowed, OfGroupWhere}

@@ -6,3 +6,4 @@ pub use Rattle.lvm_group_lines.specs.passed.Stage.{OfRequests, Refusal, Reply, R
 pub use Rattle.lvm_group_lines.specs.passed.Stage.{history_in, history_of, log_with, moment_in, most_refusals, open_in, patience_of_line, posts_ended}
 pub use Rattle.lvm_group_lines.specs.passed.Stage.{refusal_of, refusals_of, reply_text, session_in, session_of, shelf_in, shelf_of, state_in}
 pub use Rattle.lvm_group_lines.specs.passed.Stage.{without_facts}
+pub use Rattle.lvm_group_lines.specs.passed.Stage.{AtRestEach, IsAllowed, OfGroupWhere}

@@ -1,2 +1,2 @@
 -- Passed on from `lvm_tie_groups`.
-pub use Rattle.lvm_tie_commands.specs.passed.TieGroups.{AreOff}
+pub use Rattle.lvm_tie_copies.specs.passed.TieGroups.{AreOff}

@@ -1,3 +1,3 @@
 //! Passed on from `lvm_driver`.
 
-pub use lvm_tie_commands::below::lvm_driver::{DrainFault, Driver};
+pub use lvm_tie_copies::below::lvm_driver::{DrainFault, Driver};

@@ -1,0 +1,14 @@
+pub mod AskRangeFaultVariants
+pub mod DrainFaultVariants
+pub mod Driver
+pub mod Earlier
+pub mod Group
+pub mod Handover
+pub mod Mirrors
+pub mod Ranges
+pub mod Running
+pub mod Tie
+pub mod TieCommands
+pub mod TieGroups
+pub mod Varyon
+pub mod Volumes

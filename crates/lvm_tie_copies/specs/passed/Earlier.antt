@@ -1,0 +1,3 @@
+-- Passed on from `lvm_earlier`.
+pub use Rattle.lvm_tie_commands.specs.passed.Earlier.{AreGone}
+pub use Rattle.lvm_tie_commands.specs.passed.Earlier.{with_taken}
