@@ -2,7 +2,8 @@
 pub use Rattle.lvm_stage.specs.Asking.{Asks, EndsSession, IsAsked}
 pub use Rattle.lvm_stage.specs.Ends.{CommandEnds, EndsUnasked, patience_of_line}
 pub use Rattle.lvm_stage.specs.Lighting.{IsRelit, refusal_of}
-pub use Rattle.lvm_stage.specs.Moments.{Aside, GoesOn, HasBegunHeld, IsAlone, IsBrokenOff, IsRequesting, OfGroup, OfRequests, Role}
+pub use Rattle.lvm_stage.specs.Moments.{Aside, AtRestEach, GoesOn, HasBegunHeld, IsAllowed, IsAlone, IsBrokenOff, IsRequesting, OfGroup, OfGroupWhere}
+pub use Rattle.lvm_stage.specs.Moments.{OfRequests, Role}
 pub use Rattle.lvm_stage.specs.Replies.{InFull, IsRefused, IsStuck, Shows, WithoutMemory, most_refusals, refusals_of, reply_text}
 pub use Rattle.lvm_stage.specs.Stages.{GivesBack, HaveRooms, IsBetweenStage, IsCarried, IsClosed, IsEnded, IsFitting, IsNotOn, IsOfKind, IsOn}
 pub use Rattle.lvm_stage.specs.Stages.{history_in, history_of, moment_in, open_in, posts_ended, session_in, session_of, shelf_in, shelf_of, state_in}
@@ -12,4 +13,3 @@ pub use Rattle.lvm_stage.specs.declared.holder.Holder.{Holder}
 pub use Rattle.lvm_stage.specs.declared.reply.Refusal.{Refusal}
 pub use Rattle.lvm_stage.specs.declared.reply.Reply.{Reply}
 pub use Rattle.lvm_stage.specs.declared.stage.Stage.{Stage}
-pub use Rattle.lvm_stage.specs.Moments.{AtRestEach, IsAllowed, OfGroupWhere}

@@ -1,9 +1,8 @@
 -- Passed on from `lvm_stage`.
-pub use Rattle.lvm_disk_lines.specs.passed.Stage.{ArePosted, Aside, Asks, CommandEnds, EndsUnasked, GoesOn, HasBegunHeld, HaveRooms, Holder, InFull}
-pub use Rattle.lvm_disk_lines.specs.passed.Stage.{IsAlone, IsAsked, IsAtRest, IsBetween, IsBetweenStage, IsBrokenOff, IsCarried, IsClosed, IsEnded}
-pub use Rattle.lvm_disk_lines.specs.passed.Stage.{IsFitting, IsNotOn, IsOfKind, IsOn, IsOnBetween, IsPosted, IsRefused, IsRelit, IsRequesting}
-pub use Rattle.lvm_disk_lines.specs.passed.Stage.{IsStuck, IsTimely, OfGroup, OfRequests, Refusal, Reply, Role, Shows, Stage, StandsAlone, StandsBy}
-pub use Rattle.lvm_disk_lines.specs.passed.Stage.{State, WithoutMemory, history_in, history_of, log_with, moment_in, most_refusals, open_in}
-pub use Rattle.lvm_disk_lines.specs.passed.Stage.{patience_of_line, posts_ended, refusal_of, refusals_of, reply_text, session_in, session_of}
-pub use Rattle.lvm_disk_lines.specs.passed.Stage.{shelf_in, shelf_of, state_in, without_facts}
-pub use Rattle.lvm_disk_lines.specs.passed.Stage.{AtRestEach, IsAllowed, OfGroupWhere}
+pub use Rattle.lvm_disk_lines.specs.passed.Stage.{ArePosted, Aside, Asks, AtRestEach, CommandEnds, EndsUnasked, GoesOn, HasBegunHeld, HaveRooms}
+pub use Rattle.lvm_disk_lines.specs.passed.Stage.{Holder, InFull, IsAllowed, IsAlone, IsAsked, IsAtRest, IsBetween, IsBetweenStage, IsBrokenOff}
+pub use Rattle.lvm_disk_lines.specs.passed.Stage.{IsCarried, IsClosed, IsEnded, IsFitting, IsNotOn, IsOfKind, IsOn, IsOnBetween, IsPosted, IsRefused}
+pub use Rattle.lvm_disk_lines.specs.passed.Stage.{IsRelit, IsRequesting, IsStuck, IsTimely, OfGroup, OfGroupWhere, OfRequests, Refusal, Reply, Role}
+pub use Rattle.lvm_disk_lines.specs.passed.Stage.{Shows, Stage, StandsAlone, StandsBy, State, WithoutMemory, history_in, history_of, log_with}
+pub use Rattle.lvm_disk_lines.specs.passed.Stage.{moment_in, most_refusals, open_in, patience_of_line, posts_ended, refusal_of, refusals_of}
+pub use Rattle.lvm_disk_lines.specs.passed.Stage.{reply_text, session_in, session_of, shelf_in, shelf_of, state_in, without_facts}

@@ -1,3 +1,2 @@
 -- Passed on from `lvm_earlier`.
-pub use Rattle.lvm_tie_commands.specs.passed.Earlier.{AreGone}
-pub use Rattle.lvm_tie_commands.specs.passed.Earlier.{with_taken}
+pub use Rattle.lvm_tie_commands.specs.passed.Earlier.{AreGone, with_taken}
