@@ -8,23 +8,17 @@ ghost use Rattle.lvm_stage.specs.Stages.{GivesBack, IsOfKind, history_after, his
 use lvm_core::Closed;
 use lvm_disk::{Arrange, Shelf};
 use lvm_history::History;
+use lvm_tie_copies::below::lvm_driver;
 
 /// Who holds the shelf and the history: nobody, while no group is on, or its session.
 #[derive(Drop)]
 pub enum Holder<S: Shelf> {
     /// No group is on: the shelf beside the history.
-    Off {
-        shelf: S,
-        history: History,
-    },
+    Off { shelf: S, history: History },
     /// The session of a group without volumes. It takes commands on the group at once, since nothing is under way.
-    Empty {
-        driver: lvm_core::Driver<S>,
-    },
+    Empty { driver: lvm_core::Driver<S> },
     /// The session of a group with volumes. It takes requests.
-    Serving {
-        driver: lvm_tie_copies::below::lvm_driver::Driver<S>,
-    },
+    Serving { driver: lvm_driver::Driver<S> },
 }
 
 impl<S: Shelf> Holder<S> {
@@ -78,7 +72,7 @@ impl<S: Shelf> Holder<S> {
             Holder::Off { shelf, history } => Closed { shelf, history },
             Holder::Empty { driver } => driver.close(),
             Holder::Serving { driver } => {
-                let lvm_tie_copies::below::lvm_driver::Closed { shelf, history } = driver.close();
+                let lvm_driver::Closed { shelf, history } = driver.close();
                 Closed { shelf, history }
             }
         }
