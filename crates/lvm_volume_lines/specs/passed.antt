@@ -4,7 +4,9 @@ pub mod DrainFaultVariants
 pub mod Driver
 pub mod Group
 pub mod GroupLines
+pub mod Handover
 pub mod HolderVariants
+pub mod Mirrors
 pub mod Quiesce
 pub mod QuiescedVariants
 pub mod RangeLines
@@ -16,6 +18,7 @@ pub mod Running
 pub mod Stage
 pub mod Tie
 pub mod TieCommands
+pub mod TieCopies
 pub mod TieGroups
 pub mod Varyon
 pub mod Volumes

@@ -3,5 +3,6 @@
 pub mod lvm_disk_lines;
 pub mod lvm_driver;
 pub mod lvm_group_lines;
+pub mod lvm_mirrors;
 pub mod lvm_range_lines;
 pub mod lvm_stage;

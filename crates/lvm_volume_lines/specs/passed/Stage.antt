@@ -5,3 +5,5 @@ pub use Rattle.lvm_range_lines.specs.passed.Stage.{IsRefused, IsRelit, IsRequest
 pub use Rattle.lvm_range_lines.specs.passed.Stage.{Reply, Role, Shows, Stage, StandsAlone, StandsBy, State, WithoutMemory, history_in, history_of}
 pub use Rattle.lvm_range_lines.specs.passed.Stage.{log_with, moment_in, most_refusals, patience_of_line, refusal_of, refusals_of, reply_text}
 pub use Rattle.lvm_range_lines.specs.passed.Stage.{session_in, session_of, shelf_in, shelf_of, state_in, without_facts}
+pub use Rattle.lvm_range_lines.specs.passed.Stage.{open_in}
+pub use Rattle.lvm_range_lines.specs.passed.Stage.{EndsUnasked}
