@@ -1,3 +1,3 @@
 //! Passed on from `lvm_driver`.
 
-pub use lvm_volume_lines::below::lvm_driver::Driver;
+pub use lvm_copy_lines::below::lvm_driver::Driver;
