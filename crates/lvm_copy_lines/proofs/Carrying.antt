@@ -6,8 +6,8 @@ use Rattle.lvm_status.specs.Calls.{IsMarkable}
 use Rattle.lvm_status.specs.Members.{HasItsRows}
 use Rattle.lvm_session.specs.Sound.{IsSound}
 use Rattle.lvm_session.specs.State.{State as Session}
-use Rattle.lvm_volume_plan.specs.declared.fault.GroupFault.{GroupFault}
-use Rattle.lvm_volume_plan.specs.declared.fault.GroupFault.TheVariants as fault
+use Rattle.lvm_volume_lines.specs.passed.VolumePlan.{GroupFault}
+use Rattle.lvm_volume_lines.specs.passed.GroupFaultVariants as fault
 use Rattle.lvm_volume_lines.specs.passed.Mirrors.{AreAdded, AreTaken, MklvcopyGives, RmlvcopyGives, to_add, to_take}
 use Rattle.lvm_volume_lines.specs.passed.Handover.{IsCommanded}
 use Rattle.lvm_volume_lines.specs.passed.TieCopies.{MayServeWith}

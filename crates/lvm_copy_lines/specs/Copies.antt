@@ -4,7 +4,7 @@ use Rattle.lvm_num.specs.declared.place.Pp.{Pp}
 use Rattle.lvm_session.specs.State.{Core, State as Session}
 use Rattle.lvm_core.specs.Looking.{IsNumberOf, HasNoVolume}
 use Rattle.lvm_volume_lines.specs.passed.Driver.{DrainFault}
-use Rattle.lvm_volume_plan.specs.declared.fault.GroupFault.{GroupFault}
+use Rattle.lvm_volume_lines.specs.passed.VolumePlan.{GroupFault}
 use Rattle.lvm_volume_lines.specs.passed.Mirrors.{MklvcopyGives, RmlvcopyGives, to_add, to_take}
 use Rattle.lvm_volume_lines.specs.passed.Stage.{IsRefused}
 use Rattle.lvm_volume_lines.specs.passed.Stage.{open_in}

@@ -5,6 +5,7 @@ pub mod Driver
 pub mod Group
 pub mod GroupLines
 pub mod HolderVariants
+pub mod Mirrors
 pub mod Quiesce
 pub mod QuiescedVariants
 pub mod RangeLines

@@ -3,6 +3,7 @@ pub mod DiskLines
 pub mod DrainFaultVariants
 pub mod Driver
 pub mod Group
+pub mod GroupFaultVariants
 pub mod GroupLines
 pub mod Handover
 pub mod HolderVariants
@@ -21,4 +22,5 @@ pub mod TieCommands
 pub mod TieCopies
 pub mod TieGroups
 pub mod Varyon
+pub mod VolumePlan
 pub mod Volumes

@@ -4,7 +4,7 @@ use Rattle.lvm_num.specs.declared.place.Pp.{Pp}
 use Rattle.lvm_status.specs.Calls.{IsMarkable}
 use Rattle.lvm_session.specs.State.{State as Session}
 use Rattle.lvm_core.specs.State.{state_of}
-use Rattle.lvm_volume_plan.specs.declared.fault.GroupFault.{GroupFault}
+use Rattle.lvm_volume_lines.specs.passed.VolumePlan.{GroupFault}
 use Rattle.lvm_volume_lines.specs.passed.Mirrors.{to_add}
 use Rattle.lvm_volume_lines.specs.passed.TieCopies.{MayServeWith}
 use Rattle.lvm_volume_lines.specs.passed.Handover.{IsCommanded}
@@ -21,7 +21,7 @@ go_on-requires-clause-rows g c =
     let old : Session = state_of g.S.Shelf.device c.args.driver in
     let new : Session = state_of g.S.Shelf.device c.mklvcopy.new.driver in
     let commanded : IsCommanded (to_add c.args.lv c.args.copies c.args.driver.1) c.args.patience.now.left c.mklvcopy.new.patience.left old new (Ok c.in-Ok.added) =
-        record { began = c.requires.settled; on = c.in-Ok.ensures.settled (record { on = c.requires.settled.power; requests = c.requires.settled.quiet.requests }); still = c.in-Ok.ensures.held; fresh = c.in-Ok.ensures.fresh; leaves = c.mklvcopy.ensures.leaves } in
+    record { began = c.requires.settled; on = c.in-Ok.ensures.settled (record { on = c.requires.settled.power; requests = c.requires.settled.quiet.requests }); still = c.in-Ok.ensures.held; fresh = c.in-Ok.ensures.fresh; leaves = c.mklvcopy.ensures.leaves } in
     added_rows c.args.lv c.args.copies c.args.patience.now.left c.mklvcopy.new.patience.left old new c.requires.sound c.requires.rows c.in-Ok.added commanded c.in-Ok.ensures.gives
 
 pub go_on-requires-clause-markable : goal.go_on-requires-clause-markable
@@ -29,7 +29,7 @@ go_on-requires-clause-markable g c =
     let old : Session = state_of g.S.Shelf.device c.args.driver in
     let new : Session = state_of g.S.Shelf.device c.mklvcopy.new.driver in
     let commanded : IsCommanded (to_add c.args.lv c.args.copies c.args.driver.1) c.args.patience.now.left c.mklvcopy.new.patience.left old new (Ok c.in-Ok.added) =
-        record { began = c.requires.settled; on = c.in-Ok.ensures.settled (record { on = c.requires.settled.power; requests = c.requires.settled.quiet.requests }); still = c.in-Ok.ensures.held; fresh = c.in-Ok.ensures.fresh; leaves = c.mklvcopy.ensures.leaves } in
+    record { began = c.requires.settled; on = c.in-Ok.ensures.settled (record { on = c.requires.settled.power; requests = c.requires.settled.quiet.requests }); still = c.in-Ok.ensures.held; fresh = c.in-Ok.ensures.fresh; leaves = c.mklvcopy.ensures.leaves } in
     subst (All (IsMarkable c.mklvcopy.new.driver.1.origin.table)) (sym c.as_slice.ensures)
     (added_marks c.args.lv c.args.copies c.args.patience.now.left c.mklvcopy.new.patience.left old new c.requires.sound c.requires.rows c.in-Ok.added commanded c.in-Ok.ensures.gives)
 
@@ -38,7 +38,7 @@ go_on-requires-clause-may g c =
     let old : Session = state_of g.S.Shelf.device c.args.driver in
     let new : Session = state_of g.S.Shelf.device c.mklvcopy.new.driver in
     let commanded : IsCommanded (to_add c.args.lv c.args.copies c.args.driver.1) c.args.patience.now.left c.mklvcopy.new.patience.left old new (Ok c.in-Ok.added) =
-        record { began = c.requires.settled; on = c.in-Ok.ensures.settled (record { on = c.requires.settled.power; requests = c.requires.settled.quiet.requests }); still = c.in-Ok.ensures.held; fresh = c.in-Ok.ensures.fresh; leaves = c.mklvcopy.ensures.leaves } in
+    record { began = c.requires.settled; on = c.in-Ok.ensures.settled (record { on = c.requires.settled.power; requests = c.requires.settled.quiet.requests }); still = c.in-Ok.ensures.held; fresh = c.in-Ok.ensures.fresh; leaves = c.mklvcopy.ensures.leaves } in
     subst (λ (ps : List Pp). MayServeWith ps new) (sym c.as_slice.ensures)
     (added_may c.args.lv c.args.copies c.args.patience.now.left c.mklvcopy.new.patience.left old new c.requires.sound c.requires.rows c.in-Ok.added commanded c.in-Ok.ensures.gives)
 
@@ -54,7 +54,7 @@ after_fault-requires g c =
     let new : Session = state_of g.S.Shelf.device c.mklvcopy.new.driver in
     let why : GroupFault = c.in-Err.why in
     let commanded : IsCommanded (to_add c.args.lv c.args.copies c.args.driver.1) c.args.patience.now.left c.mklvcopy.new.patience.left old new (Err why) =
-        record { began = c.requires.settled; on = c.in-Err.ensures.settled (record { on = c.requires.settled.power; requests = c.requires.settled.quiet.requests }); still = c.in-Err.ensures.held; fresh = c.in-Err.ensures.fresh; leaves = c.mklvcopy.ensures.leaves } in
+    record { began = c.requires.settled; on = c.in-Err.ensures.settled (record { on = c.requires.settled.power; requests = c.requires.settled.quiet.requests }); still = c.in-Err.ensures.held; fresh = c.in-Err.ensures.fresh; leaves = c.mklvcopy.ensures.leaves } in
     let fails = adding_fails c.args.lv c.args.copies c.args.patience.now.left c.mklvcopy.new.patience.left old new c.requires.sound c.requires.rows why commanded c.in-Err.ensures.gives in
     record { dark = fails.dark; lit = fails.lit; rows = fails.rows; may = fails.may }
 
