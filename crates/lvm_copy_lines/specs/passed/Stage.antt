@@ -1,5 +1,5 @@
 -- Passed on from `lvm_stage`.
-pub use Rattle.lvm_volume_lines.specs.passed.Stage.{ArePosted, Aside, Asks, AtRestEach, CommandEnds, GoesOn, HasBegunHeld, Holder, InFull, IsAllowed}
+pub use Rattle.lvm_volume_lines.specs.passed.Stage.{ArePosted, Aside, Asks, CommandEnds, GoesOn, HasBegunHeld, Holder, InFull, IsAllowed}
 pub use Rattle.lvm_volume_lines.specs.passed.Stage.{IsAlone, IsAsked, IsAtRest, IsBetween, IsBetweenStage, IsBrokenOff, IsClosed, IsFitting, IsOfKind}
 pub use Rattle.lvm_volume_lines.specs.passed.Stage.{IsRefused, IsRelit, IsRequesting, IsStuck, IsTimely, OfGroup, OfGroupWhere, OfRequests, Refusal}
 pub use Rattle.lvm_volume_lines.specs.passed.Stage.{Reply, Role, Shows, Stage, StandsAlone, StandsBy, State, WithoutMemory, history_in, history_of}
