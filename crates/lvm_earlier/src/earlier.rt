@@ -9,7 +9,7 @@ ghost use Rattle.lvm_earlier.specs.Earlier.{AreGone, with_taken};
 
 use lvm_disk::Shelf;
 use lvm_posts::{Asked, RangeFault, take_closed};
-use lvm_ranges::below::lvm_driver::Driver;
+use lvm_ranges::below::driver::Driver;
 use lvm_session::Session;
 
 // Takes them from the history of the session that is on.

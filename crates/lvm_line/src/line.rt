@@ -13,12 +13,12 @@ use lvm_core::Room;
 use lvm_disk::{Arrange, Shelf};
 use lvm_io::Clock;
 use lvm_parse::{Command, ParseFault, parse};
-use lvm_volume_lines::below::lvm_disk_lines::{do_arrange, do_cut, do_read, do_write};
-use lvm_volume_lines::below::lvm_group_lines::{
+use lvm_volume_lines::below::disk_lines::{do_arrange, do_cut, do_read, do_write};
+use lvm_volume_lines::below::group_lines::{
     do_mkvg, do_varyoff, do_varyon, list_disk, list_group, list_volume,
 };
-use lvm_volume_lines::below::lvm_range_lines::{do_post, do_rd, do_step, do_wait, do_wr};
-use lvm_volume_lines::below::lvm_stage::{Answered, Refusal, Reply, Stage};
+use lvm_volume_lines::below::range_lines::{do_post, do_rd, do_step, do_wait, do_wr};
+use lvm_volume_lines::below::stage::{Answered, Refusal, Reply, Stage};
 use lvm_volume_lines::{do_mklv, do_rmlv};
 use std::alloc::Global;
 
