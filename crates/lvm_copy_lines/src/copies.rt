@@ -17,8 +17,8 @@ use lvm_disk::Shelf;
 use lvm_num::Name;
 use lvm_posts::Post;
 use lvm_transfer::Patience;
-use lvm_volume_lines::below::lvm_mirrors::{mklvcopy, rmlvcopy};
-use lvm_volume_lines::below::lvm_stage::{Answered, Refusal, Reply, Stage};
+use lvm_volume_lines::below::mirrors::{mklvcopy, rmlvcopy};
+use lvm_volume_lines::below::stage::{Answered, Refusal, Reply, Stage};
 use lvm_volume_lines::{after_fault, come_to_rest, drain_refusal, go_on};
 use std::alloc::Global;
 

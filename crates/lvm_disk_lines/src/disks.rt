@@ -10,7 +10,7 @@ use lvm_disk::Shelf;
 use lvm_num::{Memory, Rows, Text};
 use lvm_raw::RawFault;
 use lvm_replies::show_block;
-use lvm_stage::below::lvm_quiesce::{read_disk, write_disk};
+use lvm_stage::below::quiesce::{read_disk, write_disk};
 use lvm_stage::{Answered, Holder, Refusal, Reply, Stage};
 use lvm_transfer::Patience;
 use std::alloc::Global;

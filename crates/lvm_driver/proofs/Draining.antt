@@ -14,7 +14,7 @@ use Rattle.lvm_session.specs.Left.{left_of}
 use Rattle.lvm_running.specs.Running.{RunsOn}
 use Rattle.lvm_running.proofs.Running.{runs_both, runs_none}
 use Rattle.lvm_turn_answers.specs.Telling.{TurnTells}
-use Rattle.lvm_driver.specs.Drains.{IsAny, IsDrained, IsTurn}
+use Rattle.lvm_driver.specs.Drains.{IsAny, IsDrained, IsTurn, LastTurn, NoTurn, ThenMoves, ThenWaits, TurnsWhile}
 use Rattle.lvm_turn_answers.proofs.Stepping.{turn_counts}
 
 -- So far turns have been made, and the patience that is gone went with answers that nothing has ended.
@@ -24,6 +24,7 @@ pub record Goes (first now : State) (patience left : ℕ) : Type 0 where
   pub fewer : left ≤ patience
   pub waited : RoseBy (patience - left) first.device.counts.waits now.device.counts.waits
   pub runs : RunsOn first now
+  pub costs : TurnsWhile IsAny patience first left now
 
 pub begins : (first : State) (patience : ℕ) → (first.core.power ≡ power.Stuck → ⊥) → Goes first first patience patience
 begins first patience unstuck = record {
@@ -32,6 +33,7 @@ begins first patience unstuck = record {
   fewer = omega arith;
   waited = let none : 0 ≡ patience - patience = omega arith in subst (λ n. RoseBy n first.device.counts.waits first.device.counts.waits) none (rose_by_none first.device.counts.waits);
   runs = runs_none first;
+  costs = NoTurn;
 }
 
 none_out : (fs : List Flight) → length fs ≡ 0 → fs ≡ []
@@ -57,26 +59,42 @@ module _ (first old new : State) (patience left : ℕ) (so_far : Goes first old 
   pub runs_then : RunsOn old new → RunsOn first new
   runs_then runs = runs_both first old new so_far.runs runs
 
-  pub moved : TurnMakes old new turned.Moved → TurnTells old new turned.Moved → RunsOn old new → Goes first new patience left
-  moved made tells runs = record { runs = runs_then runs; turns = path turned.Moved made; unstuck = λ stuck. not_stuck (sym tells.power_is ∙ stuck); fewer = so_far.fewer; waited = waited_on turned.Moved made }
-
-  pub waits : TurnMakes old new turned.Idle → TurnTells old new turned.Idle → (length new.device.flights ≡ 0 → ⊥) → 1 ≤ left → RunsOn old new → Goes first new patience (left - 1)
-  waits made tells out some runs = record {
+  pub moved : TurnMakes old new turned.Moved → TurnTells old new turned.Moved → 1 ≤ left → RunsOn old new → Goes first new patience left
+  moved made tells some runs = record {
     runs = runs_then runs;
-    turns = path turned.Idle made;
+    turns = path turned.Moved made;
     unstuck = λ stuck. not_stuck (sym tells.power_is ∙ stuck);
-    fewer = let few = so_far.fewer in omega (arith, few);
-    waited = by (tells.idle.0 refl).still;
+    fewer = so_far.fewer;
+    waited = waited_on turned.Moved made;
+    costs = ThenMoves so_far.costs tt some made;
   }
+
+  -- where transfers are out none has ended
+  finds : TurnTells old new turned.Idle → (length new.device.flights ≡ 0 → ⊥) → Finds old new
+  finds tells out = by (tells.idle.0 refl).still
     where
-      by : Finds old new ⊎ FindsNothing old new → RoseBy (patience - (left - 1)) first.device.counts.waits new.device.counts.waits
-      by (inl finds) =
-          let few = so_far.fewer in
-          let more : patience - left + 1 ≡ patience - (left - 1) = omega (arith, few, some) in
-          subst (λ n. RoseBy n first.device.counts.waits new.device.counts.waits) more (rose_by_more so_far.waited finds.waits.waits)
+      by : Finds old new ⊎ FindsNothing old new → Finds old new
+      by (inl finds) = finds
       by (inr nothing) = absurd (out (ap (λ (s : State). length s.device.flights) nothing.is ∙ ap length nothing.idle))
 
+  pub waits : TurnMakes old new turned.Idle → TurnTells old new turned.Idle → (length new.device.flights ≡ 0 → ⊥) → 1 ≤ left → RunsOn old new → Goes first new patience (left - 1)
+  waits made tells out some runs =
+      let few = so_far.fewer in
+      let more : patience - left + 1 ≡ patience - (left - 1) = omega (arith, few, some) in
+      let one : left ≡ left - 1 + 1 = omega (arith, some) in
+      record {
+        runs = runs_then runs;
+        turns = path turned.Idle made;
+        unstuck = λ stuck. not_stuck (sym tells.power_is ∙ stuck);
+        fewer = omega (arith, few);
+        waited = subst (λ n. RoseBy n first.device.counts.waits new.device.counts.waits) more (rose_by_more so_far.waited (finds tells out).waits.waits);
+        costs = ThenWaits so_far.costs tt one made (finds tells out);
+      }
+
   -- ---- the end
+
+  pub last_turn : 1 ≤ left → (answer : Turned) → TurnMakes old new answer → LastTurn IsAny patience left first new answer
+  last_turn some answer made = record { old = old; turns = so_far.costs; may = tt; some = some; makes = made }
 
   pub drained : TurnTells old new turned.Idle → length new.device.flights ≡ 0 → IsDrained new
   drained tells none =

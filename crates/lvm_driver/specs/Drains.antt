@@ -1,11 +1,12 @@
 -- Turns until nothing may be made.
-use Rattle.std.specs.Prelude.{◌≡◌, ℕ, [], false, None, Result, Ok, Err}
+use Rattle.std.specs.Prelude.{◌≡◌, ◌+◌, ◌≤◌, ℕ, [], false, None, Result, Ok, Err}
 use Rattle.lvm_num.specs.Votes.{total_votes}
 use Rattle.lvm_session.specs.declared.open.Power.TheVariants as power
 use Rattle.lvm_session.specs.Enabled.{first_event, is_lost}
 use Rattle.lvm_session.specs.State.{State, votes_there}
 use Rattle.lvm_session.specs.declared.answers.Turned.{Turned}
-use Rattle.lvm_session.specs.Turns.{TurnMakes}
+use Rattle.lvm_session.specs.declared.answers.Turned.TheVariants as turned
+use Rattle.lvm_session.specs.Turns.{Finds, TurnMakes}
 use Rattle.lvm_driver.specs.declared.drain.DrainFault.{DrainFault}
 use Rattle.lvm_driver.specs.declared.drain.DrainFault.TheVariants as fault
 
@@ -40,3 +41,28 @@ FailsSo left s fault.Stuck = left ≡ 0
 abbrev pub DrainEnds : ℕ → State → Result (Unit {0}) DrainFault → Type 0
 DrainEnds left s (Ok done) = IsDrained s
 DrainEnds left s (Err why) = FailsSo left s why
+
+-- ---- what it costs
+
+-- Turns by so much patience, each made while this holds, and the patience that is left. One that finds that none of the transfers that are out has ended
+-- costs one, and each other has moved; none is made once the patience has run out.
+pub data TurnsWhile (May : State → Type 0) (patience : ℕ) (first : State) : ℕ → State → Type 0 where
+  NoTurn : TurnsWhile May patience first patience first
+  ThenMoves : {left : ℕ} {old new : State} → TurnsWhile May patience first left old → May old → 1 ≤ left → TurnMakes old new turned.Moved → TurnsWhile May patience first left new
+  ThenWaits : {left less : ℕ} {old new : State} → TurnsWhile May patience first left old → May old → left ≡ less + 1 → TurnMakes old new turned.Idle → Finds old new
+      → TurnsWhile May patience first less new
+
+-- behind them one that has answered so is the last
+pub record LastTurn (May : State → Type 0) (patience left : ℕ) (first now : State) (answer : Turned) : Type 0 where
+  pub old : State
+  pub turns : TurnsWhile May patience first left old
+  pub may : May old
+  pub some : 1 ≤ left
+  pub makes : TurnMakes old now answer
+
+-- The last turn is the first that finds nothing to wait for, or the session over; or the patience has run out.
+abbrev pub DrainCosts : ℕ → ℕ → State → State → Result (Unit {0}) DrainFault → Type 0
+DrainCosts patience left old new (Ok done) = LastTurn IsAny patience left old new turned.Idle
+DrainCosts patience left old new (Err fault.Dark) = LastTurn IsAny patience left old new turned.Dark
+DrainCosts patience left old new (Err (fault.WentOff have total)) = LastTurn IsAny patience left old new turned.Off
+DrainCosts patience left old new (Err fault.Stuck) = TurnsWhile IsAny patience old left new

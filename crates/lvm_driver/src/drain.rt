@@ -8,7 +8,7 @@ ghost use Rattle.lvm_session.specs.State.{votes_there};
 ghost use Rattle.lvm_running.specs.Running.{RunsOn};
 ghost use Rattle.lvm_driver.specs.declared.drain.DrainFault.TheVariants as fault;
 ghost use Rattle.lvm_driver.specs.Answers.{state_of};
-ghost use Rattle.lvm_driver.specs.Drains.{DrainEnds, IsAny, IsTurn};
+ghost use Rattle.lvm_driver.specs.Drains.{DrainCosts, DrainEnds, IsAny, IsTurn};
 
 use crate::driver::Driver;
 use lvm_disk::Shelf;
@@ -38,6 +38,8 @@ impl<S: Shelf> Driver<S> {
         ensures ends { DrainEnds patience.new.left (state_of S.device self.new) result }
         ensures runs { RunsOn (state_of S.device self.old) (state_of S.device self.new) }
         ensures patience { patience.new.left ≤ patience.old.left }
+        // Each turn that waits costs one of the patience.
+        ensures costs { DrainCosts patience.old.left patience.new.left (state_of S.device self.old) (state_of S.device self.new) result }
         ensures waited { RoseBy (patience.old.left - patience.new.left) (S.device self.old.0).counts.waits (S.device self.new.0).counts.waits }
     {
         while patience.left > 0 {

@@ -1,4 +1,4 @@
 //! What is passed on from the crates below.
 
-pub mod lvm_driver;
-pub mod lvm_ranges;
+pub mod driver;
+pub mod ranges;

@@ -9,7 +9,7 @@ ghost use Rattle.lvm_earlier.specs.Earlier.{AreGone, with_taken};
 
 use lvm_disk::Shelf;
 use lvm_posts::{Asked, RangeFault, take_closed};
-use lvm_ranges::below::lvm_driver::Driver;
+use lvm_ranges::below::driver::Driver;
 use lvm_session::Session;
 
 // Takes them from the history of the session that is on.
@@ -52,26 +52,4 @@ pub fn take_earlier<S: Shelf>(
     let (shelf, session) = driver.into_parts();
     let (session, answer) = take_in(session, asked, have, total);
     (Driver::from_parts(shelf, session), answer)
-}
-
-/// Takes them where nothing of the session that is on is under way.
-///
-/// # Errors
-///
-/// As of `take_earlier`.
-pub fn take_earlier_at_rest<S: Shelf>(
-    driver: lvm_core::Driver<S>,
-    asked: &Asked,
-    have: u32,
-    total: u32,
-) -> (lvm_core::Driver<S>, Result<(), RangeFault>)
-    requires answered { AreAnswered driver.1.history.facts asked.now }
-    requires laid { IsLaidOut asked.now }
-    ensures shelf { result.0.0 ≡ driver.0 }
-    ensures core { result.0.1 ≡ with_taken asked.now driver.1 }
-    ensures ends { RangeEnds result.0.1.history.facts asked.now have total result.1 }
-{
-    let (shelf, session) = driver.into_parts();
-    let (session, answer) = take_in(session, asked, have, total);
-    (lvm_core::Driver::from_parts(shelf, session), answer)
 }

@@ -5,4 +5,4 @@ pub mod below;
 mod earlier;
 pub mod laws;
 
-pub use earlier::{take_earlier, take_earlier_at_rest};
+pub use earlier::take_earlier;

@@ -13,9 +13,9 @@ ghost use Rattle.lvm_disk_lines.specs.passed.Stage.{history_of, session_of, shel
 
 use lvm_core::{Cause, Closed, Driver, Refused, Room};
 use lvm_disk::Shelf;
-use lvm_disk_lines::below::lvm_driver;
-use lvm_disk_lines::below::lvm_quiesce::{mkvg, varyon};
-use lvm_disk_lines::below::lvm_stage::{Answered, Holder, Refusal, Reply, Stage};
+use lvm_disk_lines::below::driver;
+use lvm_disk_lines::below::quiesce::{mkvg, varyon};
+use lvm_disk_lines::below::stage::{Answered, Holder, Refusal, Reply, Stage};
 use lvm_io::Clock;
 use lvm_num::Name;
 use lvm_transfer::{Patience, relight};
@@ -68,7 +68,7 @@ fn hold<S: Shelf>(driver: Driver<S>) -> Holder<S>
         Holder::Empty { driver }
     } else {
         let (shelf, session) = driver.into_parts();
-        let driver = lvm_driver::Driver::from_parts(shelf, session);
+        let driver = driver::Driver::from_parts(shelf, session);
         Holder::Serving { driver }
     }
 }

@@ -5,7 +5,7 @@ ghost use Rattle.lvm_group_lines.specs.Listings.{CopiesShow, DiskShows, GroupSho
 ghost use Rattle.lvm_disk_lines.specs.passed.Stage.{Shows, shelf_in, session_in};
 
 use lvm_disk::Shelf;
-use lvm_disk_lines::below::lvm_stage::{Holder, Refusal, Reply, Stage, number_of};
+use lvm_disk_lines::below::stage::{Holder, Refusal, Reply, Stage, number_of};
 use lvm_num::{Descriptor, Memory, Name, Text};
 use lvm_show::{show_disk, show_group, show_map, show_volumes};
 use lvm_stale::StaleTable;

@@ -17,21 +17,28 @@ use Rattle.lvm_handover.specs.Serving.{IsServed, MarksAdded, MarksMissing, Marks
 pub markable_still : (old now : Status) (p : Pp) → ((disk : ℕ) → has_row now disk ≡ has_row old disk) → IsMarkable old p → IsMarkable now p
 markable_still old now p rows may = record { row = rows p.disk ∙ may.row; partition = may.partition }
 
+-- what isn't in the rows stays, where one step more leaves it
+is_then : (old now new : Status) → now ≡ record old { rows = now.rows } → SameMembers now new → new.dirty ≡ now.dirty → new ≡ record old { rows = new.rows }
+is_then old now new is same dirty =
+    ap (λ (n : ℕ). record new { id = n }) (same.id ∙ ap (λ (s : Status). s.id) is) ∙ ap (λ (b : Bool). record new { id = old.id; big = b }) (same.big ∙ ap (λ (s : Status). s.big) is)
+    ∙ ap (λ (ns : List ℕ). record new { id = old.id; big = old.big; dirty = ns }) (dirty ∙ ap (λ (s : Status). s.dirty) is)
+
 pub none_added : (old : Status) → MarksAdded [] old old
-none_added old = record { stale = λ p. or_none (calls_stale old p); missing = λ disk. refl; rows = λ disk. refl }
+none_added old = record { stale = λ p. or_none (calls_stale old p); missing = λ disk. refl; rows = λ disk. refl; is = refl }
   where
     or_none : (b : Bool) → b ≡ (b || false)
     or_none true = refl
     or_none false = refl
 
 pub one_added : (added : List Pp) (i : ℕ) (p : Pp) → i < length added → p ≡ get_or added i p → (old now new : Status) → MarksAdded (take i added) old now → SameMembers now new
-    → ((q : Pp) → calls_stale new q ≡ (calls_stale now q || is_pp q p)) → SameMissing now new → MarksAdded (take (i + 1) added) old new
-one_added added i p within its old now new so_far members stale missing = record {
+    → ((q : Pp) → calls_stale new q ≡ (calls_stale now q || is_pp q p)) → SameMissing now new → new.dirty ≡ now.dirty → MarksAdded (take (i + 1) added) old new
+one_added added i p within its old now new so_far members stale missing dirty = record {
   stale = λ q.
       stale q ∙ ap (λ (b : Bool). b || is_pp q p) (so_far.stale q) ∙ regroup (calls_stale old q) (is_among (take i added) q) (is_pp q p)
       ∙ ap (λ (b : Bool). calls_stale old q || b) (sym (list_any_more (is_pp q) added i p within ∙ ap (λ (r : Pp). is_among (take i added) q || is_pp q r) (sym its)));
   missing = λ disk. missing disk ∙ so_far.missing disk;
   rows = λ disk. row_stays now new (record { id = members.id; big = members.big; disks = members.disks }) disk ∙ so_far.rows disk;
+  is = is_then old now new so_far.is members dirty;
 }
   where
     regroup : (a b c : Bool) → (a || b) || c ≡ (a || (b || c))
@@ -41,7 +48,7 @@ one_added added i p within its old now new so_far members stale missing = record
 -- ---- members that are missing
 
 pub none_missing : (now old : Status) → MarksMissing [] now old old
-none_missing now old = record { stale = λ p. refl; missing = λ disk. or_none (calls_missing old disk); rows = λ disk. refl }
+none_missing now old = record { stale = λ p. refl; missing = λ disk. or_none (calls_missing old disk); rows = λ disk. refl; is = refl }
   where
     or_none : (b : Bool) → b ≡ (b || false)
     or_none true = refl
@@ -55,11 +62,12 @@ module _ (members : List PvRow) (i : ℕ) (row : PvRow) (within : i < length mem
   more disk = list_any_more (λ (r : PvRow). r.disk == disk) members i row within ∙ ap (λ (r : PvRow). before disk || r.disk == disk) (sym its)
 
   pub one_missing : (new : Status) → calls_missing now row.disk ≡ true → SameMembers mid new → SameStale mid new
-      → ((disk : ℕ) → calls_missing new disk ≡ (if disk == row.disk then true else calls_missing mid disk)) → MarksMissing (take (i + 1) members) now old new
-  one_missing new gone kept stale missing = record {
+      → ((disk : ℕ) → calls_missing new disk ≡ (if disk == row.disk then true else calls_missing mid disk)) → new.dirty ≡ mid.dirty → MarksMissing (take (i + 1) members) now old new
+  one_missing new gone kept stale missing dirty = record {
     stale = λ p. stale p ∙ so_far.stale p;
     missing = λ disk. by disk (disk == row.disk) (row.disk == disk) refl refl;
     rows = λ disk. row_stays mid new (record { id = kept.id; big = kept.big; disks = kept.disks }) disk ∙ so_far.rows disk;
+    is = is_then old mid new so_far.is kept dirty;
   }
     where
       all_true : (x a n : Bool) → n ≡ true → true ≡ (x || ((a || true) && n))
@@ -89,6 +97,7 @@ module _ (members : List PvRow) (i : ℕ) (row : PvRow) (within : i < length mem
     stale = so_far.stale;
     missing = λ disk. so_far.missing disk ∙ ap (λ (b : Bool). calls_missing old disk || b) (by disk (row.disk == disk) refl);
     rows = so_far.rows;
+    is = so_far.is;
   }
     where
       neither : (a n : Bool) → n ≡ false → a && n ≡ (a || true) && n
@@ -115,6 +124,7 @@ both_marked added members now old mid new first second = record {
   stale = λ p. second.stale p ∙ first.stale p;
   missing = λ disk. second.missing disk ∙ ap (λ (b : Bool). b || (list_any (λ (row : PvRow). row.disk == disk) members && calls_missing now disk)) (first.missing disk);
   rows = λ disk. second.rows disk ∙ first.rows disk;
+  is = second.is ∙ ap (λ (s : Status). record s { rows = new.rows }) first.is;
 }
 
 pub served_with : (added : List Pp) (core : Core) (wanted mid new : Status) → wanted ≡ core.status.wanted → MarksAdded added core.origin.table mid → MarksMissing core.descriptor.pvs wanted mid new

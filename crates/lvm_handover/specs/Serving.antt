@@ -32,18 +32,21 @@ pub record MarksAdded (added : List Pp) (old new : Status) : Type 0 where
   pub stale : (p : Pp) → calls_stale new p ≡ (calls_stale old p || is_among added p)
   pub missing : SameMissing old new
   pub rows : (disk : ℕ) → has_row new disk ≡ has_row old disk
+  pub is : new ≡ record old { rows = new.rows }
 
 -- these of its disks that are missing by another status are missing too
 pub record MarksMissing (members : List PvRow) (now old new : Status) : Type 0 where
   pub stale : SameStale old new
   pub missing : (disk : ℕ) → calls_missing new disk ≡ (calls_missing old disk || (list_any (λ (row : PvRow). row.disk == disk) members && calls_missing now disk))
   pub rows : (disk : ℕ) → has_row new disk ≡ has_row old disk
+  pub is : new ≡ record old { rows = new.rows }
 
 -- these partitions are stale too, and these disks missing
 pub record MarksMore (added : List Pp) (gone : Disks) (old new : Status) : Type 0 where
   pub stale : (p : Pp) → calls_stale new p ≡ (calls_stale old p || is_among added p)
   pub missing : (disk : ℕ) → calls_missing new disk ≡ (calls_missing old disk || gone disk)
   pub rows : (disk : ℕ) → has_row new disk ≡ has_row old disk
+  pub is : new ≡ record old { rows = new.rows }
 
 -- a member that is missing
 abbrev pub is_gone : Core → ℕ → Bool

@@ -1,6 +1,6 @@
 //! What is passed on from the crates below.
 
-pub mod lvm_driver;
-pub mod lvm_earlier;
-pub mod lvm_ranges;
-pub mod lvm_volumes;
+pub mod driver;
+pub mod earlier;
+pub mod ranges;
+pub mod volumes;

@@ -10,13 +10,13 @@ ghost use Rattle.lvm_handover.specs.Settling.{MaySettle};
 ghost use Rattle.lvm_handover.specs.Serving.{IsServed, MarksAdded, MarksMissing, MayServe};
 
 use lvm_disk::Shelf;
-use lvm_earlier::below::lvm_driver;
+use lvm_earlier::below::driver;
 use lvm_num::{Descriptor, Pp};
 use lvm_stale::StaleTable;
 
 /// A session whose turns have nothing left to make, and of which neither a request nor a copy is open, takes commands on
 /// its group.
-pub fn settle<S: Shelf>(driver: lvm_driver::Driver<S>) -> lvm_core::Driver<S>
+pub fn settle<S: Shelf>(driver: driver::Driver<S>) -> lvm_core::Driver<S>
     requires may { MaySettle (state (S.device driver.0) driver.1) }
     ensures shelf { result.0 ≡ driver.0 }
     ensures core { result.1 ≡ driver.1 }
@@ -31,7 +31,7 @@ pub fn settle<S: Shelf>(driver: lvm_driver::Driver<S>) -> lvm_core::Driver<S>
 
 /// The session takes requests again. The partitions of copies that a command added count as stale since the session
 /// began, and members that are missing by now as missing since.
-pub fn serve<S: Shelf>(driver: lvm_core::Driver<S>, added: &[Pp]) -> lvm_driver::Driver<S>
+pub fn serve<S: Shelf>(driver: lvm_core::Driver<S>, added: &[Pp]) -> driver::Driver<S>
     requires rows { HasItsRows driver.1.descriptor driver.1.origin.table }
     requires markable { All (IsMarkable driver.1.origin.table) added.now }
     requires may { MayServe added.now (state (S.device driver.0) driver.1) }
@@ -43,7 +43,7 @@ pub fn serve<S: Shelf>(driver: lvm_core::Driver<S>, added: &[Pp]) -> lvm_driver:
     let table = &mut session.origin.table;
     mark_added(table, added);
     mark_missing(table, &session.descriptor, session.updater.wanted());
-    lvm_driver::Driver::from_parts(shelf, session)
+    driver::Driver::from_parts(shelf, session)
 }
 
 // These partitions are stale.

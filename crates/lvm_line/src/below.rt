@@ -1,4 +1,4 @@
 //! What is passed on from the crates below.
 
-pub mod lvm_driver;
-pub mod lvm_stage;
+pub mod driver;
+pub mod stage;

@@ -9,13 +9,13 @@ ghost use Rattle.lvm_line.specs.Lines.{CommandDoes, CommandIsDone, IsLine, IsCha
 ghost use Rattle.lvm_copy_lines.specs.passed.Stage.{IsStuck, most_refusals, history_in, session_in, state_in, IsBetweenStage, IsFitting};
 ghost use Rattle.lvm_copy_lines.specs.passed.Stage.{without_facts};
 
-use lvm_copy_lines::below::lvm_disk_lines::{do_arrange, do_cut, do_read, do_write};
-use lvm_copy_lines::below::lvm_group_lines::{
+use lvm_copy_lines::below::disk_lines::{do_arrange, do_cut, do_read, do_write};
+use lvm_copy_lines::below::group_lines::{
     do_mkvg, do_varyoff, do_varyon, list_disk, list_group, list_volume,
 };
-use lvm_copy_lines::below::lvm_range_lines::{do_post, do_rd, do_step, do_wait, do_wr};
-use lvm_copy_lines::below::lvm_stage::{Answered, Refusal, Reply, Stage};
-use lvm_copy_lines::below::lvm_volume_lines::{do_mklv, do_rmlv};
+use lvm_copy_lines::below::range_lines::{do_post, do_rd, do_step, do_wait, do_wr};
+use lvm_copy_lines::below::stage::{Answered, Refusal, Reply, Stage};
+use lvm_copy_lines::below::volume_lines::{do_mklv, do_rmlv};
 use lvm_copy_lines::{do_mklvcopy, do_rmlvcopy};
 use lvm_core::Room;
 use lvm_disk::{Arrange, Shelf};

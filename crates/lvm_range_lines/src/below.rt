@@ -1,9 +1,9 @@
 //! What is passed on from the crates below.
 
-pub mod lvm_disk_lines;
-pub mod lvm_driver;
-pub mod lvm_group_lines;
-pub mod lvm_handover;
-pub mod lvm_mirrors;
-pub mod lvm_stage;
-pub mod lvm_volumes;
+pub mod disk_lines;
+pub mod driver;
+pub mod group_lines;
+pub mod handover;
+pub mod mirrors;
+pub mod stage;
+pub mod volumes;

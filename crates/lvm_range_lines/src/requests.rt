@@ -14,9 +14,9 @@ ghost use Rattle.lvm_range_lines.specs.Refusals.{blocks_text, ending_of, range_r
 
 use crate::refusal::{ask_refusal, is_stuck, range_refusal};
 use lvm_disk::Shelf;
-use lvm_group_lines::below::lvm_driver::Driver;
-use lvm_group_lines::below::lvm_ranges::{ask_range, finish_range, read_blocks};
-use lvm_group_lines::below::lvm_stage::{Answered, Holder, Refusal, Reply, Stage, number_of};
+use lvm_group_lines::below::driver::Driver;
+use lvm_group_lines::below::ranges::{ask_range, finish_range, read_blocks};
+use lvm_group_lines::below::stage::{Answered, Holder, Refusal, Reply, Stage, number_of};
 use lvm_num::{Memory, Name, Text};
 use lvm_posts::{Asked, Post, RangeFault};
 use lvm_replies::show_block;

@@ -7,9 +7,9 @@ ghost use Rattle.lvm_range_lines.specs.Leaving.{serving};
 ghost use Rattle.lvm_range_lines.specs.Stepping.{StepDoes, step_reply};
 
 use lvm_disk::Shelf;
-use lvm_group_lines::below::lvm_driver::Driver;
-use lvm_group_lines::below::lvm_ranges::step;
-use lvm_group_lines::below::lvm_stage::{Answered, Holder, Refusal, Reply, Stage};
+use lvm_group_lines::below::driver::Driver;
+use lvm_group_lines::below::ranges::step;
+use lvm_group_lines::below::stage::{Answered, Holder, Refusal, Reply, Stage};
 use lvm_posts::Post;
 use lvm_session::Turned;
 

@@ -25,10 +25,10 @@ ghost use Rattle.lvm_range_lines.specs.Taking.{AwaitsPost, AwaitsPosts, Enters, 
 use crate::answers::Answers;
 use lvm_core::Closed;
 use lvm_disk::Shelf;
-use lvm_group_lines::below::lvm_driver::Driver;
-use lvm_group_lines::below::lvm_earlier::take_earlier;
-use lvm_group_lines::below::lvm_ranges::{Stuck, await_range, take_range};
-use lvm_group_lines::below::lvm_stage::{Answered, Holder, Refusal, Stage};
+use lvm_group_lines::below::driver::Driver;
+use lvm_group_lines::below::earlier::take_earlier;
+use lvm_group_lines::below::ranges::{Stuck, await_range, take_range};
+use lvm_group_lines::below::stage::{Answered, Holder, Refusal, Stage};
 use lvm_history::History;
 use lvm_posts::{Asked, Post, RangeFault, take_closed};
 use lvm_session::{Power, Session};

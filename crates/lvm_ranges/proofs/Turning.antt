@@ -1,5 +1,6 @@
 -- Turns until a range has landed.
 use Rattle.std.proofs.Common.{◌≡◌, ◌≤◌, ◌<◌, ◌+◌, ◌-◌, ◌&&◌, ◌||◌, ◌==◌, ◌⊎◌, inl, inr, ℕ, Bool, true, false, List, [], ◌∷◌, refl, sym, ◌∙◌, ap, subst, arith}
+use Rattle.std.specs.Prelude.{Ok}
 use Rattle.std.specs.List.{list_any, AllByRecursion}
 use Rattle.lvm_disk.specs.Counts.{RoseBy}
 use Rattle.lvm_disk.specs.Paths.{Here, Path, Then}
@@ -21,11 +22,11 @@ use Rattle.lvm_keeps_events.proofs.Standing.{never_stands_still}
 use Rattle.lvm_running.specs.Running.{RunsOn}
 use Rattle.lvm_running.proofs.Running.{runs_both, runs_none}
 use Rattle.lvm_turn_answers.specs.Telling.{TurnTells, power_by}
-use Rattle.lvm_driver.specs.Drains.{IsAny}
+use Rattle.lvm_driver.specs.Drains.{IsAny, LastTurn, NoTurn, ThenMoves, ThenWaits, TurnsWhile}
 use Rattle.lvm_turn_answers.proofs.Stepping.{turn_counts}
 use Rattle.lvm_posts.specs.declared.asked.Asked.{Asked}
 use Rattle.lvm_ranges.specs.Keeping.{KeepsTable}
-use Rattle.lvm_ranges.specs.Landing.{HaveLanded, IsUnfinished, TurnsFor}
+use Rattle.lvm_ranges.specs.Landing.{AwaitCosts, HaveLanded, IsUnfinished, TurnsFor}
 use Rattle.lvm_ranges.proofs.Tables.{table_same, table_then, turn_table}
 
 -- what goes on over turns, and over each call
@@ -107,25 +108,58 @@ module _ (asked : Asked) (first old new : State) (patience left : ℕ) (so_far :
   pub landed_at_end : IsSound old → (answer : Turned) → TurnMakes old new answer → TurnTells old new answer → (answer ≡ turned.Dark) ⊎ (answer ≡ turned.Off) → HaveLanded asked new
   landed_at_end sound answer made tells ended = let last = ends_so answer ended in over_landed asked new (turn_ends old new answer sound made last).0 (tells.over last)
 
-  pub idles : IsSound old → TurnMakes old new turned.Idle → TurnTells old new turned.Idle → 1 ≤ left → RunsOn old new → Goes asked first new patience (left - 1)
-  idles sound made tells some runs = record {
-    turns = path turned.Idle made;
-    on = with_turn first old new turned.Idle so_far.on sound made tells runs;
-    fewer = let few = so_far.fewer in omega (arith, few);
-    waited = by (tells.idle.0 refl).still;
-  }
+  -- while a piece hasn't landed some transfer is out
+  pub finds : IsSound old → TurnTells old new turned.Idle → Finds old new
+  finds sound tells = by (tells.idle.0 refl).still
     where
       waiting : list_any is_waiting old.core.requests ≡ true
       waiting = some_waits old.core.requests (asked.first + unfinished.piece) (sym (sound.told.each (asked.first + unfinished.piece)) ∙ unfinished.waits)
 
-      by : Finds old new ⊎ FindsNothing old new → RoseBy (patience - (left - 1)) first.device.counts.waits new.device.counts.waits
-      by (inl finds) =
-          let few = so_far.fewer in
-          let more : patience - left + 1 ≡ patience - (left - 1) = omega (arith, few, some) in
-          subst (λ n. RoseBy n first.device.counts.waits new.device.counts.waits) more (rose_by_more so_far.waited finds.waits.waits)
+      by : Finds old new ⊎ FindsNothing old new → Finds old new
+      by (inl finds) = finds
       by (inr nothing) =
           let still = tells.idle.0 refl in
           not_so (sym (never_stands_still old sound still.on nothing.votes still.none nothing.idle).0 ∙ waiting)
+
+  pub idles : IsSound old → TurnMakes old new turned.Idle → TurnTells old new turned.Idle → 1 ≤ left → RunsOn old new → Goes asked first new patience (left - 1)
+  idles sound made tells some runs =
+      let few = so_far.fewer in
+      let more : patience - left + 1 ≡ patience - (left - 1) = omega (arith, few, some) in
+      record {
+        turns = path turned.Idle made;
+        on = with_turn first old new turned.Idle so_far.on sound made tells runs;
+        fewer = omega (arith, few);
+        waited = subst (λ n. RoseBy n first.device.counts.waits new.device.counts.waits) more (rose_by_more so_far.waited (finds sound tells).waits.waits);
+      }
+
+-- ---- what it costs
+
+-- And each of these turns that has waited has cost one of the patience.
+pub record Costs (asked : Asked) (first now : State) (patience left : ℕ) : Type 0 where
+  pub on : Goes asked first now patience left
+  pub turns : TurnsWhile (IsUnfinished asked) patience first left now
+
+pub costs_nothing : (asked : Asked) (first : State) (patience : ℕ) → (first.core.power ≡ power.Stuck → ⊥) → Costs asked first first patience patience
+costs_nothing asked first patience unstuck = record { on = begins asked first patience unstuck; turns = NoTurn }
+
+module _ (asked : Asked) (first old new : State) (patience left : ℕ) (so_far : Costs asked first old patience left) (unfinished : IsUnfinished asked old) (sound : IsSound old) (some : 1 ≤ left) where
+  pub one_move : TurnMakes old new turned.Moved → TurnTells old new turned.Moved → RunsOn old new → Costs asked first new patience left
+  one_move made tells runs = record { on = goes asked first old new patience left so_far.on unfinished sound turned.Moved made tells runs; turns = ThenMoves so_far.turns unfinished some made }
+
+  pub one_wait : TurnMakes old new turned.Idle → TurnTells old new turned.Idle → RunsOn old new → Costs asked first new patience (left - 1)
+  one_wait made tells runs =
+      let one : left ≡ left - 1 + 1 = omega (arith, some) in
+      record {
+        on = idles asked first old new patience left so_far.on unfinished sound made tells some runs;
+        turns = ThenWaits so_far.turns unfinished one made (finds asked first old new patience left so_far.on unfinished sound tells);
+      }
+
+  last_turn : (answer : Turned) → TurnMakes old new answer → LastTurn (IsUnfinished asked) patience left first new answer
+  last_turn answer made = record { old = old; turns = so_far.turns; may = unfinished; some = some; makes = made }
+
+  pub costs_at_end : (answer : Turned) → TurnMakes old new answer → (answer ≡ turned.Dark) ⊎ (answer ≡ turned.Off) → AwaitCosts asked patience left first new (Ok tt)
+  costs_at_end answer made (inl dark) = inr (inl (last_turn turned.Dark (subst (TurnMakes old new) dark made)))
+  costs_at_end answer made (inr off) = inr (inr (last_turn turned.Off (subst (TurnMakes old new) off made)))
 
 -- ---- how long it takes
 

@@ -1,15 +1,15 @@
 -- A range is waited for, and its answers are taken.
-use Rattle.std.specs.Prelude.{◌≡◌, ◌<◌, ◌+◌, ℕ, Result, Err, length}
+use Rattle.std.specs.Prelude.{◌≡◌, ◌<◌, ◌+◌, ℕ, Result, Ok, Err, length}
 use Rattle.lvm_disk.specs.Paths.{Path}
 use Rattle.lvm_num.specs.Votes.{total_votes}
 use Rattle.lvm_session.specs.State.{State, votes_there}
 use Rattle.lvm_driver.specs.Answers.{IsCausedFor}
-use Rattle.lvm_driver.specs.Drains.{IsAny}
+use Rattle.lvm_driver.specs.Drains.{IsAny, TurnsWhile}
 use Rattle.lvm_posts.specs.declared.asked.Asked.{Asked}
 use Rattle.lvm_posts.specs.declared.fault.RangeFault.{RangeFault}
 use Rattle.lvm_posts.specs.declared.fault.RangeFault.TheVariants as fault
 use Rattle.lvm_ranges.specs.Keeping.{KeepsTable}
-use Rattle.lvm_ranges.specs.Landing.{HaveLanded, IsUnfinished, TurnsFor}
+use Rattle.lvm_ranges.specs.Landing.{AwaitCosts, HaveLanded, IsUnfinished, TurnsFor}
 use Rattle.lvm_posts.specs.Deciding.{RangeEnds}
 use Rattle.lvm_ranges.specs.Taking.{Takes}
 
@@ -28,3 +28,8 @@ pub record TakesRange (asked : Asked) (old new : State) (answer : Result (Unit {
 pub data FinishGives (asked : Asked) (left : ℕ) (old new : State) (answer : Result (Unit {0}) RangeFault) : Type 0 where
   Finished : (mid : State) → Path (TurnsFor asked) IsAny old mid → KeepsTable old.core mid.core → TakesRange asked mid new answer → FinishGives asked left old new answer
   WasStuck : Path (TurnsFor asked) IsAny old new → KeepsTable old.core new.core → IsUnfinished asked new → left ≡ 0 → answer ≡ Err fault.Stuck → FinishGives asked left old new answer
+
+-- The turns before the answers are taken cost what the waiting does; or it has cost all of the patience.
+pub data FinishCosts (asked : Asked) (patience left : ℕ) (old new : State) (answer : Result (Unit {0}) RangeFault) : Type 0 where
+  TakesBehind : (mid : State) → AwaitCosts asked patience left old mid (Ok tt) → TakesRange asked mid new answer → FinishCosts asked patience left old new answer
+  TakesNone : TurnsWhile (IsUnfinished asked) patience old left new → answer ≡ Err fault.Stuck → FinishCosts asked patience left old new answer

@@ -1,8 +1,9 @@
 -- Turns until all pieces of a range have landed.
-use Rattle.std.specs.Prelude.{◌≡◌, ◌<◌, ◌+◌, ℕ, true, false, Result, Ok, Err}
+use Rattle.std.specs.Prelude.{◌≡◌, ◌⊎◌, ◌<◌, ◌+◌, ℕ, true, false, Result, Ok, Err}
 use Rattle.lvm_vol.specs.Log.{is_open}
+use Rattle.lvm_session.specs.declared.answers.Turned.TheVariants as turned
 use Rattle.lvm_session.specs.State.{State}
-use Rattle.lvm_driver.specs.Drains.{IsTurn}
+use Rattle.lvm_driver.specs.Drains.{IsTurn, LastTurn, TurnsWhile}
 use Rattle.lvm_posts.specs.declared.asked.Asked.{Asked}
 use Rattle.lvm_ranges.specs.declared.landing.Stuck.{Stuck}
 
@@ -24,3 +25,9 @@ TurnsFor asked old new = IsUnfinished asked old × IsTurn old new
 abbrev pub AwaitEnds : Asked → ℕ → State → Result (Unit {0}) Stuck → Type 0
 AwaitEnds asked left new (Ok done) = HaveLanded asked new
 AwaitEnds asked left new (Err stuck) = IsUnfinished asked new × (left ≡ 0)
+
+-- The turns are those while some piece hasn't landed, each that waits for one of the patience, and perhaps a last one with which the session is over.
+abbrev pub AwaitCosts : Asked → ℕ → ℕ → State → State → Result (Unit {0}) Stuck → Type 0
+AwaitCosts asked patience left old new (Ok done) =
+    TurnsWhile (IsUnfinished asked) patience old left new ⊎ LastTurn (IsUnfinished asked) patience left old new turned.Dark ⊎ LastTurn (IsUnfinished asked) patience left old new turned.Off
+AwaitCosts asked patience left old new (Err stuck) = TurnsWhile (IsUnfinished asked) patience old left new

@@ -1,3 +1,3 @@
 //! What is passed on from the crates below.
 
-pub mod lvm_driver;
+pub mod driver;

@@ -8,7 +8,7 @@ ghost use Rattle.lvm_driver.specs.Answers.{state_of};
 ghost use Rattle.lvm_driver.specs.Drains.{IsAny};
 ghost use Rattle.lvm_posts.specs.Pieces.{IsLaidOut};
 ghost use Rattle.lvm_ranges.specs.Keeping.{KeepsTable};
-ghost use Rattle.lvm_ranges.specs.Landing.{AwaitEnds, HaveLanded, IsUnfinished, TurnsFor};
+ghost use Rattle.lvm_ranges.specs.Landing.{AwaitCosts, AwaitEnds, HaveLanded, IsUnfinished, TurnsFor};
 
 use crate::sound::is_sound;
 use lvm_disk::Shelf;
@@ -52,6 +52,8 @@ pub fn await_range<S: Shelf>(
     ensures table { KeepsTable driver.old.1 driver.new.1 }
     ensures runs { RunsOn (state_of S.device driver.old) (state_of S.device driver.new) }
     ensures patience { patience.new.left ≤ patience.old.left }
+    // Each turn that waits costs one of the patience.
+    ensures costs { AwaitCosts asked.now patience.old.left patience.new.left (state_of S.device driver.old) (state_of S.device driver.new) result }
     ensures waited { RoseBy (patience.old.left - patience.new.left) (S.device driver.old.0).counts.waits (S.device driver.new.0).counts.waits }
 {
     while is_unfinished(driver, asked) {

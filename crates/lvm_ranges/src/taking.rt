@@ -6,7 +6,7 @@ ghost use Rattle.lvm_running.specs.Running.{RunsOn};
 ghost use Rattle.lvm_driver.specs.Answers.{state_of};
 ghost use Rattle.lvm_posts.specs.Posts.{AreHeld};
 ghost use Rattle.lvm_posts.specs.Pieces.{IsLaidOut};
-ghost use Rattle.lvm_ranges.specs.Finishing.{FinishGives, TakesRange};
+ghost use Rattle.lvm_ranges.specs.Finishing.{FinishCosts, FinishGives, TakesRange};
 ghost use Rattle.lvm_ranges.specs.Keeping.{KeepsOthers};
 ghost use Rattle.lvm_ranges.specs.Landing.{HaveLanded};
 ghost use Rattle.lvm_ranges.specs.Taking.{fault_taken};
@@ -83,6 +83,8 @@ pub fn finish_range<S: Shelf>(
     ensures others { KeepsOthers asked.now driver.old.1 driver.new.1 }
     ensures runs { RunsOn (state_of S.device driver.old) (state_of S.device driver.new) }
     ensures patience { patience.new.left ≤ patience.old.left }
+    // Each turn that waits costs one of the patience.
+    ensures costs { FinishCosts asked.now patience.old.left patience.new.left (state_of S.device driver.old) (state_of S.device driver.new) result }
     ensures waited { RoseBy (patience.old.left - patience.new.left) (S.device driver.old.0).counts.waits (S.device driver.new.0).counts.waits }
 {
     match await_range(driver, asked, patience) {

@@ -8,7 +8,7 @@ ghost use Rattle.lvm_stage.specs.Stages.{GivesBack, IsOfKind, history_after, his
 use lvm_core::Closed;
 use lvm_disk::{Arrange, Shelf};
 use lvm_history::History;
-use lvm_tie_copies::below::lvm_driver;
+use lvm_tie_copies::below::driver;
 
 /// Who holds the shelf and the history: nobody, while no group is on, or its session.
 #[derive(Drop)]
@@ -18,7 +18,7 @@ pub enum Holder<S: Shelf> {
     /// The session of a group without volumes. It takes commands on the group at once, since nothing is under way.
     Empty { driver: lvm_core::Driver<S> },
     /// The session of a group with volumes. It takes requests.
-    Serving { driver: lvm_driver::Driver<S> },
+    Serving { driver: driver::Driver<S> },
 }
 
 impl<S: Shelf> Holder<S> {
@@ -72,7 +72,7 @@ impl<S: Shelf> Holder<S> {
             Holder::Off { shelf, history } => Closed { shelf, history },
             Holder::Empty { driver } => driver.close(),
             Holder::Serving { driver } => {
-                let lvm_driver::Closed { shelf, history } = driver.close();
+                let driver::Closed { shelf, history } = driver.close();
                 Closed { shelf, history }
             }
         }

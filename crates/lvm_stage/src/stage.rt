@@ -9,7 +9,7 @@ use lvm_disk::Shelf;
 use lvm_num::{Memory, Name};
 use lvm_posts::{Post, end_posts};
 use lvm_session::Power;
-use lvm_tie_copies::below::lvm_driver::Driver;
+use lvm_tie_copies::below::driver::Driver;
 use lvm_transfer::relight;
 use std::alloc::Global;
 

@@ -6,7 +6,7 @@ use crate::fixtures::{
 use lvm_disk::{Arrange, Shelf};
 use lvm_faults::{Act, Planned};
 use lvm_num::Mode;
-use lvm_ranges::below::lvm_driver::Driver;
+use lvm_ranges::below::driver::Driver;
 use lvm_session::{CopyFault, CopyState, Taken};
 use std::process::Abort;
 

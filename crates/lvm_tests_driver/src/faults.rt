@@ -8,7 +8,7 @@ use crate::fixtures::{
 use lvm_disk::{Arrange, Shelf};
 use lvm_faults::{Act, Planned};
 use lvm_num::{Mode, Policy};
-use lvm_ranges::below::lvm_driver::{DrainFault, Driver};
+use lvm_ranges::below::driver::{DrainFault, Driver};
 use lvm_session::{AskFault, CopyFault, Taken, Turned};
 use std::process::Abort;
 

@@ -23,7 +23,7 @@ use lvm_num::{
     VolumeNumbers, fill, word_of,
 };
 use lvm_path::Ask;
-use lvm_ranges::below::lvm_driver::{Closed, DrainFault, Driver, whole_groups_begin};
+use lvm_ranges::below::driver::{Closed, DrainFault, Driver, whole_groups_begin};
 use lvm_session::{AskFault, CopyFault, CopyState, Power, Taken, Turned};
 use lvm_session_start::{Room, take_parts};
 use lvm_transfer::Patience;

@@ -9,7 +9,7 @@ use lvm_disk::{Arrange, Shelf};
 use lvm_faults::{Act, Planned};
 use lvm_num::{Mode, word_of};
 use lvm_posts::{Asked, RangeFault};
-use lvm_ranges::below::lvm_driver::Driver;
+use lvm_ranges::below::driver::Driver;
 use lvm_ranges::{AskRangeFault, ask_range, finish_range, read_blocks, step};
 use lvm_session::{Power, Taken, Turned};
 use lvm_transfer::Patience;

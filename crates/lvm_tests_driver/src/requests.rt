@@ -4,7 +4,7 @@ use crate::fixtures::{
 };
 use lvm_disk::Shelf;
 use lvm_num::Mode;
-use lvm_ranges::below::lvm_driver::Driver;
+use lvm_ranges::below::driver::Driver;
 use lvm_session::{AskFault, Taken};
 use std::process::Abort;
 

@@ -2,7 +2,7 @@
 use crate::fixtures::{MIRROR, Setup, begin, check, close, drain, turn, write};
 use lvm_disk::Shelf;
 use lvm_faults::{Act, Planned};
-use lvm_ranges::below::lvm_driver::Driver;
+use lvm_ranges::below::driver::Driver;
 use lvm_session::{Taken, Turned};
 use std::process::Abort;
 

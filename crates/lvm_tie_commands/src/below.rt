@@ -1,7 +1,7 @@
 //! What is passed on from the crates below.
 
-pub mod lvm_driver;
-pub mod lvm_earlier;
-pub mod lvm_handover;
-pub mod lvm_ranges;
-pub mod lvm_volumes;
+pub mod driver;
+pub mod earlier;
+pub mod handover;
+pub mod ranges;
+pub mod volumes;

@@ -1,8 +1,8 @@
 //! What is passed on from the crates below.
 
-pub mod lvm_driver;
-pub mod lvm_earlier;
-pub mod lvm_handover;
-pub mod lvm_mirrors;
-pub mod lvm_ranges;
-pub mod lvm_volumes;
+pub mod driver;
+pub mod earlier;
+pub mod handover;
+pub mod mirrors;
+pub mod ranges;
+pub mod volumes;

@@ -11,7 +11,7 @@ mod status;
 pub use image::run_image;
 pub use laws::runs_follow;
 pub use lvm_core::Room;
-pub use lvm_line::below::lvm_stage::{Refusal, Reply};
+pub use lvm_line::below::stage::{Refusal, Reply};
 pub use lvm_words::{Job, WordsFault, read_words};
 pub use program::run_words;
 pub use run::{Ended, run_script};

@@ -20,11 +20,11 @@ use lvm_core::{Closed, Driver};
 use lvm_disk::Shelf;
 use lvm_num::{Mode, Name, Policy, Pp};
 use lvm_posts::Post;
-use lvm_range_lines::below::lvm_driver;
-use lvm_range_lines::below::lvm_driver::DrainFault;
-use lvm_range_lines::below::lvm_handover::{serve, settle};
-use lvm_range_lines::below::lvm_stage::{Answered, Holder, Refusal, Reply, Stage};
-use lvm_range_lines::below::lvm_volumes::{GroupFault, mklv, rmlv};
+use lvm_range_lines::below::driver;
+use lvm_range_lines::below::driver::DrainFault;
+use lvm_range_lines::below::handover::{serve, settle};
+use lvm_range_lines::below::stage::{Answered, Holder, Refusal, Reply, Stage};
+use lvm_range_lines::below::volumes::{GroupFault, mklv, rmlv};
 use lvm_transfer::{Patience, relight};
 use std::alloc::Global;
 
@@ -204,7 +204,7 @@ fn after<S: Shelf, T: Copy>(
 pub fn come_to_rest<S: Shelf>(
     holder: Holder<S>,
     patience: &mut Patience,
-) -> Result<Driver<S>, (lvm_driver::Driver<S>, DrainFault)>
+) -> Result<Driver<S>, (driver::Driver<S>, DrainFault)>
     requires kind { IsOfKind holder }
     requires on { IsSome (session_of holder) }
     requires between { IfSome (session_of holder) (IsOnBetween (S.device (shelf_of holder))) }

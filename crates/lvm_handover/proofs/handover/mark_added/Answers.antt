@@ -24,4 +24,4 @@ loop-pp-preserved c =
     let i = c.loop-pp.pp-index in
     let p : Pp = slice_index_or added i first in
     let its = get_or_default added i first p c.loop-pp-test.true in
-    one_added added i p c.loop-pp-test.true its c.args.table.now c.loop-pp.table c.mark.new.self c.loop-pp.invariant c.mark.ensures.members c.mark.ensures.stale c.mark.ensures.missing
+    one_added added i p c.loop-pp-test.true its c.args.table.now c.loop-pp.table c.mark.new.self c.loop-pp.invariant c.mark.ensures.members c.mark.ensures.stale c.mark.ensures.missing c.mark.ensures.dirty

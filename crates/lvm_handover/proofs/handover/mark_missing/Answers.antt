@@ -28,6 +28,6 @@ loop-member-preserved c =
     let so_far : MarksMissing (take i members) now old mid = subst (λ (rows : List PvRow). MarksMissing (take i rows) now old mid) (sym same) c.loop-member.invariant in
     elim c.if-is_missing.branch [
       | then-is_missing w ↦ as_table c.if-is_missing.table w.table-is same i now old
-          (one_missing members i row c.loop-member-test.true its now old mid so_far w.set_missing.new.self (sym c.is_missing.ensures ∙ w.if-is_missing.true) w.set_missing.ensures.members w.set_missing.ensures.stale w.set_missing.ensures.missing)
+          (one_missing members i row c.loop-member-test.true its now old mid so_far w.set_missing.new.self (sym c.is_missing.ensures ∙ w.if-is_missing.true) w.set_missing.ensures.members w.set_missing.ensures.stale w.set_missing.ensures.missing w.set_missing.ensures.dirty)
       | else-is_missing w ↦ as_table c.if-is_missing.table w.table-is same i now old (none_more members i row c.loop-member-test.true its now old mid so_far (sym c.is_missing.ensures ∙ w.if-is_missing.false))
     ]

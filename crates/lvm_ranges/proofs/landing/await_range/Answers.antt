@@ -1,24 +1,24 @@
-use Rattle.std.proofs.Common.{arith}
-use Rattle.lvm_session.specs.declared.answers.Turned.TheVariants as turned
+use Rattle.std.proofs.Common.{inl, arith}
 use Rattle.lvm_driver.specs.Answers.{state_of}
-use Rattle.lvm_ranges.proofs.Turning.{begins, goes, idles, landed_at_end, less_by_move, less_by_wait}
+use Rattle.lvm_ranges.proofs.Turning.{costs_at_end, costs_nothing, goes, landed_at_end, less_by_move, less_by_wait, one_move, one_wait}
 use Rattle.lvm_ranges.proofs.landing.await_range.Goals as goal
 
 pub loop-driver-init : goal.loop-driver-init
-loop-driver-init g c = begins c.args.asked.now (state_of g.S.Shelf.device c.args.driver.now) c.args.patience.now.left c.requires.unstuck
+loop-driver-init g c = costs_nothing c.args.asked.now (state_of g.S.Shelf.device c.args.driver.now) c.args.patience.now.left c.requires.unstuck
 
 pub loop-driver-preserved-in-Moved : goal.loop-driver-preserved-in-Moved
 loop-driver-preserved-in-Moved g c =
     let device = g.S.Shelf.device in
-    goes c.args.asked.now (state_of device c.args.driver.now) (state_of device c.loop-driver.driver) (state_of device c.turn.new.self) c.args.patience.now.left c.loop-driver.patience.left c.loop-driver.invariant (c.is_unfinished.ensures.open c.loop-driver-test.true)
-    c.is_sound.ensures turned.Moved c.in-Moved.ensures.makes c.in-Moved.ensures.tells c.in-Moved.ensures.runs
+    let some = c.if-patience-eq0.false in
+    one_move c.args.asked.now (state_of device c.args.driver.now) (state_of device c.loop-driver.driver) (state_of device c.turn.new.self) c.args.patience.now.left c.loop-driver.patience.left c.loop-driver.invariant (c.is_unfinished.ensures.open c.loop-driver-test.true)
+    c.is_sound.ensures (omega (arith, some)) c.in-Moved.ensures.makes c.in-Moved.ensures.tells c.in-Moved.ensures.runs
 
 pub loop-driver-preserved : goal.loop-driver-preserved
 loop-driver-preserved g c =
     let device = g.S.Shelf.device in
     let some = c.if-patience-eq0.false in
-    idles c.args.asked.now (state_of device c.args.driver.now) (state_of device c.loop-driver.driver) (state_of device c.turn.new.self) c.args.patience.now.left c.loop-driver.patience.left c.loop-driver.invariant (c.is_unfinished.ensures.open c.loop-driver-test.true)
-    c.is_sound.ensures c.in-Idle.ensures.makes c.in-Idle.ensures.tells (omega (arith, some)) c.in-Idle.ensures.runs
+    one_wait c.args.asked.now (state_of device c.args.driver.now) (state_of device c.loop-driver.driver) (state_of device c.turn.new.self) c.args.patience.now.left c.loop-driver.patience.left c.loop-driver.invariant (c.is_unfinished.ensures.open c.loop-driver-test.true)
+    c.is_sound.ensures (omega (arith, some)) c.in-Idle.ensures.makes c.in-Idle.ensures.tells c.in-Idle.ensures.runs
 
 pub loop-driver-smaller-in-Moved : goal.loop-driver-smaller-in-Moved
 loop-driver-smaller-in-Moved g c = less_by_move (state_of g.S.Shelf.device c.loop-driver.driver) (state_of g.S.Shelf.device c.turn.new.self) c.loop-driver.patience.left c.in-Moved.ensures.tells
@@ -28,13 +28,14 @@ loop-driver-smaller g c = let some = c.if-patience-eq0.false in less_by_wait (st
 
 pub returns-then-patience-eq0 : goal.returns-then-patience-eq0
 returns-then-patience-eq0 g c =
-    let so_far = c.loop-driver.invariant in
+    let so_far = c.loop-driver.invariant.on in
     record {
       turns = so_far.turns;
       ends = (c.is_unfinished.ensures.open c.loop-driver-test.true, c.if-patience-eq0.true);
       table = so_far.on.table;
       runs = so_far.on.runs;
       patience = so_far.fewer;
+      costs = c.loop-driver.invariant.turns;
       waited = so_far.waited;
     }
 
@@ -45,8 +46,9 @@ returns-in-Dark g c =
     let new = state_of device c.turn.new.self in
     let made = c.turn.ensures in
     let first = state_of device c.args.driver.now in
-    let so_far = c.loop-driver.invariant in
+    let so_far = c.loop-driver.invariant.on in
     let unfinished = c.is_unfinished.ensures.open c.loop-driver-test.true in
+    let some = c.if-patience-eq0.false in
     let ended = goes c.args.asked.now first old new c.args.patience.now.left c.loop-driver.patience.left so_far unfinished c.is_sound.ensures c.turn.result made.makes made.tells made.runs in
     record {
       turns = ended.turns;
@@ -54,17 +56,19 @@ returns-in-Dark g c =
       table = ended.on.table;
       runs = ended.on.runs;
       patience = ended.fewer;
+      costs = costs_at_end c.args.asked.now first old new c.args.patience.now.left c.loop-driver.patience.left c.loop-driver.invariant unfinished c.is_sound.ensures (omega (arith, some)) c.turn.result made.makes c.in-Dark.is;
       waited = ended.waited;
     }
 
 pub returns : goal.returns
 returns g c =
-    let so_far = c.loop-driver.invariant in
+    let so_far = c.loop-driver.invariant.on in
     record {
       turns = so_far.turns;
       ends = c.is_unfinished.ensures.landed c.loop-driver-test.false;
       table = so_far.on.table;
       runs = so_far.on.runs;
       patience = so_far.fewer;
+      costs = inl c.loop-driver.invariant.turns;
       waited = so_far.waited;
     }

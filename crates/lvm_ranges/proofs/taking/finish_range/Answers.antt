@@ -3,7 +3,7 @@ use Rattle.lvm_disk.specs.Counts.{RoseBy}
 use Rattle.lvm_disk.specs.Device.{Device}
 use Rattle.lvm_driver.specs.Answers.{state_of}
 use Rattle.lvm_running.proofs.Running.{runs_both}
-use Rattle.lvm_ranges.specs.Finishing.{Finished, WasStuck}
+use Rattle.lvm_ranges.specs.Finishing.{Finished, TakesBehind, TakesNone, WasStuck}
 use Rattle.lvm_ranges.proofs.Finishing.{others_stay, others_then, still_held}
 use Rattle.lvm_ranges.proofs.taking.finish_range.Goals as goal
 
@@ -26,6 +26,7 @@ returns-in-Ok g c =
       others = others_then c.args.asked.now old.core mid.core new.core waited.table took.others;
       runs = runs_both old mid new waited.runs took.runs;
       patience = waited.patience;
+      costs = TakesBehind mid waited.costs took.gives;
       waited = subst (λ (d : Device). RoseBy (c.args.patience.now.left - c.await_range.new.patience.left) old.device.counts.waits d.counts.waits) (sym took.gives.shelf) waited.waited;
     }
 
@@ -35,5 +36,6 @@ returns-in-Err g c = record {
   others = others_stay c.args.asked.now c.args.driver.now.1 c.await_range.new.driver.1 c.in-Err.ensures.table;
   runs = c.in-Err.ensures.runs;
   patience = c.in-Err.ensures.patience;
+  costs = TakesNone c.in-Err.ensures.costs refl;
   waited = c.in-Err.ensures.waited;
 }

@@ -1,7 +1,10 @@
-use Rattle.std.proofs.Common.{arith}
+use Rattle.std.proofs.Common.{sym, subst, arith}
+use Rattle.std.specs.Prelude.{Err}
 use Rattle.lvm_session.specs.declared.answers.Turned.TheVariants as turned
+use Rattle.lvm_driver.specs.declared.drain.DrainFault.{DrainFault}
 use Rattle.lvm_driver.specs.Answers.{state_of}
-use Rattle.lvm_driver.proofs.Draining.{begins, drained, moved, path, runs_then, waits}
+use Rattle.lvm_driver.specs.Drains.{DrainCosts}
+use Rattle.lvm_driver.proofs.Draining.{begins, drained, last_turn, moved, path, runs_then, waits}
 use Rattle.lvm_driver.proofs.driver.Driver.drain.Goals as goal
 
 pub loop-patience-init : goal.loop-patience-init
@@ -10,8 +13,9 @@ loop-patience-init g c = begins (state_of g.S.Shelf.device c.args.self.now) c.ar
 pub loop-patience-preserved-in-Moved : goal.loop-patience-preserved-in-Moved
 loop-patience-preserved-in-Moved g c =
     let device = g.S.Shelf.device in
+    let test = c.loop-patience-test.true in
     moved (state_of device c.args.self.now) (state_of device c.loop-patience.self) (state_of device c.turn.new.self) c.args.patience.now.left c.loop-patience.patience.left c.loop-patience.invariant
-    c.in-Moved.ensures.makes c.in-Moved.ensures.tells c.in-Moved.ensures.runs
+    c.in-Moved.ensures.makes c.in-Moved.ensures.tells (omega (arith, test)) c.in-Moved.ensures.runs
 
 pub loop-patience-preserved : goal.loop-patience-preserved
 loop-patience-preserved g c =
@@ -56,3 +60,31 @@ returns-then-flights-eq0-clause-ends g c =
     let none = c.if-flights-eq0.true in
     drained (state_of device c.args.self.now) (state_of device c.loop-patience.self) (state_of device c.turn.new.self) c.args.patience.now.left c.loop-patience.patience.left c.loop-patience.invariant
     c.in-Idle.ensures.tells (grind (arith, out, none))
+
+pub returns-in-Dark-clause-costs : goal.returns-in-Dark-clause-costs
+returns-in-Dark-clause-costs g c =
+    let device = g.S.Shelf.device in
+    let test = c.loop-patience-test.true in
+    last_turn (state_of device c.args.self.now) (state_of device c.loop-patience.self) (state_of device c.turn.new.self) c.args.patience.now.left c.loop-patience.patience.left c.loop-patience.invariant
+    (omega (arith, test)) turned.Dark c.in-Dark.ensures.makes
+
+pub returns-in-Off-clause-costs : goal.returns-in-Off-clause-costs
+returns-in-Off-clause-costs g c =
+    let device = g.S.Shelf.device in
+    let test = c.loop-patience-test.true in
+    let first = state_of device c.args.self.now in
+    let new = state_of device c.turn.new.self in
+    let patience = c.args.patience.now.left in
+    let left = c.loop-patience.patience.left in
+    subst (λ (why : DrainFault). DrainCosts patience left first new (Err why)) (sym c.went_off.ensures)
+    (last_turn first (state_of device c.loop-patience.self) new patience left c.loop-patience.invariant (omega (arith, test)) turned.Off c.in-Off.ensures.makes)
+
+pub returns-then-flights-eq0-clause-costs : goal.returns-then-flights-eq0-clause-costs
+returns-then-flights-eq0-clause-costs g c =
+    let device = g.S.Shelf.device in
+    let test = c.loop-patience-test.true in
+    last_turn (state_of device c.args.self.now) (state_of device c.loop-patience.self) (state_of device c.turn.new.self) c.args.patience.now.left c.loop-patience.patience.left c.loop-patience.invariant
+    (omega (arith, test)) turned.Idle c.in-Idle.ensures.makes
+
+pub returns-clause-costs : goal.returns-clause-costs
+returns-clause-costs g c = c.loop-patience.invariant.costs

@@ -1,0 +1,3 @@
+//! Passed on from `lvm_handover`.
+
+pub use lvm_stage::below::handover::{serve, settle};

@@ -1,0 +1,3 @@
+//! Passed on from `lvm_mirrors`.
+
+pub use lvm_stage::below::mirrors::{mklvcopy, rmlvcopy};

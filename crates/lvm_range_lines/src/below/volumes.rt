@@ -1,0 +1,3 @@
+//! Passed on from `lvm_volumes`.
+
+pub use lvm_group_lines::below::volumes::{GroupFault, mklv, rmlv};
