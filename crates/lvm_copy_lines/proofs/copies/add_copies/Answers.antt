@@ -13,8 +13,8 @@ use Rattle.lvm_copy_lines.proofs.Carrying.{added_marks, added_may, added_rows, a
 use Rattle.lvm_volume_lines.proofs.passed.TieCopies.{has_volumes}
 use Rattle.lvm_copy_lines.proofs.copies.add_copies.Goals as goal
 
-pub mklvcopy-requires-clause-settled : goal.mklvcopy-requires-clause-settled
-mklvcopy-requires-clause-settled g c = λ takes. c.requires.settled
+pub mklvcopy-requires : goal.mklvcopy-requires
+mklvcopy-requires g c = record { settled = λ takes. c.requires.settled }
 
 pub go_on-requires-clause-rows : goal.go_on-requires-clause-rows
 go_on-requires-clause-rows g c =

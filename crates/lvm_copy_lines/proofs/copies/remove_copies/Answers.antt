@@ -8,8 +8,8 @@ use Rattle.lvm_volume_lines.specs.Commands.{IsLeftOn}
 use Rattle.lvm_copy_lines.proofs.Carrying.{removal_fails, removed_may, removed_rows}
 use Rattle.lvm_copy_lines.proofs.copies.remove_copies.Goals as goal
 
-pub rmlvcopy-requires-clause-settled : goal.rmlvcopy-requires-clause-settled
-rmlvcopy-requires-clause-settled g c = λ takes. c.requires.settled
+pub rmlvcopy-requires : goal.rmlvcopy-requires
+rmlvcopy-requires g c = record { settled = λ takes. c.requires.settled }
 
 pub go_on-requires-clause-rows : goal.go_on-requires-clause-rows
 go_on-requires-clause-rows g c =
