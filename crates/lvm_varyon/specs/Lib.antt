@@ -5,3 +5,4 @@ pub mod Restated
 pub mod Varied
 pub mod Parts
 pub mod Laws
+pub mod Equal
