@@ -16,7 +16,8 @@ use Rattle.lvm_begin.specs.declared.begin.Begun.TheVariants as begun
 use Rattle.lvm_begin.specs.Ends.{HasNoFault}
 use Rattle.lvm_write.specs.Writes.{DiskWritesLeave, IsBack}
 use Rattle.lvm_recovery.specs.declared.copying.Recopy.{Recopy}
-use Rattle.lvm_recovery.specs.Copying.{IsFull, IsAt, is_of_copy, IsOfCopy, IsCopied, CopyGives, sources_and_targets, IsOfCopies, AreApart, AllWell, HowAll, AllGive}
+use Rattle.lvm_recovery.proofs.Logged.{only_none, only_then, only_wider}
+use Rattle.lvm_recovery.specs.Copying.{IsInRun, IsInOneRun, LogsOnly, IsFull, IsAt, is_of_copy, IsOfCopy, IsCopied, CopyGives, sources_and_targets, IsOfCopies, AreApart, AllWell, HowAll, AllGive}
 use Rattle.lvm_recovery.proofs.Copied.{does_wider, does_then, back_then, well_then, failed_then, cut_then, left_then, or_first, or_second}
 
 -- ---- the list
@@ -45,6 +46,7 @@ disks_among (c ∷ copies) one d (inr among) is = or_second (is_of_copy c d) (so
 
 pub record SoFar (copies : List Recopy) (number p q : ℕ) (old now : Device) (buf : Buffer) (k : ℕ) : Type 0 where
   pub does : DiskWritesLeave (sources_and_targets copies) (IsOfCopies old copies) p q old now
+  pub ranges : LogsOnly (IsInOneRun copies) old.wrote now.wrote
   pub back : IsBack number old now buf
   pub full : IsFull buf
   pub well : HasNoFault old now
@@ -53,6 +55,7 @@ pub record SoFar (copies : List Recopy) (number p q : ℕ) (old now : Device) (b
 pub none_so_far : (copies : List Recopy) (p : ℕ) (old : Device) (buf : Buffer) → IsReady old → IsFull buf → SoFar copies buf.number p p old old buf 0
 none_so_far copies p old buf ready full = record {
   does = record { keeps = keeps_here (sources_and_targets copies) (IsOfCopies old copies) old; spends = spends_none p old; moments = Here (writing_here (IsOfCopies old copies) old ready.flights) };
+  ranges = only_none (IsInOneRun copies) old.wrote;
   back = record { ready = ready; cuts = refl; number_is = refl };
   full = full;
   well = λ d. refl;
@@ -105,6 +108,9 @@ module _ (copies : List Recopy) (apart : AreApart copies) (number p q : ℕ) (ol
     all_do : DiskWritesLeave (is_of_copy one) (IsOfCopy now one) q r now new → DiskWritesLeave (sources_and_targets copies) (IsOfCopies old copies) p r old new
     all_do does = does_then (sources_and_targets copies) (IsOfCopies old copies) p q r old now new so_far.does (next_does does)
 
+    all_log : LogsOnly (IsInRun one.into) now.wrote new.wrote → LogsOnly (IsInOneRun copies) old.wrote new.wrote
+    all_log logs = only_then (IsInOneRun copies) old.wrote now.wrote new.wrote so_far.ranges (only_wider (IsInRun one.into) (IsInOneRun copies) now.wrote new.wrote (λ range inside. (one, among, inside)) logs)
+
     -- what was copied stays so
     stays : DiskWritesLeave (is_of_copy one) (IsOfCopy now one) q r now new → (other : Recopy) → IsOneOf copies other → IsCopied old now other → IsCopied old new other
     stays does other is_one copied =
@@ -135,6 +141,7 @@ module _ (copies : List Recopy) (apart : AreApart copies) (number p q : ℕ) (ol
     pub one_more : (last : Buffer) → CopyGives one buf.number q r now new (begun.Ended last) → SoFar copies number p r old new last (k + 1)
     one_more last gives = record {
       does = all_do gives.does;
+      ranges = all_log gives.ranges;
       back = back_then number old now buf so_far.back so_far.well new last gives.how.back;
       full = gives.how.full;
       well = well_then number old now buf so_far.back so_far.well new gives.how.well;
@@ -151,14 +158,16 @@ module _ (copies : List Recopy) (apart : AreApart copies) (number p q : ℕ) (ol
     stopped_here (begun.Ended b) never gives = absurd (never b refl)
     stopped_here (begun.DiskFailed disk b) never gives = record {
       does = all_do gives.does;
+      ranges = all_log gives.ranges;
       how = (disks_among copies one disk among gives.how.0, failed_then number old now buf so_far.back so_far.well new disk b gives.how.1);
     }
-    stopped_here begun.Dark never gives = record { does = all_do gives.does; how = cut_then number old now buf so_far.back so_far.well new gives.how }
-    stopped_here begun.Stuck never gives = record { does = all_do gives.does; how = left_then number old now buf so_far.back so_far.well p q new so_far.does.spends gives.how }
+    stopped_here begun.Dark never gives = record { does = all_do gives.does; ranges = all_log gives.ranges; how = cut_then number old now buf so_far.back so_far.well new gives.how }
+    stopped_here begun.Stuck never gives = record { does = all_do gives.does; ranges = all_log gives.ranges; how = left_then number old now buf so_far.back so_far.well p q new so_far.does.spends gives.how }
 
 pub all_so_far : (copies : List Recopy) (number p q : ℕ) (old now : Device) (buf : Buffer) (k : ℕ) → length copies ≤ k → SoFar copies number p q old now buf k → AllGive copies number p q old now (begun.Ended buf)
 all_so_far copies number p q old now buf k all so_far = record {
   does = so_far.does;
+  ranges = so_far.ranges;
   how = record {
     back = so_far.back;
     full = so_far.full;

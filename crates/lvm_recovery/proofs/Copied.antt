@@ -18,7 +18,8 @@ use Rattle.lvm_begin.specs.declared.begin.Begun.TheVariants as begun
 use Rattle.lvm_begin.specs.Ends.{HasNoFault}
 use Rattle.lvm_write.specs.Writes.{DiskWritesLeave, IsBack}
 use Rattle.lvm_recovery.specs.declared.copying.Recopy.{Recopy}
-use Rattle.lvm_recovery.specs.Copying.{IsFull, IsAt, IsLeftOut, HasFailed, IsOfStep, HoldsRun, RunHolds, HasMoved, StepWell, HowStep, StepGives, is_of_copy, IsOfCopy, IsCopied, CopyWell, HowCopy, CopyGives}
+use Rattle.lvm_recovery.proofs.Logged.{in_run, only_planned, only_then}
+use Rattle.lvm_recovery.specs.Copying.{IsInRun, LogsOnly, IsFull, IsAt, IsLeftOut, HasFailed, IsOfStep, HoldsRun, RunHolds, HasMoved, StepWell, HowStep, StepGives, is_of_copy, IsOfCopy, IsCopied, CopyWell, HowCopy, CopyGives}
 
 -- ---- what is done is done by more, too
 
@@ -44,10 +45,10 @@ module _ (T U : Disks) (P Q : Plan) (disks : (d : ℕ) → IsTrue (T d) → IsTr
         (λ m k was is by. changes_more P Q (image_of old.sizes m) (image_of new.sizes k) more by);
   }
 
-  pub does_wider : (before after : ℕ) (old new : Device) → Does T P before after old new → Does U Q before after old new
+  pub does_wider : (before after : ℕ) (old new : Device) → DiskWritesLeave T P before after old new → Does U Q before after old new
   does_wider before after old new does = record { keeps = keeps_wider old new does.keeps; spends = does.spends; moments = moments_wider P Q more old new does.moments }
 
-pub does_then : (T : Disks) (P : Plan) (p q r : ℕ) (old mid new : Device) → Does T P p q old mid → Does T P q r mid new → Does T P p r old new
+pub does_then : (T : Disks) (P : Plan) (p q r : ℕ) (old mid new : Device) → DiskWritesLeave T P p q old mid → DiskWritesLeave T P q r mid new → DiskWritesLeave T P p r old new
 does_then T P p q r old mid new one two = record {
   keeps = keeps_then T P old mid new one.keeps two.keeps;
   spends = spends_then p q r old mid new one.spends two.spends;
@@ -99,15 +100,20 @@ module _ (one : Recopy) (buf : Buffer) (p q : ℕ) (old mid : Device) where
   read_does does = does_wider (λ d. d == one.from.disk) (is_of_copy one) (IsOfStep false one.from buf) (IsOfCopy old one)
       (λ d is. or_first (d == one.from.disk) (d == one.into.disk) is) (λ d s value nothing. absurd (let e : false ≡ true = nothing.writes in cc)) p q old mid does
 
+  -- of a read no range is told
+  read_logs : DiskWritesLeave (λ d. d == one.from.disk) (IsOfStep false one.from buf) p q old mid → LogsOnly (IsInRun one.into) old.wrote mid.wrote
+  read_logs does = only_planned (IsOfStep false one.from buf) (IsInRun one.into) old.wrote mid.wrote (λ range inside. absurd (let e : false ≡ true = (in_run false one.from buf range inside).0 in cc)) does.keeps.wrote
+
   -- it was not read
   pub not_read : (how : Begun) → ((b : Buffer) → how ≡ begun.Ended b → ⊥) → StepGives false one.from buf p q old mid how → CopyGives one buf.number p q old mid how
   not_read (begun.Ended b) never gives = absurd (never b refl)
   not_read (begun.DiskFailed disk b) never gives = record {
     does = read_does gives.does;
+    ranges = read_logs gives.does;
     how = (or_first (disk == one.from.disk) (disk == one.into.disk) (eq-eqb disk one.from.disk gives.how.0), gives.how.1);
   }
-  not_read begun.Dark never gives = record { does = read_does gives.does; how = gives.how }
-  not_read begun.Stuck never gives = record { does = read_does gives.does; how = gives.how }
+  not_read begun.Dark never gives = record { does = read_does gives.does; ranges = read_logs gives.does; how = gives.how }
+  not_read begun.Stuck never gives = record { does = read_does gives.does; ranges = read_logs gives.does; how = gives.how }
 
   module _ (back : Buffer) (read : StepGives false one.from buf p q old mid (begun.Ended back)) where
     -- what the write brings
@@ -127,12 +133,17 @@ module _ (one : Recopy) (buf : Buffer) (p q : ℕ) (old mid : Device) where
       both_do does = does_then (is_of_copy one) (IsOfCopy old one) p q r old mid new (read_does read.does)
           (does_wider (λ d. d == one.into.disk) (is_of_copy one) (IsOfStep true one.into back) (IsOfCopy old one) (λ d is. or_second (d == one.from.disk) (d == one.into.disk) is) brings q r mid new does)
 
+      both_log : DiskWritesLeave (λ d. d == one.into.disk) (IsOfStep true one.into back) q r mid new → LogsOnly (IsInRun one.into) old.wrote new.wrote
+      both_log does = only_then (IsInRun one.into) old.wrote mid.wrote new.wrote (read_logs read.does)
+          (only_planned (IsOfStep true one.into back) (IsInRun one.into) mid.wrote new.wrote (λ range inside. (in_run true one.into back range inside).1) does.keeps.wrote)
+
       -- then it was written, well or not
       pub then_written : (how : Begun) → StepGives true one.into back q r mid new how → CopyGives one buf.number p r old new how
       then_written (begun.Ended last) gives =
           let does = both_do gives.does in
           record {
             does = does;
+            ranges = both_log gives.does;
             how = record {
               back = back_then buf.number old mid back read.how.rested read.how.well new last gives.how.rested;
               full = gives.how.full;
@@ -146,7 +157,8 @@ module _ (one : Recopy) (buf : Buffer) (p q : ℕ) (old mid : Device) where
           }
       then_written (begun.DiskFailed disk last) gives = record {
         does = both_do gives.does;
+        ranges = both_log gives.does;
         how = (or_second (disk == one.from.disk) (disk == one.into.disk) (eq-eqb disk one.into.disk gives.how.0), failed_then buf.number old mid back read.how.rested read.how.well new disk last gives.how.1);
       }
-      then_written begun.Dark gives = record { does = both_do gives.does; how = cut_then buf.number old mid back read.how.rested read.how.well new gives.how }
-      then_written begun.Stuck gives = record { does = both_do gives.does; how = left_then buf.number old mid back read.how.rested read.how.well p q new read.does.spends gives.how }
+      then_written begun.Dark gives = record { does = both_do gives.does; ranges = both_log gives.does; how = cut_then buf.number old mid back read.how.rested read.how.well new gives.how }
+      then_written begun.Stuck gives = record { does = both_do gives.does; ranges = both_log gives.does; how = left_then buf.number old mid back read.how.rested read.how.well p q new read.does.spends gives.how }

@@ -8,7 +8,6 @@ use Rattle.lvm_num.specs.declared.descriptor.PvRow.{PvRow}
 use Rattle.lvm_num.specs.declared.descriptor.LvRow.{LvRow}
 use Rattle.lvm_num.specs.declared.descriptor.Descriptor.{Descriptor}
 use Rattle.lvm_num.specs.declared.status.Status.{Status}
-use Rattle.lvm_num.specs.Buffer.{Buffer}
 use Rattle.lvm_num.specs.Disks.{Disks}
 use Rattle.lvm_num.specs.Geometry.{data_start, partition_blocks, sector_of, sectors_needed}
 use Rattle.lvm_num.specs.Descriptor.{IsValid, IsPartitionOf, copies_of, member_of, partitions_used}
@@ -16,11 +15,8 @@ use Rattle.lvm_num.specs.Record.{Stamped}
 use Rattle.lvm_disk.specs.Device.{Media, Device, image_of}
 use Rattle.lvm_kept.specs.Contents.{Contents, contents_of}
 use Rattle.lvm_kept.specs.Group.{IsOneOf, is_named, is_stale_by, fresh_on}
-use Rattle.lvm_kept.specs.Plans.{ChangesBy}
-use Rattle.lvm_kept.specs.Torn.{IsOfNote}
 use Rattle.lvm_kept.proofs.Standing.{note_shows}
-use Rattle.lvm_write.specs.Notes.{empty_note_sector}
-use Rattle.lvm_write.proofs.Writing.{both_at, changes_more}
+use Rattle.lvm_write.proofs.Writing.{changes_more}
 use Rattle.lvm_commit.proofs.Copies.{of_map, of_rows}
 use Rattle.lvm_rest.proofs.Good.{mib_positive}
 use Rattle.lvm_recover.specs.Recopied.{IsFromFirst}
@@ -105,21 +101,17 @@ one_side true a b = absurd cc
 one_side false a b = absurd cc
 
 pub equalised_ends : EqualisedEnds
-equalised_ends copies epoch targets number before after old new buf group status there is it on told_new =
-    let media = it.may.media in
-    let mid = both_at old.media on.mid.media (λ was is. ChangesBy (IsOfCopies old copies) (image_of old.sizes was) (image_of on.mid.sizes is)) media on.copied.does.keeps.media it.may.told in
-    let last = both_at on.mid.media new.media (λ was is. ChangesBy (IsOfNote targets (empty_note_sector epoch)) (image_of on.mid.sizes was) (image_of new.sizes is)) mid.0 on.emptied.does.keeps.media mid.1 in
-    let same : last.0 ≡ is = let e : Some last.0 ≡ Some is = sym last.1 ∙ told_new in cc in
-    let notes = note_shows targets (empty_note_sector epoch) (image_of on.mid.sizes mid.0) (image_of new.sizes is) (subst (λ (x : Media). ChangesBy (IsOfNote targets (empty_note_sector epoch)) (image_of on.mid.sizes mid.0) (image_of new.sizes x)) same last.2) in
+equalised_ends copies targets sector old mid new group status there was between is valid inside told_old told_mid planned by copied notes_by =
+    let notes = note_shows targets sector (image_of mid.sizes between) (image_of new.sizes is) notes_by in
     record {
-      copied = contents_of (image_of on.mid.sizes mid.0);
-      recopied = images_are_recopied group (Some it.may.shows.stands) there (image_of old.sizes media) (image_of on.mid.sizes mid.0)
-          (changes_more (IsOfCopies old copies) (IsFromFirst (contents_of (image_of old.sizes media)) group (Some it.may.shows.stands) there) (image_of old.sizes media) (image_of on.mid.sizes mid.0)
-          (planned_are_from_first group (Some it.may.shows.stands) there copies old media it.may.valid it.may.told it.planned.each) mid.2);
-      equalled = planned_are_equalled group (Some it.may.shows.stands) there copies old on.mid media mid.0 it.may.valid it.may.told mid.1 it.planned mid.2 on.copied.how.copied;
+      copied = contents_of (image_of mid.sizes between);
+      recopied = images_are_recopied group status there (image_of old.sizes was) (image_of mid.sizes between)
+          (changes_more (IsOfCopies old copies) (IsFromFirst (contents_of (image_of old.sizes was)) group status there) (image_of old.sizes was) (image_of mid.sizes between)
+          (planned_are_from_first group status there copies old was valid told_old planned.each) by);
+      equalled = planned_are_equalled group status there copies old mid was between valid told_old told_mid planned by copied;
       emptied = record {
         rest = notes.rest;
-        others = λ d isnt. ⊎_elim (λ same. same) (λ own. one_side (there d) (it.targets_there d own.0) isnt) (notes.own d);
+        others = λ d isnt. ⊎_elim (λ same. same) (λ own. one_side (there d) (inside d own.0) isnt) (notes.own d);
       };
     }
 

@@ -31,7 +31,7 @@ use Rattle.lvm_recover.proofs.Copying.{left_passes, cons_same, equal_stays}
 use Rattle.lvm_recover.proofs.Images.{images_are_recopied}
 use Rattle.lvm_recovery.specs.declared.copying.Recopy.{Recopy}
 use Rattle.lvm_recovery.specs.Copying.{IsAt, IsOfCopy, IsOfCopies, IsCopied, AreApart}
-use Rattle.lvm_recovery.specs.Planned.{place_on, IsNamedByOne, IsPlannedCopy, ArePlanned, PlannedAreApart, PlannedAreFromFirst, PlannedAreNamedEqualled}
+use Rattle.lvm_recovery.specs.Planned.{place_on, IsNamedByOne, IsPlannedCopy, ArePlanned, PlannedAreApart, PlannedAreFromFirst, PlannedAreEqualled}
 use Rattle.lvm_recovery.proofs.AllCopied.{place_of_one}
 
 -- ---- lists
@@ -79,7 +79,7 @@ in_group mib g i some low =
       track_group = div-mul-add g 256 i low ∙ sym (div-mul-add g 256 0 (omega arith)) ∙ ap (λ (k : ℕ). k / 256) (omega arith);
     }
 
-group_of_start : (g : ℕ) → track_group_of (g * 256) ≡ g
+pub group_of_start : (g : ℕ) → track_group_of (g * 256) ≡ g
 group_of_start g = ap (λ (k : ℕ). k / 256) (omega arith) ∙ div-mul-add g 256 0 (omega arith)
 
 module _ (group : Descriptor) (valid : IsValid group) (status : Option (Stamped Status)) (there : Disks) where
@@ -94,10 +94,10 @@ module _ (group : Descriptor) (valid : IsValid group) (status : Option (Stamped 
       (AllPairs-filter (λ (a b : Pp). a.disk ≡ b.disk → ⊥) (λ (q : Pp). there q.disk && not (is_stale_by status q)) (copies_of row lp) (laid.strict lp low)) is one refl
 
   -- the block of a planned copy at sector i of its run
-  block_inside : (c : Contents) (one : Recopy) (p : IsPlannedCopy c group status there one) (i : ℕ) → i < 256 → IsBlockOf group.mib p.row p.lp (p.g * 256 + i)
+  pub block_inside : (c : Contents) (one : Recopy) (p : IsPlannedCopy c group status there one) (i : ℕ) → i < 256 → IsBlockOf group.mib p.row p.lp (p.g * 256 + i)
   block_inside c one p i low = record { inside = p.inside.inside; partition = (in_group group.mib p.g i (mib_positive group valid) low).partition ∙ p.inside.partition }
 
-  sector_is : (pp g i : ℕ) → i < 256 → sector_of group.mib pp (g * 256 + i) ≡ sector_of group.mib pp (g * 256) + i
+  pub sector_is : (pp g i : ℕ) → i < 256 → sector_of group.mib pp (g * 256 + i) ≡ sector_of group.mib pp (g * 256) + i
   sector_is pp g i low = let rest = (in_group group.mib g i (mib_positive group valid) low).rest in omega (arith, rest)
 
   module _ (c : Contents) (a b : Recopy) (p : IsPlannedCopy c group status there a) (q : IsPlannedCopy c group status there b) (i j d s : ℕ) where

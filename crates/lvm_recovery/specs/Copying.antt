@@ -1,12 +1,12 @@
 -- Runs of 256 sectors that are copied between disks.
-use Rattle.std.specs.Prelude.{◌≡◌, ◌⊎◌, ℕ, ◌+◌, ◌-◌, ◌<◌, ◌≤◌, ◌==◌, ◌||◌, Bool, true, false, List, [], ◌∷◌, length, Some, slice_get, IsTrue, IfSome}
+use Rattle.std.specs.Prelude.{◌≡◌, ◌⊎◌, ℕ, ◌+◌, ◌-◌, ◌<◌, ◌≤◌, ◌==◌, ◌||◌, Bool, true, false, List, [], ◌∷◌, length, Some, slice_get, IsTrue, IfSome, All, Option, None, ◌++◌}
 use Rattle.std.specs.List.{list_any}
 use Rattle.lvm_num.specs.declared.place.Place.{Place}
 use Rattle.lvm_num.specs.Buffer.{Buffer, Sector}
 use Rattle.lvm_num.specs.Disks.{Disks}
 use Rattle.lvm_num.specs.Geometry.{data_start}
 use Rattle.lvm_disk.specs.Counts.{Rose, RoseBy}
-use Rattle.lvm_disk.specs.Device.{Media, Flight, Device}
+use Rattle.lvm_disk.specs.Device.{Media, Range, Flight, Device}
 use Rattle.lvm_disk.specs.Steps.{BothTold}
 use Rattle.lvm_kept.specs.Plans.{Plan}
 use Rattle.lvm_kept.specs.Group.{IsOneOf}
@@ -52,6 +52,22 @@ pub record HasFailed (number : ℕ) (old new : Device) (disk : ℕ) (buf : Buffe
 -- a buffer has 256 sectors
 abbrev pub IsFull : Buffer → Type 0
 IsFull buf = length buf.sectors ≡ 256
+
+-- ---- ranges that are told
+
+-- the range has sectors, and they lie among the 256 from this place on
+pub record IsInRun (place : Place) (range : Range) : Type 0 where
+  pub disk : range.disk ≡ place.disk
+  pub low : place.sector ≤ range.first
+  pub some : 1 ≤ range.count
+  pub high : range.first + range.count ≤ place.sector + 256
+
+-- The ranges that are told are those that were told before and others of which this holds; or they are told no more.
+abbrev pub LogsOnly : (Range → Type 0) → Option (List Range) → Option (List Range) → Type 0
+LogsOnly Q None None = Unit {0}
+LogsOnly Q None (Some new) = ⊥
+LogsOnly Q (Some old) None = Unit {0}
+LogsOnly Q (Some old) (Some new) = (more : List Range) × (new ≡ old ++ more) × All Q more
 
 -- ---- one transfer
 
@@ -121,6 +137,7 @@ HowCopy one number before old new begun.Stuck = IsLeftOut number before old new
 
 pub record CopyGives (one : Recopy) (number before after : ℕ) (old new : Device) (result : Begun) : Type 0 where
   pub does : DiskWritesLeave (is_of_copy one) (IsOfCopy old one) before after old new
+  pub ranges : LogsOnly (IsInRun one.into) old.wrote new.wrote
   pub how : HowCopy one number before old new result
 
 -- ---- several
@@ -134,6 +151,10 @@ pub record IsOfCopies (old : Device) (copies : List Recopy) (d s : ℕ) (value :
   pub one : Recopy
   pub among : IsOneOf copies one
   pub its : IsOfCopy old one d s value
+
+-- the range lies in the second run of one of them
+abbrev pub IsInOneRun : List Recopy → Range → Type 0
+IsInOneRun copies range = (one : Recopy) × IsOneOf copies one × IsInRun one.into range
 
 -- No copy is written over what another is to be made of, and no sector comes from two places.
 pub record AreApart (copies : List Recopy) : Type 0 where
@@ -155,4 +176,5 @@ HowAll copies number before old new begun.Stuck = IsLeftOut number before old ne
 -- how copies ended, in this order: whatever came of them, only they were made
 pub record AllGive (copies : List Recopy) (number before after : ℕ) (old new : Device) (result : Begun) : Type 0 where
   pub does : DiskWritesLeave (sources_and_targets copies) (IsOfCopies old copies) before after old new
+  pub ranges : LogsOnly (IsInOneRun copies) old.wrote new.wrote
   pub how : HowAll copies number before old new result

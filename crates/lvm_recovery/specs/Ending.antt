@@ -3,23 +3,25 @@ use Rattle.std.specs.Prelude.{◌≡◌, ℕ, ◌≤◌, List, Option, Some, IsT
 use Rattle.lvm_num.specs.declared.descriptor.PvRow.{PvRow}
 use Rattle.lvm_num.specs.declared.descriptor.Descriptor.{Descriptor}
 use Rattle.lvm_num.specs.declared.status.Status.{Status}
-use Rattle.lvm_num.specs.Buffer.{Buffer}
+use Rattle.lvm_num.specs.Buffer.{Sector}
 use Rattle.lvm_num.specs.Disks.{Disks}
 use Rattle.lvm_num.specs.Geometry.{sectors_needed}
 use Rattle.lvm_num.specs.Descriptor.{IsValid, member_of}
 use Rattle.lvm_num.specs.Record.{Stamped}
-use Rattle.lvm_disk.specs.Device.{Media, Device, image_of}
+use Rattle.lvm_disk.specs.Device.{Media, Range, Device, image_of}
 use Rattle.lvm_kept.specs.Contents.{Contents, contents_of}
-use Rattle.lvm_kept.specs.Group.{is_named}
-use Rattle.lvm_begin.specs.declared.begin.Begun.TheVariants as begun
+use Rattle.lvm_kept.specs.Group.{is_voter, status_among, is_named, IsOneOf}
+use Rattle.lvm_kept.specs.Recovered.{IsCopyRange}
+use Rattle.lvm_kept.specs.Plans.{ChangesBy}
+use Rattle.lvm_kept.specs.Torn.{IsOfNote}
 use Rattle.lvm_recover.specs.Recopied.{IsRecopied, AreNamedEqualled, OnlyNotesOf}
 use Rattle.lvm_recovery.specs.declared.copying.Recopy.{Recopy}
-use Rattle.lvm_recovery.specs.Copying.{MayCopy}
+use Rattle.lvm_recovery.specs.Copying.{MayCopy, IsCopied, IsInOneRun, IsOfCopies}
 use Rattle.lvm_num.specs.Votes.{CanWrite}
 use Rattle.lvm_commit.specs.Committed.{ShowsCommitted}
 use Rattle.lvm_next.specs.Next.{IsNextStatus}
 use Rattle.lvm_recovery.specs.Planned.{ArePlanned}
-use Rattle.lvm_recovery.specs.Equalising.{WentOn, MayEqualise}
+use Rattle.lvm_recovery.specs.Equalising.{MayEqualise}
 
 -- What is planned by notes is planned by others that name the same on the disks that are there.
 abbrev pub SameNotesSamePlan : Type 0
@@ -35,6 +37,12 @@ abbrev pub PlannedMayBeMade : Type 0
 PlannedMayBeMade = (c : Contents) (group : Descriptor) (status : Option (Stamped Status)) (there : Disks) (sizes : List ℕ) (copies : List Recopy)
     → IsValid group → HaveSectors sizes group there → ArePlanned c group status there copies → All (MayCopy sizes) copies
 
+-- A range that lies in the second run of one of them is one of blocks that are made equal, of a fresh copy on a voter.
+abbrev pub RunsAreOfCopies : Type 0
+RunsAreOfCopies = (old : Contents) (disks : Disks) (group : Descriptor) (was : Stamped Status) (copies : List Recopy) (range : Range)
+    → IsValid group → status_among old disks group.id ≡ Some was → ArePlanned old group (Some was) (is_voter old disks group.id) copies → IsInOneRun copies range
+    → IsTrue (is_voter old disks group.id range.disk) × IsCopyRange old disks group.id group range
+
 -- What is shown at the end: blocks copied from the first copies, all that notes name in mode active made equal, and then only notes changed.
 pub record ShowsEqualised (group : Descriptor) (status : Option (Stamped Status)) (there : Disks) (old new : Contents) : Type 0 where
   pub copied : Contents
@@ -43,9 +51,12 @@ pub record ShowsEqualised (group : Descriptor) (status : Option (Stamped Status)
   pub emptied : OnlyNotesOf there copied new
 
 abbrev pub EqualisedEnds : Type 0
-EqualisedEnds = (copies : List Recopy) (epoch : ℕ) (targets : Disks) (number before after : ℕ) (old new : Device) (buf : Buffer) (group : Descriptor) (status : Status) (there : Disks) (is : Media)
-    → (it : MayEqualise copies targets group status there old) → WentOn copies epoch targets number before after old new (begun.Ended buf) → new.media ≡ Some is
-    → ShowsEqualised group (Some it.may.shows.stands) there (contents_of (image_of old.sizes it.may.media)) (contents_of (image_of new.sizes is))
+EqualisedEnds = (copies : List Recopy) (targets : Disks) (sector : Sector) (old mid new : Device) (group : Descriptor) (status : Option (Stamped Status)) (there : Disks) (was between is : Media)
+    → IsValid group → ((d : ℕ) → IsTrue (targets d) → IsTrue (there d)) → old.media ≡ Some was → mid.media ≡ Some between
+    → ArePlanned (contents_of (image_of old.sizes was)) group status there copies
+    → ChangesBy (IsOfCopies old copies) (image_of old.sizes was) (image_of mid.sizes between) → ((one : Recopy) → IsOneOf copies one → IsCopied old mid one)
+    → ChangesBy (IsOfNote targets sector) (image_of mid.sizes between) (image_of new.sizes is)
+    → ShowsEqualised group status there (contents_of (image_of old.sizes was)) (contents_of (image_of new.sizes is))
 
 -- What is planned by the status that was found is planned by the next one,
 abbrev pub NextSamePlan : Type 0

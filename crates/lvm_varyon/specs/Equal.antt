@@ -18,7 +18,7 @@ use Rattle.lvm_homes.specs.declared.homes.Homes.{Homes}
 use Rattle.lvm_begin.specs.Beginning.{Beginning, again_order, MayBeginAgain}
 use Rattle.lvm_begin.specs.Ends.{HasNoFault, IsLowestFailed}
 use Rattle.lvm_recovery.specs.declared.copying.Recopy.{Recopy}
-use Rattle.lvm_recovery.specs.Copying.{AreApart, IsCopied, IsOfCopies, MayCopy, sources_and_targets}
+use Rattle.lvm_recovery.specs.Copying.{AreApart, IsCopied, IsInOneRun, IsOfCopies, LogsOnly, MayCopy, sources_and_targets}
 use Rattle.lvm_recovery.specs.Equalising.{MayEqualise}
 use Rattle.lvm_core.specs.declared.refused.Cause.{Cause}
 use Rattle.lvm_core.specs.declared.refused.Cause.TheVariants as cause
@@ -31,6 +31,8 @@ use Rattle.lvm_varyon.specs.Writing.{AllWritten, OneWriteFailed, WasBrokenOff, I
 pub record HaveBeenCopied (copies : List Recopy) (old new : Device) : Type 0 where
   pub copied : (one : Recopy) → IsOneOf copies one → IsCopied old new one
   pub keeps : KeepsShelf (sources_and_targets copies) (IsOfCopies old copies) old new
+  -- each range that was written lies in one of these second runs
+  pub ranges : LogsOnly (IsInOneRun copies) old.wrote new.wrote
   pub well : HasNoFault old new
 
 -- the notes of these disks may have been emptied, and nothing else has changed
