@@ -69,8 +69,8 @@ module _ (write : Bool) (place : Place) (buf : Buffer) where
   step_in_plan writes full = (
     omega arith,
     λ s low high.
-    let it = sector_of_full buf (s - place.sector) full (omega (arith, low, high)) in
-    (it.0, record { writes = writes; i = s - place.sector; at = record { disk = refl; inside = omega (arith, low, high); sector = omega (arith, low) }; is = it.1 }),
+        let it = sector_of_full buf (s - place.sector) full (omega (arith, low, high)) in
+        (it.0, record { writes = writes; i = s - place.sector; at = record { disk = refl; inside = omega (arith, low, high); sector = omega (arith, low) }; is = it.1 }),
   )
 
 -- ---- what a start changes
@@ -135,11 +135,11 @@ put_holds ticket place buf m k puts i value inside is =
     let above : nat_le place.sector s ≡ true = grind (arith, nat_tests) in
     let below : nat_lt s (place.sector + 256) ≡ true = grind (arith, nat_tests, inside) in
     let carried : written (flight_of ticket true place.disk place.sector 256 buf) place.disk s ≡ Some value =
-        ap (λ (b : Bool). if b && nat_le place.sector s && nat_lt s (place.sector + 256) then slice_get buf.sectors (s - place.sector) else None) here
-        ∙ ap (λ (b : Bool). if b && nat_lt s (place.sector + 256) then slice_get buf.sectors (s - place.sector) else None) above
-        ∙ ap (λ (b : Bool). if b then slice_get buf.sectors (s - place.sector) else None) below
-        ∙ ap (λ (n : ℕ). slice_get buf.sectors n) (omega arith)
-        ∙ is in
+    ap (λ (b : Bool). if b && nat_le place.sector s && nat_lt s (place.sector + 256) then slice_get buf.sectors (s - place.sector) else None) here
+    ∙ ap (λ (b : Bool). if b && nat_lt s (place.sector + 256) then slice_get buf.sectors (s - place.sector) else None) above
+    ∙ ap (λ (b : Bool). if b then slice_get buf.sectors (s - place.sector) else None) below
+    ∙ ap (λ (n : ℕ). slice_get buf.sectors n) (omega arith)
+    ∙ is in
     puts place.disk s ∙ ap (λ (o : Option Sector). unwrap_or o (m place.disk s)) carried
 
 record Effect (write : Bool) (place : Place) (buf : Buffer) (before : ℕ) (old new : Device) (how : Moved) : Type 0 where

@@ -124,11 +124,11 @@ all_named s disks items sorted final k {E} e same whole so_far there back filter
     record {
       exactly = λ one. (
         (λ among.
-        let it = so_far.each one (one_of items one (Contains-permutation sorted items one back (Contains-from_dedup E sorted one (subst (λ (l : List TrackGroup). Contains l one) is (contains final one among))))) in
-        (it.d, it.disk, it.named)),
+            let it = so_far.each one (one_of items one (Contains-permutation sorted items one back (Contains-from_dedup E sorted one (subst (λ (l : List TrackGroup). Contains l one) is (contains final one among))))) in
+            (it.d, it.disk, it.named)),
         (λ named.
-        let low = row_is_there s named.0 one named.2 in
-        one_of final one (subst (λ (l : List TrackGroup). Contains l one) (sym is) (Contains-dedup e same sorted one (Contains-permutation items sorted one there (contains items one (so_far.all one (record { d = named.0; below = omega (arith, low, whole); disk = named.1; named = named.2 })))))))
+            let low = row_is_there s named.0 one named.2 in
+            one_of final one (subst (λ (l : List TrackGroup). Contains l one) (sym is) (Contains-dedup e same sorted one (Contains-permutation items sorted one there (contains items one (so_far.all one (record { d = named.0; below = omega (arith, low, whole); disk = named.1; named = named.2 }))))))),
       );
     }
 

@@ -127,9 +127,9 @@ module _ (c : Contents) (group : Descriptor) (status : Stamped Status) (there : 
       let usable : filter (usable_by status.value there) (copies_of p.row (partition_of group.mib (p.g * 256))) ≡ p.first ∷ p.others = ap (λ (n : ℕ). filter (usable_by status.value there) (copies_of p.row n)) partition ∙ p.usable in
       let same : one ≡ record { from = place_on group.mib p.first (p.g * 256); into = place_on group.mib p.copy (p.g * 256) } = ap (λ x. record { from = x; into = one.into }) p.from ∙ ap (λ x. record { from = place_on group.mib p.first (p.g * 256); into = x }) p.into in
       let whole : copies_of_group group.mib status.value there p.row p.g ≡ copies_from group.mib (p.g * 256) (p.first ∷ p.others) =
-          ap (λ (t : Bool). if t && nat_lt (partition_of group.mib (p.g * 256)) p.row.lps then copies_from group.mib (p.g * 256) (filter (usable_by status.value there) (copies_of p.row (partition_of group.mib (p.g * 256)))) else []) active
-          ∙ ap (λ (t : Bool). if t then copies_from group.mib (p.g * 256) (filter (usable_by status.value there) (copies_of p.row (partition_of group.mib (p.g * 256)))) else []) low
-          ∙ ap (λ (l : List Pp). copies_from group.mib (p.g * 256) l) usable in
+      ap (λ (t : Bool). if t && nat_lt (partition_of group.mib (p.g * 256)) p.row.lps then copies_from group.mib (p.g * 256) (filter (usable_by status.value there) (copies_of p.row (partition_of group.mib (p.g * 256)))) else []) active
+      ∙ ap (λ (t : Bool). if t then copies_from group.mib (p.g * 256) (filter (usable_by status.value there) (copies_of p.row (partition_of group.mib (p.g * 256)))) else []) low
+      ∙ ap (λ (l : List Pp). copies_from group.mib (p.g * 256) l) usable in
       subst (λ (l : List Recopy). IsOneOf l one) (sym whole)
       (subst (IsOneOf (copies_from group.mib (p.g * 256) (p.first ∷ p.others))) (sym same)
       (to_map (λ (x : Pp). record { from = place_on group.mib p.first (p.g * 256); into = place_on group.mib x (p.g * 256) }) p.others p.copy p.further))

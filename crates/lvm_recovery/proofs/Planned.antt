@@ -116,7 +116,7 @@ module _ (group : Descriptor) (valid : IsValid group) (status : Option (Stamped 
     from_is_no_into : IsAt a.from d s i → IsAt b.into d s j → ⊥
     from_is_no_into at_from at_into =
         let same = meet p.first q.copy (inl refl) (inr q.further) at_from.inside at_into.inside (at_from.disk ∙ ap (λ (x : Place). x.disk) p.from) (at_into.disk ∙ ap (λ (x : Place). x.disk) q.into)
-            (at_from.sector ∙ ap (λ (x : Place). x.sector + i) p.from) (at_into.sector ∙ ap (λ (x : Place). x.sector + j) q.into) in
+        (at_from.sector ∙ ap (λ (x : Place). x.sector + i) p.from) (at_into.sector ∙ ap (λ (x : Place). x.sector + j) q.into) in
         let lists = same_usable p.first q.copy same in
         let firsts : q.first ≡ p.first = cons_same q.first p.first q.others p.others lists in
         first_is_no_other q.row q.lp q.first q.others q.volume q.inside.inside q.usable (subst (IsOneOf q.others) (sym same.copy_is ∙ sym firsts) q.further)
@@ -124,7 +124,7 @@ module _ (group : Descriptor) (valid : IsValid group) (status : Option (Stamped 
     into_is_one : IsAt a.into d s i → IsAt b.into d s j → a ≡ b
     into_is_one at_a at_b =
         let same = meet p.copy q.copy (inr p.further) (inr q.further) at_a.inside at_b.inside (at_a.disk ∙ ap (λ (x : Place). x.disk) p.into) (at_b.disk ∙ ap (λ (x : Place). x.disk) q.into)
-            (at_a.sector ∙ ap (λ (x : Place). x.sector + i) p.into) (at_b.sector ∙ ap (λ (x : Place). x.sector + j) q.into) in
+        (at_a.sector ∙ ap (λ (x : Place). x.sector + i) p.into) (at_b.sector ∙ ap (λ (x : Place). x.sector + j) q.into) in
         let firsts : q.first ≡ p.first = cons_same q.first p.first q.others p.others (same_usable p.copy q.copy same) in
         let blocks = same.block_is in
         let low_i = at_a.inside in

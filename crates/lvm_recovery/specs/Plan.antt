@@ -17,7 +17,6 @@ use Rattle.lvm_next.specs.Next.{is_active}
 use Rattle.lvm_recovery.specs.declared.copying.Recopy.{Recopy}
 use Rattle.lvm_recovery.specs.declared.plan.TrackGroup.{TrackGroup}
 use Rattle.lvm_recovery.specs.Planned.{IsNamedByOne, ArePlanned}
-
 -- where a block of a volume stands on a copy
 pub use Rattle.lvm_recovery.specs.Planned.{place_on}
 

@@ -5,8 +5,8 @@ ghost use Rattle.lvm_recovery.specs.Copying.{IsFull, StepGives, CopyGives, AllGi
 
 use lvm_begin::Begun;
 use lvm_disk::Shelf;
-use lvm_transfer::{Moved, Patience, transfer};
 use lvm_num::{Pbuf, Place};
+use lvm_transfer::{Moved, Patience, transfer};
 
 // The sectors of a track group, which are those of a buffer.
 const RUN: u32 = 256;

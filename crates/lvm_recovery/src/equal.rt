@@ -10,8 +10,8 @@ use crate::copying::{Recopy, copy_all};
 use crate::forgetting::forget_notes;
 use lvm_begin::Begun;
 use lvm_disk::Shelf;
-use lvm_transfer::Patience;
 use lvm_num::{DiskSet, Pbuf};
+use lvm_transfer::Patience;
 
 /// Makes these copies one after another, and then writes a note without entries to each target, under the epoch,
 /// up to the first transfer that doesn't end well: notes are emptied once all copies are made. It takes no memory.
