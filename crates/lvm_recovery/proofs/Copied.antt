@@ -45,7 +45,7 @@ module _ (T U : Disks) (P Q : Plan) (disks : (d : ℕ) → IsTrue (T d) → IsTr
         (λ m k was is by. changes_more P Q (image_of old.sizes m) (image_of new.sizes k) more by);
   }
 
-  pub does_wider : (before after : ℕ) (old new : Device) → DiskWritesLeave T P before after old new → Does U Q before after old new
+  pub does_wider : (before after : ℕ) (old new : Device) → DiskWritesLeave T P before after old new → DiskWritesLeave U Q before after old new
   does_wider before after old new does = record { keeps = keeps_wider old new does.keeps; spends = does.spends; moments = moments_wider P Q more old new does.moments }
 
 pub does_then : (T : Disks) (P : Plan) (p q r : ℕ) (old mid new : Device) → DiskWritesLeave T P p q old mid → DiskWritesLeave T P q r mid new → DiskWritesLeave T P p r old new
