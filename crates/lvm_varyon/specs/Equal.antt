@@ -17,7 +17,7 @@ use Rattle.lvm_write.specs.Written.{HaveRoom, KeepsShelf}
 use Rattle.lvm_homes.specs.declared.homes.Homes.{Homes}
 use Rattle.lvm_begin.specs.Beginning.{Beginning, again_order, MayBeginAgain}
 use Rattle.lvm_begin.specs.Ends.{HasNoFault, IsLowestFailed}
-use Rattle.lvm_recovery.specs.declared.copying.Recopy.{Recopy}
+pub use Rattle.lvm_recovery.specs.declared.copying.Recopy.{Recopy}
 use Rattle.lvm_recovery.specs.Copying.{AreApart, IsCopied, IsInOneRun, IsOfCopies, LogsOnly, MayCopy, sources_and_targets}
 use Rattle.lvm_recovery.specs.Equalising.{MayEqualise}
 use Rattle.lvm_core.specs.declared.refused.Cause.{Cause}
