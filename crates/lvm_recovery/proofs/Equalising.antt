@@ -1,5 +1,5 @@
 -- What is kept while copies are made and notes emptied.
-use Rattle.std.proofs.Common.{◌≡◌, inl, inr, ℕ, List, Option, None, Some, Unit, tt, IfSome, IsTrue, refl, sym, ◌∙◌, subst}
+use Rattle.std.proofs.Common.{◌≡◌, inl, inr, ℕ, List, Option, None, Some, IfSome, IsTrue, refl, sym, ◌∙◌, subst}
 use Rattle.lvm_num.specs.declared.descriptor.Descriptor.{Descriptor}
 use Rattle.lvm_num.specs.declared.status.Status.{Status}
 use Rattle.lvm_num.specs.Buffer.{Buffer, Sector}
@@ -54,9 +54,9 @@ module _ (copies : List Recopy) (targets : Disks) (group : Descriptor) (status :
 by_told : {A : Type 0} {P : Device → Type 0} (old new : Device) → Path DeviceStep P old new → (A → Path DeviceStep (StaysKept old) old new) → IfSome old.media (λ (media : Media). A) → Path DeviceStep (StaysKept old) old new
 by_told {A = A} old new path kept may = by_media old.media refl may
   where
-    by_media : (o : Option Media) → old.media ≡ o → IfSome o (λ (media : Media). A) → Path DeviceStep (StaysKept old) old new
+    by_media : (o : Option Media) → old.media ≡ o → IfSome o (λ (m : Media). A) → Path DeviceStep (StaysKept old) old new
     by_media None none may = untold_kept old new none path
-    by_media (Some media) told may = kept may
+    by_media (Some m) told may = kept may
 
 pub went_on_kept : (copies : List Recopy) (epoch : ℕ) (targets : Disks) (number before after : ℕ) (old new : Device) (result : Begun) → WentOn copies epoch targets number before after old new result → EqualisedStaysKept copies targets old new
 went_on_kept copies epoch targets number before after old new result on group status there = by_told old new
