@@ -211,7 +211,7 @@ module _ (old new : Device) (name : List ℕ) (moment : ℕ) (homes : Homes) (w 
   pub records_keep : (facts : List Fact) → Kept before facts → Kept after facts
   records_keep facts kept =
       let has : HasNewest described w.group w.found.answered newest = restamp_is_newest w.group w.found.answered targets newest before described (images_within (image_of old.sizes was)) may.members may.found may.restamp describe_change
-          (λ d voter. begun.described d (may.voters d voter)) in
+      (λ d voter. begun.described d (may.voters d voter)) in
       restate_keeps w.group w.found.answered targets newest w.was (as_read (states b) w.next) described after facts within_described
       (may_restate w.group w.found.answered targets newest w.was (as_read (states b) w.next) before described may.found may.restamp describe_change has may.own may.was_found may.marks may.later)
       state_change (restamp_keeps w.group targets newest before described facts (images_within (image_of old.sizes was)) may.restamp describe_change kept)
