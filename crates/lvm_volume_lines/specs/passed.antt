@@ -3,8 +3,11 @@ pub mod DiskLines
 pub mod DrainFaultVariants
 pub mod Driver
 pub mod Group
+pub mod GroupFaultVariants
 pub mod GroupLines
+pub mod Handover
 pub mod HolderVariants
+pub mod Mirrors
 pub mod Quiesce
 pub mod QuiescedVariants
 pub mod RangeLines
@@ -12,10 +15,12 @@ pub mod RangeLinesWaiting
 pub mod Ranges
 pub mod RefusalVariants
 pub mod ReplyVariants
+pub mod Recover
 pub mod Running
 pub mod Stage
 pub mod Tie
 pub mod TieCommands
-pub mod Recover
+pub mod TieCopies
 pub mod Varyon
+pub mod VolumePlan
 pub mod Volumes

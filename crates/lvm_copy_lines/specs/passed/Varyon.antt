@@ -1,0 +1,2 @@
+-- Passed on from `lvm_varyon`.
+pub use Rattle.lvm_volume_lines.specs.passed.Varyon.{HasWritten, IsRecovered, IsRestated, MayComeOn, Recopy, Refuses, answering, beginning, records_on}
