@@ -51,7 +51,7 @@ returns-in_err-make_equal g c =
     let new = g.S.Shelf.device c.make_equal.new.shelf in
     let first = c.in_ok-homes.ensures in
     let says = c.in_err-make_equal.ensures in
-    let p = err_from_is_err_and c.from_residual.result c.from_residual.ensures.1 in
+    let p = err_from_is_err_and c.from_residual-in_err-make_equal.result c.from_residual-in_err-make_equal.ensures.1 in
     rw (p.1, p.2) (record {
       gives = equal_stops b plan.copies c.args.patience.now.left old c.in_ok-homes.homes mid new first.gives c.write_plan.new.patience.left first.leaves.spends c.in_err-make_equal.field-0.0 says.gives;
       spends = spends_then c.args.patience.now.left c.write_plan.new.patience.left c.make_equal.new.patience.left old mid new first.leaves.spends says.spends;
