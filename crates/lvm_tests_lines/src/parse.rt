@@ -325,17 +325,12 @@ fn a_new_volume_is_spelled(rt: HostRuntime) {
 
 #[test]
 fn a_volume_is_active_unless_it_is_said(rt: HostRuntime) {
-    for line in [
-        b"mklv -y lv00 -c 2 datavg 7".as_slice(),
-        b"mklv -y lv00 -c 2 -w y datavg 7",
-        b"mklv -w a -c 2 -y lv00 datavg 7",
-    ] {
-        spells(
-            &rt,
-            line,
-            volume_in(&rt, Mode::Active, 2, Policy::Parallel, 7),
-        );
-    }
+    let active = volume_in(&rt, Mode::Active, 2, Policy::Parallel, 7);
+    spells(&rt, b"mklv -y lv00 -c 2 datavg 7", active);
+    let active = volume_in(&rt, Mode::Active, 2, Policy::Parallel, 7);
+    spells(&rt, b"mklv -y lv00 -c 2 -w y datavg 7", active);
+    let active = volume_in(&rt, Mode::Active, 2, Policy::Parallel, 7);
+    spells(&rt, b"mklv -w a -c 2 -y lv00 datavg 7", active);
     all_refused(
         &rt,
         &[
