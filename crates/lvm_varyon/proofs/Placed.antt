@@ -56,11 +56,11 @@ member_there rows row there = list_any_at (λ (r : PvRow). r.disk == row.disk) r
 -- the row that is found of a disk
 row_found : (rows : List PvRow) (d : ℕ) (row : PvRow) → find (λ (r : PvRow). r.disk == d) rows ≡ Some row → Contains rows row × (row.disk ≡ d)
 row_found [] d row e = absurd cc
-row_found (r ∷ rs) d row e = by_test (r.disk == d) refl e
+row_found (r ∷ rs) d row e = by_test (r.disk == d) refl e (row_found rs d row)
   where
-    by_test : (t : Bool) → (r.disk == d) ≡ t → (if t then Some r else find (λ (x : PvRow). x.disk == d) rs) ≡ Some row → Contains (r ∷ rs) row × (row.disk ≡ d)
-    by_test true is found = let same : r ≡ row = cc in ((0, omega arith, same), ap (λ (x : PvRow). x.disk) (sym same) ∙ eqb-true r.disk d is)
-    by_test false is found = let it = row_found rs d row found in let low = it.0.1 in ((suc it.0.0, omega (arith, low), it.0.2), it.1)
+    by_test : (t : Bool) → (r.disk == d) ≡ t → (if t then Some r else find (λ (x : PvRow). x.disk == d) rs) ≡ Some row → (find (λ (x : PvRow). x.disk == d) rs ≡ Some row → Contains rs row × (row.disk ≡ d)) → Contains (r ∷ rs) row × (row.disk ≡ d)
+    by_test true is found rest = let same : r ≡ row = cc (found) in ((0, omega arith, same), ap (λ (x : PvRow). x.disk) (sym same) ∙ eqb-true r.disk d is)
+    by_test false is found rest = let it = rest found in let low = it.0.1 in ((suc it.0.0, omega (arith, low), it.0.2), it.1)
 
 answers_if : (m a : Bool) → m ≡ true → (m && not a) ≡ false → a ≡ true
 answers_if true true is e = refl
