@@ -59,7 +59,7 @@ module _ (old new : Device) (name : List ℕ) (moment : ℕ) (room : Room) (part
   same_misses : new.counts.misses ≡ mid.counts.misses
   same_misses = equal.only.misses ∙ equal.made.keeps.misses
 
-  have_mid : HaveAnswered old is.written.writes.how.restated is.written.found.answered
+  pub have_mid : HaveAnswered old is.written.writes.how.restated is.written.found.answered
   have_mid = record {
     room = is.written.found.have.room;
     well = λ d answers. sym (ap (λ (m : ℕ → ℕ). m d) same_misses) ∙ is.written.found.have.well d answers;
