@@ -1,11 +1,9 @@
 -- What the disks show once the records of a varyon stand.
 use Rattle.std.proofs.Common.{◌≡◌, ◌⊎◌, inl, inr, ⊎_elim, ℕ, ◌<◌, Bool, true, false, ◌&&◌, ◌==◌, ◌||◌, List, [], ◌∷◌, Option, Some, refl, sym, ap, subst, ◌∙◌, arith}
-use Rattle.std.specs.Prelude.{IsTrue, IsFalse, nat_le, option_map, IfSome}
+use Rattle.std.specs.Prelude.{IsTrue, IsFalse, option_map, IfSome}
 use Rattle.std.specs.List.{list_any}
-use Rattle.lvm_num.specs.declared.record.Stamp.{Stamp}
 use Rattle.lvm_num.specs.declared.descriptor.PvRow.{PvRow}
 use Rattle.lvm_num.specs.declared.descriptor.Descriptor.{Descriptor}
-use Rattle.lvm_num.specs.declared.status.Status.{Status}
 use Rattle.lvm_num.specs.Disks.{Disks}
 use Rattle.lvm_num.specs.Note.{Noted}
 use Rattle.lvm_num.specs.Record.{Stamped}
@@ -23,7 +21,7 @@ use Rattle.lvm_kept.proofs.Finding.{images_within}
 use Rattle.lvm_stamps.specs.Behind.{StampsBefore, beginning_at, IsBehind}
 use Rattle.lvm_homes.specs.declared.homes.Homes.{Homes}
 use Rattle.lvm_write.specs.Homes.{SparesNewest}
-use Rattle.lvm_commit.specs.Committed.{Began, ShowsCommitted}
+use Rattle.lvm_commit.specs.Committed.{ShowsCommitted}
 use Rattle.lvm_commit.proofs.Found.{newest_is_beginning}
 use Rattle.lvm_steps.specs.VaryingOn.{HasNewest}
 use Rattle.lvm_steps.proofs.Following.{restamp_is_newest}

@@ -1,7 +1,5 @@
 -- The records, and then the copies and the notes.
-use Rattle.std.proofs.Common.{◌≡◌, inl, inr, ℕ, false, List, Result, Err, ◌∙◌, subst}
-use Rattle.lvm_num.specs.declared.descriptor.Descriptor.{Descriptor}
-use Rattle.lvm_num.specs.Disks.{Disks}
+use Rattle.std.proofs.Common.{inl, inr, ℕ, false, List, Err, ◌∙◌, subst}
 use Rattle.lvm_disk.specs.Counts.{Rose}
 use Rattle.lvm_disk.specs.Device.{Device}
 use Rattle.lvm_homes.specs.declared.homes.Homes.{Homes}

@@ -1,5 +1,5 @@
 -- How the copying of a varyon ended, as it speaks of it.
-use Rattle.std.proofs.Common.{◌≡◌, inl, inr, ℕ, List, refl, ◌∙◌, subst}
+use Rattle.std.proofs.Common.{inl, inr, ℕ, List, refl, ◌∙◌, subst}
 use Rattle.lvm_num.specs.Buffer.{Buffer}
 use Rattle.lvm_num.specs.Disks.{Disks}
 use Rattle.lvm_disk.specs.Counts.{Rose}

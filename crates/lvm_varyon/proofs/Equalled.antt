@@ -1,6 +1,6 @@
 -- What the disks show once the copies of a varyon are made and its notes emptied.
 use Rattle.std.proofs.Common.{◌≡◌, ℕ, ◌<◌, ◌^◌, Bool, true, false, List, [], Option, Some, None, refl, sym, ap, subst, ◌∙◌, arith}
-use Rattle.std.specs.Prelude.{IsTrue, IsFalse, option_map, IfSome, if◌then◌else◌}
+use Rattle.std.specs.Prelude.{IsTrue, IsFalse, option_map, if◌then◌else◌}
 use Rattle.std.proofs.lemmas.List.Elements.{All-nil}
 use Rattle.lvm_num.specs.declared.record.Stamp.{Stamp}
 use Rattle.lvm_num.specs.declared.descriptor.Descriptor.{Descriptor}
@@ -38,7 +38,7 @@ use Rattle.lvm_recovery.proofs.Ending.{equalised_ends, next_same_plan, restated_
 use Rattle.lvm_varyon.specs.Chosen.{answering}
 use Rattle.lvm_varyon.specs.Equal.{MakesEqual}
 use Rattle.lvm_varyon.proofs.Beside.{IsBesideSlots, beside_keeps_before, beside_spares, copies_beside, notes_beside}
-use Rattle.lvm_varyon.proofs.After.{HasRecords, MayHaveRecords, restated, same_names, shown_is, shows, stamps_before, spares}
+use Rattle.lvm_varyon.proofs.After.{HasRecords, MayHaveRecords, restated, same_names, shown_is, shows, spares}
 
 -- an empty note names nothing
 names_none : (sector : Sector) (epoch lv group : ℕ) (room : Bool) → epoch < 2 ^ 64 → sector ≡ empty_note_sector epoch → names_if (if room then note_in sector else None) lv group ≡ false

@@ -1,5 +1,5 @@
 -- What the session that a varyon begins finds on its disks.
-use Rattle.std.proofs.Common.{◌≡◌, ◌≢◌, ℕ, Bool, true, false, ◌&&◌, ◌==◌, ◌++◌, List, Option, Some, None, refl, sym, ap, subst, ◌∙◌}
+use Rattle.std.proofs.Common.{◌≡◌, ℕ, Bool, true, false, ◌&&◌, ◌++◌, List, Option, Some, None, refl, sym, ap, subst, ◌∙◌}
 use Rattle.std.specs.Prelude.{IsTrue, not, nat_le}
 use Rattle.lvm_num.specs.declared.record.Stamp.{Stamp}
 use Rattle.lvm_num.specs.declared.descriptor.PvRow.{PvRow}

@@ -1,5 +1,5 @@
 -- What was planned may be written.
-use Rattle.std.proofs.Common.{◌≡◌, ◌≢◌, ℕ, ◌≤◌, List, Some, length, sym, subst}
+use Rattle.std.proofs.Common.{◌≢◌, ℕ, ◌≤◌, List, Some, length, sym, subst}
 use Rattle.lvm_num.specs.declared.record.Kind.TheVariants as kind
 use Rattle.lvm_num.specs.Disks.{has}
 use Rattle.lvm_num.specs.Record.{longest_content}

@@ -1,8 +1,7 @@
 -- A group that came on is recovered.
-use Rattle.std.proofs.Common.{◌≡◌, ◌⊎◌, inl, inr, ℕ, ◌+◌, ◌-◌, ◌≤◌, List, ◌++◌, Option, Some, refl, sym, ap, subst, ◌∙◌, arith}
-use Rattle.std.specs.Prelude.{IsTrue, IsFalse}
+use Rattle.std.proofs.Common.{◌≡◌, ◌⊎◌, inl, inr, ℕ, ◌+◌, ◌-◌, List, ◌++◌, Option, Some, refl, sym, ap, subst, ◌∙◌, arith}
+use Rattle.std.specs.Prelude.{IsTrue}
 use Rattle.std.proofs.lemmas.List.Elements.{recursion_from_All}
-use Rattle.lvm_num.specs.declared.descriptor.Descriptor.{Descriptor}
 use Rattle.lvm_num.specs.declared.status.Status.{Status}
 use Rattle.lvm_num.specs.Disks.{Disks}
 use Rattle.lvm_num.specs.Descriptor.{IsValid}
@@ -10,17 +9,16 @@ use Rattle.lvm_num.specs.Record.{Stamped}
 use Rattle.lvm_num.specs.Votes.{CanWrite}
 use Rattle.lvm_disk.specs.Device.{Media, Range, Device, image_of}
 use Rattle.lvm_kept.specs.Contents.{Contents, contents_of}
-use Rattle.lvm_kept.specs.Group.{is_voter, is_named}
+use Rattle.lvm_kept.specs.Group.{is_voter}
 use Rattle.lvm_kept.specs.Recovered.{IsRecordRange, IsCopyRange, Recovered}
-use Rattle.lvm_kept.specs.Torn.{IsOfNote, written as as_read}
+use Rattle.lvm_kept.specs.Torn.{IsOfNote}
 use Rattle.lvm_kept.proofs.Finding.{images_within}
 use Rattle.lvm_homes.specs.declared.homes.Homes.{Homes}
 use Rattle.lvm_write.specs.Notes.{empty_note_sector}
 use Rattle.lvm_write.specs.Written.{IsInPlan}
-use Rattle.lvm_begin.specs.Beginning.{states}
 use Rattle.lvm_commit.specs.Committed.{ShowsCommitted}
 use Rattle.lvm_recover.specs.Recopied.{IsRecopied, AreNamedEqualled, OnlyNotesOf}
-use Rattle.lvm_recover.specs.Recovered.{HasNoPassive, Recovers}
+use Rattle.lvm_recover.specs.Recovered.{HasNoPassive}
 use Rattle.lvm_recover.proofs.Equalling.{named_are_all}
 use Rattle.lvm_recover.proofs.Recovered.{recovered_by_copying}
 use Rattle.lvm_recovery.specs.Copying.{IsInOneRun, LogsOnly}

@@ -1,4 +1,4 @@
-use Rattle.std.proofs.Common.{List, Some, Result, Ok, Err, refl, sym, subst}
+use Rattle.std.proofs.Common.{List, Some, Result, Ok, Err, sym, subst}
 use Rattle.std.specs.Prelude.{IfOk}
 use Rattle.lvm_num.specs.declared.Memory.{Memory}
 use Rattle.lvm_num.specs.declared.record.Stamp.{Stamp}

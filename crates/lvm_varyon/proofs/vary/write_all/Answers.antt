@@ -1,7 +1,6 @@
 use Rattle.std.proofs.Common.{List, ℕ, subst, sym}
 use Rattle.std.specs.Prelude.{All}
 use Rattle.std.proofs.lemmas.Result.{err_from_is_err_and}
-use Rattle.lvm_num.specs.Disks.{has}
 use Rattle.lvm_write.proofs.Transfers.{spends_then, still_room}
 use Rattle.lvm_recovery.specs.Copying.{MayCopy}
 use Rattle.lvm_varyon.specs.Parts.{plan_beginning}
