@@ -1,0 +1,52 @@
+use Rattle.std.proofs.Common.{Some, ap, sym, subst, ◌∙◌}
+use Rattle.lvm_session.specs.declared.answers.CopyFault.{CopyFault}
+use Rattle.lvm_session.specs.State.{Core}
+use Rattle.lvm_copy_open.specs.Opening.{counts_seen}
+use Rattle.lvm_driver.specs.Answers.{state_of}
+use Rattle.lvm_resync.specs.Passing.{copy_of}
+use Rattle.lvm_resync.specs.Turning.{IsUnderWay}
+use Rattle.lvm_resync.proofs.Judging.{begins, may_refuse, opens, same_state, under_way}
+use Rattle.lvm_resync.proofs.Refusing.{refused_for}
+use Rattle.lvm_resync.proofs.copies.open_stale.Goals as goal
+
+pub loop-pp-init : goal.loop-pp-init
+loop-pp-init g c = begins (copy_of c.args.lv c.args.lp c.args.number c.args.pp) (state_of g.S.Shelf.device c.args.driver.now) c.args.patience.now.left c.requires.unstuck c.requires.may
+
+pub returns-in-Ok-clause-ends : goal.returns-in-Ok-clause-ends
+returns-in-Ok-clause-ends g c =
+    let device = g.S.Shelf.device in
+    (opens (copy_of c.args.lv c.args.lp c.args.number c.args.pp) (state_of device c.args.driver.now) (state_of device c.loop-pp.driver) (state_of device c.open_copy.new.self) c.args.patience.now.left c.loop-pp.patience.left c.loop-pp.invariant
+    (sym c.is_stale.ensures ∙ c.loop-pp-test.true) (ap device c.open_copy.ensures.shelf) c.open_copy.ensures.leaves c.in-Ok.ensures.gives).0
+
+pub returns-in-Ok-clause-beside : goal.returns-in-Ok-clause-beside
+returns-in-Ok-clause-beside g c =
+    let device = g.S.Shelf.device in
+    (opens (copy_of c.args.lv c.args.lp c.args.number c.args.pp) (state_of device c.args.driver.now) (state_of device c.loop-pp.driver) (state_of device c.open_copy.new.self) c.args.patience.now.left c.loop-pp.patience.left c.loop-pp.invariant
+    (sym c.is_stale.ensures ∙ c.loop-pp-test.true) (ap device c.open_copy.ensures.shelf) c.open_copy.ensures.leaves c.in-Ok.ensures.gives).1
+
+pub make_turn-requires-clause-unstuck : goal.make_turn-requires-clause-unstuck
+make_turn-requires-clause-unstuck g c = λ stuck.
+    let old = state_of g.S.Shelf.device c.loop-pp.driver in
+    let it = refused_for (counts_seen old.device old.core) old.core c.open_copy.new.self.1 c.args.lv c.args.lp c.args.number c.in-Err.why c.in-Err.ensures.gives in
+    c.loop-pp.invariant.unstuck (sym (ap (λ (k : Core). k.power) it.1) ∙ stuck)
+
+pub make_turn-requires-clause-under_way : goal.make_turn-requires-clause-under_way
+make_turn-requires-clause-under_way g c =
+    let device = g.S.Shelf.device in
+    let old = state_of device c.loop-pp.driver in
+    let it = refused_for (counts_seen old.device old.core) old.core c.open_copy.new.self.1 c.args.lv c.args.lp c.args.number c.in-Err.why c.in-Err.ensures.gives in
+    let same = same_state device c.loop-pp.driver c.open_copy.new.self c.open_copy.ensures.shelf it.1 in
+    subst IsUnderWay (sym same) (under_way (copy_of c.args.lv c.args.lp c.args.number c.args.pp) old c.is_sound.ensures c.loop-pp.invariant.may (sym c.is_stale.ensures ∙ c.loop-pp-test.true)
+    (it.0 ∙ ap (λ (w : CopyFault). Some w) c.in-AlreadyFresh.is))
+
+pub refused-requires : goal.refused-requires
+refused-requires g c =
+    let old = state_of g.S.Shelf.device c.loop-pp.driver in
+    let it = refused_for (counts_seen old.device old.core) old.core c.open_copy.new.self.1 c.args.lv c.args.lp c.args.number c.in-Err.why c.in-Err.ensures.gives in
+    record {
+      may = (
+        old.core,
+        may_refuse (copy_of c.args.lv c.args.lp c.args.number c.args.pp) (state_of g.S.Shelf.device c.args.driver.now) old c.args.patience.now.left c.loop-pp.patience.left c.loop-pp.invariant c.in-Err.why
+            (sym c.is_stale.ensures ∙ c.loop-pp-test.true) it.0 c.in_default.not-AlreadyFresh,
+      );
+    }
