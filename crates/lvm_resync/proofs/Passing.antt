@@ -13,7 +13,7 @@ use Rattle.lvm_resync.proofs.Turning.{beside_both, beside_none, unstuck_beside}
 -- some copies, and others behind them
 pub passes_both : (first mid new : State) (from t to : Tally) (xs ys : List Copy) → Passes first from xs mid t → Passes mid t ys new to → Passes first from (xs ++ ys) new to
 passes_both first mid new from t to xs ys one NonePassed = subst (λ (copies : List Copy). Passes first from copies mid t) (sym (append-nil xs)) one
-passes_both first mid new from t to xs ys one (OnePassed {copies} {old} {_} {tally} c how rest it) =
+passes_both first mid new from t to xs ys one (OnePassed {copies} {old} {tally} c how rest it) =
     subst (λ (l : List Copy). Passes first from l new (with_passed tally how)) (append_assoc xs copies (c ∷ [])) (OnePassed c how (passes_both first mid old from t tally xs copies one rest) it)
 
 -- So far those below a number are passed, and no copy is open.

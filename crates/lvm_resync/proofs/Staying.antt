@@ -1,6 +1,7 @@
 -- Which copies are stale once those that were asked for are passed.
-use Rattle.std.proofs.Common.{◌≡◌, ◌⊎◌, inl, inr, ◌≤◌, ◌++◌, ℕ, zero, suc, Bool, true, false, ◌&&◌, ◌||◌, not, List, [], ◌∷◌, Option, Some, None, Result, Ok, Err, if◌then◌else◌, slice_get, refl, sym, ap, subst, ◌∙◌, arith}
+use Rattle.std.proofs.Common.{◌≡◌, ◌⊎◌, inl, inr, ◌≤◌, ◌++◌, ℕ, zero, suc, Bool, true, false, ◌&&◌, ◌||◌, not, List, [], ◌∷◌, Option, Some, None, Result, Ok, Err, if◌then◌else◌, slice_get, map, refl, sym, ap, subst, ◌∙◌, arith}
 use Rattle.std.specs.Prelude.{IfSome, MatchOption, is_none, unwrap_or}
+use Rattle.std.specs.List.{list_any}
 use Rattle.std.specs.Option.{option_map_or}
 use Rattle.lvm_num.specs.declared.place.Pp.{Pp}
 use Rattle.lvm_num.specs.Status.{calls_stale}
@@ -15,10 +16,11 @@ use Rattle.lvm_session.specs.declared.bringing.CopyEnd.{CopyEnd}
 use Rattle.lvm_session.specs.declared.bringing.CopyEnd.TheVariants as ending
 use Rattle.lvm_session.specs.declared.bringing.OpenCopy.{OpenCopy}
 use Rattle.lvm_session.specs.declared.bringing.Step.TheVariants as step
+use Rattle.lvm_session.specs.declared.open.Open.{Open}
 use Rattle.lvm_session.specs.declared.open.Power.{Power}
 use Rattle.lvm_session.specs.declared.open.Power.TheVariants as power
 use Rattle.lvm_session.specs.Bringing.{is_out, is_whole}
-use Rattle.lvm_session.specs.Calls.{Opens, closed, copy_fault, state_at_end, state_of_copy}
+use Rattle.lvm_session.specs.Calls.{Opens, aged, closed, copy_fault, state_at_end, state_of_copy}
 use Rattle.lvm_session.specs.Causes.{fails_on, is_held_stale, is_over}
 use Rattle.lvm_session.specs.Judging.{is_missing, is_running, is_settled, is_stale, is_wanted_stale}
 use Rattle.lvm_session.specs.Sound.{IsSound}
@@ -26,7 +28,6 @@ use Rattle.lvm_session.specs.State.{Core, State, state}
 use Rattle.lvm_copy_open.specs.Opening.{counts_seen}
 use Rattle.lvm_keeps.proofs.Close.{close_keeps}
 use Rattle.lvm_keeps_events.proofs.DuesMarks.{own_pp, pp_same}
-use Rattle.lvm_keeps_open.proofs.Aging.{any_aged}
 use Rattle.lvm_keeps_open.proofs.Opening.{seen_open_keeps}
 use Rattle.lvm_keeps_turn.proofs.Turning.{turn_keeps}
 use Rattle.lvm_turn_answers.proofs.Stepping.{turn_counts}
@@ -110,11 +111,15 @@ shut_none core none p = ap (λ m. option_map_or (λ (c : OpenCopy). is_pp p c.pp
 
 settle_stays : (c : Copy) (first old new : State) (made : Pp → Bool) → Stays first old made nothing → old.core.copy ≡ None → EachTurnWhile (IsUnsettled c) old new → Stays first new made nothing × (new.core.copy ≡ None)
 settle_stays c first old new made so_far none (Here any) = (so_far, none)
-settle_stays c first old new made so_far none (Then {mid} path step any) =
-    let before = settle_stays c first old mid made so_far none path in
-    (turn_stays first mid new made nothing before.0 step.1 (λ p fixed. shut_none mid.core before.1 p), (turn_goes mid new step.1.0 step.1.1).copy before.1)
+settle_stays c first old new made so_far none (Then {m} path step any) =
+    let before = settle_stays c first old m made so_far none path in
+    (turn_stays first m new made nothing before.0 step.1 (λ p fixed. shut_none m.core before.1 p), (turn_goes m new step.1.0 step.1.1).copy before.1)
 
 -- ---- a copy is opened
+
+any_aged : (t : Open → Bool) → ((o : Open) → t (aged o) ≡ t o) → (os : List Open) → list_any t (map aged os) ≡ list_any t os
+any_aged t same [] = refl
+any_aged t same (o ∷ os) = ap (λ b. b || list_any t (map aged os)) (same o) ∙ ap (λ b. t o || b) (any_aged t same os)
 
 module _ (c : Copy) (first judged new : State) (made : Pp → Bool) (so_far : Stays first judged made nothing) (none : judged.core.copy ≡ None) (may : copy_fault judged.core c.lv c.lp c.number ≡ None)
     (opens : Opens (counts_seen judged.device judged.core) judged.core new.core c.lv c.lp c.number) (same : new.device ≡ judged.device) (p : Pp) (its : opens.pp ≡ p) where
@@ -196,11 +201,11 @@ shut_beside core p it q other = ap (λ m. option_map_or (λ (c : OpenCopy). is_p
 bring_stays : (first opened ended : State) (made : Pp → Bool) (p : Pp) → Stays first opened made (λ q. is_pp q p) → IsOpenStill p opened.core → EachTurnWhile Runs opened ended
     → Stays first ended made (λ q. is_pp q p) × (Runs ended.core → IsOpenStill p ended.core)
 bring_stays first opened ended made p so_far begun (Here any) = (so_far, λ runs. begun)
-bring_stays first opened ended made p so_far begun (Then {mid} path turn any) =
-    let before = bring_stays first opened mid made p so_far begun path in
+bring_stays first opened ended made p so_far begun (Then {m} path turn any) =
+    let before = bring_stays first opened m made p so_far begun path in
     let still = before.1 turn.0 in
-    let after = turn_stays first mid ended made (λ q. is_pp q p) before.0 turn.1 (λ q other. shut_beside mid.core p still q other) in
-    (after, λ runs. turn_open p mid ended before.0.sound still turn.0 turn.1.0 turn.1.1 (goes_on ended after.sound runs))
+    let after = turn_stays first m ended made (λ q. is_pp q p) before.0 turn.1 (λ q other. shut_beside m.core p still q other) in
+    (after, λ runs. turn_open p m ended before.0.sound still turn.0 turn.1.0 turn.1.1 (goes_on ended after.sound runs))
 
 -- ---- it is made fresh
 
@@ -359,10 +364,10 @@ module _ (first : State) (sound : IsSound first) (on : first.core.power ≡ powe
         by place d settled (inr same) = ap (λ b. b || made d.pp) (ap (λ (x : Copy). is_pp c.pp x.pp) same ∙ own_pp c.pp)
 
   passes_left : (copies : List Copy) (now : State) (tally : Tally) (passes : Passes first no_tally copies now tally) → tally.fault ≡ None → Left first now copies (λ p. is_made_among p passes)
-  passes_left copies now tally NonePassed well = record { stays = begins_so; none = shut; made_is = λ place c at settled. absurd (cc at) }
-  passes_left copies now tally (OnePassed {before} {old} {new} {t} c passed.Fresh rest it) well = fresh_left before old new (λ p. is_made_among p rest) c (passes_left before old t rest well) it
-  passes_left copies now tally (OnePassed {before} {old} {new} {t} c passed.Made rest it) well = made_left before old new (λ p. is_made_among p rest) c (passes_left before old t rest well) it
-  passes_left copies now tally (OnePassed {before} {old} {new} {t} c (passed.Failed why) rest it) well = absurd (none t.fault well)
+  passes_left all now total NonePassed well = record { stays = begins_so; none = shut; made_is = λ place c at settled. absurd (cc at) }
+  passes_left all now total (OnePassed {copies} {old} {new} {tally} c passed.Fresh rest it) well = fresh_left copies old new (λ p. is_made_among p rest) c (passes_left copies old tally rest well) it
+  passes_left all now total (OnePassed {copies} {old} {new} {tally} c passed.Made rest it) well = made_left copies old new (λ p. is_made_among p rest) c (passes_left copies old tally rest well) it
+  passes_left all now total (OnePassed {copies} {old} {new} {tally} c (passed.Failed why) rest it) well = absurd (none tally.fault well)
     where
       none : (m : Option SyncFault) → or_first m why ≡ None → ⊥
       none None e = cc e
