@@ -16,31 +16,34 @@ use Rattle.lvm_raw.specs.Keeping.{FaultRose}
 use Rattle.lvm_raw.specs.Raw.{log_with as log_of}
 use Rattle.lvm_kept.specs.Moments.{Moment}
 use Rattle.lvm_steps.specs.Requests.{at as moment_of}
-use Rattle.lvm_volume_lines.specs.passed.Quiesce.{AskedAtRest, KeptFrom, RangeOnceQuiet, RangeStaysOut, ReadOnceQuiet, ReadsAtRest, WriteOnceQuiet}
-use Rattle.lvm_volume_lines.specs.passed.Quiesce.{WritesAtRest, RejectedAtOnce as RejectedAtOnceRange, Quiesces, CauseRose, IsFullFor, MkvgOnceQuiet}
-use Rattle.lvm_volume_lines.specs.passed.Quiesce.{RefusedAtOnce, StayedOut, StaysOut, VaryonOnceQuiet, WentQuiet}
+use Rattle.lvm_copy_lines.specs.passed.Quiesce.{AskedAtRest, KeptFrom, RangeOnceQuiet, RangeStaysOut, ReadOnceQuiet, ReadsAtRest, WriteOnceQuiet}
+use Rattle.lvm_copy_lines.specs.passed.Quiesce.{WritesAtRest, RejectedAtOnce as RejectedAtOnceRange, Quiesces, CauseRose, IsFullFor, MkvgOnceQuiet}
+use Rattle.lvm_copy_lines.specs.passed.Quiesce.{RefusedAtOnce, StayedOut, StaysOut, VaryonOnceQuiet, WentQuiet}
 use Rattle.lvm_core.specs.declared.parts.Room.{Room}
 use Rattle.lvm_core.specs.declared.refused.Cause.{Cause}
 use Rattle.lvm_core.specs.declared.refused.Cause.TheVariants as cause
 use Rattle.lvm_core.specs.declared.refused.Refused.{Refused}
 use Rattle.lvm_session.specs.State.{Core}
-use Rattle.lvm_volume_lines.specs.passed.Group.{NewGroup, RefusesFirst, Refuses as MkvgRefuses}
-use Rattle.lvm_volume_lines.specs.passed.Varyon.{Refuses as VaryonRefuses}
-use Rattle.lvm_volume_lines.proofs.passed.Quiesce.{quiet_is_ahead, ends_only}
+use Rattle.lvm_copy_lines.specs.passed.Group.{NewGroup, RefusesFirst, Refuses as MkvgRefuses}
+use Rattle.lvm_copy_lines.specs.passed.Varyon.{Refuses as VaryonRefuses}
+use Rattle.lvm_copy_lines.proofs.passed.Quiesce.{quiet_is_ahead, ends_only}
 use Rattle.lvm_line.specs.Causes.{HasCause, HasFailed, IsBroughtBack, RoseOn, VaryonLaw, disk_of}
-use Rattle.lvm_volume_lines.specs.passed.Stage.{patience_of_line, IsRelit, refusal_of, Shows, InFull, WithoutMemory, State, log_with, Refusal}
-use Rattle.lvm_volume_lines.specs.passed.DiskLines.{refusal_by, NoWriteWhileOn, WriteGoes, NoReadWhileOn, ReadGoes, NotThere, NotPlanned, IsArranged}
-use Rattle.lvm_volume_lines.specs.passed.DiskLines.{CutNotPlanned, PowerIsCut}
-use Rattle.lvm_volume_lines.specs.passed.GroupLines.{Brings, IsLeft, asked_for, itself, outcome_of, NoVaryonWhileOn, Varies, NoMemoryForLine}
-use Rattle.lvm_volume_lines.specs.passed.GroupLines.{NoMkvgWhileOn, Makes, NoVaryoff, BusyVaryoff, VariesOff, NoGroupToList, GroupThatIsOn}
-use Rattle.lvm_volume_lines.specs.passed.GroupLines.{OtherGroup, ListsGroup, NoGroupForVolume, VolumeOfGroup, NoSuchVolume, ListsVolume}
-use Rattle.lvm_volume_lines.specs.passed.GroupLines.{NoGroupForDisk, DiskOfGroup, NoSuchMember, ListsMember}
+use Rattle.lvm_copy_lines.specs.passed.Stage.{patience_of_line, IsRelit, refusal_of, Shows, InFull, WithoutMemory, State, log_with, Refusal}
+use Rattle.lvm_copy_lines.specs.passed.DiskLines.{refusal_by, NoWriteWhileOn, WriteGoes, NoReadWhileOn, ReadGoes, NotThere, NotPlanned, IsArranged}
+use Rattle.lvm_copy_lines.specs.passed.DiskLines.{CutNotPlanned, PowerIsCut}
+use Rattle.lvm_copy_lines.specs.passed.GroupLines.{Brings, IsLeft, asked_for, itself, outcome_of, NoVaryonWhileOn, Varies, NoMemoryForLine}
+use Rattle.lvm_copy_lines.specs.passed.GroupLines.{NoMkvgWhileOn, Makes, NoVaryoff, BusyVaryoff, VariesOff, NoGroupToList, GroupThatIsOn}
+use Rattle.lvm_copy_lines.specs.passed.GroupLines.{OtherGroup, ListsGroup, NoGroupForVolume, VolumeOfGroup, NoSuchVolume, ListsVolume}
+use Rattle.lvm_copy_lines.specs.passed.GroupLines.{NoGroupForDisk, DiskOfGroup, NoSuchMember, ListsMember}
 use Rattle.lvm_line.specs.Lines.{LineDoes}
-use Rattle.lvm_volume_lines.specs.Volumes.{NoGroupForMklv, BusyMklv, UndrainedMklv, MakesVolume, MklvFails, NoGroupForRmlv, BusyRmlv, UndrainedRmlv, NoVolumeForRmlv, RemovesVolume, RmlvFails, refusal_for, wanted}
-use Rattle.lvm_volume_lines.specs.passed.RefusalVariants as refusal
-use Rattle.lvm_volume_lines.specs.passed.ReplyVariants as reply
-use Rattle.lvm_volume_lines.proofs.passed.GroupLines.{clock_is_ahead}
-use Rattle.lvm_volume_lines.proofs.Ending.{mklv_facts, rmlv_facts}
+use Rattle.lvm_copy_lines.specs.passed.VolumeLines.{NoGroupForMklv, BusyMklv, UndrainedMklv, MakesVolume, MklvFails, NoGroupForRmlv, BusyRmlv, UndrainedRmlv, NoVolumeForRmlv, RemovesVolume, RmlvFails, refusal_for, wanted}
+use Rattle.lvm_copy_lines.specs.passed.RefusalVariants as refusal
+use Rattle.lvm_copy_lines.specs.passed.ReplyVariants as reply
+use Rattle.lvm_copy_lines.proofs.passed.GroupLines.{clock_is_ahead}
+use Rattle.lvm_copy_lines.specs.Copies.{NoGroupForMklvcopy, BusyMklvcopy, UndrainedMklvcopy, NoVolumeForMklvcopy, AddsCopies, MklvcopyFails}
+use Rattle.lvm_copy_lines.specs.Copies.{NoGroupForRmlvcopy, BusyRmlvcopy, UndrainedRmlvcopy, NoVolumeForRmlvcopy, RemovesCopies, RmlvcopyFails}
+use Rattle.lvm_copy_lines.proofs.passed.VolumeLines.{mklv_facts, rmlv_facts}
+use Rattle.lvm_copy_lines.proofs.Giving.{mklvcopy_facts, rmlvcopy_facts}
 use Rattle.lvm_line.proofs.Faulting.{known_group, undrained}
 use Rattle.lvm_line.proofs.Knowing.{Known, by_reply, easy, has_by}
 use Rattle.lvm_line.proofs.Requesting.{rd_told, wr_told, post_told, wait_told, step_told}
@@ -250,8 +253,22 @@ known log room (Ok (Some (command.Rmlv name))) why old new (RemovesVolume core l
 known log room (Ok (Some (command.Rmlv name))) why old new (RmlvFails core left mid lv reason some drains its done is) =
     by_reply _ why (refusal_for reason) old new is
     (known_group (Ok (Some (command.Rmlv name))) (λ d a b rose. rose) reason old new core left mid done.left some drains (rmlv_facts lv left mid done.left drains.settled.power (Err reason) done.gives) done.leaves)
-known log room (Ok (Some (command.Mklvcopy name copies))) why old new does = by_reply _ why (refusal.BadLine 1) old new does.0 (easy _ (refusal.BadLine 1) old new (inr tt) (λ e. cc) (λ h t e. cc))
-known log room (Ok (Some (command.Rmlvcopy name copies))) why old new does = by_reply _ why (refusal.BadLine 1) old new does.0 (easy _ (refusal.BadLine 1) old new (inr tt) (λ e. cc) (λ h t e. cc))
+known log room (Ok (Some (command.Mklvcopy name copies))) why old new (NoGroupForMklvcopy none is) = by_reply _ why refusal.NoGroup old new is.0 (easy _ refusal.NoGroup old new (inr tt) (λ e. cc) (λ h t e. cc))
+known log room (Ok (Some (command.Mklvcopy name copies))) why old new (BusyMklvcopy busy is) = by_reply _ why refusal.Busy old new is.0 (easy _ refusal.Busy old new (inr tt) (λ e. cc) (λ h t e. cc))
+known log room (Ok (Some (command.Mklvcopy name copies))) why old new (UndrainedMklvcopy core fault some ends) = undrained (Ok (Some (command.Mklvcopy name copies))) why old new core fault some ends
+known log room (Ok (Some (command.Mklvcopy name copies))) why old new (NoVolumeForMklvcopy core left mid some drains none stays clock is) = by_reply _ why refusal.NoVolume old new is (easy _ refusal.NoVolume old new (inr tt) (λ e. cc) (λ h t e. cc))
+known log room (Ok (Some (command.Mklvcopy name copies))) why old new (AddsCopies core left mid lv added some drains its done is) = absurd (cc (is))
+known log room (Ok (Some (command.Mklvcopy name copies))) why old new (MklvcopyFails core left mid lv reason some drains its done is) =
+    by_reply _ why (refusal_for reason) old new is
+    (known_group (Ok (Some (command.Mklvcopy name copies))) (λ d a b rose. rose) reason old new core left mid done.left some drains (mklvcopy_facts lv copies left mid done.left drains.settled.power (Err reason) done.gives) done.leaves)
+known log room (Ok (Some (command.Rmlvcopy name copies))) why old new (NoGroupForRmlvcopy none is) = by_reply _ why refusal.NoGroup old new is.0 (easy _ refusal.NoGroup old new (inr tt) (λ e. cc) (λ h t e. cc))
+known log room (Ok (Some (command.Rmlvcopy name copies))) why old new (BusyRmlvcopy busy is) = by_reply _ why refusal.Busy old new is.0 (easy _ refusal.Busy old new (inr tt) (λ e. cc) (λ h t e. cc))
+known log room (Ok (Some (command.Rmlvcopy name copies))) why old new (UndrainedRmlvcopy core fault some ends) = undrained (Ok (Some (command.Rmlvcopy name copies))) why old new core fault some ends
+known log room (Ok (Some (command.Rmlvcopy name copies))) why old new (NoVolumeForRmlvcopy core left mid some drains none stays clock is) = by_reply _ why refusal.NoVolume old new is (easy _ refusal.NoVolume old new (inr tt) (λ e. cc) (λ h t e. cc))
+known log room (Ok (Some (command.Rmlvcopy name copies))) why old new (RemovesCopies core left mid lv some drains its done is) = absurd (cc (is))
+known log room (Ok (Some (command.Rmlvcopy name copies))) why old new (RmlvcopyFails core left mid lv reason some drains its done is) =
+    by_reply _ why (refusal_for reason) old new is
+    (known_group (Ok (Some (command.Rmlvcopy name copies))) (λ d a b rose. rose) reason old new core left mid done.left some drains (rmlvcopy_facts lv copies left mid done.left drains.settled.power (Err reason) done.gives) done.leaves)
 known log room (Ok (Some (command.Rd name at count))) why old new does = (let told = rd_told name at count why old new does in record { cause = tt; off = told.off; unwritten = λ h t is. absurd (told.counted h t is) })
 known log room (Ok (Some (command.Wr name at count word))) why old new does = (let told = wr_told name at count word why old new does in record { cause = tt; off = told.off; unwritten = λ h t is. absurd (told.counted h t is) })
 known log room (Ok (Some (command.Post name at count word))) why old new does = (let told = post_told name at count word why old new does in record { cause = tt; off = told.off; unwritten = λ h t is. absurd (told.counted h t is) })

@@ -14,13 +14,13 @@ use Rattle.lvm_session.specs.State.{Core, State as Session}
 use Rattle.lvm_line.specs.Causes.{HasFailed, HasLost, IsDrained}
 use Rattle.lvm_write.proofs.Transfers.{rose_then}
 use Rattle.lvm_disk.proofs.Rising.{rose_before}
-use Rattle.lvm_volume_lines.specs.passed.Driver.{DrainFault}
-use Rattle.lvm_volume_lines.specs.passed.DrainFaultVariants as drain_fault
-use Rattle.lvm_volume_lines.specs.passed.Stage.{Refusal, patience_of_line, State}
-use Rattle.lvm_volume_lines.specs.passed.RefusalVariants as refusal
-use Rattle.lvm_volume_lines.specs.passed.ReplyVariants as reply
-use Rattle.lvm_volume_lines.specs.Volumes.{Drains, IsLeft, IsUndrained, drain_refusal, ends_session, refusal_for}
-use Rattle.lvm_volume_lines.proofs.Ending.{FaultFacts}
+use Rattle.lvm_copy_lines.specs.passed.Driver.{DrainFault}
+use Rattle.lvm_copy_lines.specs.passed.DrainFaultVariants as drain_fault
+use Rattle.lvm_copy_lines.specs.passed.Stage.{Refusal, patience_of_line, State}
+use Rattle.lvm_copy_lines.specs.passed.RefusalVariants as refusal
+use Rattle.lvm_copy_lines.specs.passed.ReplyVariants as reply
+use Rattle.lvm_copy_lines.specs.passed.VolumeLines.{Drains, IsLeft, IsUndrained, drain_refusal, ends_session, refusal_for}
+use Rattle.lvm_copy_lines.proofs.passed.VolumeLines.{FaultFacts}
 use Rattle.lvm_line.proofs.Knowing.{Known, has_by, has_undrained}
 use Rattle.lvm_volume_plan.specs.declared.fault.GroupFault.{GroupFault}
 use Rattle.lvm_volume_plan.specs.declared.fault.GroupFault.TheVariants as fault

@@ -7,16 +7,16 @@ use Rattle.lvm_posts.specs.declared.asked.Asked.{Asked}
 use Rattle.lvm_posts.specs.declared.fault.RangeFault.{RangeFault}
 use Rattle.lvm_posts.specs.declared.fault.RangeFault.TheVariants as fault
 use Rattle.lvm_posts.specs.declared.posts.Post.{Post}
-use Rattle.lvm_volume_lines.specs.passed.Ranges.{AskRangeFault}
-use Rattle.lvm_volume_lines.specs.passed.AskRangeFaultVariants as ask
-use Rattle.lvm_volume_lines.specs.passed.RangeLines.{Tells, TellsAll, TellsNone, EndsBy, Ending, ask_refusal, range_refusal, EndsWell, Fails}
-use Rattle.lvm_volume_lines.specs.passed.RangeLines.{Finishes, NoMemory, NotBegun, NotPosted, NotThere, OnVolume, Posted, Posts, PostDoes, RdDoes}
-use Rattle.lvm_volume_lines.specs.passed.RangeLines.{ShowsBlocks, ShowsThem, There, WhileOff, WrDoes, NoStepWhileOff, NothingMoves, StepDoes, Steps}
-use Rattle.lvm_volume_lines.specs.passed.RangeLines.{step_reply}
-use Rattle.lvm_volume_lines.specs.passed.RangeLinesWaiting.{AtRest, Awaits, Goes, InVain, Over, WaitDoes, WaitEnds, WhileOff as WaitsWhileOff}
-use Rattle.lvm_volume_lines.specs.passed.Stage.{InFull, Shows, WithoutMemory, State, Refusal, Reply}
-use Rattle.lvm_volume_lines.specs.passed.RefusalVariants as refusal
-use Rattle.lvm_volume_lines.specs.passed.ReplyVariants as reply
+use Rattle.lvm_copy_lines.specs.passed.Ranges.{AskRangeFault}
+use Rattle.lvm_copy_lines.specs.passed.AskRangeFaultVariants as ask
+use Rattle.lvm_copy_lines.specs.passed.RangeLines.{Tells, TellsAll, TellsNone, EndsBy, Ending, ask_refusal, range_refusal, EndsWell, Fails}
+use Rattle.lvm_copy_lines.specs.passed.RangeLines.{Finishes, NoMemory, NotBegun, NotPosted, NotThere, OnVolume, Posted, Posts, PostDoes, RdDoes}
+use Rattle.lvm_copy_lines.specs.passed.RangeLines.{ShowsBlocks, ShowsThem, There, WhileOff, WrDoes, NoStepWhileOff, NothingMoves, StepDoes, Steps}
+use Rattle.lvm_copy_lines.specs.passed.RangeLines.{step_reply}
+use Rattle.lvm_copy_lines.specs.passed.RangeLinesWaiting.{AtRest, Awaits, Goes, InVain, Over, WaitDoes, WaitEnds, WhileOff as WaitsWhileOff}
+use Rattle.lvm_copy_lines.specs.passed.Stage.{InFull, Shows, WithoutMemory, State, Refusal, Reply}
+use Rattle.lvm_copy_lines.specs.passed.RefusalVariants as refusal
+use Rattle.lvm_copy_lines.specs.passed.ReplyVariants as reply
 
 -- no group is on where nothing was heard of a transfer, and it isn't that votes are lacking for a quorum
 pub record Told (why : Refusal) (new : State) : Type 0 where

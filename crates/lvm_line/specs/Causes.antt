@@ -11,14 +11,14 @@ use Rattle.lvm_core.specs.declared.parts.Room.{Room}
 use Rattle.lvm_session.specs.State.{Core}
 use Rattle.lvm_num.specs.declared.descriptor.Descriptor.{Descriptor}
 use Rattle.lvm_disk.specs.Device.{Device}
-use Rattle.lvm_volume_lines.specs.passed.Varyon.{HasNoConsistency, IsRestated, IsRecovered}
-use Rattle.lvm_volume_lines.specs.passed.Quiesce.{Quiesces}
-use Rattle.lvm_volume_lines.specs.passed.Driver.{DrainFault}
-use Rattle.lvm_volume_lines.specs.Volumes.{IsUndrained}
-use Rattle.lvm_volume_lines.specs.passed.Stage.{patience_of_line, IsAtRest, State, IsTimely, Refusal}
+use Rattle.lvm_copy_lines.specs.passed.Varyon.{HasNoConsistency, IsRestated, IsRecovered}
+use Rattle.lvm_copy_lines.specs.passed.Quiesce.{Quiesces}
+use Rattle.lvm_copy_lines.specs.passed.Driver.{DrainFault}
+use Rattle.lvm_copy_lines.specs.passed.VolumeLines.{IsUndrained}
+use Rattle.lvm_copy_lines.specs.passed.Stage.{patience_of_line, IsAtRest, State, IsTimely, Refusal}
 use Rattle.lvm_line.specs.Lines.{IsLine}
-use Rattle.lvm_volume_lines.specs.passed.RefusalVariants as refusal
-use Rattle.lvm_volume_lines.specs.passed.ReplyVariants as reply
+use Rattle.lvm_copy_lines.specs.passed.RefusalVariants as refusal
+use Rattle.lvm_copy_lines.specs.passed.ReplyVariants as reply
 
 -- the disk that a line reads or writes
 abbrev pub disk_of : Result (Option Command) Misfit → Option ℕ

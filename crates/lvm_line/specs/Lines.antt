@@ -9,14 +9,16 @@ use Rattle.lvm_parse.specs.declared.command.Command.TheVariants as command
 use Rattle.lvm_operands.specs.declared.rest.Misfit.{Misfit}
 use Rattle.lvm_parse.specs.Grammar.{line_of}
 use Rattle.lvm_core.specs.declared.parts.Room.{Room}
-use Rattle.lvm_volume_lines.specs.passed.DiskLines.{ReadDoes, WriteDoes, ArrangeDoes, CutDoes}
-use Rattle.lvm_volume_lines.specs.passed.Stage.{CommandEnds, GoesOn, Role, Aside, OfGroup, OfRequests, IsRefused, IsBetween, State, Reply, Stage}
-use Rattle.lvm_volume_lines.specs.passed.GroupLines.{MkvgDoes, VaryonDoes, VaryoffDoes, GroupShows, VolumeShows, DiskShows}
-use Rattle.lvm_volume_lines.specs.passed.RangeLines.{RdDoes, WrDoes, PostDoes, StepDoes}
-use Rattle.lvm_volume_lines.specs.passed.RangeLinesWaiting.{WaitDoes}
-use Rattle.lvm_volume_lines.specs.Volumes.{MklvDoes, RmlvDoes, wanted}
-use Rattle.lvm_volume_lines.specs.passed.RefusalVariants as refusal
-use Rattle.lvm_volume_lines.specs.passed.ReplyVariants as reply
+use Rattle.lvm_copy_lines.specs.passed.DiskLines.{ReadDoes, WriteDoes, ArrangeDoes, CutDoes}
+use Rattle.lvm_copy_lines.specs.passed.Stage.{CommandEnds, GoesOn, Role, Aside, OfGroup, OfGroupWhere, OfRequests, IsRefused, IsBetween, State, Reply, Stage}
+use Rattle.lvm_copy_lines.specs.passed.GroupLines.{MkvgDoes, VaryonDoes, VaryoffDoes, GroupShows, VolumeShows, DiskShows}
+use Rattle.lvm_copy_lines.specs.passed.RangeLines.{RdDoes, WrDoes, PostDoes, StepDoes}
+use Rattle.lvm_copy_lines.specs.passed.RangeLinesWaiting.{WaitDoes}
+use Rattle.lvm_copy_lines.specs.Copies.{MklvcopyDoes, RmlvcopyDoes}
+use Rattle.lvm_copy_lines.specs.passed.TieCopies.{KeepsShownOf}
+use Rattle.lvm_copy_lines.specs.passed.VolumeLines.{MklvDoes, RmlvDoes, wanted}
+use Rattle.lvm_copy_lines.specs.passed.RefusalVariants as refusal
+use Rattle.lvm_copy_lines.specs.passed.ReplyVariants as reply
 
 -- a listing leaves the whole state
 abbrev pub IsListed : State → State → Type 0 → Type 0
@@ -30,8 +32,8 @@ CommandDoes log room (command.Varyoff name) old new answer = VaryoffDoes name ol
 CommandDoes log room (command.Lsvg volumes name) old new answer = IsListed old new (GroupShows volumes name old.session answer)
 CommandDoes log room (command.Mklv name copies mode policy group lps) old new answer = MklvDoes (wanted name copies mode policy lps) group old new answer
 CommandDoes log room (command.Rmlv name) old new answer = RmlvDoes name old new answer
-CommandDoes log room (command.Mklvcopy name copies) old new answer = IsRefused (refusal.BadLine 1) answer old new
-CommandDoes log room (command.Rmlvcopy name copies) old new answer = IsRefused (refusal.BadLine 1) answer old new
+CommandDoes log room (command.Mklvcopy name copies) old new answer = MklvcopyDoes name copies old new answer
+CommandDoes log room (command.Rmlvcopy name copies) old new answer = RmlvcopyDoes name copies old new answer
 CommandDoes log room (command.Rd name at count) old new answer = RdDoes name at count old new answer
 CommandDoes log room (command.Wr name at count word) old new answer = WrDoes name at count word old new answer
 CommandDoes log room (command.Post name at count word) old new answer = PostDoes name at count word old new answer
@@ -55,6 +57,8 @@ LineDoes log room (Err misfit) old new answer = IsRefused (refusal.BadLine misfi
 abbrev pub role_of : Result (Option Command) Misfit → Role
 role_of (Ok (Some (command.Mklv name copies mode policy group lps))) = OfGroup
 role_of (Ok (Some (command.Rmlv name))) = OfGroup
+role_of (Ok (Some (command.Mklvcopy name copies))) = OfGroup
+role_of (Ok (Some (command.Rmlvcopy name copies))) = OfGroupWhere (KeepsShownOf name copies)
 role_of (Ok (Some (command.Rd name at count))) = OfRequests
 role_of (Ok (Some (command.Wr name at count word))) = OfRequests
 role_of (Ok (Some (command.Post name at count word))) = OfRequests

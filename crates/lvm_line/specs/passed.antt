@@ -1,8 +1,10 @@
+pub mod CopyLines
 pub mod DiskLines
 pub mod Driver
 pub mod Group
 pub mod GroupLines
 pub mod HolderVariants
+pub mod Mirrors
 pub mod Quiesce
 pub mod QuiescedVariants
 pub mod RangeLines

@@ -6,20 +6,21 @@ ghost use Rattle.lvm_vol.specs.Log.{Log};
 ghost use Rattle.lvm_parse.specs.Grammar.{line_of};
 ghost use Rattle.lvm_parse.specs.Within.{IsWithin};
 ghost use Rattle.lvm_line.specs.Lines.{CommandDoes, CommandIsDone, IsLine, IsChange, asked_after};
-ghost use Rattle.lvm_volume_lines.specs.passed.Stage.{IsStuck, most_refusals, history_in, session_in, state_in, IsBetweenStage, IsFitting};
-ghost use Rattle.lvm_volume_lines.specs.passed.Stage.{without_facts};
+ghost use Rattle.lvm_copy_lines.specs.passed.Stage.{IsStuck, most_refusals, history_in, session_in, state_in, IsBetweenStage, IsFitting};
+ghost use Rattle.lvm_copy_lines.specs.passed.Stage.{without_facts};
 
+use lvm_copy_lines::below::disk_lines::{do_arrange, do_cut, do_read, do_write};
+use lvm_copy_lines::below::group_lines::{
+    do_mkvg, do_varyoff, do_varyon, list_disk, list_group, list_volume,
+};
+use lvm_copy_lines::below::range_lines::{do_post, do_rd, do_step, do_wait, do_wr};
+use lvm_copy_lines::below::stage::{Answered, Refusal, Reply, Stage};
+use lvm_copy_lines::below::volume_lines::{do_mklv, do_rmlv};
+use lvm_copy_lines::{do_mklvcopy, do_rmlvcopy};
 use lvm_core::Room;
 use lvm_disk::{Arrange, Shelf};
 use lvm_io::Clock;
 use lvm_parse::{Command, ParseFault, parse};
-use lvm_volume_lines::below::disk_lines::{do_arrange, do_cut, do_read, do_write};
-use lvm_volume_lines::below::group_lines::{
-    do_mkvg, do_varyoff, do_varyon, list_disk, list_group, list_volume,
-};
-use lvm_volume_lines::below::range_lines::{do_post, do_rd, do_step, do_wait, do_wr};
-use lvm_volume_lines::below::stage::{Answered, Refusal, Reply, Stage};
-use lvm_volume_lines::{do_mklv, do_rmlv};
 use std::alloc::Global;
 
 // Does what a command asks for.
@@ -67,8 +68,8 @@ fn do_command<S: Shelf, C: Clock>(
             lps,
         } => do_mklv(alloc, stage, name, copies, mode, policy, group, lps),
         Command::Rmlv { name } => do_rmlv(alloc, stage, name),
-        Command::Mklvcopy { name: _, copies: _ } => stage.refused(Refusal::BadLine { column: 1 }),
-        Command::Rmlvcopy { name: _, copies: _ } => stage.refused(Refusal::BadLine { column: 1 }),
+        Command::Mklvcopy { name, copies } => do_mklvcopy(alloc, stage, name, copies),
+        Command::Rmlvcopy { name, copies } => do_rmlvcopy(alloc, stage, name, copies),
         Command::Lslv { name } => {
             let reply = list_volume(alloc, &stage, name);
             stage.answered(reply)

@@ -22,6 +22,9 @@ use Rattle.lvm_core.specs.Settled.{IsSettled}
 use Rattle.lvm_session.specs.State.{Core, State as Session, is_there}
 use Rattle.lvm_core.specs.Leaves.{MayBeFound}
 use Rattle.lvm_line.specs.passed.Volumes.{IsWith}
+use Rattle.lvm_line.specs.passed.Mirrors.{IsWithFirst, IsWithMore}
+use Rattle.lvm_line.specs.passed.CopyLines.{NoGroupForMklvcopy, BusyMklvcopy, UndrainedMklvcopy, NoVolumeForMklvcopy, AddsCopies, MklvcopyFails}
+use Rattle.lvm_line.specs.passed.CopyLines.{NoGroupForRmlvcopy, BusyRmlvcopy, UndrainedRmlvcopy, NoVolumeForRmlvcopy, RemovesCopies, RmlvcopyFails}
 use Rattle.lvm_core.specs.Looking.{IsNumberOf}
 use Rattle.lvm_line.specs.passed.Group.{NewGroup, new_group}
 use Rattle.lvm_core.specs.declared.refused.Cause.{Cause}
@@ -37,7 +40,8 @@ use Rattle.lvm_line.specs.passed.ReplyVariants as reply
 use Rattle.lvm_volume_plan.specs.declared.new_volume.NewVolume.{NewVolume}
 use Rattle.lvm_line.specs.Causes.{IsDrained}
 use Rattle.lvm_top.specs.Standing.{IsToCommit, StoodBefore, is_group_command, is_acknowledged, StandsOf, IsCommitted, OfAnother}
-use Rattle.lvm_top.proofs.Volumes.{held_mid}
+use Rattle.lvm_top.proofs.Volumes.{as_group, held_mid}
+use Rattle.lvm_top.proofs.Copying.{fewer_id, more_id}
 use Rattle.lvm_volume_plan.specs.NewVolume.{without_volume}
 
 -- ---- a session at which nothing is under way
@@ -81,6 +85,17 @@ with_id : (old : State) (core : Core) → old.session ≡ Some core → (w : New
 with_id old core some w k (c, mid, drained, is) =
     let same : c ≡ core = let e = sym drained.on ∙ some in cc e in
     ap (λ (d : Descriptor). d.id) is.2.2 ∙ ap (λ (d : Descriptor). d.id) drained.descriptor ∙ ap (λ (c : Core). c.descriptor.id) same
+
+-- one in which a volume has more copies too
+with_more_id : (old : State) (core : Core) → old.session ≡ Some core → (name : List ℕ) (copies : ℕ) (k : Descriptor)
+    → (c : Core) × (mid : Core) × IsDrained old c mid × ((lv : ℕ) × IsNumberOf c.descriptor.lvs name lv × IsWithMore lv copies mid k) → k.id ≡ core.descriptor.id
+with_more_id old core some name copies k (c, mid, drained, (lv, its, more)) =
+    let same : c ≡ core = let e = sym drained.on ∙ some in cc e in
+    more_id lv copies mid k more ∙ ap (λ (d : Descriptor). d.id) drained.descriptor ∙ ap (λ (c : Core). c.descriptor.id) same
+
+-- what holds of the session that is on
+told_and : {X : Type 0} (o : Option X) (P : X → Type 0) (x : X) → o ≡ Some x → IsSomeAnd o P → P x
+told_and {X} o P x some is = subst (λ (p : Option X). IsSomeAnd p P) some is
 
 -- the session once its line has handed it on
 handed_on : (left : Session) (old new : State) (stays : StaysOn left old new) → IsSettled left.core → IsReady left.device → IsHeld left.device left.core → HasBegunHeld new.moment.device stays.core
@@ -134,12 +149,32 @@ module _ (log : Log) (room : Room) (old new : State) (leaves : LeavesDescriptors
         let without = told_and old.session (λ c. (n : ℕ) × IsNumberOf c.descriptor.lvs name n × (k ≡ without_volume c.descriptor n)) core some is in
         ap (λ (d : Descriptor). d.id) without.2 ∙ sym (ap (λ (d : Descriptor). d.id) drains.runs.leaves.keeps.descriptor) ∙ sym (ap (λ (c : Core). c.descriptor.id) (done.leaves.is) ∙ ap (λ (c : Core). c.descriptor.id) done.gives.is);
   }
-    where
-      told_and : {X : Type 0} (o : Option X) (P : X → Type 0) (x : X) → o ≡ Some x → IsSomeAnd o P → P x
-      told_and {X} o P x some is = subst (λ (p : Option X). IsSomeAnd p P) some is
   by_command (command.Rmlv name) acked stood (RmlvFails core left mid lv why some drains its done says) = absurd (cc (says))
-  by_command (command.Mklvcopy name copies) acked stood does = absurd (cc (acked))
-  by_command (command.Rmlvcopy name copies) acked stood does = absurd (cc (acked))
+  by_command (command.Mklvcopy name copies) acked stood (NoGroupForMklvcopy none is) = absurd (let e = is.0 in cc (e))
+  by_command (command.Mklvcopy name copies) acked stood (BusyMklvcopy busy is) = absurd (let e = is.0 in cc (e))
+  by_command (command.Mklvcopy name copies) acked stood (UndrainedMklvcopy core why some un) = absurd (let e = un.says in cc (e))
+  by_command (command.Mklvcopy name copies) acked stood (NoVolumeForMklvcopy core left mid some drains none stays last says) = absurd (cc (says))
+  by_command (command.Mklvcopy name copies) acked stood (AddsCopies core left mid lv added some drains its done says) = record {
+    core = done.leaves.core;
+    on = done.leaves.session;
+    begun = handed_on done.left old new done.leaves (done.rests refl).0 (done.rests refl).1 (done.held refl (held_mid log.run old new leaves named stood core left mid some drains));
+    own = λ k is.
+        with_more_id old core some name copies k is ∙ sym (ap (λ (d : Descriptor). d.id) drains.runs.leaves.keeps.descriptor) ∙ sym (ap (λ (c : Core). c.descriptor.id) (done.leaves.is) ∙ ap (λ (c : Core). c.descriptor.id) done.gives.is);
+  }
+  by_command (command.Mklvcopy name copies) acked stood (MklvcopyFails core left mid lv why some drains its done says) = absurd (cc (says))
+  by_command (command.Rmlvcopy name copies) acked stood (NoGroupForRmlvcopy none is) = absurd (let e = is.0 in cc (e))
+  by_command (command.Rmlvcopy name copies) acked stood (BusyRmlvcopy busy is) = absurd (let e = is.0 in cc (e))
+  by_command (command.Rmlvcopy name copies) acked stood (UndrainedRmlvcopy core why some un) = absurd (let e = un.says in cc (e))
+  by_command (command.Rmlvcopy name copies) acked stood (NoVolumeForRmlvcopy core left mid some drains none stays last says) = absurd (cc (says))
+  by_command (command.Rmlvcopy name copies) acked stood (RemovesCopies core left mid lv some drains its done says) = record {
+    core = done.leaves.core;
+    on = done.leaves.session;
+    begun = handed_on done.left old new done.leaves (done.rests refl).0 (done.rests refl).1 (done.held refl (held_mid log.run old new leaves named (as_group log.run _ old new stood) core left mid some drains));
+    own = λ k is.
+        let fewer = told_and old.session (λ c. (n : ℕ) × IsNumberOf c.descriptor.lvs name n × IsWithFirst n copies c k) core some is in
+        fewer_id fewer.0 copies core k fewer.2 ∙ sym (ap (λ (d : Descriptor). d.id) drains.runs.leaves.keeps.descriptor) ∙ sym (ap (λ (c : Core). c.descriptor.id) (done.leaves.is) ∙ ap (λ (c : Core). c.descriptor.id) done.gives.is);
+  }
+  by_command (command.Rmlvcopy name copies) acked stood (RmlvcopyFails core left mid lv why some drains its done says) = absurd (cc (says))
   by_command (command.Rd name at count) acked stood does = absurd (cc (acked))
   by_command (command.Wr name at count word) acked stood does = absurd (cc (acked))
   by_command (command.Post name at count word) acked stood does = absurd (cc (acked))

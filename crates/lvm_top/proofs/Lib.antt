@@ -13,6 +13,7 @@ pub mod Begun
 pub mod Making
 pub mod Varying
 pub mod Volumes
+pub mod Copying
 pub mod Groups
 pub mod Lines
 pub mod Acknowledged

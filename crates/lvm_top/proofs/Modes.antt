@@ -1,6 +1,6 @@
 -- Which modes the volumes of groups have that are found, and of that which is on.
-use Rattle.std.proofs.Common.{◌≡◌, ◌⊎◌, ⊎_elim, ℕ, ◌-◌, [], List, Bool, true, false, Option, Some, None, Result, Ok, Err, IfSome, refl, sym, ap, subst, ◌∙◌}
-use Rattle.std.specs.Prelude.{IfNone, IsSome, IsSomeAnd}
+use Rattle.std.proofs.Common.{◌≡◌, ◌⊎◌, ⊎_elim, ℕ, ◌-◌, [], List, Bool, true, false, Option, Some, None, Result, Ok, Err, IfSome, refl, sym, ap, subst, ◌∙◌, inl, inr, ◌∷◌, map, ◌==◌}
+use Rattle.std.specs.Prelude.{IfNone, IsSome, IsSomeAnd, if◌then◌else◌}
 use Rattle.lvm_num.specs.declared.descriptor.Descriptor.{Descriptor}
 use Rattle.lvm_num.specs.declared.descriptor.LvRow.{LvRow}
 use Rattle.lvm_num.specs.Votes.{all_disks}
@@ -18,7 +18,7 @@ use Rattle.lvm_commit.specs.Committed.{HoldsCommitted}
 use Rattle.lvm_core.specs.declared.parts.Room.{Room}
 use Rattle.lvm_core.specs.declared.refused.Cause.{Cause}
 use Rattle.lvm_core.specs.Held.{IsHeld}
-use Rattle.lvm_core.specs.Leaves.{MayBeFound}
+use Rattle.lvm_core.specs.Leaves.{MayBeFound, Scope}
 use Rattle.lvm_core.specs.Looking.{IsNumberOf}
 use Rattle.lvm_session.specs.declared.open.Power.{Power}
 use Rattle.lvm_session.specs.declared.open.Power.TheVariants as power
@@ -31,6 +31,10 @@ use Rattle.lvm_posts.specs.declared.posts.Post.{Post}
 use Rattle.lvm_posts.specs.declared.fault.RangeFault.{RangeFault}
 use Rattle.lvm_posts.specs.declared.fault.RangeFault.TheVariants as range_fault
 use Rattle.lvm_line.specs.passed.Volumes.{IsWith}
+use Rattle.lvm_line.specs.passed.Mirrors.{IsWithFirst, IsWithMore}
+use Rattle.lvm_copy_plan.specs.Copies.{first_copies, with_copies, with_map}
+use Rattle.lvm_num.specs.declared.descriptor.Mode.TheVariants.{Off}
+use Rattle.lvm_num.specs.declared.place.Pp.{Pp}
 use Rattle.lvm_volume_plan.specs.declared.new_volume.NewVolume.{NewVolume}
 use Rattle.lvm_volume_plan.specs.NewVolume.{row_for, without_volume}
 use Rattle.lvm_volume_plan.proofs.Sublists.{one_filter, one_insert}
@@ -48,11 +52,13 @@ use Rattle.lvm_line.specs.passed.Stage.{HasBegunHeld, OfGroup, State, Reply}
 use Rattle.lvm_line.specs.passed.VolumeLines.{Drains, IsDone, StaysOn, MklvDoes, RmlvDoes, NoGroupForMklv, BusyMklv, UndrainedMklv, MakesVolume}
 use Rattle.lvm_line.specs.passed.VolumeLines.{MklvFails, NoGroupForRmlv, BusyRmlv, UndrainedRmlv, NoVolumeForRmlv, RemovesVolume, RmlvFails}
 use Rattle.lvm_line.specs.passed.VolumeLines.{ends_session, wanted}
+use Rattle.lvm_line.specs.passed.CopyLines.{MklvcopyDoes, NoGroupForMklvcopy, BusyMklvcopy, UndrainedMklvcopy, NoVolumeForMklvcopy, AddsCopies, MklvcopyFails}
+use Rattle.lvm_line.specs.passed.CopyLines.{RmlvcopyDoes, NoGroupForRmlvcopy, BusyRmlvcopy, UndrainedRmlvcopy, NoVolumeForRmlvcopy, RemovesCopies, RmlvcopyFails}
 use Rattle.lvm_top.specs.OneGroup.{FindsOff}
 use Rattle.lvm_line.specs.Causes.{IsDrained}
 use Rattle.lvm_top.specs.Standing.{MayHaveCommitted, StoodBefore}
 use Rattle.lvm_top.proofs.Acknowledged.{begun_by}
-use Rattle.lvm_top.proofs.Volumes.{held_mid, some_of}
+use Rattle.lvm_top.proofs.Volumes.{as_group, held_mid, some_of}
 
 -- the volumes of the group that is on are in mode off
 abbrev pub IsOffOn : State → Type 0
@@ -75,6 +81,31 @@ without_off : (name : List ℕ) (o : Option Core) (k : Descriptor) → IfSome o 
 without_off name None k off is = absurd is
 without_off name (Some core) k off (lv, its, same) = λ row volume. off row (one_filter _ core.descriptor.lvs row (subst (λ (d : Descriptor). IsOneOf d.lvs row) same volume))
 
+-- other copies leave each volume its mode
+abbrev with_other : ℕ → ℕ → List Pp → LvRow → LvRow
+with_other lv copies pps row = if row.number == lv then with_map row copies pps else row
+
+rows_off : (lv copies : ℕ) (pps : List Pp) (rows : List LvRow) → ((row : LvRow) → IsOneOf rows row → row.mode ≡ Off) → (row : LvRow) → IsOneOf (map (with_other lv copies pps) rows) row → row.mode ≡ Off
+rows_off lv copies pps [] off row one = absurd one
+rows_off lv copies pps (x ∷ xs) off row one = by_test (x.number == lv) (rows_off lv copies pps xs (λ r there. off r (inr there)) row) one
+  where
+    by_test : (t : Bool) → (IsOneOf (map (with_other lv copies pps) xs) row → row.mode ≡ Off) → IsOneOf ((if t then with_map x copies pps else x) ∷ map (with_other lv copies pps) xs) row → row.mode ≡ Off
+    by_test true rest (inl here) = ap (λ (r : LvRow). r.mode) here ∙ off x (inl refl)
+    by_test true rest (inr there) = rest there
+    by_test false rest (inl here) = ap (λ (r : LvRow). r.mode) here ∙ off x (inl refl)
+    by_test false rest (inr there) = rest there
+
+copies_off : (d k : Descriptor) (lv copies : ℕ) (pps : List Pp) → k ≡ with_copies d lv copies pps → AreOff d → AreOff k
+copies_off d k lv copies pps same off = λ row volume. rows_off lv copies pps d.lvs off row (subst (λ (g : Descriptor). IsOneOf g.lvs row) same volume)
+
+with_more_off : (name : List ℕ) (copies : ℕ) (old : State) → IsOffOn old → (k : Descriptor) → (core : Core) × (mid : Core) × IsDrained old core mid × ((lv : ℕ) × IsNumberOf core.descriptor.lvs name lv × IsWithMore lv copies mid k) → AreOff k
+with_more_off name copies old off k (core, mid, drained, (lv, its, (row, (pps, places, same)))) =
+    copies_off mid.descriptor k lv copies pps same (subst AreOff (sym drained.descriptor) (subst (λ (o : Option Core). IfSome o (λ c. AreOff c.descriptor)) drained.on off))
+
+with_fewer_off : (name : List ℕ) (copies : ℕ) (o : Option Core) (k : Descriptor) → IfSome o (λ c. AreOff c.descriptor) → IsSomeAnd o (λ c. (lv : ℕ) × IsNumberOf c.descriptor.lvs name lv × IsWithFirst lv copies c k) → AreOff k
+with_fewer_off name copies None k off is = absurd is
+with_fewer_off name copies (Some core) k off (lv, its, (row, found, same)) = copies_off core.descriptor k lv copies (first_copies row copies) same off
+
 pub committed_off : (line : List ℕ) (read : Result (Option Command) Misfit) → line_of line ≡ read → (answer : Reply) (old new : State) → IsOffOn old → (id : ℕ) (k : Descriptor) → MayHaveCommitted read answer old new id k → AreOff k
 committed_off line (Ok (Some (command.Mkvg force name mib disks))) is answer old new off id k it = subst AreOff (sym it.is) (λ row none. absurd none)
 committed_off line (Ok (Some (command.Mklv name copies mode policy group lps))) is answer old new off id k it = with_off line name copies mode policy group lps is old off k it.is
@@ -84,8 +115,8 @@ committed_off line (Ok None) is answer old new off id k it = absurd it.is
 committed_off line (Ok (Some (command.Varyon name))) is answer old new off id k it = absurd it.is
 committed_off line (Ok (Some (command.Varyoff name))) is answer old new off id k it = absurd it.is
 committed_off line (Ok (Some (command.Lsvg volumes name))) is answer old new off id k it = absurd it.is
-committed_off line (Ok (Some (command.Mklvcopy name copies))) is answer old new off id k it = absurd it.is
-committed_off line (Ok (Some (command.Rmlvcopy name copies))) is answer old new off id k it = absurd it.is
+committed_off line (Ok (Some (command.Mklvcopy name copies))) is answer old new off id k it = with_more_off name copies old off k it.is
+committed_off line (Ok (Some (command.Rmlvcopy name copies))) is answer old new off id k it = with_fewer_off name copies old.session k off it.is
 committed_off line (Ok (Some (command.Lslv name))) is answer old new off id k it = absurd it.is
 committed_off line (Ok (Some (command.Lspv disk))) is answer old new off id k it = absurd it.is
 committed_off line (Ok (Some (command.Rd name at count))) is answer old new off id k it = absurd it.is
@@ -237,8 +268,8 @@ module _ (old new : State) (off : IsOffOn old) where
         some_off stays.core stays.session (subst (λ (c : Core). AreOff c.descriptor) (sym stays.is) (finds left.core.descriptor.id left.core.descriptor found))
 
     module _ (run : ℕ) (leaves : LeavesDescriptors old.moment.device) (named : IfSome old.session (λ core. core.history.run ≡ run)) (stood : StoodBefore run OfGroup old new) where
-      done_off : {Gives : Session → Session → Type 0} {IsNext : Core → Descriptor → Type 0} {IsPlace : Core → _ → Type 0} (over : Bool) (core : Core) (left : ℕ) (mid : Session) → old.session ≡ Some core → Drains core old left mid
-          → IsDone Gives IsNext IsPlace over mid old new → IsOffOn new
+      done_off : {Gives : Session → Session → Type 0} {scope : Core → Scope} (over : Bool) (core : Core) (left : ℕ) (mid : Session) → old.session ≡ Some core → Drains core old left mid
+          → IsDone Gives scope over mid old new → IsOffOn new
       done_off true core left mid some drains done = none_off done.leaves.session
       done_off false core left mid some drains done = stays_off done.left done.leaves (done.held refl (held_mid run old new leaves named stood core left mid some drains))
 
@@ -257,6 +288,22 @@ module _ (old new : State) (off : IsOffOn old) where
       rmlv_off name (RemovesVolume core left mid lv some drains its done is) = done_off false core left mid some drains done
       rmlv_off name (RmlvFails core left mid lv why some drains its done is) = done_off (ends_session why) core left mid some drains done
 
+      mklvcopy_off : {answer : Reply} (name : List ℕ) (copies : ℕ) → MklvcopyDoes name copies old new answer → IsOffOn new
+      mklvcopy_off name copies (NoGroupForMklvcopy none is) = same_off is.1
+      mklvcopy_off name copies (BusyMklvcopy busy is) = same_off is.1
+      mklvcopy_off name copies (UndrainedMklvcopy core why some un) = none_off un.over.session
+      mklvcopy_off name copies (NoVolumeForMklvcopy core left mid some drains none stays last says) = stays_off mid stays (held_mid run old new leaves named stood core left mid some drains)
+      mklvcopy_off name copies (AddsCopies core left mid lv added some drains its done is) = done_off false core left mid some drains done
+      mklvcopy_off name copies (MklvcopyFails core left mid lv why some drains its done is) = done_off (ends_session why) core left mid some drains done
+
+      rmlvcopy_off : {answer : Reply} (name : List ℕ) (copies : ℕ) → RmlvcopyDoes name copies old new answer → IsOffOn new
+      rmlvcopy_off name copies (NoGroupForRmlvcopy none is) = same_off is.1
+      rmlvcopy_off name copies (BusyRmlvcopy busy is) = same_off is.1
+      rmlvcopy_off name copies (UndrainedRmlvcopy core why some un) = none_off un.over.session
+      rmlvcopy_off name copies (NoVolumeForRmlvcopy core left mid some drains none stays last says) = stays_off mid stays (held_mid run old new leaves named stood core left mid some drains)
+      rmlvcopy_off name copies (RemovesCopies core left mid lv some drains its done is) = done_off false core left mid some drains done
+      rmlvcopy_off name copies (RmlvcopyFails core left mid lv why some drains its done is) = done_off (ends_session why) core left mid some drains done
+
 pub session_off : (log : Log) (room : Room) (answer : Reply) (old new : State) → IsOffOn old → IfNone old.session (IfSome new.session (HasBegunHeld new.moment.device)) → IsSome new.moment.device.media → FindsOff new.moment.device
     → LeavesDescriptors old.moment.device → IfSome old.session (λ core. core.history.run ≡ log.run) → (read : Result (Option Command) Misfit) → StoodBefore log.run (role_of read) old new → LineDoes log room read old new answer → IsOffOn new
 session_off log room answer old new off begins told finds leaves named (Err misfit) stood does = same_off old new off does.1
@@ -267,8 +314,8 @@ session_off log room answer old new off begins told finds leaves named (Ok (Some
 session_off log room answer old new off begins told finds leaves named (Ok (Some (command.Lsvg volumes name))) stood does = same_off old new off does.1
 session_off log room answer old new off begins told finds leaves named (Ok (Some (command.Mklv name copies mode policy group lps))) stood does = mklv_off old new off begins told finds log.run leaves named stood (wanted name copies mode policy lps) group does
 session_off log room answer old new off begins told finds leaves named (Ok (Some (command.Rmlv name))) stood does = rmlv_off old new off begins told finds log.run leaves named stood name does
-session_off log room answer old new off begins told finds leaves named (Ok (Some (command.Mklvcopy name copies))) stood does = same_off old new off does.1
-session_off log room answer old new off begins told finds leaves named (Ok (Some (command.Rmlvcopy name copies))) stood does = same_off old new off does.1
+session_off log room answer old new off begins told finds leaves named (Ok (Some (command.Mklvcopy name copies))) stood does = mklvcopy_off old new off begins told finds log.run leaves named stood name copies does
+session_off log room answer old new off begins told finds leaves named (Ok (Some (command.Rmlvcopy name copies))) stood does = rmlvcopy_off old new off begins told finds log.run leaves named (as_group log.run _ old new stood) name copies does
 session_off log room answer old new off begins told finds leaves named (Ok (Some (command.Lslv name))) stood does = same_off old new off does.1
 session_off log room answer old new off begins told finds leaves named (Ok (Some (command.Lspv disk))) stood does = same_off old new off does.1
 session_off log room answer old new off begins told finds leaves named (Ok (Some (command.Rd name at count))) stood does = volume_off old new off name _ (λ core lv. finishes_off old new off None _ at count core lv) does

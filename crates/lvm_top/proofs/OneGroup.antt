@@ -30,7 +30,7 @@ use Rattle.lvm_session.specs.State.{Core, State as Session}
 use Rattle.lvm_line.specs.passed.Quiesce.{MkvgOnceQuiet, RefusedAtOnce, StayedOut, WentQuiet}
 use Rattle.lvm_line.specs.passed.Tie.{LeavesDescriptors}
 use Rattle.lvm_kept.specs.Moments.{Moment}
-use Rattle.lvm_core.specs.Leaves.{EntersVolumes, is_of_volume}
+use Rattle.lvm_core.specs.Leaves.{EntersVolumes, Scope, is_of_volume}
 use Rattle.lvm_volume_plan.specs.declared.new_volume.NewVolume.{NewVolume}
 use Rattle.lvm_core.specs.Leaves.{MayBeFound}
 use Rattle.lvm_line.specs.passed.Group.{NewGroup, new_group, Refuses, IfShown, HasGroup}
@@ -40,12 +40,15 @@ use Rattle.lvm_line.specs.passed.GroupLines.{IsLeft, MkvgDoes, NoMemoryForLine, 
 use Rattle.lvm_line.specs.Lines.{LineDoes, role_of}
 use Rattle.lvm_line.specs.passed.VolumeLines.{Drains, IsDone, MklvDoes, RmlvDoes, NoGroupForMklv, BusyMklv, UndrainedMklv, MakesVolume, MklvFails}
 use Rattle.lvm_line.specs.passed.VolumeLines.{NoGroupForRmlv, BusyRmlv, UndrainedRmlv, NoVolumeForRmlv, RemovesVolume, RmlvFails, wanted}
-use Rattle.lvm_top.specs.Script.{Script, NoLine, NextLine, StaysAlone, Ends, AtLine, InLine, EndsAlone, EndsHeard, entry_state, empty_log, facts_of}
+use Rattle.lvm_line.specs.passed.CopyLines.{MklvcopyDoes, NoGroupForMklvcopy, BusyMklvcopy, UndrainedMklvcopy, NoVolumeForMklvcopy, AddsCopies, MklvcopyFails}
+use Rattle.lvm_line.specs.passed.CopyLines.{RmlvcopyDoes, NoGroupForRmlvcopy, BusyRmlvcopy, UndrainedRmlvcopy, NoVolumeForRmlvcopy, RemovesCopies, RmlvcopyFails}
+use Rattle.lvm_top.specs.Script.{Script, NoLine, NextLine, AreAllowed, EndsAllowed, StaysAlone, Ends, AtLine, InLine, EndsAlone, EndsHeard, entry_state, empty_log, facts_of}
 use Rattle.lvm_top.specs.Run.{exit_state}
 use Rattle.lvm_top.proofs.Concluding.{how_ended, stuck_ends, stuck_still}
 use Rattle.lvm_top.proofs.Modes.{IsOffOn, committed_off, session_off}
 use Rattle.lvm_top.proofs.Quiet.{lit_nothing, quiet_nothing, stays_nothing}
-use Rattle.lvm_top.proofs.Volumes.{done_finds, found_before, idle_nothing, undrained_nothing}
+use Rattle.lvm_top.proofs.Volumes.{as_group, done_finds, found_before, idle_nothing, undrained_nothing}
+use Rattle.lvm_top.proofs.Copying.{fewer_id, more_id}
 use Rattle.lvm_top.proofs.Scripting.{script_went}
 use Rattle.lvm_top.specs.Laws.{MayStart}
 use Rattle.lvm_top.specs.OneGroup.{FindsOff, FindsOneGroup, IsUnforced, AreUnforced, EndsUnforced, UnforcedStaysAlone, UnforcedRunsAlone, BlankFindsOneGroup}
@@ -57,7 +60,6 @@ use Rattle.lvm_top.proofs.Lines.{by_reading}
 use Rattle.lvm_top.proofs.Making.{parts_find, refused_finds}
 use Rattle.lvm_top.proofs.Scripts.{last_told, run_may_start, stood, went_so}
 use Rattle.lvm_line.specs.passed.TieGroups.{AreOff}
-use Rattle.lvm_num.specs.declared.place.Pp.{Pp}
 
 -- ---- what is found is shown, and what has a quorum is found
 
@@ -181,8 +183,8 @@ module _ (log : Log) (old new : State) (answer : Reply) (shelf : IsShelf old.mom
   -- ---- `mklv` and `rmlv`
 
   module _ (stood : StoodBefore log.run OfGroup old new) where
-    commanded_one : {Gives : Session → Session → Type 0} {IsNext : Core → Descriptor → Type 0} {IsPlace : Core → Pp → Type 0} {over : Bool} (core : Core) (left : ℕ) (mid : Session) → old.session ≡ Some core → Drains core old left mid
-        → ((k : Descriptor) → IsNext mid.core k → k.id ≡ mid.core.descriptor.id) → IsDone Gives IsNext IsPlace over mid old new → FindsOneGroup now
+    commanded_one : {Gives : Session → Session → Type 0} {scope : Core → Scope} {over : Bool} (core : Core) (left : ℕ) (mid : Session) → old.session ≡ Some core → Drains core old left mid
+        → ((k : Descriptor) → (scope mid.core).next k → k.id ≡ mid.core.descriptor.id) → IsDone Gives scope over mid old new → FindsOneGroup now
     commanded_one core left mid some drains own done = no_new_one was now (λ id k it. ⊎_elim
         (λ (before : MayBeFound was id k). (k, before))
         (λ next.
@@ -205,6 +207,22 @@ module _ (log : Log) (old new : State) (answer : Reply) (shelf : IsShelf old.mom
     rmlv_one name (RemovesVolume core left mid lv some drains its done is) = commanded_one core left mid some drains (λ k same. ap (λ (d : Descriptor). d.id) same) done
     rmlv_one name (RmlvFails core left mid lv why some drains its done is) = commanded_one core left mid some drains (λ k same. ap (λ (d : Descriptor). d.id) same) done
 
+    mklvcopy_one : (name : List ℕ) (copies : ℕ) → MklvcopyDoes name copies old new answer → FindsOneGroup now
+    mklvcopy_one name copies (NoGroupForMklvcopy none is) = same_one is.1
+    mklvcopy_one name copies (BusyMklvcopy busy is) = same_one is.1
+    mklvcopy_one name copies (UndrainedMklvcopy core why some un) = nothing_one was now (undrained_nothing log.run old new leaves named stood core why answer un) one
+    mklvcopy_one name copies (NoVolumeForMklvcopy core left mid some drains none stays last says) = nothing_one was now (idle_nothing log.run old new leaves named stood core left mid mid drains refl stays) one
+    mklvcopy_one name copies (AddsCopies core left mid lv added some drains its done is) = commanded_one core left mid some drains (λ k its. more_id lv copies mid.core k its) done
+    mklvcopy_one name copies (MklvcopyFails core left mid lv why some drains its done is) = commanded_one core left mid some drains (λ k its. more_id lv copies mid.core k its) done
+
+    rmlvcopy_one : (name : List ℕ) (copies : ℕ) → RmlvcopyDoes name copies old new answer → FindsOneGroup now
+    rmlvcopy_one name copies (NoGroupForRmlvcopy none is) = same_one is.1
+    rmlvcopy_one name copies (BusyRmlvcopy busy is) = same_one is.1
+    rmlvcopy_one name copies (UndrainedRmlvcopy core why some un) = nothing_one was now (undrained_nothing log.run old new leaves named stood core why answer un) one
+    rmlvcopy_one name copies (NoVolumeForRmlvcopy core left mid some drains none stays last says) = nothing_one was now (idle_nothing log.run old new leaves named stood core left mid mid drains refl stays) one
+    rmlvcopy_one name copies (RemovesCopies core left mid lv some drains its done is) = commanded_one core left mid some drains (λ k its. fewer_id lv copies mid.core k its) done
+    rmlvcopy_one name copies (RmlvcopyFails core left mid lv why some drains its done is) = commanded_one core left mid some drains (λ k its. fewer_id lv copies mid.core k its) done
+
   -- ---- another line
 
   other_one : (room : Room) (line : List ℕ) (read : Result (Option Command) Misfit) → line_of line ≡ read → StoodBefore log.run (role_of read) old new → ((id : ℕ) (k : Descriptor) → MayHaveCommitted read answer old new id k → ⊥)
@@ -224,8 +242,8 @@ module _ (log : Log) (old new : State) (answer : Reply) (shelf : IsShelf old.mom
   line_one room line unforced (Ok (Some (command.Varyon name))) is stood does = other_one room line _ is stood (λ id k it. it.is) does
   line_one room line unforced (Ok (Some (command.Varyoff name))) is stood does = other_one room line _ is stood (λ id k it. it.is) does
   line_one room line unforced (Ok (Some (command.Lsvg volumes name))) is stood does = other_one room line _ is stood (λ id k it. it.is) does
-  line_one room line unforced (Ok (Some (command.Mklvcopy name copies))) is stood does = other_one room line _ is stood (λ id k it. it.is) does
-  line_one room line unforced (Ok (Some (command.Rmlvcopy name copies))) is stood does = other_one room line _ is stood (λ id k it. it.is) does
+  line_one room line unforced (Ok (Some (command.Mklvcopy name copies))) is stood does = mklvcopy_one stood name copies does
+  line_one room line unforced (Ok (Some (command.Rmlvcopy name copies))) is stood does = rmlvcopy_one (as_group log.run _ old new stood) name copies does
   line_one room line unforced (Ok (Some (command.Lslv name))) is stood does = other_one room line _ is stood (λ id k it. it.is) does
   line_one room line unforced (Ok (Some (command.Lspv disk))) is stood does = other_one room line _ is stood (λ id k it. it.is) does
   line_one room line unforced (Ok (Some (command.Rd name at count))) is stood does = other_one room line _ is stood (λ id k it. it.is) does
@@ -240,31 +258,6 @@ module _ (log : Log) (old new : State) (answer : Reply) (shelf : IsShelf old.mom
   line_one room line unforced (Ok (Some (command.Cut word))) is stood does = other_one room line _ is stood (λ id k it. it.is) does
 
 -- ---- the lines of a script
-
--- no line asks for more of its session
-allowed_so : (read : Result (Option Command) Misfit) (old : State) → IsAllowed (role_of read) old
-allowed_so (Err misfit) old = tt
-allowed_so (Ok None) old = tt
-allowed_so (Ok (Some (command.Mkvg force name mib disks))) old = tt
-allowed_so (Ok (Some (command.Varyon name))) old = tt
-allowed_so (Ok (Some (command.Varyoff name))) old = tt
-allowed_so (Ok (Some (command.Lsvg volumes name))) old = tt
-allowed_so (Ok (Some (command.Mklv name copies mode policy group lps))) old = tt
-allowed_so (Ok (Some (command.Rmlv name))) old = tt
-allowed_so (Ok (Some (command.Mklvcopy name copies))) old = tt
-allowed_so (Ok (Some (command.Rmlvcopy name copies))) old = tt
-allowed_so (Ok (Some (command.Rd name at count))) old = tt
-allowed_so (Ok (Some (command.Wr name at count word))) old = tt
-allowed_so (Ok (Some (command.Post name at count word))) old = tt
-allowed_so (Ok (Some command.Wait)) old = tt
-allowed_so (Ok (Some (command.Step turns))) old = tt
-allowed_so (Ok (Some (command.Lslv name))) old = tt
-allowed_so (Ok (Some (command.Lspv disk))) old = tt
-allowed_so (Ok (Some (command.RawRd disk at count))) old = tt
-allowed_so (Ok (Some (command.RawWr disk at count word))) old = tt
-allowed_so (Ok (Some (command.Fail disk))) old = tt
-allowed_so (Ok (Some (command.Heal disk))) old = tt
-allowed_so (Ok (Some (command.Cut word))) old = tt
 
 -- where one group may be found, with such volumes, and a session has no other
 alone_so : (role : Role) (old new : State) → IsAllowed role old → FindsOneGroup old.moment.device → IsOffOn old → IsAlone role old new
@@ -282,12 +275,12 @@ module _ (log : Log) (room : Room) (past : List Fact) (first : State) (begin : M
     finds_off : FindsOff last.moment.device
     session : IsOffOn last
 
-  script_one : {lines : List (List ℕ)} {replies : List Reply} {last : State} (script : Script log room first lines replies last) → AreUnforced script → ScriptOff script
-  script_one NoLine unforced = record { alone = tt; finds_one = one; finds_off = off; session = subst (λ (s : Option Core). IfSome s (λ core. AreOff core.descriptor)) (sym begin.off) tt }
-  script_one (NextLine {mid = mid} {new = new} line answer said heard says before it) unforced =
-      let so_far = script_one before unforced.0 in
+  script_one : {lines : List (List ℕ)} {replies : List Reply} {last : State} (script : Script log room first lines replies last) → AreUnforced script → AreAllowed script → ScriptOff script
+  script_one NoLine unforced allowed = record { alone = tt; finds_one = one; finds_off = off; session = subst (λ (s : Option Core). IfSome s (λ core. AreOff core.descriptor)) (sym begin.off) tt }
+  script_one (NextLine {mid = mid} {new = new} line answer said heard says before it) unforced allowed =
+      let so_far = script_one before unforced.0 allowed.0 in
       let went = script_went log room first before in
-      let now : IsAlone (role_of (line_of line)) mid new = alone_so (role_of (line_of line)) mid new (allowed_so (line_of line) mid) so_far.finds_one so_far.session in
+      let now : IsAlone (role_of (line_of line)) mid new = alone_so (role_of (line_of line)) mid new allowed.1 so_far.finds_one so_far.session in
       let few : length mid.moment.device.sizes ≤ 128 = subst (λ (sizes : List ℕ). length sizes ≤ 128) (sym (span_sizes (went_so log room past first begin before so_far.alone).0)) begin.few in
       let shelf : IsShelf mid.moment.device = record { few = few; whole = it.whole } in
       let leaves = went.leaves begin.leaves in
@@ -303,21 +296,21 @@ module _ (log : Log) (room : Room) (past : List Fact) (first : State) (begin : M
         session = session_off log room answer mid new so_far.session (it.goes.begins timely) told_new off_new leaves it.named (line_of line) stood_so it.does;
       }
 
-  ends_alone : {mid last : State} {done : List (List ℕ)} {said : List Reply} {front : List ℕ} (ends : Ends log room mid last done said front) → FindsOneGroup mid.moment.device → IsOffOn mid → EndsAlone ends
-  ends_alone (AtLine same) found session = tt
-  ends_alone {mid = mid} {last = last} (InLine line answer said front rest says split it) found session = alone_so (role_of (line_of line)) mid last (allowed_so (line_of line) mid) found session
+  ends_alone : {mid last : State} {done : List (List ℕ)} {said : List Reply} {front : List ℕ} (ends : Ends log room mid last done said front) → EndsAllowed ends → FindsOneGroup mid.moment.device → IsOffOn mid → EndsAlone ends
+  ends_alone (AtLine same) allowed found session = tt
+  ends_alone {mid = mid} {last = last} (InLine line answer said front rest says split it) allowed found session = alone_so (role_of (line_of line)) mid last allowed found session
 
   -- what is so where they end, unless nothing was heard of a transfer
-  ends_one : {lines : List (List ℕ)} {replies : List Reply} {mid last : State} {done : List (List ℕ)} {said : List Reply} {front : List ℕ} (script : Script log room first lines replies mid) → ScriptOff script → AreUnforced script
-      → (ends : Ends log room mid last done said front) → EndsHeard ends → EndsUnforced ends → FindsOneGroup last.moment.device × IsOffOn last
-  ends_one script so_far before (AtLine same) heard unforced = (subst (λ (s : State). FindsOneGroup s.moment.device) (sym same) so_far.finds_one, subst IsOffOn (sym same) so_far.session)
-  ends_one script so_far before (InLine line answer said front rest says split it) heard unforced =
-      let all = script_one (NextLine line answer said heard says script it) (before, unforced) in
+  ends_one : {lines : List (List ℕ)} {replies : List Reply} {mid last : State} {done : List (List ℕ)} {said : List Reply} {front : List ℕ} (script : Script log room first lines replies mid) → ScriptOff script → AreUnforced script → AreAllowed script
+      → (ends : Ends log room mid last done said front) → EndsHeard ends → EndsUnforced ends → EndsAllowed ends → FindsOneGroup last.moment.device × IsOffOn last
+  ends_one script so_far before were (AtLine same) heard unforced allowed = (subst (λ (s : State). FindsOneGroup s.moment.device) (sym same) so_far.finds_one, subst IsOffOn (sym same) so_far.session)
+  ends_one script so_far before were (InLine line answer said front rest says split it) heard unforced allowed =
+      let all = script_one (NextLine line answer said heard says script it) (before, unforced) (were, allowed) in
       (all.finds_one, all.session)
 
 pub unforced_stays_alone : UnforcedStaysAlone
-unforced_stays_alone log room past first lines replies last script begin one off unforced =
-    let all = script_one log room past first begin one off script unforced in
+unforced_stays_alone log room past first lines replies last script begin one off unforced allowed =
+    let all = script_one log room past first begin one off script unforced allowed in
     (all.alone, all.finds_one, all.finds_off)
 
 -- a history isn't longer than itself
@@ -325,11 +318,11 @@ not_more : (a b : List Fact) → b ≡ a → EntersVolumes a b → ⊥
 not_more a b same more = let e : count_by is_of_volume b ≡ count_by is_of_volume a = ap (λ (l : List Fact). count_by is_of_volume l) same in omega (arith, e, more)
 
 pub unforced_runs_alone : UnforcedRunsAlone
-unforced_runs_alone r ran past few ready behind earlier one off unforced =
+unforced_runs_alone r ran past few ready behind earlier one off unforced allowed =
     let begin = run_may_start r.named r.entry past few ready behind earlier in
-    let all = script_one (empty_log r.named r.room) r.room (past ++ Cut ∷ []) (entry_state r.entry r.named) begin one off ran.lines.script unforced.0 in (
+    let all = script_one (empty_log r.named r.room) r.room (past ++ Cut ∷ []) (entry_state r.entry r.named) begin one off ran.lines.script unforced.0 allowed.0 in (
       all.alone,
-      ends_alone (empty_log r.named r.room) r.room (past ++ Cut ∷ []) (entry_state r.entry r.named) begin one off ran.lines.ends all.finds_one all.session,
+      ends_alone (empty_log r.named r.room) r.room (past ++ Cut ∷ []) (entry_state r.entry r.named) begin one off ran.lines.ends allowed.1 all.finds_one all.session,
       λ requests. ⊎_elim
           (λ stuck.
           let none : ran.end.session ≡ None = stuck_ends ran.lines.ends (ran.stuck stuck) in
@@ -339,7 +332,7 @@ unforced_runs_alone r ran past few ready behind earlier one off unforced =
             allowed = tt;
           })
           (λ heard.
-          let last = ends_one (empty_log r.named r.room) r.room (past ++ Cut ∷ []) (entry_state r.entry r.named) begin one off ran.lines.script all unforced.0 ran.lines.ends (ran.heard heard) unforced.1 in
+          let last = ends_one (empty_log r.named r.room) r.room (past ++ Cut ∷ []) (entry_state r.entry r.named) begin one off ran.lines.script all unforced.0 allowed.0 ran.lines.ends (ran.heard heard) unforced.1 allowed.1 in
           alone_so OfRequests ran.end (exit_state r.exit r.history ran.end) tt last.0 last.1)
           (how_ended r.status),
     )

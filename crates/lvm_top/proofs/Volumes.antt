@@ -10,20 +10,19 @@ use Rattle.lvm_num.specs.declared.descriptor.Descriptor.{Descriptor}
 use Rattle.lvm_num.specs.declared.descriptor.LvRow.{LvRow}
 use Rattle.lvm_num.specs.declared.descriptor.Mode.{Mode}
 use Rattle.lvm_num.specs.declared.descriptor.Policy.{Policy}
-use Rattle.lvm_num.specs.declared.place.Pp.{Pp}
 use Rattle.lvm_parse.specs.declared.command.Command.TheVariants as command
 use Rattle.lvm_vol.specs.Facts.{Fact}
 use Rattle.lvm_steps.specs.Moments.{Begins}
 use Rattle.lvm_core.specs.Held.{IsHeld}
 use Rattle.lvm_core.specs.Looking.{IsNumberOf}
-use Rattle.lvm_core.specs.Leaves.{MayBeFound}
+use Rattle.lvm_core.specs.Leaves.{MayBeFound, Scope}
 use Rattle.lvm_session.specs.State.{Core, State as Session, is_there, state}
 use Rattle.lvm_line.specs.passed.Driver.{DrainFault}
 use Rattle.lvm_line.specs.passed.Tie.{LeavesDescriptors, IsGood, IsTied}
 use Rattle.lvm_line.proofs.passed.TieGroups.{tied_holds}
 use Rattle.lvm_line.specs.passed.TieCommands.{StandsAfter}
 use Rattle.lvm_line.proofs.passed.TieCommands.{rests}
-use Rattle.lvm_line.specs.passed.Stage.{IsBrokenOff, OfGroup, State, StandsAlone, Reply}
+use Rattle.lvm_line.specs.passed.Stage.{IsBrokenOff, OfGroup, OfGroupWhere, State, StandsAlone, Reply}
 use Rattle.lvm_line.specs.passed.VolumeLines.{Drains, IsDone, IsUndrained, StaysOn, MklvDoes, RmlvDoes, NoGroupForMklv, BusyMklv, UndrainedMklv}
 use Rattle.lvm_line.specs.passed.VolumeLines.{MakesVolume, MklvFails, NoGroupForRmlv, BusyRmlv, UndrainedRmlv, NoVolumeForRmlv, RemovesVolume}
 use Rattle.lvm_line.specs.passed.VolumeLines.{RmlvFails, MklvEnds, RmlvEnds, ends_session, refusal_for, wanted}
@@ -40,6 +39,11 @@ use Rattle.lvm_volume_plan.specs.NewVolume.{without_volume}
 pub some_of : {X : Type 0} (o : Option X) → IsSome o → (x : X) × (o ≡ Some x)
 some_of (Some x) some = (x, refl)
 some_of None some = absurd (cc (some))
+
+-- what stands before a line that asks for more stands before a command on the group
+pub as_group : (run : ℕ) (Holds : Session → Type 0) (old new : State) → StoodBefore run (OfGroupWhere Holds) old new → StoodBefore run OfGroup old new
+as_group run Holds old new (HeldAtRest rest held) = HeldAtRest rest held
+as_group run Holds old new (StandsSince past first stands begins alone) = StandsSince past first stands begins (record { enters = alone.enters; acts = alone.acts; allowed = tt })
 
 module _ (run : ℕ) (old new : State) (leaves : LeavesDescriptors old.moment.device) (named : IfSome old.session (λ core. core.history.run ≡ run)) (stood : StoodBefore run OfGroup old new) where
   -- ---- before the command
@@ -101,8 +105,8 @@ module _ (run : ℕ) (old new : State) (leaves : LeavesDescriptors old.moment.de
   -- ---- the command
 
   -- what it finds, whatever became of it
-  pub done_finds : {Gives : Session → Session → Type 0} {IsNext : Core → Descriptor → Type 0} {IsPlace : Core → Pp → Type 0} {over : Bool} (core : Core) (left : ℕ) (mid : Session) → old.session ≡ Some core → Drains core old left mid → IsDone Gives IsNext IsPlace over mid old new
-      → (id : ℕ) (k : Descriptor) → MayBeFound new.moment.device id k → MayBeFound old.moment.device id k ⊎ ((id ≡ k.id) × IsNext mid.core k)
+  pub done_finds : {Gives : Session → Session → Type 0} {scope : Core → Scope} {over : Bool} (core : Core) (left : ℕ) (mid : Session) → old.session ≡ Some core → Drains core old left mid → IsDone Gives scope over mid old new
+      → (id : ℕ) (k : Descriptor) → MayBeFound new.moment.device id k → MayBeFound old.moment.device id k ⊎ ((id ≡ k.id) × (scope mid.core).next k)
   done_finds core left mid some drains done id k it = ⊎_elim
       (λ before. inl (drained_nothing core left mid drains id k before))
       (λ next. inr next)

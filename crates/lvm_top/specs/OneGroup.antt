@@ -13,7 +13,7 @@ use Rattle.lvm_core.specs.Leaves.{MayBeFound}
 use Rattle.lvm_line.specs.passed.TieGroups.{AreOff}
 use Rattle.lvm_line.specs.passed.Stage.{State, Reply}
 use Rattle.lvm_top.specs.Run.{Run, IsRun, RanAlone}
-use Rattle.lvm_top.specs.Script.{Script, NoLine, NextLine, StaysAlone, Ends, AtLine, InLine}
+use Rattle.lvm_top.specs.Script.{Script, NoLine, NextLine, AreAllowed, EndsAllowed, StaysAlone, Ends, AtLine, InLine}
 use Rattle.lvm_top.specs.Sim.{IsToldBlank}
 use Rattle.lvm_top.specs.Laws.{MayStart}
 use Rattle.lvm_top.specs.Standing.{HasFewDisks}
@@ -43,19 +43,23 @@ EndsUnforced (InLine line answer said front rest says split does) = IsUnforced l
 abbrev pub RanUnforced : {r : Run} → IsRun r → Type 0
 RanUnforced ran = AreUnforced ran.lines.script × EndsUnforced ran.lines.ends
 
+-- what each line asks for of its session holds
+abbrev pub RanAllowed : {r : Run} → IsRun r → Type 0
+RanAllowed ran = AreAllowed ran.lines.script × EndsAllowed ran.lines.ends
+
 -- Over disks on which one group may be found, with volumes in mode off alone, lines without a `mkvg -f` leave it so, and so there is no other one where a volume is
--- made or removed, or acted on.
+-- made or removed, or acted on, if what the lines ask for besides holds.
 abbrev pub UnforcedStaysAlone : Type 0
 UnforcedStaysAlone =
     (log : Log) (room : Room) (past : List Fact) (first : State) (lines : List (List ℕ)) (replies : List Reply) (last : State) (script : Script log room first lines replies last)
-    → MayStart log.run past first → FindsOneGroup first.moment.device → FindsOff first.moment.device → AreUnforced script
+    → MayStart log.run past first → FindsOneGroup first.moment.device → FindsOff first.moment.device → AreUnforced script → AreAllowed script
     → StaysAlone script × FindsOneGroup last.moment.device × FindsOff last.moment.device
 
 -- So it is of a run,
 abbrev pub UnforcedRunsAlone : Type 0
 UnforcedRunsAlone =
     (r : Run) (ran : IsRun r) (past : List Fact)
-    → HasFewDisks r.entry → IsReady r.entry → IsBehind r.named r.entry → IsEarlier r.named r.entry past → FindsOneGroup r.entry → FindsOff r.entry → RanUnforced ran → RanAlone ran
+    → HasFewDisks r.entry → IsReady r.entry → IsBehind r.named r.entry → IsEarlier r.named r.entry past → FindsOneGroup r.entry → FindsOff r.entry → RanUnforced ran → RanAllowed ran → RanAlone ran
 
 -- and of each over disks of zeros, on which no group is found.
 abbrev pub BlankFindsOneGroup : Type 0

@@ -16,6 +16,7 @@ use Rattle.lvm_core.specs.Looking.{IsNumberOf}
 use Rattle.lvm_session.specs.State.{Core}
 use Rattle.lvm_line.specs.passed.Group.{new_group}
 use Rattle.lvm_line.specs.passed.Volumes.{IsWith}
+use Rattle.lvm_line.specs.passed.Mirrors.{IsWithFirst, IsWithMore}
 use Rattle.lvm_core.specs.Leaves.{MayBeFound}
 use Rattle.lvm_line.specs.passed.GroupLines.{asked_for}
 use Rattle.lvm_line.specs.Causes.{IsDrained}
@@ -27,11 +28,13 @@ use Rattle.lvm_volume_plan.specs.NewVolume.{without_volume}
 
 -- ---- one line
 
--- the descriptor that a line was to commit: of the group that is made, or of that which is on with a volume more or without one
+-- the descriptor that a line was to commit: of the group that is made, or of that which is on with a volume more or without one, or with more or fewer copies
 abbrev pub IsToCommit : Result (Option Command) Misfit → State → State → Descriptor → Type 0
 IsToCommit (Ok (Some (command.Mkvg force name mib disks))) old new k = k ≡ new_group old.moment.device.sizes (asked_for name mib disks force new.last)
 IsToCommit (Ok (Some (command.Mklv name copies mode policy group lps))) old new k = (core : Core) × (mid : Core) × IsDrained old core mid × IsWith (wanted name copies mode policy lps) mid k
 IsToCommit (Ok (Some (command.Rmlv name))) old new k = IsSomeAnd old.session (λ core. (lv : ℕ) × IsNumberOf core.descriptor.lvs name lv × (k ≡ without_volume core.descriptor lv))
+IsToCommit (Ok (Some (command.Mklvcopy name copies))) old new k = (core : Core) × (mid : Core) × IsDrained old core mid × ((lv : ℕ) × IsNumberOf core.descriptor.lvs name lv × IsWithMore lv copies mid k)
+IsToCommit (Ok (Some (command.Rmlvcopy name copies))) old new k = IsSomeAnd old.session (λ core. (lv : ℕ) × IsNumberOf core.descriptor.lvs name lv × IsWithFirst lv copies core k)
 IsToCommit other old new k = ⊥
 
 -- The line was answered as done or as broken off, and was to commit this descriptor of the group.
@@ -50,14 +53,14 @@ pub data StoodBefore (run : ℕ) (role : Role) (old new : State) : Type 0 where
   HeldAtRest : IsAtRest old → AreHeld old → StoodBefore run role old new
   StandsSince : (past : List Fact) (first : Moment) → StandsBy run first old → Begins run past first → IsAlone role old new → StoodBefore run role old new
 
--- the commands after which a group is on: it was made, varied on, or given a volume more or less
+-- the commands after which a group is on: it was made, varied on, or given a volume or copies more or less
 abbrev pub is_group_command : Command → Bool
 is_group_command (command.Mkvg force name mib disks) = true
 is_group_command (command.Varyon name) = true
 is_group_command (command.Mklv name copies mode policy group lps) = true
 is_group_command (command.Rmlv name) = true
-is_group_command (command.Mklvcopy name copies) = false
-is_group_command (command.Rmlvcopy name copies) = false
+is_group_command (command.Mklvcopy name copies) = true
+is_group_command (command.Rmlvcopy name copies) = true
 is_group_command (command.Rd name at count) = false
 is_group_command (command.Wr name at count word) = false
 is_group_command (command.Post name at count word) = false

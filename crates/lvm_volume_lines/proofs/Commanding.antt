@@ -36,7 +36,7 @@ use Rattle.lvm_posts.specs.Posts.{AreAnswered, AreHeld, ended_with}
 use Rattle.lvm_range_lines.specs.passed.Running.{IsBefore, LeavesSession}
 use Rattle.lvm_range_lines.specs.passed.Tie.{IsStamped, IsGood}
 use Rattle.lvm_range_lines.specs.passed.TieCommands.{IsAloneAtFirst, MayBeCommanded, StandsAfter, StandsSince}
-use Rattle.lvm_range_lines.specs.passed.Stage.{GoesOn, HasBegunHeld, IsAlone, OfGroup, IsStuck, most_refusals, posts_ended, ArePosted, IsBetween}
+use Rattle.lvm_range_lines.specs.passed.Stage.{GoesOn, HasBegunHeld, IsAllowed, IsAlone, Role, IsStuck, most_refusals, posts_ended, ArePosted, IsBetween}
 use Rattle.lvm_range_lines.specs.passed.Stage.{IsOnBetween, IsTimely, StandsAlone, StandsBy, State, Reply}
 use Rattle.lvm_range_lines.proofs.passed.Stage.{relit_path, was_session, ready_is_lit, still_leaves_descriptors, LeavesAnswers, end_posts, none_held}
 use Rattle.lvm_range_lines.proofs.passed.Stage.{on_posts}
@@ -60,6 +60,10 @@ promised_by scope before after old new leaves = record {
 }
 
 -- ---- before it
+
+-- a line of this role acts on the session that is on, which stands alone
+abbrev pub Acts : Role → Type 0
+Acts role = (old new : State) → IsAlone role old new → IfSome old.session (StandsAlone old.moment.device)
 
 pub empty_or : {X : Type 0} (xs : List X) → (xs ≡ []) ⊎ (xs ≢ [])
 empty_or [] = inl refl
@@ -112,11 +116,11 @@ module _ (old : State) (core : Core) (mid : Session) (its : AtMid old core mid) 
 
   -- ---- what stands
 
-  module _ (new : State) (alone : IsAlone OfGroup old new) (first : Moment) (span : Keeps run first old.moment) (stands : StandsBy run first old) where
+  module _ (role : Role) (acts : Acts role) (new : State) (alone : IsAlone role old new) (first : Moment) (span : Keeps run first old.moment) (stands : StandsBy run first old) where
     stands_first : StandsSince run first first_session
     stands_first past begins =
         subst (λ (o : Option Core). IfSome o (λ (c : Core). StandsAlone old.moment.device c → StandsAfter past old.moment.device c)) its.session (stands past begins)
-        (subst (λ (o : Option Core). IfSome o (StandsAlone old.moment.device)) its.session (alone.acts tt))
+        (subst (λ (o : Option Core). IfSome o (StandsAlone old.moment.device)) its.session (acts old new alone))
 
     module _ (some : core.descriptor.lvs ≢ []) where
       good_first : IsGood run first first_session
@@ -241,17 +245,17 @@ closes_lit answer left new power freed ready lit = subst (ClosesWell answer left
 
 -- ---- after it
 
-module _ (old : State) (core : Core) (mid left : Session) (its : AtMid old core mid) (promised : Promised mid left) (answers : LeavesAnswers mid.core.history.facts left.core.history.facts) (answer : Reply) (new : State)
+module _ (role : Role) (acts : Acts role) (old : State) (core : Core) (mid left : Session) (its : AtMid old core mid) (promised : Promised mid left) (answers : LeavesAnswers mid.core.history.facts left.core.history.facts) (answer : Reply) (new : State)
     (facts : new.moment.facts ≡ left.core.history.facts) (clock : new.last ≡ old.last) (few : most_refusals answer ≤ 1)
-    (spans : (first : Moment) → MayBeCommanded core.history.run first mid → IsAloneAtFirst mid left → Keeps core.history.run first (moment_of left)) where
+    (spans : IsAllowed role old → (first : Moment) → MayBeCommanded core.history.run first mid → IsAloneAtFirst mid left → Keeps core.history.run first (moment_of left)) where
   answers_left : LeavesAnswers old.moment.facts left.core.history.facts
   answers_left range was = answers range (its.answers range (subst (λ (fs : List Fact). AreAnswered fs range) its.facts was))
 
   posts_first : ArePosted old.moment.facts None old.posts
   posts_first = none_posted old.moment.facts core old.posts its.none (subst (λ (o : Option Core). ArePosted old.moment.facts o old.posts) its.session its.between.posted)
 
-  spanned : IsAlone OfGroup old new → (first : Moment) → Keeps core.history.run first old.moment → StandsBy core.history.run first old → Keeps core.history.run first (moment_of left)
-  spanned alone first span stands = spans first (may_mid old core mid its new alone first span stands) (alone_mid old core mid its new alone first span stands left facts)
+  spanned : IsAlone role old new → (first : Moment) → Keeps core.history.run first old.moment → StandsBy core.history.run first old → Keeps core.history.run first (moment_of left)
+  spanned alone first span stands = spans alone.allowed first (may_mid old core mid its role acts new alone first span stands) (alone_mid old core mid its role acts new alone first span stands left facts)
 
   waits_left : old.moment.device.counts.waits ≤ left.device.counts.waits
   waits_left = let a = its.leaves.keeps.counts.waits in let b = promised.waits in omega (arith, a, b)
@@ -275,7 +279,7 @@ module _ (old : State) (core : Core) (mid left : Session) (its : AtMid old core 
     run_new : IsTimely core.history.run old → core.history.run ≤ new.last + 1
     run_new timely = let e = timely.ahead.run_is in let same = clock in omega (arith, e, same)
 
-    pub goes_off : GoesOn core.history.run OfGroup answer old new
+    pub goes_off : GoesOn core.history.run role answer old new
     goes_off = record {
       keeps = λ timely alone first span stands. (
         subst (Keeps core.history.run first) at_new (keeps_steps core.history.run first left.device new.moment.device left.core.history.facts (spanned alone first span stands) closed.path),
@@ -309,7 +313,7 @@ module _ (old : State) (core : Core) (mid left : Session) (its : AtMid old core 
   -- the session goes on
   module _ (now : Core) (is : now ≡ record left.core { origin = now.origin }) (session : new.session ≡ Some now) (device : new.moment.device ≡ left.device) (posts : new.posts ≡ old.posts)
       (ready : IsReady left.device) (settled : IsSettledCore left.core) (landed : HaveAllLanded left.core.history.facts) (sound : IsSound (state left.device now)) (rows : HasItsRows now.descriptor now.origin.table)
-      (standing : (first : Moment) → MayBeCommanded core.history.run first mid → IsAloneAtFirst mid left → (past : List Fact) → Begins core.history.run past first → StandsAfter past left.device now) where
+      (standing : IsAllowed role old → (first : Moment) → MayBeCommanded core.history.run first mid → IsAloneAtFirst mid left → (past : List Fact) → Begins core.history.run past first → StandsAfter past left.device now) where
     abbrev next : State
     next = record { moment = moment_of left; session = Some now; posts = old.posts; last = old.last }
 
@@ -340,12 +344,12 @@ module _ (old : State) (core : Core) (mid left : Session) (its : AtMid old core 
       begun = λ u flies. absurd (let e : None ≡ Some u = sym settled_now.quiet.status ∙ flies in cc e);
     }
 
-    pub goes_on : GoesOn core.history.run OfGroup answer old new
-    goes_on = subst (GoesOn core.history.run OfGroup answer old) (sym next_is) (record {
+    pub goes_on : GoesOn core.history.run role answer old new
+    goes_on = subst (GoesOn core.history.run role answer old) (sym next_is) (record {
       keeps = λ timely alone first span stands.
-          let alone_new = subst (IsAlone OfGroup old) (sym next_is) alone in (
+          let alone_new = subst (IsAlone role old) (sym next_is) alone in (
             spanned alone_new first span stands,
-            λ heard past begins only. standing first (may_mid old core mid its new alone_new first span stands) (alone_mid old core mid its new alone_new first span stands left facts) past begins,
+            λ heard past begins only. standing alone.allowed first (may_mid old core mid its role acts new alone_new first span stands) (alone_mid old core mid its role acts new alone_new first span stands left facts) past begins,
           );
       timely = λ heard timely. record {
         ahead = record {

@@ -1,4 +1,4 @@
--- `mklv` and `rmlv` on the session of the group that is on, from the session that has come to rest.
+-- Commands on volumes of the group that is on, from the session that has come to rest.
 use Rattle.std.proofs.Common.{◌≡◌, ◌≢◌, ◌⊎◌, inl, inr, ◌<◌, ◌^◌, ◌+◌, ℕ, Bool, true, false, not, Err, [], ◌∷◌, List, Option, Some, refl, sym, ◌∙◌, ap, subst, Result, length}
 use Rattle.std.specs.Prelude.{IfSome}
 use Rattle.lvm_num.specs.declared.place.Pp.{Pp}
@@ -12,24 +12,24 @@ use Rattle.lvm_status.specs.Members.{HasItsRows}
 use Rattle.lvm_session.specs.State.{Core, State as Session, state}
 use Rattle.lvm_core.specs.Committing.{moment_of}
 use Rattle.lvm_core.specs.Held.{IsHeld}
-use Rattle.lvm_core.specs.Leaves.{FindsOnly}
+use Rattle.lvm_core.specs.Leaves.{FindsOnly, Scope}
 use Rattle.lvm_core.specs.Settled.{IsSettled as IsSettledCore}
 use Rattle.lvm_core.specs.Sound.{HaveAllLanded}
 use Rattle.lvm_core.specs.State.{state_of}
 use Rattle.lvm_disk.proofs.Paths.{last-path}
 use Rattle.lvm_range_lines.specs.passed.Running.{LeavesSession}
 use Rattle.lvm_range_lines.specs.passed.TieCommands.{IsAloneAtFirst, IsLeftStanding, IsLeftStandingSince, MayBeCommanded, HoldsEmpty, StandsAfter}
-use Rattle.lvm_range_lines.specs.passed.Volumes.{IfOn, StillHeld, commanding}
+use Rattle.lvm_range_lines.specs.passed.Volumes.{IfOn, StillHeld}
 use Rattle.lvm_volume_plan.specs.declared.fault.GroupFault.{GroupFault}
 use Rattle.lvm_volume_plan.specs.declared.fault.GroupFault.TheVariants as fault
-use Rattle.lvm_range_lines.specs.passed.Stage.{CommandEnds, EndsUnasked, patience_of_line, GoesOn, OfGroup, HaveRooms, IsBetweenStage, IsFitting}
+use Rattle.lvm_range_lines.specs.passed.Stage.{CommandEnds, EndsUnasked, patience_of_line, GoesOn, IsAllowed, Role, HaveRooms, IsBetweenStage, IsFitting}
 use Rattle.lvm_range_lines.specs.passed.Stage.{IsOfKind, history_of, open_in, session_in, session_of, shelf_in, history_in, state_in, IsAtRest}
 use Rattle.lvm_range_lines.specs.passed.Stage.{IsOnBetween, State, without_facts, Holder, Reply, Stage}
 use Rattle.lvm_range_lines.specs.passed.HolderVariants as holder
 use Rattle.lvm_range_lines.proofs.passed.Stage.{LeavesAnswers}
 use Rattle.lvm_volume_lines.specs.Commands.{HasRested, IsCarriedOut, IsHeldAgain, IsLeftAs, IsLeftOff, IsLeftOn}
 use Rattle.lvm_volume_lines.specs.Volumes.{Drains, IsDone, StaysOn, is_over, volume_reply}
-use Rattle.lvm_volume_lines.proofs.Commanding.{AtMid, ClosesWell, Promised, empty_or, goes_off, goes_on, promised_by, ready_mid, rows_mid}
+use Rattle.lvm_volume_lines.proofs.Commanding.{Acts, AtMid, ClosesWell, Promised, empty_or, goes_off, goes_on, promised_by, ready_mid, rows_mid}
 use Rattle.lvm_volume_lines.proofs.Ending.{Facts, SameShape, closes_after, one_answer, ready_still, rows_stay}
 use Rattle.lvm_volume_lines.proofs.Resting.{IsStill, still_turns, turns_keep}
 
@@ -48,7 +48,7 @@ no_open (x ∷ xs) none = absurd (cc (none))
 
 -- ---- a session that is held again
 
-module _ {S : Type 0} (device : S → Device) (driver : S × Core) (by : Holder S) (held : IsHeldAgain device driver by) where
+module _ {S : Type 0} (device : S → Device) (added : List Pp) (driver : S × Core) (by : Holder S) (held : IsHeldAgain device added driver by) where
   same_group : held.core.descriptor ≡ driver.1.descriptor
   same_group = ap (λ (c : Core). c.descriptor) held.is
 
@@ -67,17 +67,17 @@ module _ {S : Type 0} (device : S → Device) (driver : S × Core) (by : Holder 
       let some : held.core.descriptor.lvs ≢ [] → driver.1.descriptor.lvs ≢ [] = λ more none. more (ap (λ (d : Descriptor). d.lvs) same_group ∙ none) in
       record {
         empty = λ none. subst (HoldsEmpty (device driver.0)) (sym (held.empty (empty none))) (stands.empty (empty none));
-        tied = λ more. (stands.served [] held.core (held.served (some more)) held.sound).tied more;
-        spares = λ more. (stands.served [] held.core (held.served (some more)) held.sound).spares more;
+        tied = λ more. (stands.served added held.core (held.served (some more)) held.sound).tied more;
+        spares = λ more. (stands.served added held.core (held.served (some more)) held.sound).spares more;
       }
 
--- what is known of the command by what it gives
-pub record IsKnown {X : Type 0} (run patience : ℕ) (mid left : Session) (given : Result X GroupFault) : Type 0 where
+-- what is known of the command by what it gives, where it is allowed
+pub record IsKnown {X : Type 0} (Allowed : Type 0) (run patience : ℕ) (mid left : Session) (given : Result X GroupFault) : Type 0 where
   pub facts : Facts given patience mid left
   pub landed : HaveAllLanded left.core.history.facts
   pub answers : LeavesAnswers mid.core.history.facts left.core.history.facts
   pub shape : is_over given ≡ false → SameShape mid left
-  pub goes : (first : Moment) → MayBeCommanded run first mid → IsAloneAtFirst mid left → Keeps run first (moment_of left) × IfOn given (IsLeftStandingSince run first left)
+  pub goes : Allowed → (first : Moment) → MayBeCommanded run first mid → IsAloneAtFirst mid left → Keeps run first (moment_of left) × IfOn given (IsLeftStandingSince run first left)
 
 -- ---- the session that has come to rest
 
@@ -158,8 +158,8 @@ module _ {S : Type 0} (device : S → Device) (stage : Stage S) (fits : IsFittin
 
     -- ---- and a command has been carried out
 
-    module _ {X : Type 0} (Gives : Session → Session → Result X GroupFault → Type 0) (IsNext : Core → Descriptor → Type 0) (IsPlace : Core → Pp → Type 0) (numbers : ℕ) (it : Stage S) (answer : Reply)
-        (done : IsCarriedOut device Gives (commanding (IsNext driver.1) (IsPlace driver.1) numbers) patience driver stage.posts stage.bytes it answer) (sectors : (shelf : S) → HasSectors (device shelf)) where
+    module _ {X : Type 0} (role : Role) (acts : Acts role) (Gives : Session → Session → Result X GroupFault → Type 0) (added : Result X GroupFault → List Pp) (scope : Core → Scope) (it : Stage S) (answer : Reply)
+        (done : IsCarriedOut device Gives added (scope driver.1) patience driver stage.posts stage.bytes it answer) (sectors : (shelf : S) → HasSectors (device shelf)) where
       abbrev left : Session
       left = state_of device done.left
 
@@ -169,21 +169,21 @@ module _ {S : Type 0} (device : S → Device) (stage : Stage S) (fits : IsFittin
       abbrev given : Result X GroupFault
       given = done.given
 
-      module _ (known : IsKnown run patience mid left given) where
+      module _ (known : (last : ℕ) → IsKnown (IsAllowed role (state_in device stage last)) run patience mid left given) where
         promised : Promised mid left
-        promised = promised_by (commanding (IsNext driver.1) (IsPlace driver.1) numbers) patience done.after mid left done.commanded.leaves
+        promised = promised_by (scope driver.1) patience done.after mid left done.commanded.leaves
 
         left_off : is_over given ≡ true → IsLeftOff device done.left stage.posts stage.bytes it
-        left_off over = subst (λ (b : Bool). IsLeftAs device b done.left stage.posts stage.bytes it) over done.is
+        left_off over = subst (λ (b : Bool). IsLeftAs device b (added given) done.left stage.posts stage.bytes it) over done.is
 
-        left_on : is_over given ≡ false → IsLeftOn device done.left stage.posts stage.bytes it
-        left_on goes = subst (λ (b : Bool). IsLeftAs device b done.left stage.posts stage.bytes it) goes done.is
+        left_on : is_over given ≡ false → IsLeftOn device (added given) done.left stage.posts stage.bytes it
+        left_on goes = subst (λ (b : Bool). IsLeftAs device b (added given) done.left stage.posts stage.bytes it) goes done.is
 
         closed : (over : is_over given ≡ true) → ClosesWell (volume_reply given) left.device (device (shelf_in it))
-        closed over = closes_after patience mid left given (device (shelf_in it)) known.facts over (left_off over).lit
+        closed over = closes_after patience mid left given (device (shelf_in it)) (known 0).facts over (left_off over).lit
 
         ready : is_over given ≡ false → IsReady left.device
-        ready goes = ready_still patience mid left given (ready_mid (state_in device stage 0) core mid (at_mid 0)) known.facts goes
+        ready goes = ready_still patience mid left given (ready_mid (state_in device stage 0) core mid (at_mid 0)) (known 0).facts goes
 
         settled : is_over given ≡ false → IsSettledCore left.core
         settled goes = if_on given (IsSettledCore left.core) done.commanded.on goes
@@ -229,13 +229,13 @@ module _ {S : Type 0} (device : S → Device) (stage : Stage S) (fits : IsFittin
               posts = ap (λ (s : Stage S). s.posts.items) on.is;
             }
 
-        is_done : (last : ℕ) → IsDone (λ was is. Gives was is given) IsNext IsPlace (is_over given) mid (state_in device stage last) (state_in device it last)
+        is_done : (last : ℕ) → IsDone (λ was is. Gives was is given) scope (is_over given) mid (state_in device stage last) (state_in device it last)
         is_done last = go (is_over given) refl
           where
             held : is_over given ≡ false → IsHeld mid.device mid.core → IsHeld left.device left.core
             held goes = (if_on given (StillHeld mid left) done.commanded.still goes).held
 
-            go : (b : Bool) → is_over given ≡ b → IsDone (λ was is. Gives was is given) IsNext IsPlace b mid (state_in device stage last) (state_in device it last)
+            go : (b : Bool) → is_over given ≡ b → IsDone (λ was is. Gives was is given) scope b mid (state_in device stage last) (state_in device it last)
             go true over =
                 let off = left_off over in
                 record {
@@ -253,7 +253,7 @@ module _ {S : Type 0} (device : S → Device) (stage : Stage S) (fits : IsFittin
               left = left;
               gives = done.gives;
               leaves = stays_on goes last;
-              finds = subst (λ (d : Device). FindsOnly (IsNext driver.1) mid (state d left.core)) (sym (stays_on goes last).device) done.commanded.leaves.finds;
+              finds = subst (λ (d : Device). FindsOnly (scope driver.1).next mid (state d left.core)) (sym (stays_on goes last).device) done.commanded.leaves.finds;
               status = done.commanded.leaves.status;
               writes = done.commanded.leaves.writes;
               held = λ still. held goes;
@@ -263,26 +263,26 @@ module _ {S : Type 0} (device : S → Device) (stage : Stage S) (fits : IsFittin
 
         -- ---- what goes on
 
-        goes : (b : Bool) → is_over given ≡ b → (last : ℕ) → GoesOn run OfGroup (volume_reply given) (state_in device stage last) (state_in device it last)
+        goes : (b : Bool) → is_over given ≡ b → (last : ℕ) → GoesOn run role (volume_reply given) (state_in device stage last) (state_in device it last)
         goes true over last =
             let off = left_off over in
-            goes_off (state_in device stage last) core mid left (at_mid last) promised known.answers (volume_reply given) (state_in device it last) (ap (λ (l : Log). l.facts) off.history) refl (one_answer patience mid left given)
-            (λ m may alone. (known.goes m may alone).0) (closed over) off.session known.landed off.posted
+            goes_off role acts (state_in device stage last) core mid left (at_mid last) promised (known last).answers (volume_reply given) (state_in device it last) (ap (λ (l : Log). l.facts) off.history) refl (one_answer patience mid left given)
+            (λ allowed m may alone. ((known last).goes allowed m may alone).0) (closed over) off.session (known last).landed off.posted
         goes false lasts last =
             let on = left_on lasts in
             let stays = stays_on lasts last in
-            goes_on (state_in device stage last) core mid left (at_mid last) promised known.answers (volume_reply given) (state_in device it last) stays.facts refl (one_answer patience mid left given)
-            (λ m may alone. (known.goes m may alone).0) on.held.core on.held.is stays.session stays.device stays.posts (ready lasts) (settled lasts) known.landed on.held.sound
-            (rows_again device done.left on.by on.held (rows_stay mid left (known.shape lasts) (rows_mid (state_in device stage last) core mid (at_mid last))))
-            (λ m may alone past begins. stands_again device done.left on.by on.held past (if_on given (IsLeftStandingSince run m left) (known.goes m may alone).1 lasts (sectors done.left.0) past begins))
+            goes_on role acts (state_in device stage last) core mid left (at_mid last) promised (known last).answers (volume_reply given) (state_in device it last) stays.facts refl (one_answer patience mid left given)
+            (λ allowed m may alone. ((known last).goes allowed m may alone).0) on.held.core on.held.is stays.session stays.device stays.posts (ready lasts) (settled lasts) (known last).landed on.held.sound
+            (rows_again device (added given) done.left on.by on.held (rows_stay mid left ((known last).shape lasts) (rows_mid (state_in device stage last) core mid (at_mid last))))
+            (λ allowed m may alone past begins. stands_again device (added given) done.left on.by on.held past (if_on given (IsLeftStandingSince run m left) ((known last).goes allowed m may alone).1 lasts (sectors done.left.0) past begins))
 
         -- the line ends so, by what it does
         pub ends_so : (Does : Log → State → State → Reply → Type 0)
-            → ((last : ℕ) → IsDone (λ was is. Gives was is given) IsNext IsPlace (is_over given) mid (state_in device stage last) (state_in device it last) → Does (without_facts (history_in stage)) (state_in device stage last) (state_in device it last) (volume_reply given))
-            → EndsUnasked device Does ⊥ OfGroup stage it answer
-        ends_so Does does = λ last. subst (λ (a : Reply). CommandEnds device Does ⊥ OfGroup stage it a last last) (sym done.says) (record {
+            → ((last : ℕ) → IsDone (λ was is. Gives was is given) scope (is_over given) mid (state_in device stage last) (state_in device it last) → Does (without_facts (history_in stage)) (state_in device stage last) (state_in device it last) (volume_reply given))
+            → EndsUnasked device Does ⊥ role stage it answer
+        ends_so Does does = λ last. subst (λ (a : Reply). CommandEnds device Does ⊥ role stage it a last last) (sym done.says) (record {
           does = does last (is_done last);
-          goes = subst (λ (n : ℕ). GoesOn n OfGroup (volume_reply given) (state_in device stage last) (state_in device it last)) (sym (ap (λ (l : Log). l.run) (its_history core its))) (goes (is_over given) refl last);
+          goes = subst (λ (n : ℕ). GoesOn n role (volume_reply given) (state_in device stage last) (state_in device it last)) (sym (ap (λ (l : Log). l.run) (its_history core its))) (goes (is_over given) refl last);
           rooms = rooms;
           fits = fits_then (is_over given) refl;
           orders = λ nothing. orders (is_over given) refl;

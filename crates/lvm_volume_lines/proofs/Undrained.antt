@@ -19,7 +19,7 @@ use Rattle.lvm_range_lines.specs.passed.DrainFaultVariants as drain_fault
 use Rattle.lvm_posts.specs.Posts.{AreAnswered, ended_with}
 use Rattle.lvm_range_lines.specs.passed.Running.{LeavesSession}
 use Rattle.lvm_range_lines.proofs.passed.Running.{stays_unstuck}
-use Rattle.lvm_range_lines.specs.passed.Stage.{EndsUnasked, patience_of_line, GoesOn, OfGroup, IsStuck, most_refusals, HaveRooms, IsBetweenStage}
+use Rattle.lvm_range_lines.specs.passed.Stage.{EndsUnasked, patience_of_line, GoesOn, Role, IsStuck, most_refusals, HaveRooms, IsBetweenStage}
 use Rattle.lvm_range_lines.specs.passed.Stage.{IsClosed, IsEnded, IsFitting, IsOfKind, history_in, open_in, posts_ended, session_in, session_of}
 use Rattle.lvm_range_lines.specs.passed.Stage.{shelf_in, state_in, ArePosted, IsAtRest, State, without_facts, Holder, Reply, Stage}
 use Rattle.lvm_range_lines.specs.passed.HolderVariants as holder
@@ -27,6 +27,7 @@ use Rattle.lvm_range_lines.specs.passed.ReplyVariants as reply
 use Rattle.lvm_range_lines.proofs.passed.Stage.{one_refused, LeavesAnswers, end_posts, none_held, IsRun, over_goes, over_landed}
 use Rattle.lvm_volume_lines.specs.Commands.{HasBrokenOff}
 use Rattle.lvm_volume_lines.specs.Volumes.{IsUndrained, drain_refusal}
+use Rattle.lvm_volume_lines.proofs.Commanding.{Acts}
 use Rattle.lvm_volume_lines.proofs.OfVolumes.{its_history, no_requests, was_on}
 use Rattle.lvm_volume_lines.proofs.Resting.{IsStill, dark_or_still, turns_keep}
 
@@ -35,7 +36,7 @@ none_of_kind (holder.Off shelf history) none = tt
 none_of_kind (holder.Empty driver) none = absurd (cc (none))
 none_of_kind (holder.Serving driver) none = absurd (cc (none))
 
-module _ {S : Type 0} (device : S → Device) (stage : Stage S) (fits : IsFitting stage) (between : IsBetweenStage device stage) (none : open_in (session_in stage) ≡ 0) (patience : ℕ) (driver : S × Core) (why : DrainFault)
+module _ {S : Type 0} (role : Role) (acts : Acts role) (device : S → Device) (stage : Stage S) (fits : IsFitting stage) (between : IsBetweenStage device stage) (none : open_in (session_in stage) ≡ 0) (patience : ℕ) (driver : S × Core) (why : DrainFault)
     (broken : HasBrokenOff device stage.holder patience_of_line patience driver why) (it : Stage S) (answer : Reply) (ended : IsEnded device driver stage.posts.items it)
     (rooms : (entries : ℕ) → HaveRooms entries stage.posts stage.bytes → HaveRooms entries it.posts it.bytes) (says : answer ≡ reply.Refused (drain_refusal why)) where
   abbrev core : Core
@@ -53,9 +54,9 @@ module _ {S : Type 0} (device : S → Device) (stage : Stage S) (fits : IsFittin
   its : session_in stage ≡ Some core
   its = broken.turned.its
 
-  run : (last : ℕ) → IsRun OfGroup (state_in device stage last) core end
+  run : (last : ℕ) → IsRun role (state_in device stage last) core end
   run last = record {
-    alone = λ new alone. alone.acts tt;
+    alone = λ new alone. acts (state_in device stage last) new alone;
     session = its;
     facts = ap (λ (l : Log). l.facts) (its_history device stage fits between none core its);
     volumes = broken.volumes;
@@ -145,9 +146,9 @@ module _ {S : Type 0} (device : S → Device) (stage : Stage S) (fits : IsFittin
 
   -- ---- so the line ends
 
-  goes : (last : ℕ) → GoesOn (history_in stage).run OfGroup answer (state_in device stage last) (state_in device it last)
-  goes last = subst (λ (n : ℕ). GoesOn n OfGroup answer (state_in device stage last) (state_in device it last)) (sym (ap (λ (l : Log). l.run) (its_history device stage fits between none core its)))
-      (over_goes OfGroup (state_in device stage last) core end (run last) answer (state_in device it last) ended.shelf facts ended.session refl unstuck over posted (λ others. rests last) few)
+  goes : (last : ℕ) → GoesOn (history_in stage).run role answer (state_in device stage last) (state_in device it last)
+  goes last = subst (λ (n : ℕ). GoesOn n role answer (state_in device stage last) (state_in device it last)) (sym (ap (λ (l : Log). l.run) (its_history device stage fits between none core its)))
+      (over_goes role (state_in device stage last) core end (run last) answer (state_in device it last) ended.shelf facts ended.session refl unstuck over posted (λ others. rests last) few)
     where
       few : most_refusals answer + length it.posts.items ≤ length stage.posts.items + 1
       few =
@@ -171,7 +172,7 @@ module _ {S : Type 0} (device : S → Device) (stage : Stage S) (fits : IsFittin
 
   pub undrained_ends : (Does : Log → State → State → Reply → Type 0)
       → ((last : ℕ) → IsUndrained core (state_in device stage last) (state_in device it last) why answer → Does (without_facts (history_in stage)) (state_in device stage last) (state_in device it last) answer)
-      → EndsUnasked device Does ⊥ OfGroup stage it answer
+      → EndsUnasked device Does ⊥ role stage it answer
   undrained_ends Does does = λ last. record {
     does = does last (undrained last);
     goes = goes last;

@@ -4,5 +4,6 @@ pub mod Quiesce
 pub mod Running
 pub mod Stage
 pub mod TieCommands
+pub mod TieCopies
 pub mod TieGroups
 pub mod Varyon

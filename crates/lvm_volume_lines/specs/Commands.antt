@@ -1,6 +1,7 @@
 -- How a session comes to rest before a command, and what is left of it.
-use Rattle.std.specs.Prelude.{◌≡◌, ◌≢◌, ◌≤◌, ◌-◌, ℕ, Bool, true, false, [], Some, None, Result, Vec}
+use Rattle.std.specs.Prelude.{◌≡◌, ◌≢◌, ◌≤◌, ◌-◌, ℕ, Bool, true, false, [], List, Some, None, Result, Vec}
 use Rattle.std.specs.declared.alloc.Global.{Global}
+use Rattle.lvm_num.specs.declared.place.Pp.{Pp}
 use Rattle.lvm_disk.specs.Counts.{RoseBy}
 use Rattle.lvm_disk.specs.Device.{Device}
 use Rattle.lvm_disk.specs.Paths.{Path}
@@ -51,22 +52,22 @@ pub record HasBrokenOff {S : Type 0} (device : S → Device) (holder : Holder S)
 
 -- ---- after it
 
--- The session is held again: as it is where its group has no volume, else it takes requests.
-pub record IsHeldAgain {S : Type 0} (device : S → Device) (driver : S × Core) (by : Holder S) : Type 0 where
+-- The session is held again: as it is where its group has no volume, else it takes requests, and these copies count as stale since it began.
+pub record IsHeldAgain {S : Type 0} (device : S → Device) (added : List Pp) (driver : S × Core) (by : Holder S) : Type 0 where
   pub core : Core
   pub session : session_of by ≡ Some core
   pub shelf : shelf_of by ≡ driver.0
   pub history : history_of by ≡ driver.1.history
   pub is : core ≡ record driver.1 { origin = core.origin }
   pub empty : driver.1.descriptor.lvs ≡ [] → core ≡ driver.1
-  pub served : driver.1.descriptor.lvs ≢ [] → IsServed [] driver.1 core
+  pub served : driver.1.descriptor.lvs ≢ [] → IsServed added driver.1 core
   pub sound : IsSound (state (device driver.0) core)
   pub kind : IsOfKind by
 
 -- so a stage holds it
-pub record IsLeftOn {S : Type 0} (device : S → Device) (driver : S × Core) (posts : Vec Post Global) (bytes : Vec ℕ Global) (stage : Stage S) : Type 0 where
+pub record IsLeftOn {S : Type 0} (device : S → Device) (added : List Pp) (driver : S × Core) (posts : Vec Post Global) (bytes : Vec ℕ Global) (stage : Stage S) : Type 0 where
   pub by : Holder S
-  pub held : IsHeldAgain device driver by
+  pub held : IsHeldAgain device added driver by
   pub is : stage ≡ record { holder = by; posts = posts; bytes = bytes }
 
 -- or it is closed, its posts have ended, and the power is on
@@ -78,16 +79,21 @@ pub record IsLeftOff {S : Type 0} (device : S → Device) (driver : S × Core) (
   pub rooms : (entries : ℕ) → HaveRooms entries posts bytes → HaveRooms entries stage.posts stage.bytes
   pub kind : IsOfKind stage.holder
 
-abbrev pub IsLeftAs : {S : Type 0} → (S → Device) → Bool → S × Core → Vec Post Global → Vec ℕ Global → Stage S → Type 0
-IsLeftAs device true driver posts bytes stage = IsLeftOff device driver posts bytes stage
-IsLeftAs device false driver posts bytes stage = IsLeftOn device driver posts bytes stage
+abbrev pub IsLeftAs : {S : Type 0} → (S → Device) → Bool → List Pp → S × Core → Vec Post Global → Vec ℕ Global → Stage S → Type 0
+IsLeftAs device true added driver posts bytes stage = IsLeftOff device driver posts bytes stage
+IsLeftAs device false added driver posts bytes stage = IsLeftOn device added driver posts bytes stage
 
--- The command was answered so, and left this of the session.
-pub record IsCarriedOut {S X : Type 0} (device : S → Device) (Gives : Session → Session → Result X GroupFault → Type 0) (scope : Scope) (before : ℕ) (driver : S × Core) (posts : Vec Post Global) (bytes : Vec ℕ Global) (stage : Stage S) (answer : Reply) : Type 0 where
+-- no copies were added, whatever was answered
+abbrev pub none_added : {X : Type 0} → Result X GroupFault → List Pp
+none_added given = []
+
+-- The command was answered so, which added these copies, and left this of the session.
+pub record IsCarriedOut {S X : Type 0} (device : S → Device) (Gives : Session → Session → Result X GroupFault → Type 0) (added : Result X GroupFault → List Pp) (scope : Scope) (before : ℕ) (driver : S × Core)
+    (posts : Vec Post Global) (bytes : Vec ℕ Global) (stage : Stage S) (answer : Reply) : Type 0 where
   pub given : Result X GroupFault
   pub left : S × Core
   pub after : ℕ
   pub gives : Gives (state_of device driver) (state_of device left) given
   pub commanded : IsCommanded scope before after (state_of device driver) (state_of device left) given
-  pub is : IsLeftAs device (is_over given) left posts bytes stage
+  pub is : IsLeftAs device (is_over given) (added given) left posts bytes stage
   pub says : answer ≡ volume_reply given

@@ -1,16 +1,14 @@
 -- What the lines do that make or remove a volume of the group that is on.
 use Rattle.std.specs.Prelude.{◌≡◌, ◌≤◌, ◌-◌, ℕ, Bool, true, false, [], List, Some, None, Result, Ok, Err, IfSome}
-use Rattle.lvm_num.specs.declared.descriptor.Descriptor.{Descriptor}
 use Rattle.lvm_num.specs.declared.descriptor.Mode.{Mode}
 use Rattle.lvm_num.specs.declared.descriptor.Policy.{Policy}
-use Rattle.lvm_num.specs.declared.place.Pp.{Pp}
 use Rattle.lvm_disk.specs.Counts.{RoseBy}
 use Rattle.lvm_disk.specs.Device.{IsReady}
 use Rattle.lvm_transfer.specs.Transfer.{Relights}
 use Rattle.lvm_write.specs.Written.{KeepsShelf}
 use Rattle.lvm_session.specs.State.{Core, State as Session, state, is_there}
 use Rattle.lvm_core.specs.Held.{IsHeld}
-use Rattle.lvm_core.specs.Leaves.{NoPartition, IsOfCommand, KeepsStatus, FindsOnly}
+use Rattle.lvm_core.specs.Leaves.{IsOfCommand, KeepsStatus, FindsOnly, Scope}
 use Rattle.lvm_core.specs.Looking.{IsNumberOf, HasNoVolume}
 use Rattle.lvm_core.specs.Settled.{IsSettled}
 use Rattle.lvm_range_lines.specs.passed.Driver.{DrainFault, FailsSo}
@@ -19,8 +17,7 @@ use Rattle.lvm_range_lines.specs.passed.Running.{RunsOn}
 use Rattle.lvm_volume_plan.specs.declared.fault.GroupFault.{GroupFault}
 use Rattle.lvm_volume_plan.specs.declared.fault.GroupFault.TheVariants as fault
 use Rattle.lvm_volume_plan.specs.declared.new_volume.NewVolume.{NewVolume}
-use Rattle.lvm_volume_plan.specs.NewVolume.{without_volume}
-use Rattle.lvm_range_lines.specs.passed.Volumes.{IsWith, IsChosen, MklvGives, RmlvGives}
+use Rattle.lvm_range_lines.specs.passed.Volumes.{MklvGives, RmlvGives, to_make, to_remove}
 use Rattle.lvm_range_lines.specs.passed.Stage.{patience_of_line, IsRefused, IsOn, IsNotOn, open_in, posts_ended, IsAtRest, State, Refusal, Reply}
 use Rattle.lvm_range_lines.specs.passed.RefusalVariants as refusal
 use Rattle.lvm_range_lines.specs.passed.ReplyVariants as reply
@@ -128,27 +125,27 @@ abbrev pub wanted : List ℕ → ℕ → Mode → Policy → ℕ → NewVolume
 wanted name copies mode policy lps = record { name = name; copies = copies; mode = mode; policy = policy; lps = lps }
 
 -- The command on the session, at which nothing was under way, was answered so, the clock wasn't asked, and of descriptors none may be found then that might not
--- be before, but the one that was to be committed. Only statuses of the session, that descriptor, and zeros in these partitions were written to members; a
--- member became missing only after a transfer to it had failed, and a partition only of these was made fresh. Where the session goes on it is at rest, and its
--- disks hold what it says, where they did.
-pub record IsDone (Gives : Session → Session → Type 0) (IsNext : Core → Descriptor → Type 0) (IsPlace : Core → Pp → Type 0) (over : Bool) (mid : Session) (old new : State) : Type 0 where
+-- be before, but the one that was to be committed. Only statuses of the session, that descriptor, and zeros in partitions that it may fill were written to
+-- members; a member became missing only after a transfer to it had failed, and only partitions that it may mark were made stale or fresh. Where the session goes
+-- on it is at rest, and its disks hold what it says, where they did.
+pub record IsDone (Gives : Session → Session → Type 0) (scope : Core → Scope) (over : Bool) (mid : Session) (old new : State) : Type 0 where
   pub left : Session
   pub gives : Gives mid left
   pub leaves : IsLeft over left old new
-  pub finds : FindsOnly (IsNext mid.core) mid (state new.moment.device left.core)
-  pub status : KeepsStatus (IsNext mid.core) NoPartition (IsPlace mid.core) mid left
-  pub writes : KeepsShelf (is_there mid.core) (IsOfCommand (IsNext mid.core) (IsPlace mid.core) mid left) mid.device left.device
+  pub finds : FindsOnly (scope mid.core).next mid (state new.moment.device left.core)
+  pub status : KeepsStatus (scope mid.core).next (scope mid.core).stale (scope mid.core).fresh mid left
+  pub writes : KeepsShelf (is_there mid.core) (IsOfCommand (scope mid.core).next (scope mid.core).zeros mid left) mid.device left.device
   pub held : over ≡ false → IsHeld mid.device mid.core → IsHeld left.device left.core
   pub rests : over ≡ false → IsSettled left.core × IsReady left.device
   pub clock : new.last ≡ old.last
 
 -- so was `mklv`, with so much patience
 abbrev pub MklvEnds : NewVolume → Result ℕ GroupFault → Bool → ℕ → Session → State → State → Type 0
-MklvEnds w given over patience mid old new = IsDone (λ was is. MklvGives w patience was is given) (IsWith w) (IsChosen w) over mid old new
+MklvEnds w given over patience mid old new = IsDone (λ was is. MklvGives w patience was is given) (to_make w) over mid old new
 
 -- so was `rmlv`
 abbrev pub RmlvEnds : ℕ → Result (Unit {0}) GroupFault → Bool → ℕ → Session → State → State → Type 0
-RmlvEnds lv given over patience mid old new = IsDone (λ was is. RmlvGives lv patience was is given) (λ of next. next ≡ without_volume of.descriptor lv) (λ of pp. ⊥) over mid old new
+RmlvEnds lv given over patience mid old new = IsDone (λ was is. RmlvGives lv patience was is given) (to_remove lv) over mid old new
 
 -- ---- the lines
 

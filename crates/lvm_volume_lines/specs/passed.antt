@@ -3,8 +3,11 @@ pub mod DiskLines
 pub mod DrainFaultVariants
 pub mod Driver
 pub mod Group
+pub mod GroupFaultVariants
 pub mod GroupLines
+pub mod Handover
 pub mod HolderVariants
+pub mod Mirrors
 pub mod Quiesce
 pub mod QuiescedVariants
 pub mod RangeLines
@@ -16,6 +19,8 @@ pub mod Running
 pub mod Stage
 pub mod Tie
 pub mod TieCommands
+pub mod TieCopies
 pub mod TieGroups
 pub mod Varyon
+pub mod VolumePlan
 pub mod Volumes

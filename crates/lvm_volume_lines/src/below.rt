@@ -3,5 +3,6 @@
 pub mod disk_lines;
 pub mod driver;
 pub mod group_lines;
+pub mod mirrors;
 pub mod range_lines;
 pub mod stage;

@@ -4,4 +4,4 @@
 pub mod below;
 mod volumes;
 
-pub use volumes::{do_mklv, do_rmlv};
+pub use volumes::{after_fault, come_to_rest, do_mklv, do_rmlv, drain_refusal, go_on};

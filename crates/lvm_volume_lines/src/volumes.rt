@@ -1,22 +1,24 @@
 //! The lines that make or remove a volume.
-ghost use Rattle.std.specs.Prelude.{◌≡◌, ◌≤◌, ℕ, [], IfOk, IfErr, IfSome, IsSome, IsTrue, IsFalse, Err, true};
+ghost use Rattle.std.specs.Prelude.{◌≡◌, ◌≤◌, ℕ, [], All, IfOk, IfErr, IfSome, IsSome, IsTrue, IsFalse, Err, true};
 ghost use Rattle.lvm_num.specs.declared.descriptor.Mode.TheVariants.{Off};
 ghost use Rattle.lvm_transfer.specs.Transfer.{Relights};
+ghost use Rattle.lvm_status.specs.Calls.{IsMarkable};
 ghost use Rattle.lvm_status.specs.Members.{HasItsRows};
 ghost use Rattle.lvm_session.specs.Sound.{IsSound};
 ghost use Rattle.lvm_core.specs.Looking.{IsNumberOf};
 ghost use Rattle.lvm_core.specs.Settled.{IsSettled};
 ghost use Rattle.lvm_core.specs.State.{state_of};
 ghost use Rattle.lvm_range_lines.specs.passed.Handover.{MayServe, StaysSound};
+ghost use Rattle.lvm_range_lines.specs.passed.TieCopies.{MayServeWith};
 ghost use Rattle.lvm_range_lines.specs.passed.Volumes.{MklvGives, RmlvGives, to_make, to_remove};
 ghost use Rattle.lvm_range_lines.specs.passed.Stage.{EndsUnasked, OfGroup, IsBetweenStage, IsFitting, IsOfKind, open_in, session_of, shelf_of};
 ghost use Rattle.lvm_range_lines.specs.passed.Stage.{IsOnBetween};
-ghost use Rattle.lvm_volume_lines.specs.Commands.{HasBrokenOff, HasRested, IsCarriedOut, IsHeldAgain, IsLeftAs, IsLeftOff};
+ghost use Rattle.lvm_volume_lines.specs.Commands.{HasBrokenOff, HasRested, IsCarriedOut, IsHeldAgain, IsLeftAs, IsLeftOff, IsLeftOn, none_added};
 ghost use Rattle.lvm_volume_lines.specs.Volumes.{MklvDoes, RmlvDoes, drain_refusal, ends_session, is_over, refusal_for, volume_reply, wanted};
 
 use lvm_core::{Closed, Driver};
 use lvm_disk::Shelf;
-use lvm_num::{Mode, Name, Policy};
+use lvm_num::{Mode, Name, Policy, Pp};
 use lvm_posts::Post;
 use lvm_range_lines::below::driver;
 use lvm_range_lines::below::driver::DrainFault;
@@ -47,8 +49,8 @@ fn refusal_for(why: GroupFault) -> Refusal
     }
 }
 
-// Why the turns before a command have ended, as the refusal of its line.
-fn drain_refusal(why: DrainFault) -> Refusal
+/// Why the turns before a command have ended, as the refusal of its line.
+pub fn drain_refusal(why: DrainFault) -> Refusal
     ensures { result ≡ drain_refusal why }
 {
     match why {
@@ -118,22 +120,67 @@ fn close_after<S: Shelf>(
     }
 }
 
-// Who holds the session of a group on which a command has been carried out: it takes requests where it has a volume.
-fn hold<S: Shelf>(driver: Driver<S>) -> Holder<S>
+// Who holds the session of a group on which a command has been carried out: it takes requests where it has a volume, and
+// the copies that the command added count as stale since it began.
+fn hold<S: Shelf>(driver: Driver<S>, added: &[Pp]) -> Holder<S>
     requires rows { HasItsRows driver.1.descriptor driver.1.origin.table }
-    requires may { MayServe [] (state_of S.device driver) × StaysSound (state_of S.device driver) }
-    ensures { IsHeldAgain S.device driver result }
+    requires markable { All (IsMarkable driver.1.origin.table) added.now }
+    requires may { MayServeWith added.now (state_of S.device driver) }
+    requires none { driver.1.descriptor.lvs ≡ [] → added.now ≡ [] }
+    ensures { IsHeldAgain S.device added.now driver result }
 {
     let _ = driver.open();
     if driver.descriptor().lvs.is_empty() {
         Holder::Empty { driver }
     } else {
-        let driver = serve(driver, &[]);
+        let driver = serve(driver, added);
         Holder::Serving { driver }
     }
 }
 
-// What a command leaves of a session that was answered so.
+/// The stage of a session that goes on behind a command which has added these copies.
+pub fn go_on<S: Shelf>(
+    driver: Driver<S>,
+    posts: Vec<Post>,
+    bytes: Vec<u8>,
+    added: &[Pp],
+) -> Stage<S>
+    requires rows { HasItsRows driver.1.descriptor driver.1.origin.table }
+    requires markable { All (IsMarkable driver.1.origin.table) added.now }
+    requires may { MayServeWith added.now (state_of S.device driver) }
+    requires none { driver.1.descriptor.lvs ≡ [] → added.now ≡ [] }
+    ensures { IsLeftOn S.device added.now driver posts bytes result }
+{
+    let holder = hold(driver, added);
+    Stage {
+        holder,
+        posts,
+        bytes,
+    }
+}
+
+/// What a command leaves of a session that has failed so.
+pub fn after_fault<S: Shelf>(
+    driver: Driver<S>,
+    posts: Vec<Post>,
+    bytes: Vec<u8>,
+    why: GroupFault,
+) -> Answered<S>
+    requires dark { why ≡ GroupFault.Dark → (S.device driver.0).flights ≡ [] }
+    requires lit { IsTrue (ends_session why) → (why ≡ GroupFault.Dark → ⊥) → ((S.device driver.0).power ≡ true) × ((S.device driver.0).freed ≡ []) }
+    requires rows { IsFalse (ends_session why) → HasItsRows driver.1.descriptor driver.1.origin.table }
+    requires may { IsFalse (ends_session why) → MayServeWith [] (state_of S.device driver) }
+    ensures stage { IsLeftAs S.device (ends_session why) [] driver posts bytes result.stage }
+    ensures reply { result.reply ≡ Reply.Refused (refusal_for why) }
+{
+    if ends_session(why) {
+        close_after(driver, posts, bytes, why).refused(refusal_for(why))
+    } else {
+        go_on(driver, posts, bytes, &[]).refused(refusal_for(why))
+    }
+}
+
+// What a command that adds no copies leaves of a session that was answered so.
 fn after<S: Shelf, T: Copy>(
     driver: Driver<S>,
     posts: Vec<Post>,
@@ -144,37 +191,17 @@ fn after<S: Shelf, T: Copy>(
     requires lit { IsTrue (is_over done) → (done ≡ Err GroupFault.Dark → ⊥) → ((S.device driver.0).power ≡ true) × ((S.device driver.0).freed ≡ []) }
     requires rows { IsFalse (is_over done) → HasItsRows driver.1.descriptor driver.1.origin.table }
     requires may { IsFalse (is_over done) → MayServe [] (state_of S.device driver) × StaysSound (state_of S.device driver) }
-    ensures stage { IsLeftAs S.device (is_over done) driver posts bytes result.stage }
+    ensures stage { IsLeftAs S.device (is_over done) [] driver posts bytes result.stage }
     ensures reply { result.reply ≡ volume_reply done }
 {
     match done {
-        Ok(_) => {
-            let holder = hold(driver);
-            Stage {
-                holder,
-                posts,
-                bytes,
-            }
-            .answered(Reply::Ok)
-        }
-        Err(why) => {
-            if ends_session(why) {
-                close_after(driver, posts, bytes, why).refused(refusal_for(why))
-            } else {
-                let holder = hold(driver);
-                Stage {
-                    holder,
-                    posts,
-                    bytes,
-                }
-                .refused(refusal_for(why))
-            }
-        }
+        Ok(_) => go_on(driver, posts, bytes, &[]).answered(Reply::Ok),
+        Err(why) => after_fault(driver, posts, bytes, why),
     }
 }
 
-// The session of a group that is on, with nothing under way: turns are made until nothing is left.
-fn come_to_rest<S: Shelf>(
+/// The session of a group that is on, with nothing under way: turns are made until nothing is left.
+pub fn come_to_rest<S: Shelf>(
     holder: Holder<S>,
     patience: &mut Patience,
 ) -> Result<Driver<S>, (driver::Driver<S>, DrainFault)>
@@ -223,7 +250,7 @@ fn make_volume<S: Shelf>(
     requires some { 1 ≤ lps }
     requires off { mode ≡ Off }
     ensures { let w = wanted name copies mode policy lps in
-        IsCarriedOut S.device (λ was is given. MklvGives w patience.old.left was is given) (to_make w driver.1) patience.old.left driver posts bytes result.stage result.reply }
+        IsCarriedOut S.device (λ was is given. MklvGives w patience.old.left was is given) none_added (to_make w driver.1) patience.old.left driver posts bytes result.stage result.reply }
 {
     let mut driver = driver;
     let made = mklv(
@@ -251,7 +278,7 @@ fn remove_volume<S: Shelf>(
     requires settled { IsSettled driver.1 }
     requires sound { IsSound (state_of S.device driver) }
     requires rows { HasItsRows driver.1.descriptor driver.1.origin.table }
-    ensures { IsCarriedOut S.device (λ was is given. RmlvGives lv patience.old.left was is given) (to_remove lv driver.1) patience.old.left driver posts bytes result.stage result.reply }
+    ensures { IsCarriedOut S.device (λ was is given. RmlvGives lv patience.old.left was is given) none_added (to_remove lv driver.1) patience.old.left driver posts bytes result.stage result.reply }
 {
     let mut driver = driver;
     let removed = rmlv(alloc, &mut driver, lv, patience);
@@ -326,15 +353,7 @@ pub fn do_rmlv<S: Shelf>(alloc: Global, stage: Stage<S>, name: Name) -> Answered
     let mut patience = Patience::whole();
     match come_to_rest(holder, &mut patience) {
         Ok(driver) => match driver.volume(name) {
-            None => {
-                let holder = hold(driver);
-                Stage {
-                    holder,
-                    posts,
-                    bytes,
-                }
-                .refused(Refusal::NoVolume)
-            }
+            None => go_on(driver, posts, bytes, &[]).refused(Refusal::NoVolume),
             Some(lv) => remove_volume(alloc, driver, posts, bytes, lv, &mut patience),
         },
         Err((driver, why)) => Stage::ended(driver, posts, bytes).refused(drain_refusal(why)),

@@ -6,8 +6,8 @@ use Rattle.lvm_operands.specs.declared.rest.Misfit.{Misfit}
 use Rattle.lvm_parse.specs.Grammar.{line_of}
 use Rattle.lvm_operands.specs.Reading.{misfit}
 use Rattle.lvm_line.specs.Lines.{CommandDoes, IsLine, IsChange}
-use Rattle.lvm_volume_lines.specs.passed.Stage.{most_refusals, shelf_in, history_in, state_in, without_facts, Reply}
-use Rattle.lvm_volume_lines.specs.passed.ReplyVariants as reply
+use Rattle.lvm_copy_lines.specs.passed.Stage.{most_refusals, shelf_in, history_in, state_in, without_facts, Reply}
+use Rattle.lvm_copy_lines.specs.passed.ReplyVariants as reply
 use Rattle.lvm_line.proofs.Answering.{answered_both, answered_more, mkvg_changes}
 use Rattle.lvm_line.proofs.Lining.{line_still, stage_named}
 use Rattle.lvm_line.proofs.line.answer_line.Goals as goal

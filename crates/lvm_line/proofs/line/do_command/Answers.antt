@@ -1,9 +1,6 @@
-use Rattle.std.proofs.Common.{◌≡◌, ◌≤◌, refl, sym, subst, ℕ, List, length}
-use Rattle.lvm_volume_lines.specs.passed.Stage.{CommandEnds, Aside, most_refusals, session_in, shelf_in, Reply}
-use Rattle.lvm_volume_lines.specs.passed.RefusalVariants as refusal
-use Rattle.lvm_volume_lines.specs.passed.ReplyVariants as reply
-use Rattle.lvm_volume_lines.proofs.passed.Stage.{one_refused}
-use Rattle.lvm_volume_lines.specs.passed.GroupLines.{MkvgDoes, DiskShows, GroupShows, VolumeShows}
+use Rattle.std.proofs.Common.{◌≤◌, refl, sym, subst, ℕ, List, length}
+use Rattle.lvm_copy_lines.specs.passed.Stage.{CommandEnds, Aside, most_refusals, session_in, shelf_in, Reply}
+use Rattle.lvm_copy_lines.specs.passed.GroupLines.{MkvgDoes, DiskShows, GroupShows, VolumeShows}
 use Rattle.lvm_line.proofs.Lining.{done_by, listed_by, one_disk, one_group, one_volume}
 use Rattle.lvm_line.proofs.line.do_command.Goals as goal
 
@@ -24,6 +21,12 @@ returns-in-Mklv g c = done_by g.S.Shelf.device c.args.room c.args.command _ _ _ 
 
 pub returns-in-Rmlv : goal.returns-in-Rmlv
 returns-in-Rmlv g c = done_by g.S.Shelf.device c.args.room c.args.command _ _ _ c.do_rmlv.result.reply _ _ _ _ c.in-Rmlv.is (c.do_rmlv.ensures (g.C.Clock.last c.args.clock.now)) refl
+
+pub returns-in-Mklvcopy : goal.returns-in-Mklvcopy
+returns-in-Mklvcopy g c = done_by g.S.Shelf.device c.args.room c.args.command _ _ _ c.do_mklvcopy.result.reply _ _ _ _ c.in-Mklvcopy.is (c.do_mklvcopy.ensures (g.C.Clock.last c.args.clock.now)) refl
+
+pub returns-in-Rmlvcopy : goal.returns-in-Rmlvcopy
+returns-in-Rmlvcopy g c = done_by g.S.Shelf.device c.args.room c.args.command _ _ _ c.do_rmlvcopy.result.reply _ _ _ _ c.in-Rmlvcopy.is (c.do_rmlvcopy.ensures (g.C.Clock.last c.args.clock.now)) refl
 
 pub returns-in-RawRd : goal.returns-in-RawRd
 returns-in-RawRd g c = done_by g.S.Shelf.device c.args.room c.args.command _ _ _ c.do_read.result.reply _ _ _ _ c.in-RawRd.is (c.do_read.ensures (g.C.Clock.last c.args.clock.now)) refl
@@ -75,13 +78,3 @@ returns-in-Lspv g c =
     listed_by g.S.Shelf.device c.args.room c.args.command _ c.args.stage _ c.answered-in-Lspv.result.reply _ _ c.in-Lspv.is c.requires.fits c.requires.between c.answered-in-Lspv.ensures.stage
     (subst (λ (r : Reply). most_refusals r ≤ 1) (sym says) (one_disk c.in-Lspv.disk _ (session_in c.args.stage) c.list_disk-reply.result c.list_disk-reply.ensures))
     (λ log same. (subst (λ (r : Reply). DiskShows c.in-Lspv.disk (length (g.S.Shelf.device (shelf_in c.args.stage)).sizes) (session_in c.args.stage) r) (sym says) c.list_disk-reply.ensures, same)) refl
-
-pub returns-in-Mklvcopy : goal.returns-in-Mklvcopy
-returns-in-Mklvcopy g c =
-    let says : c.refused.result.reply ≡ reply.Refused (refusal.BadLine 1) = cc in
-    listed_by g.S.Shelf.device c.args.room c.args.command _ c.args.stage _ c.refused.result.reply _ _ c.in-Mklvcopy.is c.requires.fits c.requires.between c.refused.ensures.stage (one_refused c.refused.result.reply (refusal.BadLine 1) says) (λ log same. (says, same)) refl
-
-pub returns-in-Rmlvcopy : goal.returns-in-Rmlvcopy
-returns-in-Rmlvcopy g c =
-    let says : c.refused-in-Rmlvcopy.result.reply ≡ reply.Refused (refusal.BadLine 1) = cc in
-    listed_by g.S.Shelf.device c.args.room c.args.command _ c.args.stage _ c.refused-in-Rmlvcopy.result.reply _ _ c.in-Rmlvcopy.is c.requires.fits c.requires.between c.refused-in-Rmlvcopy.ensures.stage (one_refused c.refused-in-Rmlvcopy.result.reply (refusal.BadLine 1) says) (λ log same. (says, same)) refl

@@ -2,7 +2,7 @@ use Rattle.std.proofs.Common.{◌≤◌, ℕ, Option, IfSome, refl, sym, subst}
 use Rattle.lvm_core.specs.declared.parts.Room.{Room}
 use Rattle.lvm_vol.specs.Log.{Log}
 use Rattle.lvm_line.specs.Lines.{CommandDoes}
-use Rattle.lvm_volume_lines.specs.passed.Stage.{most_refusals, session_in, state_in, Reply}
+use Rattle.lvm_copy_lines.specs.passed.Stage.{most_refusals, session_in, state_in, Reply}
 use Rattle.lvm_line.proofs.Lining.{of_command, one_disk, one_group, one_volume}
 use Rattle.lvm_line.proofs.line.list.Goals.{in-Lsvg, in-Lslv, in-Lspv, in_default}
 use Rattle.lvm_line.proofs.line.list.Goals as goal

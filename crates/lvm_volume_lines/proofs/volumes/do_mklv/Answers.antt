@@ -3,12 +3,12 @@ use Rattle.lvm_core.specs.State.{state_of}
 use Rattle.lvm_core.specs.Sound.{HaveAllLanded}
 use Rattle.lvm_range_lines.proofs.passed.TieCommands.{mklv_goes_on}
 use Rattle.lvm_posts.specs.Posts.{AreAnswered}
-use Rattle.lvm_range_lines.specs.passed.Volumes.{IsChosen, IsWith, MklvGives}
+use Rattle.lvm_range_lines.specs.passed.Volumes.{MklvGives, to_make}
 use Rattle.lvm_range_lines.specs.passed.Stage.{EndsUnasked, OfGroup, IsOn, open_in, session_in, Refusal, Reply, Stage}
 use Rattle.lvm_range_lines.specs.passed.RefusalVariants as refusal
 use Rattle.lvm_range_lines.specs.passed.ReplyVariants as reply
 use Rattle.lvm_range_lines.proofs.passed.Stage.{refused_ends}
-use Rattle.lvm_volume_lines.specs.Commands.{HasBrokenOff, HasRested}
+use Rattle.lvm_volume_lines.specs.Commands.{HasBrokenOff, HasRested, none_added}
 use Rattle.lvm_volume_lines.specs.Volumes.{MklvDoes, BusyMklv, NoGroupForMklv, UndrainedMklv, drain_refusal, wanted}
 use Rattle.lvm_volume_lines.proofs.Commanding.{rows_mid}
 use Rattle.lvm_volume_lines.proofs.Ending.{mklv_facts, mklv_shape}
@@ -45,14 +45,14 @@ returns-in-Ok g c =
     let done = c.make_volume.ensures in
     let mid = state_of g.S.Shelf.device driver in
     let new = state_of g.S.Shelf.device done.left in
-    ends_so g.S.Shelf.device c.args.stage c.requires.fits c.requires.between none left driver rested (λ was is given. MklvGives w left was is given) (IsWith w) (IsChosen w) 2 c.make_volume.result.stage c.make_volume.result.reply done
+    ends_so g.S.Shelf.device c.args.stage c.requires.fits c.requires.between none left driver rested OfGroup (λ old new alone. alone.acts tt) (λ was is given. MklvGives w left was is given) none_added (to_make w) c.make_volume.result.stage c.make_volume.result.reply done
     g.met.S.Shelf.sectors_are_whole
-    (record {
+    (λ last. record {
       facts = mklv_facts w left mid new rested.settled.power done.given done.gives;
       landed = mklv_bears HaveAllLanded landed_stays w left mid new rested.between.landed done.given done.gives;
       answers = λ range was. mklv_bears (λ facts. AreAnswered facts range) (answers_stay range) w left mid new was done.given done.gives;
       shape = mklv_shape w left mid new done.given done.gives;
-      goes = λ m may alone. mklv_goes_on rested.turned.core.history.run m w left done.after mid new done.given may alone c.requires.off done.commanded done.gives;
+      goes = λ allowed m may alone. mklv_goes_on rested.turned.core.history.run m w left done.after mid new done.given may alone c.requires.off done.commanded done.gives;
     })
     (λ log. MklvDoes w c.args.group)
     (λ last is. mklv_does w c.args.group rested.turned.core left mid done.given _ _ rested.turned.its (on_some (IsOn c.args.group) (session_in c.args.stage) rested.turned.core (c.if-not-is_on.ensures.on refl) rested.turned.its) (drains g.S.Shelf.device c.args.stage c.requires.fits c.requires.between none left driver rested last) is)
@@ -66,6 +66,6 @@ returns-in-Err g c =
     (sym (c.refused-in-Err.ensures.reply ∙ ap (λ (r : Refusal). reply.Refused r) c.drain_refusal.ensures))
     (subst (λ (s : Stage g.row.S.Denot). EndsUnasked g.S.Shelf.device (λ log. MklvDoes (wanted c.args.name c.args.copies c.args.mode c.args.policy c.args.lps) c.args.group) ⊥ OfGroup c.args.stage s (reply.Refused (drain_refusal c.in-Err.why)))
     (sym c.refused-in-Err.ensures.stage)
-    (undrained_ends g.S.Shelf.device c.args.stage c.requires.fits c.requires.between none left c.in-Err.driver c.in-Err.why broken c.ended.result (reply.Refused (drain_refusal c.in-Err.why)) c.ended.ensures.ended c.ended.ensures.rooms refl
+    (undrained_ends OfGroup (λ old new alone. alone.acts tt) g.S.Shelf.device c.args.stage c.requires.fits c.requires.between none left c.in-Err.driver c.in-Err.why broken c.ended.result (reply.Refused (drain_refusal c.in-Err.why)) c.ended.ensures.ended c.ended.ensures.rooms refl
     (λ log. MklvDoes (wanted c.args.name c.args.copies c.args.mode c.args.policy c.args.lps) c.args.group)
     (λ last is. UndrainedMklv broken.turned.core c.in-Err.why broken.turned.its (on_some (IsOn c.args.group) (session_in c.args.stage) broken.turned.core (c.if-not-is_on.ensures.on refl) broken.turned.its) is)))

@@ -1,17 +1,15 @@
 use Rattle.std.proofs.Common.{◌≡◌, ◌≤◌, ◌∙◌, ℕ, refl, sym, ap, subst, arith}
-use Rattle.lvm_core.specs.Leaves.{NoPartition}
 use Rattle.lvm_core.specs.State.{state_of}
 use Rattle.lvm_core.specs.Sound.{HaveAllLanded}
 use Rattle.lvm_range_lines.proofs.passed.TieCommands.{rmlv_goes_on}
 use Rattle.lvm_posts.specs.Posts.{AreAnswered}
-use Rattle.lvm_volume_plan.specs.NewVolume.{without_volume}
-use Rattle.lvm_range_lines.specs.passed.Volumes.{RmlvGives}
+use Rattle.lvm_range_lines.specs.passed.Volumes.{RmlvGives, to_remove}
 use Rattle.lvm_range_lines.specs.passed.Stage.{EndsUnasked, OfGroup, open_in, session_in, Refusal, Reply, Stage}
 use Rattle.lvm_range_lines.specs.passed.RefusalVariants as refusal
 use Rattle.lvm_range_lines.specs.passed.ReplyVariants as reply
 use Rattle.lvm_range_lines.proofs.passed.Stage.{refused_ends}
-use Rattle.lvm_volume_lines.specs.Commands.{HasBrokenOff, HasRested}
-use Rattle.lvm_volume_lines.specs.Volumes.{RmlvDoes, BusyRmlv, NoGroupForRmlv, UndrainedRmlv, drain_refusal}
+use Rattle.lvm_volume_lines.specs.Commands.{HasBrokenOff, HasRested, none_added}
+use Rattle.lvm_volume_lines.specs.Volumes.{RmlvDoes, BusyRmlv, NoGroupForRmlv, NoVolumeForRmlv, UndrainedRmlv, drain_refusal}
 use Rattle.lvm_volume_lines.proofs.Commanding.{rows_mid}
 use Rattle.lvm_volume_lines.proofs.Ending.{rmlv_facts, rmlv_shape}
 use Rattle.lvm_volume_lines.proofs.Landing.{answers_stay, landed_stays, rmlv_bears}
@@ -32,14 +30,14 @@ returns-then-open-gt0 g c =
     refused_ends g.S.Shelf.device (λ log. RmlvDoes c.args.name) ⊥ OfGroup c.args.stage c.refused-then-open-gt0.result.stage c.refused-then-open-gt0.result.reply
     c.requires.fits c.requires.between c.refused-then-open-gt0.ensures.stage refusal.Busy c.refused-then-open-gt0.ensures.reply (λ last is. BusyRmlv some is)
 
-pub hold-holder-requires-clause-rows : goal.hold-holder-requires-clause-rows
-hold-holder-requires-clause-rows g c =
+pub go_on-requires-clause-rows : goal.go_on-requires-clause-rows
+go_on-requires-clause-rows g c =
     let none : open_in (session_in c.args.stage) ≡ 0 = let few = c.if-open-gt0.false in let same = c.open.ensures in omega (arith, few, same) in
     let rested = subst (λ (n : ℕ). HasRested g.S.Shelf.device c.args.stage.holder n c.come_to_rest.new.patience.left c.in-Ok.driver) c.whole-patience.ensures c.in-Ok.ensures.rests in
     rows_mid _ _ _ (at_mid g.S.Shelf.device c.args.stage c.requires.fits c.requires.between none c.come_to_rest.new.patience.left c.in-Ok.driver rested 0)
 
-pub hold-holder-requires-clause-may : goal.hold-holder-requires-clause-may
-hold-holder-requires-clause-may g c =
+pub go_on-requires-clause-may : goal.go_on-requires-clause-may
+go_on-requires-clause-may g c =
     let none : open_in (session_in c.args.stage) ≡ 0 = let few = c.if-open-gt0.false in let same = c.open.ensures in omega (arith, few, same) in
     let rested = subst (λ (n : ℕ). HasRested g.S.Shelf.device c.args.stage.holder n c.come_to_rest.new.patience.left c.in-Ok.driver) c.whole-patience.ensures c.in-Ok.ensures.rests in
     may_again g.S.Shelf.device c.args.stage c.requires.fits c.requires.between none c.come_to_rest.new.patience.left c.in-Ok.driver rested c.args.name c.in-None.ensures.none
@@ -55,7 +53,9 @@ returns-in-None g c =
     let none : open_in (session_in c.args.stage) ≡ 0 = let few = c.if-open-gt0.false in let same = c.open.ensures in omega (arith, few, same) in
     let rested = subst (λ (n : ℕ). HasRested g.S.Shelf.device c.args.stage.holder n c.come_to_rest.new.patience.left c.in-Ok.driver) c.whole-patience.ensures c.in-Ok.ensures.rests in
     unnamed_ends g.S.Shelf.device c.args.stage c.requires.fits c.requires.between none c.come_to_rest.new.patience.left c.in-Ok.driver rested c.args.name c.in-None.ensures.none
-    c.hold-holder.result c.hold-holder.ensures c.refused-in-None.result.stage c.refused-in-None.ensures.stage c.refused-in-None.result.reply c.refused-in-None.ensures.reply g.met.S.Shelf.sectors_are_whole
+    OfGroup (λ old new alone. alone.acts tt) c.go_on.ensures.by c.go_on.ensures.held c.refused-in-None.result.stage (c.refused-in-None.ensures.stage ∙ c.go_on.ensures.is) c.refused-in-None.result.reply c.refused-in-None.ensures.reply g.met.S.Shelf.sectors_are_whole
+    (λ log. RmlvDoes c.args.name)
+    (λ last drained stays. NoVolumeForRmlv rested.turned.core c.come_to_rest.new.patience.left (state_of g.S.Shelf.device c.in-Ok.driver) rested.turned.its drained c.in-None.ensures.none stays refl c.refused-in-None.ensures.reply)
 
 pub returns-in-Some : goal.returns-in-Some
 returns-in-Some g c =
@@ -67,14 +67,14 @@ returns-in-Some g c =
     let done = c.remove_volume.ensures in
     let mid = state_of g.S.Shelf.device driver in
     let new = state_of g.S.Shelf.device done.left in
-    ends_so g.S.Shelf.device c.args.stage c.requires.fits c.requires.between none left driver rested (λ was is given. RmlvGives lv left was is given) (λ core next. next ≡ without_volume core.descriptor lv) (λ core. NoPartition) 1
+    ends_so g.S.Shelf.device c.args.stage c.requires.fits c.requires.between none left driver rested OfGroup (λ old new alone. alone.acts tt) (λ was is given. RmlvGives lv left was is given) none_added (to_remove lv)
     c.remove_volume.result.stage c.remove_volume.result.reply done g.met.S.Shelf.sectors_are_whole
-    (record {
+    (λ last. record {
       facts = rmlv_facts lv left mid new rested.settled.power done.given done.gives;
       landed = rmlv_bears HaveAllLanded landed_stays lv left mid new rested.between.landed done.given done.gives;
       answers = λ range was. rmlv_bears (λ facts. AreAnswered facts range) (answers_stay range) lv left mid new was done.given done.gives;
       shape = rmlv_shape lv left mid new done.given done.gives;
-      goes = λ m may alone. rmlv_goes_on rested.turned.core.history.run m lv left done.after mid new done.given may done.commanded done.gives;
+      goes = λ allowed m may alone. rmlv_goes_on rested.turned.core.history.run m lv left done.after mid new done.given may done.commanded done.gives;
     })
     (λ log. RmlvDoes c.args.name)
     (λ last is. rmlv_does c.args.name lv rested.turned.core left mid done.given _ _ rested.turned.its (drains g.S.Shelf.device c.args.stage c.requires.fits c.requires.between none left driver rested last) c.in-Some.ensures.some is)
@@ -87,6 +87,6 @@ returns-in-Err g c =
     subst (λ (a : Reply). EndsUnasked g.S.Shelf.device (λ log. RmlvDoes c.args.name) ⊥ OfGroup c.args.stage c.refused-in-Err.result.stage a)
     (sym (c.refused-in-Err.ensures.reply ∙ ap (λ (r : Refusal). reply.Refused r) c.drain_refusal.ensures))
     (subst (λ (s : Stage g.row.S.Denot). EndsUnasked g.S.Shelf.device (λ log. RmlvDoes c.args.name) ⊥ OfGroup c.args.stage s (reply.Refused (drain_refusal c.in-Err.why))) (sym c.refused-in-Err.ensures.stage)
-    (undrained_ends g.S.Shelf.device c.args.stage c.requires.fits c.requires.between none left c.in-Err.driver c.in-Err.why broken c.ended.result (reply.Refused (drain_refusal c.in-Err.why)) c.ended.ensures.ended c.ended.ensures.rooms refl
+    (undrained_ends OfGroup (λ old new alone. alone.acts tt) g.S.Shelf.device c.args.stage c.requires.fits c.requires.between none left c.in-Err.driver c.in-Err.why broken c.ended.result (reply.Refused (drain_refusal c.in-Err.why)) c.ended.ensures.ended c.ended.ensures.rooms refl
     (λ log. RmlvDoes c.args.name)
     (λ last is. UndrainedRmlv broken.turned.core c.in-Err.why broken.turned.its is)))

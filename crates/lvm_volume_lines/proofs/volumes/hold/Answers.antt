@@ -19,6 +19,6 @@ returns-then-is_empty g c =
       is = refl;
       empty = λ no. refl;
       served = λ some. absurd (some none);
-      sound = c.requires.may.1 c.open.ensures.sound;
+      sound = c.requires.may.1 (c.requires.none none) c.open.ensures.sound;
       kind = none;
     }

@@ -1,0 +1,4 @@
+pub mod passed
+pub mod Giving
+pub mod Carrying
+pub mod Lines

@@ -1,0 +1,2 @@
+-- Passed on from `lvm_driver`.
+pub use Rattle.lvm_volume_lines.specs.passed.Driver.{DrainFault, state_of}

@@ -1,0 +1,2 @@
+-- Passed on from `lvm_tie_groups`.
+pub use Rattle.lvm_volume_lines.specs.passed.TieGroups.{AreOff}

@@ -1,0 +1,4 @@
+-- Passed on from `lvm_copy_lines`.
+pub use Rattle.lvm_copy_lines.specs.Copies.{AddsCopies, BusyMklvcopy, BusyRmlvcopy, MklvcopyDoes, MklvcopyEnds, MklvcopyFails, NoGroupForMklvcopy}
+pub use Rattle.lvm_copy_lines.specs.Copies.{NoGroupForRmlvcopy, NoVolumeForMklvcopy, NoVolumeForRmlvcopy, RemovesCopies, RmlvcopyDoes, RmlvcopyEnds}
+pub use Rattle.lvm_copy_lines.specs.Copies.{RmlvcopyFails, UndrainedMklvcopy, UndrainedRmlvcopy}

@@ -1,0 +1,16 @@
+use Rattle.std.proofs.Common.{◌≡◌, ◌∙◌, [], Bool, false, sym, subst}
+use Rattle.lvm_volume_lines.specs.Commands.{IsLeftAs, IsLeftOn}
+use Rattle.lvm_volume_lines.specs.Volumes.{ends_session}
+use Rattle.lvm_volume_lines.proofs.volumes.after_fault.Goals as goal
+
+pub go_on-requires-clause-rows : goal.go_on-requires-clause-rows
+go_on-requires-clause-rows g c = c.requires.rows (sym c.ends_session.ensures ∙ c.if-ends_session.false)
+
+pub go_on-requires-clause-may : goal.go_on-requires-clause-may
+go_on-requires-clause-may g c = c.requires.may (sym c.ends_session.ensures ∙ c.if-ends_session.false)
+
+pub returns-else-ends_session-clause-stage : goal.returns-else-ends_session-clause-stage
+returns-else-ends_session-clause-stage g c =
+    let goes : ends_session c.args.why ≡ false = sym c.ends_session.ensures ∙ c.if-ends_session.false in
+    subst (λ (b : Bool). IsLeftAs g.S.Shelf.device b [] c.args.driver c.args.posts c.args.bytes c.refused-else-ends_session.result.stage) (sym goes)
+    (subst (IsLeftOn g.S.Shelf.device [] c.args.driver c.args.posts c.args.bytes) (sym c.refused-else-ends_session.ensures.stage) c.go_on.ensures)
