@@ -5,4 +5,4 @@ pub use Rattle.lvm_group_lines.specs.passed.Stage.{IsClosed, IsEnded, IsFitting,
 pub use Rattle.lvm_group_lines.specs.passed.Stage.{IsRequesting, IsStuck, IsTimely, OfGroup, OfGroupWhere, OfRequests, Refusal, Reply, Role, Shows}
 pub use Rattle.lvm_group_lines.specs.passed.Stage.{Stage, StandsAlone, StandsBy, State, WithoutMemory, history_in, history_of, log_with, moment_in}
 pub use Rattle.lvm_group_lines.specs.passed.Stage.{most_refusals, open_in, patience_of_line, posts_ended, refusal_of, refusals_of, reply_text}
-pub use Rattle.lvm_group_lines.specs.passed.Stage.{session_in, session_of, shelf_in, shelf_of, state_in, without_facts}
+pub use Rattle.lvm_group_lines.specs.passed.Stage.{session_in, session_of, shelf_in, shelf_of, state_in, without_facts, IsCarried}

@@ -4,4 +4,4 @@ pub use Rattle.lvm_range_lines.specs.passed.Stage.{IsAllowed, IsAlone, IsAsked, 
 pub use Rattle.lvm_range_lines.specs.passed.Stage.{IsOfKind, IsRefused, IsRelit, IsRequesting, IsStuck, IsTimely, OfGroup, OfGroupWhere, OfRequests}
 pub use Rattle.lvm_range_lines.specs.passed.Stage.{Refusal, Reply, Role, Shows, Stage, StandsAlone, StandsBy, State, WithoutMemory, history_in}
 pub use Rattle.lvm_range_lines.specs.passed.Stage.{history_of, log_with, moment_in, most_refusals, open_in, patience_of_line, refusal_of, refusals_of}
-pub use Rattle.lvm_range_lines.specs.passed.Stage.{reply_text, session_in, session_of, shelf_in, shelf_of, state_in, without_facts}
+pub use Rattle.lvm_range_lines.specs.passed.Stage.{reply_text, session_in, session_of, shelf_in, shelf_of, state_in, without_facts, HaveRooms, IsCarried, IsEnded, IsNotOn}
