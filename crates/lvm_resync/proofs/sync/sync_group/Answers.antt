@@ -26,8 +26,8 @@ returns-in_err-pass_group-in-None-clause-gives g c =
     rw (f.1, f.2) (stopped (group_fault first.core) (group_copies first.core.descriptor) first (state_of device c.pass_group.new.driver) c.pass_group.new.patience.left
     c.in_err-pass_group-in-None.field-0.0 (sym c.group_fault.ensures ∙ c.in-None.is) c.in_err-pass_group-in-None.ensures.ends)
 
-pub returns-in-None-clause-gives : goal.returns-in-None-clause-gives
-returns-in-None-clause-gives g c =
+pub returns-in_ok-pass_group-in-None-clause-gives : goal.returns-in_ok-pass_group-in-None-clause-gives
+returns-in_ok-pass_group-in-None-clause-gives g c =
     let device = g.S.Shelf.device in
     let first = state_of device c.args.driver.now in
     let new = state_of device c.pass_group.new.driver in

@@ -29,8 +29,8 @@ returns-in_err-pass_partition-in-None-clause-gives g c =
     rw (f.1, f.2) (stopped (partition_fault first.core c.args.lv c.args.lp) (partition_copies first.core.descriptor c.args.lv c.args.lp) first (state_of device c.pass_partition.new.driver) c.pass_partition.new.patience.left
     c.in_err-pass_partition-in-None.field-0.0 (sym c.partition_fault.ensures ∙ c.in-None.is) c.in_err-pass_partition-in-None.ensures.ends)
 
-pub returns-in-None-clause-gives : goal.returns-in-None-clause-gives
-returns-in-None-clause-gives g c =
+pub returns-in_ok-pass_partition-in-None-clause-gives : goal.returns-in_ok-pass_partition-in-None-clause-gives
+returns-in_ok-pass_partition-in-None-clause-gives g c =
     let device = g.S.Shelf.device in
     let first = state_of device c.args.driver.now in
     let new = state_of device c.pass_partition.new.driver in
