@@ -34,4 +34,4 @@ returns-in_ok-pass_group-in-None-clause-gives g c =
     let ready = ready_by first.core _ (sym c.group_fault.ensures ∙ c.in-None.is) in
     synced (group_fault first.core) (group_copies first.core.descriptor) first new c.pass_group.new.patience.left c.pass_group.new.tally c.answer.result
     (sym c.group_fault.ensures ∙ c.in-None.is) c.is_sound.ensures (ready.on c.requires.unstuck) ready.none
-    (subst (λ (t : Tally). ArePassed (group_copies first.core.descriptor) first new t c.pass_group.new.tally tt) c.no_tally.ensures c.in_ok-pass_group-in-None.ensures.ends) c.answer.ensures
+    (subst (λ (t : Tally). ArePassed (group_copies first.core.descriptor) first new t c.pass_group.new.tally tt) c.no_tally-tally.ensures c.in_ok-pass_group-in-None.ensures.ends) c.answer.ensures

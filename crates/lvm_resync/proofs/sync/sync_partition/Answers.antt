@@ -37,4 +37,4 @@ returns-in_ok-pass_partition-in-None-clause-gives g c =
     let ready = ready_by first.core _ (sym c.partition_fault.ensures ∙ c.in-None.is) in
     synced (partition_fault first.core c.args.lv c.args.lp) (partition_copies first.core.descriptor c.args.lv c.args.lp) first new c.pass_partition.new.patience.left c.pass_partition.new.tally c.answer.result
     (sym c.partition_fault.ensures ∙ c.in-None.is) c.is_sound.ensures (ready.on c.requires.unstuck) ready.none
-    (subst (λ (t : Tally). ArePassed (partition_copies first.core.descriptor c.args.lv c.args.lp) first new t c.pass_partition.new.tally tt) c.no_tally.ensures c.in_ok-pass_partition-in-None.ensures.ends) c.answer.ensures
+    (subst (λ (t : Tally). ArePassed (partition_copies first.core.descriptor c.args.lv c.args.lp) first new t c.pass_partition.new.tally tt) c.no_tally-tally.ensures c.in_ok-pass_partition-in-None.ensures.ends) c.answer.ensures

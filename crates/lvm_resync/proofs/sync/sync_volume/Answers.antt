@@ -34,4 +34,4 @@ returns-in_ok-pass_volume-in-None-clause-gives g c =
     let ready = ready_by first.core _ (sym c.volume_fault.ensures ∙ c.in-None.is) in
     synced (volume_fault first.core c.args.lv) (volume_copies first.core.descriptor c.args.lv) first new c.pass_volume.new.patience.left c.pass_volume.new.tally c.answer.result
     (sym c.volume_fault.ensures ∙ c.in-None.is) c.is_sound.ensures (ready.on c.requires.unstuck) ready.none
-    (subst (λ (t : Tally). ArePassed (volume_copies first.core.descriptor c.args.lv) first new t c.pass_volume.new.tally tt) c.no_tally.ensures c.in_ok-pass_volume-in-None.ensures.ends) c.answer.ensures
+    (subst (λ (t : Tally). ArePassed (volume_copies first.core.descriptor c.args.lv) first new t c.pass_volume.new.tally tt) c.no_tally-tally.ensures c.in_ok-pass_volume-in-None.ensures.ends) c.answer.ensures
