@@ -1,7 +1,8 @@
 -- How a copy was passed, and the copies at a place.
 use Rattle.std.proofs.Common.{◌≡◌, inl, inr, ◌+◌, ℕ, List, [], ◌∷◌, Option, None, Some, slice_get, refl, sym, ap, subst, ◌∙◌}
-use Rattle.std.specs.Option.{option_map_or}
+use Rattle.std.specs.Option.{option_map, option_map_or}
 use Rattle.lvm_num.specs.declared.descriptor.Descriptor.{Descriptor}
+use Rattle.lvm_num.specs.declared.descriptor.LvRow.{LvRow}
 use Rattle.lvm_num.specs.declared.place.Pp.{Pp}
 use Rattle.lvm_session.specs.declared.answers.CopyState.{CopyState}
 use Rattle.lvm_session.specs.declared.answers.CopyState.TheVariants as copy
@@ -15,7 +16,7 @@ use Rattle.lvm_resync.specs.declared.fault.SyncFault.{SyncFault}
 use Rattle.lvm_resync.specs.declared.fault.SyncFault.TheVariants as fault
 use Rattle.lvm_resync.specs.declared.tally.Tally.{Tally}
 use Rattle.lvm_resync.specs.Passing.{Copy, IsEnded, IsJustOpened, IsOpened, IsPassed, IsPassedBy, copy_of}
-use Rattle.lvm_resync.specs.Syncing.{ArePassed, NonePassed, OnePassed, copy_in, with_passed}
+use Rattle.lvm_resync.specs.Syncing.{ArePassed, NonePassed, OnePassed, copies_at, copy_in, volume_copies, with_passed}
 use Rattle.lvm_resync.proofs.Making.{made_fresh}
 
 -- one that was opened runs
@@ -31,6 +32,23 @@ module _ (c : Copy) (old opened new : State) (opens : IsOpened c old opened) whe
   passed_so copy.Closed result ends is = absurd is
   passed_so (copy.Running cursor) result ends is = absurd is
   passed_so copy.Ended result ends is = absurd is
+
+-- ---- the volume at a place
+
+module _ (d : Descriptor) (place : ℕ) where
+  pub no_volume_there : option_map (λ (row : LvRow). row.number) (slice_get d.lvs place) ≡ None → copies_at d place ≡ []
+  no_volume_there at = by (slice_get d.lvs place) at
+    where
+      by : (m : Option LvRow) → option_map (λ (row : LvRow). row.number) m ≡ None → option_map_or (λ (row : LvRow). volume_copies d row.number) m [] ≡ []
+      by None e = refl
+      by (Some row) e = absurd (cc e)
+
+  pub volume_there : (lv : ℕ) → option_map (λ (row : LvRow). row.number) (slice_get d.lvs place) ≡ Some lv → copies_at d place ≡ volume_copies d lv
+  volume_there lv at = by (slice_get d.lvs place) at
+    where
+      by : (m : Option LvRow) → option_map (λ (row : LvRow). row.number) m ≡ Some lv → option_map_or (λ (row : LvRow). volume_copies d row.number) m [] ≡ volume_copies d lv
+      by None e = absurd (cc e)
+      by (Some row) e = ap (volume_copies d) (let number : row.number ≡ lv = cc e in number)
 
 -- ---- the copy at a place
 

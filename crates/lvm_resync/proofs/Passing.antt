@@ -11,10 +11,10 @@ use Rattle.lvm_resync.specs.Turning.{GoesBeside}
 use Rattle.lvm_resync.proofs.Turning.{beside_both, beside_none, unstuck_beside}
 
 -- some copies, and others behind them
-pub passes_both : (first mid new : State) (from t to : Tally) (xs ys : List Copy) → Passes first from xs mid t → Passes mid t ys new to → Passes first from (xs ++ ys) new to
-passes_both first mid new from t to xs ys one NonePassed = subst (λ (copies : List Copy). Passes first from copies mid t) (sym (append-nil xs)) one
-passes_both first mid new from t to xs ys one (OnePassed {copies} {old} {tally} c how rest it) =
-    subst (λ (l : List Copy). Passes first from l new (with_passed tally how)) (append_assoc xs copies (c ∷ [])) (OnePassed c how (passes_both first mid old from t tally xs copies one rest) it)
+pub passes_both : (first mid : State) (from t : Tally) (xs : List Copy) → Passes first from xs mid t → (ys : List Copy) (new : State) (to : Tally) → Passes mid t ys new to → Passes first from (xs ++ ys) new to
+passes_both first mid from t xs one ys new to NonePassed = subst (λ (copies : List Copy). Passes first from copies mid t) (sym (append-nil xs)) one
+passes_both first mid from t xs one ys new to (OnePassed {copies} {old} {tally} c how rest it) =
+    subst (λ (l : List Copy). Passes first from l new (with_passed tally how)) (append_assoc xs copies (c ∷ [])) (OnePassed c how (passes_both first mid from t xs one copies old tally rest) it)
 
 -- So far those below a number are passed, and no copy is open.
 pub record PassedSoFar (of : ℕ → List Copy) (first now : State) (from to : Tally) (n patience left : ℕ) : Type 0 where
@@ -32,7 +32,7 @@ module _ (of : ℕ → List Copy) (first old new : State) (from t to : Tally) (n
 
   one_more : ArePassed (of n) old new t to tt → GoesBeside old new left after → PassedSoFar of first new from to (n + 1) patience after
   one_more it beside = record {
-    passes = let next : suc n ≡ n + 1 = omega arith in subst (λ (k : ℕ). Passes first from (below of k) new to) next (passes_both first old new from t to (below of n) (of n) so_far.passes it.0);
+    passes = let next : suc n ≡ n + 1 = omega arith in subst (λ (k : ℕ). Passes first from (below of k) new to) next (passes_both first old from t (below of n) so_far.passes (of n) new to it.0);
     none = it.1;
     unstuck = unstuck_beside old new left after beside so_far.unstuck;
     beside = stops beside;

@@ -217,7 +217,7 @@ pp_turned p q other = by (is_pp p q) refl
     by true e = absurd (let f : true ≡ false = sym (own_pp q) ∙ sym (ap (is_pp q) (pp_same p q e)) ∙ other in cc f)
 
 module _ (c : Copy) (first old new : State) (made : Pp → Bool) (so_far : Stays first old made nothing) (none : old.core.copy ≡ None) (it : IsMadeFresh c old new) where
-  opened : State
+  abbrev opened : State
   opened = it.brings.opened
 
   opens : IsOpened c old opened
@@ -229,23 +229,23 @@ module _ (c : Copy) (first old new : State) (made : Pp → Bool) (so_far : Stays
   abbrev q : Pp
   q = opens.opens.pp
 
-  settled : Stays first opens.judged made nothing × (opens.judged.core.copy ≡ None)
-  settled = settle_stays c first old opens.judged made so_far none opens.settles
+  judged_stays : Stays first opens.judged made nothing × (opens.judged.core.copy ≡ None)
+  judged_stays = settle_stays c first old opens.judged made so_far none opens.settles
 
   begun : Stays first opened made (λ x. is_pp x q)
-  begun = open_stays c first opens.judged opened made settled.0 settled.1 opens.may opens.opens opens.device q refl
+  begun = open_stays c first opens.judged opened made judged_stays.0 judged_stays.1 opens.may opens.opens opens.device q refl
 
   brought : Stays first ends.ended made (λ x. is_pp x q) × (Runs ends.ended.core → IsOpenStill q ends.ended.core)
-  brought = bring_stays first opened ends.ended made q begun (opened_still c first opens.judged opened made settled.0 settled.1 opens.may opens.opens opens.device q refl) ends.turns
+  brought = bring_stays first opened ends.ended made q begun (opened_still c first opens.judged opened made judged_stays.0 judged_stays.1 opens.may opens.opens opens.device q refl) ends.turns
 
   -- on the partition that was asked for
   its : q ≡ c.pp
   its = its_pp c old opened opens
 
-  abbrev more : Pp → Bool
-  more p = is_pp c.pp p || made p
+  abbrev pub made_too : Pp → Bool
+  made_too p = is_pp c.pp p || made p
 
-  pub made_stays : Stays first new more nothing
+  pub made_stays : Stays first new made_too nothing
   made_stays = record {
     sound = subst IsSound (sym ends.is) (close_keeps ends.ended (closed ends.ended.core) brought.0.sound (record { ended = λ cursor e. (let f : copy.Done ≡ copy.Running cursor = sym ends.how_is ∙ e in cc f); is = refl }));
     unstuck = λ stuck. brought.0.unstuck (sym (ap (λ (s : State). s.core.power) ends.is) ∙ stuck);
@@ -268,7 +268,7 @@ module _ (c : Copy) (first old new : State) (made : Pp → Bool) (so_far : Stays
           of false i = refl
           of true i = absurd (let f : true ≡ false = sym e ∙ ap (is_marked new.core) (sym (pp_same c.pp p i)) ∙ it.fresh in cc f)
 
-      by : (p : Pp) → is_marked new.core p ≡ true → IsStaleFor first ends.ended p ⊎ ((is_settled first.core p ≡ true) × (made p ≡ false)) → IsStaleFor first new p ⊎ ((is_settled first.core p ≡ true) × (more p ≡ false))
+      by : (p : Pp) → is_marked new.core p ≡ true → IsStaleFor first ends.ended p ⊎ ((is_settled first.core p ≡ true) × (made p ≡ false)) → IsStaleFor first new p ⊎ ((is_settled first.core p ≡ true) × (made_too p ≡ false))
       by p e (inl why) = inl (subst (λ (s : State). IsStaleFor first s p) (sym ends.is) why)
       by p e (inr was) = inr (was.0, ap (λ b. b || made p) (beside p e) ∙ was.1)
 

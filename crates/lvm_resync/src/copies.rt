@@ -146,7 +146,8 @@ pub fn pass_copy<S: Shelf>(
     ensures ends { EndsOr (IsPassed (copy_of lv lp number pp) (state_of S.device driver.old) (state_of S.device driver.new)) patience.new.left driver.new.1 result }
     ensures beside { GoesBeside (state_of S.device driver.old) (state_of S.device driver.new) patience.old.left patience.new.left }
 {
-    match open_stale(driver, lv, lp, number, pp, patience)? {
+    let opening = open_stale(driver, lv, lp, number, pp, patience)?;
+    match opening {
         Opening::Fresh => Ok(Passed::Fresh),
         Opening::Refused(why) => Ok(Passed::Failed(why)),
         Opening::Opened => {

@@ -61,11 +61,14 @@ fn pass_place<S: Shelf>(
     ensures ends { EndsOr (ArePassed (copy_in driver.old.1.descriptor lv lp place) (state_of S.device driver.old) (state_of S.device driver.new) tally.old tally.new) patience.new.left driver.new.1 result }
     ensures beside { GoesBeside (state_of S.device driver.old) (state_of S.device driver.new) patience.old.left patience.new.left }
 {
-    if let Some(pp) = pp_at(driver, lv, lp, place) {
-        let how = pass_copy(driver, lv, lp, place + 1, pp, patience)?;
-        tally.add(how);
+    match pp_at(driver, lv, lp, place) {
+        None => Ok(()),
+        Some(pp) => {
+            let how = pass_copy(driver, lv, lp, place + 1, pp, patience)?;
+            tally.add(how);
+            Ok(())
+        }
     }
-    Ok(())
 }
 
 /// Passes the copies of a logical partition.

@@ -27,7 +27,7 @@ returns-in_err-pass_volume_at g c =
 pub returns : goal.returns
 returns g c =
     let device = g.S.Shelf.device in
-    let count = c.volume_count.ensures in
+    let count = c.volume_count-place-end.ensures in
     let last : c.loop-place.place ≡ length c.args.driver.now.1.descriptor.lvs = omega (arith, count) in
     record {
       ends = all_of (copies_at c.args.driver.now.1.descriptor) (state_of device c.args.driver.now) (state_of device c.loop-place.driver) c.args.tally.now c.loop-place.tally c.loop-place.place (length c.args.driver.now.1.descriptor.lvs) c.args.patience.now.left

@@ -16,7 +16,7 @@ loop-lp-init g c = none_yet (partition_copies c.args.driver.now.1.descriptor c.a
 pub pass_partition-requires-clause-within : goal.pass_partition-requires-clause-within
 pass_partition-requires-clause-within g c = λ row at.
     let less = c.loop-lp-test.true in
-    let count = c.partition_count.ensures ∙ ap (λ (m : Option LvRow). option_map_or (λ (r : LvRow). r.lps) m 0) (sym (ap (λ (d : Descriptor). volume_of d c.args.lv) c.loop-lp.invariant.beside.leaves.keeps.descriptor) ∙ at) in
+    let count = c.partition_count-lp-end.ensures ∙ ap (λ (m : Option LvRow). option_map_or (λ (r : LvRow). r.lps) m 0) (sym (ap (λ (d : Descriptor). volume_of d c.args.lv) c.loop-lp.invariant.beside.leaves.keeps.descriptor) ∙ at) in
     omega (arith, less, count)
 
 pub loop-lp-preserved : goal.loop-lp-preserved
@@ -38,7 +38,7 @@ returns-in_err-pass_partition g c =
 pub returns : goal.returns
 returns g c =
     let device = g.S.Shelf.device in
-    let count = c.partition_count.ensures in
+    let count = c.partition_count-lp-end.ensures in
     let last : c.loop-lp.lp ≡ option_map_or (λ (r : LvRow). r.lps) (volume_of c.args.driver.now.1.descriptor c.args.lv) 0 = omega (arith, count) in
     record {
       ends = all_of (partition_copies c.args.driver.now.1.descriptor c.args.lv) (state_of device c.args.driver.now) (state_of device c.loop-lp.driver) c.args.tally.now c.loop-lp.tally c.loop-lp.lp (option_map_or (λ (r : LvRow). r.lps) (volume_of c.args.driver.now.1.descriptor c.args.lv) 0) c.args.patience.now.left

@@ -26,12 +26,12 @@ returns-in_err-pass_group-in-None-clause-gives g c =
     rw (f.1, f.2) (stopped (group_fault first.core) (group_copies first.core.descriptor) first (state_of device c.pass_group.new.driver) c.pass_group.new.patience.left
     c.in_err-pass_group-in-None.field-0.0 (sym c.group_fault.ensures ∙ c.in-None.is) c.in_err-pass_group-in-None.ensures.ends)
 
-pub returns-in-None-clause-gives : goal.returns-in-None-clause-gives
-returns-in-None-clause-gives g c =
+pub returns-in_ok-pass_group-in-None-clause-gives : goal.returns-in_ok-pass_group-in-None-clause-gives
+returns-in_ok-pass_group-in-None-clause-gives g c =
     let device = g.S.Shelf.device in
     let first = state_of device c.args.driver.now in
     let new = state_of device c.pass_group.new.driver in
     let ready = ready_by first.core _ (sym c.group_fault.ensures ∙ c.in-None.is) in
     synced (group_fault first.core) (group_copies first.core.descriptor) first new c.pass_group.new.patience.left c.pass_group.new.tally c.answer.result
     (sym c.group_fault.ensures ∙ c.in-None.is) c.is_sound.ensures (ready.on c.requires.unstuck) ready.none
-    (subst (λ (t : Tally). ArePassed (group_copies first.core.descriptor) first new t c.pass_group.new.tally tt) c.no_tally.ensures c.in_ok-pass_group-in-None.ensures.ends) c.answer.ensures
+    (subst (λ (t : Tally). ArePassed (group_copies first.core.descriptor) first new t c.pass_group.new.tally tt) c.no_tally-tally.ensures c.in_ok-pass_group-in-None.ensures.ends) c.answer.ensures

@@ -29,12 +29,12 @@ returns-in_err-pass_partition-in-None-clause-gives g c =
     rw (f.1, f.2) (stopped (partition_fault first.core c.args.lv c.args.lp) (partition_copies first.core.descriptor c.args.lv c.args.lp) first (state_of device c.pass_partition.new.driver) c.pass_partition.new.patience.left
     c.in_err-pass_partition-in-None.field-0.0 (sym c.partition_fault.ensures ∙ c.in-None.is) c.in_err-pass_partition-in-None.ensures.ends)
 
-pub returns-in-None-clause-gives : goal.returns-in-None-clause-gives
-returns-in-None-clause-gives g c =
+pub returns-in_ok-pass_partition-in-None-clause-gives : goal.returns-in_ok-pass_partition-in-None-clause-gives
+returns-in_ok-pass_partition-in-None-clause-gives g c =
     let device = g.S.Shelf.device in
     let first = state_of device c.args.driver.now in
     let new = state_of device c.pass_partition.new.driver in
     let ready = ready_by first.core _ (sym c.partition_fault.ensures ∙ c.in-None.is) in
     synced (partition_fault first.core c.args.lv c.args.lp) (partition_copies first.core.descriptor c.args.lv c.args.lp) first new c.pass_partition.new.patience.left c.pass_partition.new.tally c.answer.result
     (sym c.partition_fault.ensures ∙ c.in-None.is) c.is_sound.ensures (ready.on c.requires.unstuck) ready.none
-    (subst (λ (t : Tally). ArePassed (partition_copies first.core.descriptor c.args.lv c.args.lp) first new t c.pass_partition.new.tally tt) c.no_tally.ensures c.in_ok-pass_partition-in-None.ensures.ends) c.answer.ensures
+    (subst (λ (t : Tally). ArePassed (partition_copies first.core.descriptor c.args.lv c.args.lp) first new t c.pass_partition.new.tally tt) c.no_tally-tally.ensures c.in_ok-pass_partition-in-None.ensures.ends) c.answer.ensures
