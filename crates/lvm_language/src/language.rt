@@ -54,6 +54,19 @@ fn image<'a>(alloc: Global) -> Result<Command<'a>, AllocError>
     with_number(job, alloc, "MIB", 1, 4_096)
 }
 
+fn generate<'a>(alloc: Global) -> Result<Command<'a>, AllocError> {
+    let job = with_number(Command::new(alloc, "gen"), alloc, "SEED", 0, u64::MAX)?;
+    with_number(job, alloc, "COUNT", 0, 100_000)
+}
+
+fn weave<'a>(alloc: Global) -> Result<Command<'a>, AllocError> {
+    let job = with_number(Command::new(alloc, "weave"), alloc, "DISKS", 1, 8)?;
+    let job = with_number(job, alloc, "MIB", 8, 64)?;
+    let job = with_number(job, alloc, "CLIENTS", 1, 64)?;
+    let job = with_number(job, alloc, "REQUESTS", 0, 50_000)?;
+    with_number(job, alloc, "SEED", 0, u64::MAX)
+}
+
 // The program without its jobs: the words begin with the name of one, and nothing is answered by help.
 fn without_jobs<'a>(alloc: Global) -> Command<'a>
     ensures { app_of result ≡ on_top lvm_settings (new_app (codes "lvm")) }
@@ -89,6 +102,8 @@ fn command_line<'a>(alloc: Global) -> Result<Command<'a>, AllocError>
 {
     let program = with_script(without_jobs(alloc), alloc)?;
     let program = with_job(program, sim(alloc))?;
+    let program = with_job(program, generate(alloc))?;
+    let program = with_job(program, weave(alloc))?;
     with_job(program, image(alloc))
 }
 

@@ -7,6 +7,7 @@ mod program;
 mod run;
 mod script;
 mod status;
+mod weave;
 
 pub use image::run_image;
 pub use laws::runs_follow;
@@ -16,6 +17,7 @@ pub use lvm_words::{Job, WordsFault, read_words};
 pub use program::run_words;
 pub use run::{Ended, run_script};
 pub use status::ExitStatus;
+pub use weave::{run_gen, run_weave};
 
 mod found_laws;
 

@@ -11,9 +11,11 @@ ghost use Rattle.lvm_words.specs.Words.{job_of};
 use crate::image::run_image;
 use crate::run::{Ended, run_script};
 use crate::status::ExitStatus;
+use crate::weave::{run_gen, run_weave};
 use lvm_core::Room;
 use lvm_disk::Shelf;
 use lvm_io::{Clock, Images, Sink, SinkFault, Source, write_all};
+use lvm_load::WeaveWords;
 use lvm_memory::MemShelf;
 use lvm_num::{Memory, Rows, Text};
 use lvm_words::{Job, WordsFault, read_words};
@@ -140,6 +142,35 @@ pub fn run_words<I: Source, O: Sink, E: Sink, C: Clock, S: Shelf, P: Images>(
         Ok(Job::Sim { disks, mib }) => match blank_shelf(alloc, disks, mib) {
             Ok(shelf) => {
                 let ended = run_script(alloc, input, out, shelf, clock, full_room());
+                Ended {
+                    status: ended.status,
+                    refused: ended.refused,
+                    history: ended.history,
+                    shelf: files,
+                    sim: Some(ended.shelf),
+                }
+            }
+            Err(Memory) => unrun(ExitStatus::Memory, files),
+        },
+        Ok(Job::Gen { seed, count }) => unrun(run_gen(alloc, seed, count, out), files),
+        Ok(
+            Job::Weave {
+                disks,
+                mib,
+                clients,
+                requests,
+                seed,
+            },
+        ) => match blank_shelf(alloc, disks, mib) {
+            Ok(shelf) => {
+                let words = WeaveWords {
+                    disks,
+                    mib,
+                    clients,
+                    requests,
+                    seed,
+                };
+                let ended = run_weave(alloc, words, out, shelf, clock, full_room());
                 Ended {
                     status: ended.status,
                     refused: ended.refused,

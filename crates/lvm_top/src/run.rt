@@ -19,13 +19,13 @@ use crate::script::{Stop, do_lines};
 use crate::status::ExitStatus;
 use lvm_core::{Closed, Room};
 use lvm_disk::Shelf;
-use lvm_line::below::lvm_driver::Driver;
 use lvm_history::History;
 use lvm_io::{Clock, Lines, Sink, Source};
+use lvm_line::below::lvm_driver::Driver;
+use lvm_line::below::lvm_stage::{Holder, Stage, take_rooms};
 use lvm_memory::MemShelf;
 use lvm_posts::Post;
 use lvm_session::{Session, Turned};
-use lvm_line::below::lvm_stage::{Holder, Stage, take_rooms};
 use lvm_status::Updater;
 use std::alloc::Global;
 

@@ -13,10 +13,10 @@ ghost use Rattle.lvm_top.specs.Turn.{ReadsLine, ReadsNone, Tells};
 use lvm_core::Room;
 use lvm_disk::Shelf;
 use lvm_io::{Clock, Lines, NextLine, Sink, SinkFault, Source, write_all};
+use lvm_line::below::lvm_stage::{Refusal, Reply, Stage, memory_text, refusal_line};
 use lvm_line::{answer_line, do_line};
 use lvm_num::{Memory, Rows};
 use lvm_replies::show_stepped;
-use lvm_line::below::lvm_stage::{Refusal, Reply, Stage, memory_text, refusal_line};
 use std::alloc::Global;
 
 // Why a run ends before the input does.

@@ -31,6 +31,19 @@ fn job_named(name: &str, found: &ArgMatches<'_>) -> Option<Job>
             disks: count(found, "DISKS")?,
             mib: size(found)?,
         })
+    } else if name == "gen" {
+        Some(Job::Gen {
+            seed: found.get_one::<u64>("SEED")?,
+            count: found.get_one::<u32>("COUNT")?,
+        })
+    } else if name == "weave" {
+        Some(Job::Weave {
+            disks: count(found, "DISKS")?,
+            mib: size(found)?,
+            clients: found.get_one::<u32>("CLIENTS")?,
+            requests: found.get_one::<u32>("REQUESTS")?,
+            seed: found.get_one::<u64>("SEED")?,
+        })
     } else if name == "image" {
         Some(Job::Image {
             disk: count(found, "N")?,

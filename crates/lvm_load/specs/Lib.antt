@@ -1,0 +1,5 @@
+pub mod Requests
+pub mod Totals
+pub mod Clients
+pub mod Weaving
+pub mod Ends
