@@ -1,7 +1,7 @@
 -- The script request by request.
 use Rattle.std.proofs.Common.{◌≡◌, ℕ, zero, suc, ◌+◌, ◌-◌, ◌<◌, Bool, true, false, cond, List, [], ◌++◌, Option, length, refl, sym, ap, subst, ◌∙◌, arith, append_assoc, length-append, add-one}
 use Rattle.std.proofs.lemmas.List.{append-nil}
-use Rattle.std.specs.Prelude.{codes}
+use Rattle.std.specs.Prelude.{codes, Result, Ok, Err, OnOk, OnErr, is_err}
 use Rattle.rand_pcg.specs.Lcg.{Lcg}
 use Rattle.lvm_io.specs.Stream.{WhereTold, WritesFront}
 use Rattle.lvm_draws.specs.declared.words.Draw.{Draw}
@@ -19,7 +19,7 @@ script-zero seed = refl
 
 pub script-more : (seed k : ℕ) → script_text seed (k + 1) ≡ script_text seed k ++ line_behind seed k
 unfolding script_text
-script-more seed k = rw (add-one k) refl
+script-more seed k = ap (script_text seed) (add-one k)
 
 -- a longer script goes on where a shorter one ends
 pub script_goes_on : (seed k n more : ℕ) → n ≡ k + more → (behind : List ℕ) × (script_text seed n ≡ script_text seed k ++ behind)
@@ -104,3 +104,27 @@ pub front_at_end : (seed n k : ℕ) (rest : List ℕ) (rng : Lcg) (old mid new :
     → WhereTold old new (λ a b. WritesFront (script_text seed n) a b)
 front_at_end seed n k rest rng old mid new faults faults1 so_far is front =
     front_onward (script_text seed n) rest old mid new (subst (λ (m : ℕ). IsWrittenUpTo (script_text seed m) rest old mid) is so_far.lines) front
+
+-- ---- at the beginning
+
+head_is_long : (tail : List ℕ) → 0 < length (head_text ++ tail)
+head_is_long tail = omega (arith, length-append head_text tail)
+
+script_is_long : (seed n : ℕ) → 0 < length (script_text seed n)
+script_is_long seed n =
+    let behind = script_goes_on seed 0 n n (omega arith) in
+    subst (λ (l : List ℕ). 0 < length l) (sym (behind.1 ∙ ap (λ (l : List ℕ). l ++ behind.0) (script-zero seed))) (head_is_long behind.0)
+
+-- nothing of it was written
+pub front_at_first : (seed n : ℕ) (told : Option (List ℕ)) → WhereTold told told (λ a b. WritesFront (script_text seed n) a b)
+front_at_first seed n told = unwritten (script_text seed n) (script_text seed n) told told (gathered (script_text seed n) told) (script_is_long seed n)
+
+-- ---- what a result says
+
+pub ok_of : {E : Type 0} (r : Result (Unit {0}) E) (P : Type 0) → is_err r ≡ false → OnOk r P → P
+ok_of (Ok done) P is p = p
+ok_of (Err why) P is p = absurd (cc is)
+
+pub err_of : {E : Type 0} (r : Result (Unit {0}) E) (P : Type 0) → is_err r ≡ true → OnErr r P → P
+err_of (Ok done) P is p = absurd (cc is)
+err_of (Err why) P is p = p
