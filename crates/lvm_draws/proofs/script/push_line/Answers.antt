@@ -1,6 +1,6 @@
 use Rattle.std.proofs.Common.{rules, ◌≡◌, ◌-◌, ◌^◌, [], false, refl, sym, arith}
 use Rattle.std.specs.Fmt.{digits, format_spec, padded_integral}
-use Rattle.std.proofs.lemmas.Fmt.{padded_integral_zeros}
+use Rattle.std.proofs.Padding.{padded_integral_zeros}
 use Rattle.std.proofs.lemmas.Grind.{common_steps}
 use Rattle.lvm_draws.specs.Script.{hex_word}
 use Rattle.lvm_draws.proofs.script.push_line.Goals as goal
