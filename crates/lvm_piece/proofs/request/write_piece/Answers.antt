@@ -1,4 +1,4 @@
-use Rattle.std.proofs.Common.{◌≡◌, ◌≤◌, ◌∙◌, ap, subst, sym, List, true, length, take}
+use Rattle.std.proofs.Common.{◌≤◌, ◌∙◌, ap, subst, sym, List, true, length, take}
 use Rattle.std.specs.Simd.{first_chunks}
 use Rattle.lvm_vol.specs.Log.{Log, is_uncut}
 use Rattle.lvm_vol.specs.Facts.{Fact}
