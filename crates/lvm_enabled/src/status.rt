@@ -4,19 +4,11 @@ ghost use Rattle.std.specs.List.{list_any};
 ghost use Rattle.lvm_num.specs.declared.descriptor.PvRow.{PvRow};
 ghost use Rattle.lvm_num.specs.Disks.{has};
 ghost use Rattle.lvm_session.specs.Fields.{core_of};
-ghost use Rattle.lvm_session.specs.Enabled.{is_status_due, same_status};
+ghost use Rattle.lvm_session.specs.Enabled.{is_status_due};
 ghost use Rattle.lvm_session.specs.Sound.{IsFitting};
 ghost use Rattle.lvm_enabled.specs.Plain.{plain_status};
 
-use lvm_num::Status;
-use lvm_session::{Event, Session};
-
-// Whether they say the same.
-fn says_the_same(a: &Status, b: &Status) -> bool
-    ensures { result ≡ same_status a.now b.now }
-{
-    a == b
-}
+use lvm_session::{Event, Session, says_the_same};
 
 // Whether a write of the status in flight isn't started.
 fn any_is_unstarted(session: &Session) -> bool

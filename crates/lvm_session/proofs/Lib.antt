@@ -10,3 +10,4 @@ mod Worked
 mod Waiting
 mod Busy
 pub mod Numbers
+mod Statuses

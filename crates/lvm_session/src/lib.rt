@@ -10,6 +10,7 @@ mod flown;
 mod laws;
 mod open;
 mod origin;
+mod same;
 mod session;
 
 pub use answers::{AskFault, CopyFault, CopyState, Taken, Turned};
@@ -24,4 +25,5 @@ pub use laws::{
 };
 pub use open::{Open, Power};
 pub use origin::Origin;
+pub use same::says_the_same;
 pub use session::Session;

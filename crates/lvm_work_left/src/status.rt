@@ -10,7 +10,7 @@ ghost use Rattle.lvm_session.specs.Left.{if_so, status_left, unstarted_writes, u
 ghost use Rattle.lvm_session.specs.Sound.{IsFitting};
 
 use lvm_num::{Descriptor, DiskSet, Status};
-use lvm_session::Session;
+use lvm_session::{Session, says_the_same};
 use lvm_status::members_there;
 
 // How many members are in a set of disks.
@@ -57,12 +57,6 @@ fn next_left(session: &Session, last: &Status) -> u64
     } else {
         256
     }
-}
-
-fn says_the_same(a: &Status, b: &Status) -> bool
-    ensures { result ≡ same_status a.now b.now }
-{
-    a == b
 }
 
 /// The update in flight, and the one that will follow.
