@@ -1,0 +1,12 @@
+pub mod Votes
+pub mod Turning
+pub mod Standing
+pub mod Open
+pub mod Bringing
+pub mod Refusing
+pub mod Judging
+pub mod Making
+pub mod Staying
+pub mod Passing
+pub mod Passed
+pub mod Asking

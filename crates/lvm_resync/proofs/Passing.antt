@@ -1,0 +1,53 @@
+-- Copies that are passed one after the other.
+use Rattle.std.proofs.Common.{◌≡◌, ◌+◌, ◌++◌, ℕ, suc, List, [], ◌∷◌, None, sym, subst, append_assoc, append-nil, arith}
+use Rattle.lvm_num.specs.declared.descriptor.Descriptor.{Descriptor}
+use Rattle.lvm_session.specs.declared.open.Power.TheVariants as power
+use Rattle.lvm_session.specs.State.{State}
+use Rattle.lvm_resync.specs.declared.copies.Passed.{Passed}
+use Rattle.lvm_resync.specs.declared.tally.Tally.{Tally}
+use Rattle.lvm_resync.specs.Passing.{Copy, IsPassed}
+use Rattle.lvm_resync.specs.Syncing.{ArePassed, NonePassed, OnePassed, Passes, below, with_passed}
+use Rattle.lvm_resync.specs.Turning.{GoesBeside}
+use Rattle.lvm_resync.proofs.Turning.{beside_both, beside_none, unstuck_beside}
+
+-- some copies, and others behind them
+pub passes_both : (first mid : State) (from t : Tally) (xs : List Copy) → Passes first from xs mid t → (ys : List Copy) (new : State) (to : Tally) → Passes mid t ys new to → Passes first from (xs ++ ys) new to
+passes_both first mid from t xs one ys new to NonePassed = subst (λ (copies : List Copy). Passes first from copies mid t) (sym (append-nil xs)) one
+passes_both first mid from t xs one ys new to (OnePassed {copies} {old} {tally} c how rest it) =
+    subst (λ (l : List Copy). Passes first from l new (with_passed tally how)) (append_assoc xs copies (c ∷ [])) (OnePassed c how (passes_both first mid from t xs one copies old tally rest) it)
+
+-- So far those below a number are passed, and no copy is open.
+pub record PassedSoFar (of : ℕ → List Copy) (first now : State) (from to : Tally) (n patience left : ℕ) : Type 0 where
+  pub passes : Passes first from (below of n) now to
+  pub none : now.core.copy ≡ None
+  pub unstuck : now.core.power ≡ power.Stuck → ⊥
+  pub beside : GoesBeside first now patience left
+
+pub none_yet : (of : ℕ → List Copy) (first : State) (from : Tally) (left : ℕ) → first.core.copy ≡ None → (first.core.power ≡ power.Stuck → ⊥) → PassedSoFar of first first from from 0 left left
+none_yet of first from left none unstuck = record { passes = NonePassed; none = none; unstuck = unstuck; beside = beside_none first left }
+
+module _ (of : ℕ → List Copy) (first old new : State) (from t to : Tally) (n patience left after : ℕ) (so_far : PassedSoFar of first old from t n patience left) where
+  pub stops : GoesBeside old new left after → GoesBeside first new patience after
+  stops beside = beside_both first old new patience left after so_far.beside beside
+
+  one_more : ArePassed (of n) old new t to tt → GoesBeside old new left after → PassedSoFar of first new from to (n + 1) patience after
+  one_more it beside = record {
+    passes = let next : suc n ≡ n + 1 = omega arith in subst (λ (k : ℕ). Passes first from (below of k) new to) next (passes_both first old from t (below of n) so_far.passes (of n) new to it.0);
+    none = it.1;
+    unstuck = unstuck_beside old new left after beside so_far.unstuck;
+    beside = stops beside;
+  }
+
+-- so it is where the copies are those of the group, which stays as it was
+pub more_of : (f : Descriptor → ℕ → List Copy) (first old new : State) (from t to : Tally) (n patience left after : ℕ) → PassedSoFar (f first.core.descriptor) first old from t n patience left
+    → ArePassed (f old.core.descriptor n) old new t to tt → GoesBeside old new left after → PassedSoFar (f first.core.descriptor) first new from to (n + 1) patience after
+more_of f first old new from t to n patience left after so_far it beside =
+    one_more (f first.core.descriptor) first old new from t to n patience left after so_far (subst (λ (d : Descriptor). ArePassed (f d n) old new t to tt) so_far.beside.leaves.keeps.descriptor it) beside
+
+-- all of them are passed
+pub all_of : (of : ℕ → List Copy) (first now : State) (from to : Tally) (n m patience left : ℕ) → PassedSoFar of first now from to n patience left → n ≡ m → ArePassed (below of m) first now from to tt
+all_of of first now from to n m patience left so_far same = (subst (λ (k : ℕ). Passes first from (below of k) now to) same so_far.passes, so_far.none)
+
+-- one copy alone
+pub passes_one : (old new : State) (t : Tally) (c : Copy) (how : Passed) → IsPassed c old new how → ArePassed (c ∷ []) old new t (with_passed t how) tt
+passes_one old new t c how it = (OnePassed c how NonePassed it.0, it.1)

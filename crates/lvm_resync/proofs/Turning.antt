@@ -1,0 +1,76 @@
+-- What goes on beside copies that are brought up.
+use Rattle.std.proofs.Common.{◌≡◌, ◌≤◌, ◌+◌, ◌-◌, ◌⊎◌, inl, inr, ℕ, refl, ◌∙◌, subst, arith}
+use Rattle.lvm_disk.specs.Counts.{RoseBy}
+use Rattle.lvm_disk.proofs.Rising.{rose_by_after, rose_by_more, rose_by_none}
+use Rattle.lvm_session.specs.declared.answers.Turned.{Turned}
+use Rattle.lvm_session.specs.declared.answers.Turned.TheVariants as turned
+use Rattle.lvm_session.specs.declared.open.Power.TheVariants as power
+use Rattle.lvm_session.specs.Sound.{IsSound}
+use Rattle.lvm_session.specs.State.{State}
+use Rattle.lvm_session.specs.Turns.{Finds, FindsNothing, TurnMakes}
+use Rattle.lvm_running.specs.Running.{RunsOn}
+use Rattle.lvm_running.proofs.Running.{leaves_both, leaves_none, stays_unstuck}
+use Rattle.lvm_turn_answers.specs.Telling.{TurnTells}
+use Rattle.lvm_turn_answers.proofs.Stepping.{turn_counts}
+use Rattle.lvm_ranges.proofs.Tables.{table_same, table_then, turn_table}
+use Rattle.lvm_resync.specs.Turning.{GoesBeside, IsUnderWay}
+
+-- as many more
+rose_by_both : {m n a b c : ℕ} → RoseBy m a b → RoseBy n b c → RoseBy (m + n) a c
+rose_by_both one two = record { later = omega (arith, one.later, two.later); risen = omega (arith, one.risen, two.risen, one.later, two.later) }
+
+rose_same : (n a b : ℕ) → RoseBy 0 a b → RoseBy (n - n) a b
+rose_same n a b rose = let none : 0 ≡ n - n = omega arith in subst (λ k. RoseBy k a b) none rose
+
+pub beside_none : (s : State) (left : ℕ) → GoesBeside s s left left
+beside_none s left = record {
+  leaves = leaves_none s;
+  table = table_same s.core;
+  orders = refl;
+  fewer = omega arith;
+  waited = rose_same left s.device.counts.waits s.device.counts.waits (rose_by_none s.device.counts.waits);
+}
+
+pub beside_both : (old mid new : State) (a b c : ℕ) → GoesBeside old mid a b → GoesBeside mid new b c → GoesBeside old new a c
+beside_both old mid new a b c one two =
+    let high = one.fewer in
+    let low = two.fewer in
+    let both : a - b + (b - c) ≡ a - c = omega (arith, high, low) in
+    record {
+      leaves = leaves_both old mid new one.leaves two.leaves;
+      table = table_then old.core mid.core new.core one.table two.table;
+      orders = two.orders ∙ one.orders;
+      fewer = omega (arith, high, low);
+      waited = subst (λ n. RoseBy n old.device.counts.waits new.device.counts.waits) both (rose_by_both one.waited two.waited);
+    }
+
+pub unstuck_beside : (old new : State) (a b : ℕ) → GoesBeside old new a b → (old.core.power ≡ power.Stuck → ⊥) → new.core.power ≡ power.Stuck → ⊥
+unstuck_beside old new a b beside = stays_unstuck old.core new.core beside.leaves.keeps.power
+
+-- ---- what runs on
+
+pub runs_beside : (old new : State) (left : ℕ) → IsSound old → (answer : Turned) → TurnMakes old new answer → RunsOn old new → GoesBeside old new left left
+runs_beside old new left sound answer made runs = record {
+  leaves = runs.leaves;
+  table = turn_table old new answer sound made;
+  orders = runs.orders;
+  fewer = omega arith;
+  waited = rose_same left old.device.counts.waits new.device.counts.waits (rose_by_after (rose_by_none old.device.counts.waits) (turn_counts old new answer made).waits);
+}
+
+pub waits_beside : (old new : State) (left : ℕ) → 1 ≤ left → IsSound old → IsUnderWay old → TurnMakes old new turned.Idle → TurnTells old new turned.Idle → RunsOn old new → GoesBeside old new left (left - 1)
+waits_beside old new left some sound under_way made tells runs = record {
+  leaves = runs.leaves;
+  table = turn_table old new turned.Idle sound made;
+  orders = runs.orders;
+  fewer = omega arith;
+  waited = by (tells.idle.0 refl).still;
+}
+  where
+    by : Finds old new ⊎ FindsNothing old new → RoseBy (left - (left - 1)) old.device.counts.waits new.device.counts.waits
+    by (inl finds) =
+        let one : 0 + 1 ≡ left - (left - 1) = omega (arith, some) in
+        subst (λ n. RoseBy n old.device.counts.waits new.device.counts.waits) one (rose_by_more (rose_by_none old.device.counts.waits) finds.waits.waits)
+    by (inr nothing) =
+        let still = tells.idle.0 refl in
+        absurd (under_way (record { on = still.on; votes = nothing.votes; none = still.none; idle = nothing.idle }))

@@ -1,0 +1,14 @@
+use Rattle.std.proofs.Common.{sym, ◌∙◌}
+use Rattle.lvm_driver.specs.Answers.{state_of}
+use Rattle.lvm_resync.proofs.Passed.{none_there, one_there}
+use Rattle.lvm_resync.proofs.passes.pass_place.Goals as goal
+
+pub returns-in-None-clause-ends : goal.returns-in-None-clause-ends
+returns-in-None-clause-ends g c =
+    none_there c.args.driver.now.1.descriptor c.args.lv c.args.lp c.args.place (state_of g.S.Shelf.device c.args.driver.now) c.args.tally.now (sym c.pp_at.ensures ∙ c.in-None.is) c.requires.none
+
+pub returns-in_ok-how-in-Some-clause-ends : goal.returns-in_ok-how-in-Some-clause-ends
+returns-in_ok-how-in-Some-clause-ends g c =
+    let device = g.S.Shelf.device in
+    one_there c.args.driver.now.1.descriptor c.args.lv c.args.lp c.args.place c.in-Some.pp (state_of device c.args.driver.now) (state_of device c.pass_copy.new.driver) c.args.tally.now c.add.new.self c.in_ok-how-in-Some.how
+    (sym c.pp_at.ensures ∙ c.in-Some.is) c.in_ok-how-in-Some.ensures.ends c.add.ensures

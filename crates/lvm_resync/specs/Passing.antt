@@ -1,0 +1,173 @@
+-- A copy is passed: it is judged, and brought up where it is stale.
+use Rattle.std.specs.Prelude.{◌≡◌, ◌<◌, ◌⊎◌, ℕ, true, false, Some, None, IfSome, Result, Ok, Err}
+use Rattle.lvm_num.specs.declared.descriptor.LvRow.{LvRow}
+use Rattle.lvm_num.specs.declared.place.Pp.{Pp}
+use Rattle.lvm_num.specs.Descriptor.{volume_of}
+use Rattle.lvm_disk.specs.Paths.{Path}
+use Rattle.lvm_session.specs.declared.answers.CopyFault.{CopyFault}
+use Rattle.lvm_session.specs.declared.answers.CopyFault.TheVariants as refusal
+use Rattle.lvm_session.specs.declared.answers.CopyState.{CopyState}
+use Rattle.lvm_session.specs.declared.answers.CopyState.TheVariants as copy
+use Rattle.lvm_session.specs.declared.bringing.OpenCopy.{OpenCopy}
+use Rattle.lvm_session.specs.declared.open.Power.TheVariants as power
+use Rattle.lvm_session.specs.Calls.{Opens, closed, copy_at, copy_fault, copy_state, has_numbers}
+use Rattle.lvm_session.specs.Judging.{copies_in, is_stale}
+use Rattle.lvm_session.specs.State.{Core, State, state}
+use Rattle.lvm_copy_open.specs.Opening.{counts_seen}
+use Rattle.lvm_turn_marks.specs.Marks.{is_marked}
+use Rattle.lvm_driver.specs.Answers.{IsCopyCaused}
+use Rattle.lvm_driver.specs.Drains.{IsAny, IsTurn}
+use Rattle.lvm_resync.specs.declared.fault.SyncFault.{SyncFault}
+use Rattle.lvm_resync.specs.declared.fault.SyncFault.TheVariants as fault
+use Rattle.lvm_resync.specs.declared.copies.Opening.{Opening}
+use Rattle.lvm_resync.specs.declared.copies.Opening.TheVariants as opening
+use Rattle.lvm_resync.specs.declared.copies.Passed.{Passed}
+use Rattle.lvm_resync.specs.declared.copies.Passed.TheVariants as passed
+use Rattle.lvm_resync.specs.Turning.{StopsFor}
+
+-- a copy, from 1, of a logical partition, from 0, of a volume, on this physical partition
+pub record Copy : Type 0 where
+  pub lv : ℕ
+  pub lp : ℕ
+  pub number : ℕ
+  pub pp : Pp
+
+-- a session of which no copy is open, and of whose copies this is one
+pub record MayPass (core : Core) (c : Copy) : Type 0 where
+  pub none : core.copy ≡ None
+  pub within : (row : LvRow) → volume_of core.descriptor c.lv ≡ Some row → c.lp < row.lps
+  pub its : copy_at (copies_in core.descriptor c.lv c.lp) c.number ≡ Some c.pp
+
+abbrev pub copy_of : ℕ → ℕ → ℕ → Pp → Copy
+copy_of lv lp number pp = record { lv = lv; lp = lp; number = number; pp = pp }
+
+-- turns, each made while this is so
+abbrev pub EachTurnWhile : (Core → Type 0) → State → State → Type 0
+EachTurnWhile Is = Path (λ (old new : State). Is old.core × IsTurn old new) IsAny
+
+-- ---- it is judged
+
+-- the committed status calls it stale, and the one in flight fresh
+pub record IsUnsettled (c : Copy) (core : Core) : Type 0 where
+  pub stale : is_stale core c.pp ≡ true
+  pub fresh : copy_fault core c.lv c.lp c.number ≡ Some refusal.AlreadyFresh
+
+-- it is fresh, once it is settled
+pub record IsFresh (c : Copy) (old new : State) : Type 0 where
+  pub settles : EachTurnWhile (IsUnsettled c) old new
+  pub fresh : is_stale new.core c.pp ≡ false
+
+-- it is stale, and isn't opened for this
+pub record IsRefused (c : Copy) (old new : State) (why : CopyFault) : Type 0 where
+  pub settles : EachTurnWhile (IsUnsettled c) old new
+  pub stale : is_stale new.core c.pp ≡ true
+  pub why_is : copy_fault new.core c.lv c.lp c.number ≡ Some why
+
+-- it is stale, and opened
+pub record IsOpened (c : Copy) (old new : State) : Type 0 where
+  pub judged : State
+  pub settles : EachTurnWhile (IsUnsettled c) old judged
+  pub stale : is_stale judged.core c.pp ≡ true
+  pub may : copy_fault judged.core c.lv c.lp c.number ≡ None
+  pub its : copy_at (copies_in judged.core.descriptor c.lv c.lp) c.number ≡ Some c.pp
+  pub opens : Opens (counts_seen judged.device judged.core) judged.core new.core c.lv c.lp c.number
+  pub device : new.device ≡ judged.device
+
+-- what is answered where it isn't opened: why it stays stale
+abbrev pub RefusedFor : Copy → State → State → SyncFault → Type 0
+RefusedFor c old new (fault.NoFresh lp) = (lp ≡ c.lp) × IsRefused c old new refusal.NoFresh
+RefusedFor c old new (fault.Missing disk) = IsRefused c old new (refusal.Missing disk)
+RefusedFor c old new _ = ⊥
+
+-- what became of it, and whether it is open
+abbrev pub IsJudged : Copy → State → State → Opening → Type 0
+IsJudged c old new opening.Fresh = IsFresh c old new × (new.core.copy ≡ None)
+IsJudged c old new opening.Opened = IsOpened c old new
+IsJudged c old new (opening.Refused why) = RefusedFor c old new why × (new.core.copy ≡ None)
+
+-- ---- it is brought up
+
+-- a copy is open, and runs
+abbrev pub Runs : Core → Type 0
+Runs core = (cursor : ℕ) × (copy_state core ≡ copy.Running cursor)
+
+-- one is open that hasn't ended
+abbrev pub IsJustOpened : Core → Type 0
+IsJustOpened core = (c : OpenCopy) × (core.copy ≡ Some c) × (c.end ≡ None)
+
+-- It is brought up until it has ended so, for its cause, and closed; where it is done nothing calls it stale any more.
+pub record IsEnded (old new : State) (how : CopyState) : Type 0 where
+  pub ended : State
+  pub turns : EachTurnWhile Runs old ended
+  pub how_is : copy_state ended.core ≡ how
+  pub caused : IsCopyCaused ended
+  pub is : new ≡ state ended.device (closed ended.core)
+  pub fresh : how ≡ copy.Done → IfSome old.core.copy (λ (c : OpenCopy). is_marked new.core c.pp ≡ false)
+
+-- a stale copy is opened, brought up, and ends so
+pub record IsBroughtUp (c : Copy) (old new : State) (how : CopyState) : Type 0 where
+  pub opened : State
+  pub opens : IsOpened c old opened
+  pub ends : IsEnded opened new how
+
+-- it was stale, is brought up until it is done, and nothing calls it stale any more
+pub record IsMadeFresh (c : Copy) (old new : State) : Type 0 where
+  pub brings : IsBroughtUp c old new copy.Done
+  pub fresh : is_marked new.core c.pp ≡ false
+
+-- how a copy ends while its session goes on
+abbrev pub HasEnded : CopyState → Type 0
+HasEnded copy.Done = Unit {0}
+HasEnded (copy.SyncFailed disk) = Unit {0}
+HasEnded copy.NoFresh = Unit {0}
+HasEnded _ = ⊥
+
+-- ---- how it is passed
+
+-- what is answered where it ended otherwise than as done
+abbrev pub FailedFor : Copy → State → State → SyncFault → Type 0
+FailedFor c old new (fault.SyncFailed disk) = IsBroughtUp c old new (copy.SyncFailed disk)
+FailedFor c old new (fault.NoFresh lp) = (lp ≡ c.lp) × IsBroughtUp c old new copy.NoFresh
+FailedFor c old new _ = ⊥
+
+-- It is fresh already; it was stale, and is made fresh; or it stays stale.
+abbrev pub PassesCopy : Copy → State → State → Passed → Type 0
+PassesCopy c old new passed.Fresh = IsFresh c old new
+PassesCopy c old new passed.Made = IsMadeFresh c old new
+PassesCopy c old new (passed.Failed why) = RefusedFor c old new why ⊎ FailedFor c old new why
+
+-- ---- how its calls end
+
+-- as they say; or the resync ends at once
+abbrev pub EndsOr : {A : Type 0} → (A → Type 0) → ℕ → Core → Result A SyncFault → Type 0
+EndsOr Is left core (Ok it) = Is it
+EndsOr Is left core (Err why) = StopsFor left core why
+
+-- it is passed, and none is left open
+abbrev pub IsPassed : Copy → State → State → Passed → Type 0
+IsPassed c old new how = PassesCopy c old new how × (new.core.copy ≡ None)
+
+-- what it is passed as, by how it ended
+abbrev pub IsPassedBy : ℕ → CopyState → Passed → Type 0
+IsPassedBy lp copy.Done how = how ≡ passed.Made
+IsPassedBy lp (copy.SyncFailed disk) how = how ≡ passed.Failed (fault.SyncFailed disk)
+IsPassedBy lp copy.NoFresh how = how ≡ passed.Failed (fault.NoFresh lp)
+IsPassedBy lp _ how = ⊥
+
+-- what is answered by why it isn't opened
+abbrev pub IsAnsweredBy : ℕ → CopyFault → Result Opening SyncFault → Type 0
+IsAnsweredBy lp refusal.Dark answer = answer ≡ Err fault.Dark
+IsAnsweredBy lp refusal.Off answer = answer ≡ Err fault.Off
+IsAnsweredBy lp refusal.HistoryFull answer = answer ≡ Err fault.HistoryFull
+IsAnsweredBy lp (refusal.Missing disk) answer = answer ≡ Ok (opening.Refused (fault.Missing disk))
+IsAnsweredBy lp refusal.NoFresh answer = answer ≡ Ok (opening.Refused (fault.NoFresh lp))
+IsAnsweredBy lp _ answer = ⊥
+
+-- it may be answered, by the session: no copy is open, and it is one of its copies, which isn't settled fresh
+abbrev pub MayRefuse : Core → CopyFault → Type 0
+MayRefuse core refusal.Dark = core.power ≡ power.Dark
+MayRefuse core refusal.Off = core.power ≡ power.Off
+MayRefuse core refusal.HistoryFull = has_numbers core ≡ false
+MayRefuse core (refusal.Missing disk) = Unit {0}
+MayRefuse core refusal.NoFresh = Unit {0}
+MayRefuse core _ = ⊥

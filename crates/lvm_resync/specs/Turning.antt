@@ -1,0 +1,42 @@
+-- What turns leave that are made while copies are brought up, and how such a turn ends.
+use Rattle.std.specs.Prelude.{◌≡◌, ◌≤◌, ◌<◌, ◌+◌, ◌-◌, ℕ, false, None, Result, Ok, Err}
+use Rattle.lvm_disk.specs.Counts.{RoseBy}
+use Rattle.lvm_session.specs.declared.open.Power.TheVariants as power
+use Rattle.lvm_session.specs.Calls.{has_numbers}
+use Rattle.lvm_session.specs.Left.{left_of}
+use Rattle.lvm_session.specs.State.{Core, State}
+use Rattle.lvm_running.specs.Running.{LeavesSession}
+use Rattle.lvm_driver.specs.Drains.{IsDrained, IsTurn}
+use Rattle.lvm_ranges.specs.Keeping.{KeepsTable}
+use Rattle.lvm_resync.specs.declared.fault.SyncFault.{SyncFault}
+use Rattle.lvm_resync.specs.declared.fault.SyncFault.TheVariants as fault
+
+-- The session goes on, with its requests in the table; no order is given; and the patience that is gone went with answers that nothing has ended.
+pub record GoesBeside (old new : State) (before after : ℕ) : Type 0 where
+  pub leaves : LeavesSession old new
+  pub table : KeepsTable old.core new.core
+  pub orders : new.device.orders ≡ old.device.orders
+  pub fewer : after ≤ before
+  pub waited : RoseBy (before - after) old.device.counts.waits new.device.counts.waits
+
+-- some event may be made, or some transfer is out
+abbrev pub IsUnderWay : State → Type 0
+IsUnderWay s = IsDrained s → ⊥
+
+-- why a resync ends at once, with so much patience left; a copy is open then only where the session is over or stuck
+abbrev pub StopsFor : ℕ → Core → SyncFault → Type 0
+StopsFor left core fault.Dark = core.power ≡ power.Dark
+StopsFor left core fault.Off = core.power ≡ power.Off
+StopsFor left core fault.Stuck = left ≡ 0
+StopsFor left core fault.Busy = ⊥
+StopsFor left core fault.NoVolume = ⊥
+StopsFor left core fault.OutOfRange = ⊥
+StopsFor left core fault.HistoryFull = (has_numbers core ≡ false) × (core.copy ≡ None)
+StopsFor left core (fault.SyncFailed disk) = ⊥
+StopsFor left core (fault.NoFresh lp) = ⊥
+StopsFor left core (fault.Missing disk) = ⊥
+
+-- A turn was made, behind which the session goes on, and less is left of work and patience together; or the session or the patience is at its end.
+abbrev pub TurnEnds : State → State → ℕ → ℕ → Result (Unit {0}) SyncFault → Type 0
+TurnEnds old new before after (Ok done) = IsTurn old new × (new.core.power ≡ power.On) × (left_of new.core + after < left_of old.core + before)
+TurnEnds old new before after (Err why) = StopsFor after new.core why

@@ -1,0 +1,13 @@
+//! Stale copies of a group that is on are brought up beside its requests.
+#![tactic(auto)]
+
+mod copies;
+mod fault;
+mod passes;
+mod sound;
+mod sync;
+mod tally;
+mod turns;
+
+pub use fault::SyncFault;
+pub use sync::{sync_group, sync_partition, sync_volume};

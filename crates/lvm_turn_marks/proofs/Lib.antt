@@ -1,0 +1,4 @@
+pub mod Statuses
+pub mod Reviewing
+pub mod Requests
+pub mod Turning
