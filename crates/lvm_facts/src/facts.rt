@@ -1,22 +1,35 @@
 //! The facts of a request, and what it does by them.
-ghost use Rattle.std.specs.Prelude.{◌≡◌, ◌≤◌, ◌<◌, ◌^◌, ◌&&◌, length, unwrap_or};
+ghost use Rattle.std.specs.Prelude.{◌≡◌, ◌≤◌, ◌<◌, ◌^◌, ◌&&◌, ◌||◌, false, length, not, unwrap_or};
 ghost use Rattle.std.specs.List.{list_any, list_all};
 ghost use Rattle.lvm_num.specs.Descriptor.{IsValid};
 ghost use Rattle.lvm_num.specs.Status.{calls_dirty};
 ghost use Rattle.lvm_mwc.specs.Cache.{is_named};
 ghost use Rattle.lvm_path.specs.declared.target.Target.{Target};
-ghost use Rattle.lvm_path.specs.Asks.{at_of};
+ghost use Rattle.lvm_path.specs.declared.request.Phase.TheVariants as phase;
+ghost use Rattle.lvm_path.specs.Asks.{at_of, is_write};
+ghost use Rattle.lvm_path.specs.Next.{next_in, next_of};
+ghost use Rattle.lvm_path.specs.Targets.{is_begun};
 ghost use Rattle.lvm_session.specs.Fields.{core_of};
-ghost use Rattle.lvm_session.specs.Judging.{IsWithin, facts_of, has_dirty_mark, has_names, is_changed, is_usable, mode_of, next_for};
+ghost use Rattle.lvm_session.specs.Judging.{IsWithin, copies_for, facts_of, has_dirty_mark, has_names, is_changed, is_held_back, is_kept, is_marked, is_pending, is_usable, mode_of, next_for};
 ghost use Rattle.lvm_facts.specs.Queued.{IsQueued};
+ghost use Rattle.lvm_facts.specs.Reading.{no_facts};
 
 use crate::held::is_held_back;
 use crate::judged::{is_kept, is_marked};
 use crate::pending::is_pending;
 use lvm_copies::{are_targets, copies_for, group_in, group_of, is_usable, mode_of};
 use lvm_num::{Mode, Pp};
-use lvm_path::{Facts, Next, Request, Target};
+use lvm_path::{Ask, Facts, Next, Phase, Request, Target};
 use lvm_session::{Open, Session};
+
+/// Whether some copy of its logical partition is usable.
+pub fn has_usable(session: &Session, ask: &Ask) -> bool
+    requires valid { IsValid session.now.descriptor }
+    requires within { IsWithin session.now.descriptor ask.now }
+    ensures { result ≡ list_any (is_usable (core_of session.now)) (copies_for (core_of session.now) ask.now) }
+{
+    any_is_usable(session, copies_for(session, ask))
+}
 
 fn any_is_usable(session: &Session, pps: &[Pp]) -> bool
     ensures { result ≡ list_any (is_usable (core_of session.now)) pps.now }
@@ -65,7 +78,8 @@ fn is_settled_dirty(session: &Session, lv: u16) -> bool
     }
 }
 
-fn is_changed(session: &Session, request: &Request) -> bool
+/// Whether it is a write whose targets are no longer the copies to which it goes.
+pub fn is_changed(session: &Session, request: &Request) -> bool
     requires valid { IsValid session.now.descriptor }
     requires within { IsWithin session.now.descriptor request.now.ask }
     ensures { result ≡ is_changed (core_of session.now) request.now }
@@ -79,24 +93,113 @@ fn is_changed(session: &Session, request: &Request) -> bool
         )
 }
 
-/// The facts that a request is told.
-pub fn facts_of(session: &Session, request: &Request) -> Facts
+/// Whether it is a write that hasn't started its data.
+pub fn is_unbegun(request: &Request) -> bool
+    ensures { result ≡ (is_write request.now.ask && not (is_begun request.now.targets.items)) }
+{
+    request.ask.is_write() && !request.has_started()
+}
+
+// Whether another is in its way, or something is pending.
+fn must_wait(session: &Session, request: &Request) -> bool
     requires valid { IsValid session.now.descriptor }
     requires within { IsWithin session.now.descriptor request.now.ask }
     requires id { request.now.id < 2 ^ 32 }
     requires queued { IsQueued (core_of session.now) request.now }
-    ensures { result ≡ facts_of (core_of session.now) request.now }
+    ensures { result ≡ (is_held_back (core_of session.now) request.now || is_pending (core_of session.now) request.now) }
+{
+    is_held_back(session, request) || is_pending(session, request)
+}
+
+// ---- the facts that are read in each phase; the others are told as false
+
+// Of one that isn't admitted; what is pending counts as in its way.
+fn held_facts(session: &Session, request: &Request) -> Facts
+    requires valid { IsValid session.now.descriptor }
+    requires within { IsWithin session.now.descriptor request.now.ask }
+    requires id { request.now.id < 2 ^ 32 }
+    requires queued { IsQueued (core_of session.now) request.now }
+    ensures { result ≡ record no_facts { blocked = is_held_back (core_of session.now) request.now || is_pending (core_of session.now) request.now; usable = list_any (is_usable (core_of session.now)) (copies_for (core_of session.now) request.now.ask) } }
 {
     Facts {
-        blocked: is_held_back(session, request),
+        blocked: must_wait(session, request),
+        usable: has_usable(session, &request.ask),
+        ..no_facts()
+    }
+}
+
+// Of a write that has its targets and hasn't started its data.
+fn chosen_facts(session: &Session, request: &Request) -> Facts
+    requires valid { IsValid session.now.descriptor }
+    requires within { IsWithin session.now.descriptor request.now.ask }
+    ensures { result ≡ record (facts_of (core_of session.now) request.now) { blocked = false; marked = false; kept = false } }
+{
+    Facts {
         pending: is_pending(session, request),
         pinned: request.pinned,
         named: has_names(session, request),
         dirty: has_dirty_mark(session, request),
-        marked: is_marked(session, request),
-        usable: any_is_usable(session, copies_for(session, &request.ask)),
+        usable: has_usable(session, &request.ask),
         changed: is_changed(session, request),
+        ..no_facts()
+    }
+}
+
+// Of a write whose transfers have all ended.
+fn ended_facts(session: &Session, request: &Request) -> Facts
+    ensures { result ≡ record no_facts { marked = is_marked (core_of session.now) request.now; kept = is_kept (core_of session.now) request.now } }
+{
+    Facts {
+        marked: is_marked(session, request),
         kept: is_kept(session, request),
+        ..no_facts()
+    }
+}
+
+// Where none is read.
+fn no_facts() -> Facts
+    ensures { result ≡ no_facts }
+{
+    Facts {
+        blocked: false,
+        pending: false,
+        pinned: false,
+        named: false,
+        dirty: false,
+        marked: false,
+        usable: false,
+        changed: false,
+        kept: false,
+    }
+}
+
+// Of one that has its targets, and whose data may go to them.
+fn data_facts(session: &Session, request: &Request) -> Facts
+    requires valid { IsValid session.now.descriptor }
+    requires within { IsWithin session.now.descriptor request.now.ask }
+    ensures { next_in phase.Data result request.now ≡ next_in phase.Data (facts_of (core_of session.now) request.now) request.now }
+{
+    if is_unbegun(request) {
+        chosen_facts(session, request)
+    } else {
+        no_facts()
+    }
+}
+
+// The facts that a request reads in its phase.
+fn read_facts(session: &Session, request: &Request) -> Facts
+    requires valid { IsValid session.now.descriptor }
+    requires within { IsWithin session.now.descriptor request.now.ask }
+    requires id { request.now.id < 2 ^ 32 }
+    requires queued { IsQueued (core_of session.now) request.now }
+    ensures { next_of request.now result ≡ next_of request.now (facts_of (core_of session.now) request.now) }
+{
+    match request.phase {
+        Phase::Held => held_facts(session, request),
+        Phase::WantEntry | Phase::WantRecord => chosen_facts(session, request),
+        Phase::Data => data_facts(session, request),
+        Phase::WantStatus => ended_facts(session, request),
+        Phase::Landed => no_facts(),
     }
 }
 
@@ -109,5 +212,5 @@ pub fn next_of(session: &Session, open: &Open) -> Next
     requires queued { IsQueued (core_of session.now) open.now.request }
     ensures { result ≡ next_for (core_of session.now) open.now }
 {
-    open.request.next(facts_of(session, &open.request))
+    open.request.next(read_facts(session, &open.request))
 }

@@ -3,3 +3,4 @@ pub mod Nexts
 pub mod Places
 pub mod Queue
 mod Rest
+pub mod Might

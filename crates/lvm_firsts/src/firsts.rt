@@ -6,6 +6,7 @@ ghost use Rattle.lvm_session.specs.Enabled.{admission, admission_at, data_at, fi
 ghost use Rattle.lvm_session.specs.Sound.{IsGoing};
 
 use crate::next::next_at;
+use crate::phases::{might_admit, might_land, might_start};
 use lvm_path::Next;
 use lvm_session::{Event, Session};
 
@@ -14,6 +15,9 @@ fn landing_at(session: &Session, place: usize) -> Option<Event>
     requires there { place < length session.now.requests.items }
     ensures { (o : Open) → slice_get session.now.requests.items place ≡ Some o → result ≡ landing_at (core_of session.now) place o }
 {
+    if !might_land(session, &session.requests[place].request) {
+        return None;
+    }
     match next_at(session, place) {
         Next::Land { outcome } => Some(Event::Land { place, outcome }),
         Next::Wait | Next::Admit | Next::Pin | Next::Start { .. } => None,
@@ -39,6 +43,9 @@ fn admission_at(session: &Session, place: usize) -> Option<Event>
     requires there { place < length session.now.requests.items }
     ensures { (o : Open) → slice_get session.now.requests.items place ≡ Some o → result ≡ admission_at (core_of session.now) place o }
 {
+    if !might_admit(session, &session.requests[place].request) {
+        return None;
+    }
     match next_at(session, place) {
         Next::Admit => Some(Event::Admit { place }),
         Next::Wait | Next::Pin | Next::Start { .. } | Next::Land { .. } => None,
@@ -64,6 +71,9 @@ fn data_at(session: &Session, place: usize) -> Option<Event>
     requires there { place < length session.now.requests.items }
     ensures { (o : Open) → slice_get session.now.requests.items place ≡ Some o → result ≡ data_at (core_of session.now) place o }
 {
+    if !might_start(&session.requests[place].request) {
+        return None;
+    }
     match next_at(session, place) {
         Next::Start { target } => Some(Event::StartData { place, target }),
         Next::Wait | Next::Admit | Next::Pin | Next::Land { .. } => None,

@@ -206,5 +206,5 @@ module _ (lv copies : ℕ) (added : List Pp) (next : Descriptor) (a : State) (se
           ready = ends.stated.ready;
           cuts = ends.stated.cuts ∙ done.cuts;
         }
-        all_ends (Err why) ends = broken_since (marking added []) p q a.core.history a b c leaves same done.cuts why
+        all_ends (Err why) ends = broken_since (marking added []) p q a.core.history a.core.history a b c leaves done.is done.cuts why
             (subst (λ (l : Log). CommandBroke l q b c why) (ap (λ (x : Core). x.history) done.is) (broken (HasCommitted next b c) q b c done.settled why ends))

@@ -10,7 +10,7 @@ ghost use Rattle.lvm_session.specs.Sound.{IsGoing};
 ghost use Rattle.lvm_pins.specs.Pinning.{PinGives, PinsAt};
 
 use lvm_copies::group_of;
-use lvm_firsts::next_at;
+use lvm_firsts::{might_pin, next_at};
 use lvm_mwc::Pin;
 use lvm_path::Next;
 use lvm_session::{Open, Session};
@@ -47,6 +47,9 @@ fn pin_at(session: &mut Session, place: usize) -> bool
     ensures at { PinsAt (core_of session.old) (core_of session.new) place result }
     ensures rooms { SameRooms session.old session.new }
 {
+    if !might_pin(&session.requests[place].request) {
+        return false;
+    }
     match next_at(session, place) {
         Next::Pin => pin_group(session, place),
         Next::Wait | Next::Admit | Next::Start { .. } | Next::Land { .. } => false,

@@ -1,5 +1,5 @@
 -- What transfers that end leave, and what holds on over them.
-use Rattle.std.proofs.Common.{◌≡◌, ⊎_elim, ◌+◌, ◌-◌, ◌<◌, ◌≤◌, ◌∷◌, ◌++◌, [], ℕ, List, Option, Some, None, length, refl, sym, ◌∙◌, ap, subst, arith}
+use Rattle.std.proofs.Common.{◌≡◌, ⊎_elim, inl, inr, ◌+◌, ◌-◌, ◌<◌, ◌≤◌, ◌∷◌, ◌++◌, [], ℕ, List, Option, Some, None, length, refl, sym, ◌∙◌, ap, subst, arith}
 use Rattle.lvm_num.specs.Buffer.{Buffer}
 use Rattle.lvm_disk.specs.Counts.{RoseBy, Counts}
 use Rattle.lvm_disk.specs.Device.{Media, Flight, Device, IsTorn, MayLeave}
@@ -14,7 +14,7 @@ use Rattle.lvm_session.specs.Sound.{IsLit}
 use Rattle.lvm_transfer.proofs.Ending.{was_cut}
 use Rattle.lvm_write.specs.Parts.{Spends}
 use Rattle.lvm_write.proofs.Transfers.{spends_none, spends_then}
-use Rattle.lvm_quiesce.specs.Ends.{EndStep, EndsWell, EndsBadly, NoneEnds, TransfersEnd, QuiesceGives, StartsNothing, OneEnds, OneIsCut}
+use Rattle.lvm_quiesce.specs.Ends.{EndStep, EndsWell, EndsBadly, NoneEnds, TransfersEnd, QuiesceGives, StartsNothing, OneEnds, OneIsCut, CostsNothing, CostsOne, EndsWhile, NoneYet, OneMore, CutCosts}
 use Rattle.lvm_quiesce.specs.Laws.{EndsLeaveNoMore, EndsStayKept, EndsGoOn, EndsStayOne, EndsStartNothing, StillIsAtRest}
 use Rattle.lvm_quiesce.specs.declared.ends.Quiesced.{Quiesced}
 use Rattle.lvm_quiesce.specs.declared.ends.Quiesced.TheVariants as quiesced
@@ -189,6 +189,7 @@ one_done old new left ticket buf lit ends = record {
   step = EndsWell ticket buf ends;
   lit = record { power = ap (λ (d : Device). d.power) ends.new_is ∙ lit.power; freed = ap (λ (d : Device). d.freed) ends.new_is ∙ lit.freed };
   less = let e = one_less ends.flight old.flights new.flights ends.flights in omega (arith, e);
+  costs = CostsNothing ticket buf (inl ends) refl;
   spends = spends_on left old new (ap (λ (d : Device). d.counts.waits) ends.new_is);
 }
 
@@ -197,6 +198,7 @@ one_failed old new left ticket buf lit ends = record {
   step = EndsBadly ticket buf ends;
   lit = record { power = ap (λ (d : Device). d.power) ends.new_is ∙ lit.power; freed = ap (λ (d : Device). d.freed) ends.new_is ∙ lit.freed };
   less = let e = one_less ends.flight old.flights new.flights ends.flights in omega (arith, e);
+  costs = CostsNothing ticket buf (inr ends) refl;
   spends = spends_on left old new (failed_waits ends.flight old.counts new.counts ends.counts);
 }
 
@@ -205,13 +207,14 @@ one_wait old new left some lit waits = record {
   step = NoneEnds waits;
   lit = record { power = ap (λ (d : Device). d.power) waits.new_is ∙ lit.power; freed = ap (λ (d : Device). d.freed) waits.new_is ∙ lit.freed };
   less = let e : length new.flights ≡ length old.flights = ap (λ (d : Device). length d.flights) waits.new_is in omega (arith, e, some);
+  costs = CostsOne waits (omega (arith, some));
   spends = record { falls = omega arith; waits = let one : left - (left - 1) ≡ 1 = omega (arith, some) in subst (λ (n : ℕ). RoseBy n old.counts.waits new.counts.waits) (sym one) waits.waits };
 }
 
 pub one_cut : (old new : Device) (left : ℕ) → IsLit old → GoesDark old new → OneIsCut left left old new
 one_cut old new left lit dark =
     let cuts = was_cut old new lit.power dark in
-    record { cuts = cuts; spends = spends_on left old new (ap (λ (d : Device). d.counts.waits) cuts.new_is) }
+    record { cuts = cuts; same = refl; spends = spends_on left old new (ap (λ (d : Device). d.counts.waits) cuts.new_is) }
 
 -- ---- all that have ended so far
 
@@ -219,9 +222,20 @@ pub record Ending (before left : ℕ) (old now : Device) : Type 0 where
   pub ends : TransfersEnd old now
   pub lit : IsLit now
   pub spends : Spends before left old now
+  pub costs : EndsWhile before old left now
 
 pub none_yet : (left : ℕ) (old : Device) → IsLit old → Ending left left old old
-none_yet left old lit = record { ends = Here tt; lit = lit; spends = spends_none left old }
+none_yet left old lit = record { ends = Here tt; lit = lit; spends = spends_none left old; costs = NoneYet }
 
-pub one_more : (before left after : ℕ) (old now new : Device) → Ending before left old now → OneEnds left after now new → Ending before after old new
-one_more before left after old now new so_far one = record { ends = Then so_far.ends one.step tt; lit = one.lit; spends = spends_then before left after old now new so_far.spends one.spends }
+pub one_more : (before left after : ℕ) (old now new : Device) → Ending before left old now → 1 ≤ left → OneEnds left after now new → Ending before after old new
+one_more before left after old now new so_far some one = record {
+  ends = Then so_far.ends one.step tt;
+  lit = one.lit;
+  spends = spends_then before left after old now new so_far.spends one.spends;
+  costs = OneMore so_far.costs some one.costs;
+}
+
+-- and then the power was cut
+pub cut_costs : (before left after : ℕ) (old now new : Device) → Ending before left old now → 1 ≤ left → OneIsCut left after now new → CutCosts before after old new
+cut_costs before left after old now new so_far some cut =
+    record { now = now; ends = subst (λ (n : ℕ). EndsWhile before old n now) (sym cut.same) so_far.costs; some = let same = cut.same in omega (arith, some, same); cuts = cut.cuts }

@@ -1,5 +1,5 @@
 -- How the transfers end that are out, while nothing is started.
-use Rattle.std.specs.Prelude.{◌≡◌, ◌+◌, ◌<◌, ℕ, Bool, true, false, length}
+use Rattle.std.specs.Prelude.{◌≡◌, ◌⊎◌, ◌+◌, ◌<◌, ◌≤◌, ℕ, Bool, true, false, length}
 use Rattle.lvm_num.specs.Buffer.{Buffer}
 use Rattle.lvm_disk.specs.Counts.{RoseBy, NoneFalls}
 use Rattle.lvm_disk.specs.Device.{Device, HasSectors, IsReady}
@@ -46,6 +46,31 @@ QuiesceGives patience old new quiesced.Ended = Quiesces old new
 QuiesceGives patience old new quiesced.Dark = IsCutEnding old new
 QuiesceGives patience old new quiesced.Stuck = IsStuckEnding patience old new
 
+-- ---- what it costs
+
+-- one that ends costs nothing, and an answer that none has ended one of the patience
+pub data EndCosts (before after : ℕ) (old new : Device) : Type 0 where
+  CostsNothing : (ticket : ℕ) (buf : Buffer) → EndsDone old new ticket buf ⊎ EndsFailed old new ticket buf → before ≡ after → EndCosts before after old new
+  CostsOne : Waits old new → before ≡ after + 1 → EndCosts before after old new
+
+-- Transfers end by so much patience, of which so much is left: nothing is heard of once it has run out.
+pub data EndsWhile (patience : ℕ) (first : Device) : ℕ → Device → Type 0 where
+  NoneYet : EndsWhile patience first patience first
+  OneMore : {left less : ℕ} {old new : Device} → EndsWhile patience first left old → 1 ≤ left → EndCosts left less old new → EndsWhile patience first less new
+
+-- before the power was cut, so much patience was left
+pub record CutCosts (patience left : ℕ) (old new : Device) : Type 0 where
+  pub now : Device
+  pub ends : EndsWhile patience old left now
+  pub some : 1 ≤ left
+  pub cuts : Cuts now new
+
+-- what their ending has cost
+abbrev pub QuiesceCosts : ℕ → ℕ → Device → Device → Quiesced → Type 0
+QuiesceCosts patience left old new quiesced.Ended = EndsWhile patience old left new
+QuiesceCosts patience left old new quiesced.Dark = CutCosts patience left old new
+QuiesceCosts patience left old new quiesced.Stuck = EndsWhile patience old left new × (left ≡ 0)
+
 -- ---- one of them
 
 -- A transfer has ended, or patience was lost.
@@ -53,11 +78,13 @@ pub record OneEnds (before after : ℕ) (old new : Device) : Type 0 where
   pub step : EndStep old new
   pub lit : IsLit new
   pub less : length new.flights + after < length old.flights + before
+  pub costs : EndCosts before after old new
   pub spends : Spends before after old new
 
 -- the power was cut, and no patience was lost
 pub record OneIsCut (before after : ℕ) (old new : Device) : Type 0 where
   pub cuts : Cuts old new
+  pub same : after ≡ before
   pub spends : Spends before after old new
 
 -- how one of them ended

@@ -2,7 +2,7 @@
 ghost use Rattle.std.specs.Prelude.{◌<◌, ◌≤◌, length};
 ghost use Rattle.lvm_session.specs.Sound.{IsLit};
 ghost use Rattle.lvm_write.specs.Parts.{Spends};
-ghost use Rattle.lvm_quiesce.specs.Ends.{OneGives, QuiesceGives};
+ghost use Rattle.lvm_quiesce.specs.Ends.{OneGives, QuiesceCosts, QuiesceGives};
 
 use lvm_disk::{Reaped, Shelf};
 use lvm_transfer::Patience;
@@ -22,6 +22,8 @@ pub enum Quiesced {
 pub fn quiesce<S: Shelf>(shelf: &mut S, patience: &mut Patience) -> Quiesced
     requires { IsLit (S.device shelf.old) }
     ensures gives { QuiesceGives patience.old.left (S.device shelf.old) (S.device shelf.new) result }
+    // Each answer that nothing has ended costs one of the patience.
+    ensures costs { QuiesceCosts patience.old.left patience.new.left (S.device shelf.old) (S.device shelf.new) result }
     ensures spends { Spends patience.old.left patience.new.left (S.device shelf.old) (S.device shelf.new) }
 {
     while shelf.flights() > 0 {

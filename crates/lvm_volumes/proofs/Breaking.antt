@@ -7,6 +7,8 @@ use Rattle.lvm_status.specs.Update.{members_there}
 use Rattle.lvm_write.proofs.Transfers.{darkened_then, given_up_then}
 use Rattle.lvm_core.specs.declared.fault.CommitFault.{CommitFault}
 use Rattle.lvm_core.specs.declared.fault.CommitFault.TheVariants as commit
+use Rattle.lvm_session.specs.declared.open.Power.TheVariants as power
+use Rattle.lvm_session.specs.Dark.{all_dark}
 use Rattle.lvm_session.specs.State.{Core, State}
 use Rattle.lvm_core.specs.Settled.{IsSettled}
 use Rattle.lvm_core.specs.Committing.{HasGoneDark, RecordsEnd, with_one_out}
@@ -30,6 +32,7 @@ broken Done patience a b settled (commit.WentOff have total) ends = record {
   history = ap (λ (c : Core). c.history) ends.is;
   descriptor = ap (λ (c : Core). c.descriptor) ends.is;
   requests = ap (λ (c : Core). c.requests) ends.is ∙ settled.quiet.requests;
+  is = ends.is;
   ready = ends.ready;
   cuts = ends.cuts;
 }
@@ -39,19 +42,21 @@ broken Done patience a b settled commit.Dark ends = record {
   history = dark_history a b settled ends;
   descriptor = ap (λ (c : Core). c.descriptor) ends.is;
   requests = ap (λ (c : Core). c.requests) (dark_core a b settled ends);
+  is = ends.is;
 }
 broken Done patience a b settled commit.Stuck ends = record {
   out = ends.out;
   history = ap (λ (c : Core). c.history) ends.is;
   descriptor = ap (λ (c : Core). c.descriptor) ends.is;
   requests = ap (λ (c : Core). c.requests) ends.is ∙ settled.quiet.requests;
+  is = ends.is;
 }
 broken Done patience a b settled (commit.DiskFailed disk) ends = ends
 
 -- and a command whose later stage did
-pub broken_since : (W : Scope) (p q : ℕ) (log : Log) (a b c : State) → Leaves W p q a b → b.core.descriptor ≡ a.core.descriptor → b.device.counts.cuts ≡ a.device.counts.cuts → (why : CommitFault)
-    → CommandBroke log q b c why → CommandBroke log p a c why
-broken_since W p q log a b c leaves same cuts (commit.WentOff have total) ends = record {
+pub broken_since : (W : Scope) (p q : ℕ) (log was : Log) (a b c : State) → Leaves W p q a b → b.core ≡ record a.core { history = was; status = b.core.status; homes = b.core.homes }
+    → b.device.counts.cuts ≡ a.device.counts.cuts → (why : CommitFault) → CommandBroke log q b c why → CommandBroke log p a c why
+broken_since W p q log was a b c leaves same cuts (commit.WentOff have total) ends = record {
   lost = record {
     have_is = ends.lost.have_is;
     total_is = ends.lost.total_is;
@@ -63,25 +68,28 @@ broken_since W p q log a b c leaves same cuts (commit.WentOff have total) ends =
   };
   power = ends.power;
   history = ends.history;
-  descriptor = ends.descriptor ∙ same;
+  descriptor = ends.descriptor ∙ ap (λ (x : Core). x.descriptor) same;
   requests = ends.requests;
+  is = ends.is ∙ ap (λ (x : Core). record x { history = log; status = c.core.status; homes = c.core.homes; power = power.Off }) same;
   ready = ends.ready;
   cuts = ends.cuts ∙ cuts;
 }
-broken_since W p q log a b c leaves same cuts commit.Dark ends = record {
+broken_since W p q log was a b c leaves same cuts commit.Dark ends = record {
   cut = darkened_then 0 0 a.device b.device c.device refl cuts ends.cut;
   power = ends.power;
   history = ends.history;
-  descriptor = ends.descriptor ∙ same;
+  descriptor = ends.descriptor ∙ ap (λ (x : Core). x.descriptor) same;
   requests = ends.requests;
+  is = ends.is ∙ ap (λ (x : Core). all_dark (record x { history = log; pool = with_one_out x.pool; status = c.core.status; homes = c.core.homes })) same;
 }
-broken_since W p q log a b c leaves same cuts commit.Stuck ends = record {
+broken_since W p q log was a b c leaves same cuts commit.Stuck ends = record {
   out = given_up_then 0 0 p q a.device b.device c.device refl cuts leaves.spends ends.out;
   history = ends.history;
-  descriptor = ends.descriptor ∙ same;
+  descriptor = ends.descriptor ∙ ap (λ (x : Core). x.descriptor) same;
   requests = ends.requests;
+  is = ends.is ∙ ap (λ (x : Core). record x { history = log; pool = with_one_out x.pool; status = c.core.status; homes = c.core.homes }) same;
 }
-broken_since W p q log a b c leaves same cuts (commit.DiskFailed disk) ends = ends
+broken_since W p q log was a b c leaves same cuts (commit.DiskFailed disk) ends = ends
 
 -- nothing is said of a session at which a commit broke off
 pub stopped : (Done P : Type 0) (patience : ℕ) (a b : State) (why : CommitFault) → RecordsEnd Done patience a b (Err why) → IfGoesOn (Err why) P

@@ -151,7 +151,7 @@ module _ (map : List Pp) (p q : ℕ) (a b : State) (settled : IsSettled a.core) 
       history = ap (λ (x : Core). x.history) done.is
 
       since : (why : CommitFault) → RecordsEnd ⊥ q b c (Err why) → CommandBroke a.core.history p a c why
-      since why ends = broken_since (marking [] map) p q a.core.history a b c leaves same done.cuts why (subst (λ (l : Log). CommandBroke l q b c why) history (broken ⊥ q b c done.settled why ends))
+      since why ends = broken_since (marking [] map) p q a.core.history a.core.history a b c leaves done.is done.cuts why (subst (λ (l : Log). CommandBroke l q b c why) history (broken ⊥ q b c done.settled why ends))
 
       pub clear_end : (r : Result (Unit {0}) CommitFault) → ZerosEnd map q b c r → ClearEnds map p a c r
       clear_end (Ok ok) ends = record {

@@ -207,7 +207,7 @@ module _ (v : NewVolume) (plan : VolumePlan) (a : State) (settled : IsSettled a.
 
         -- where it failed
         since : (why : CommitFault) → CommitEnds plan.next q begun c (Err why) → CommandBroke (making_of plan a) p a c why
-        since why ends = broken_since (commanding N Z 1) p q (making_of plan a) a begun c begun_leaves same cleared.cuts why
+        since why ends = broken_since (commanding N Z 1) p q (making_of plan a) begun.core.history a begun c begun_leaves (ap (λ (x : Core). record x { history = begun.core.history }) cleared.is) cleared.cuts why
             (subst (λ (l : Log). CommandBroke l q begun c why) is_making (broken (HasCommitted plan.next begun c) q begun c (settled_entered b f cleared.settled) why ends))
 
         commit_break : (why : CommitFault) → CommitEnds plan.next q begun c (Err why) → MakeEnds plan p a c (Err why)

@@ -71,7 +71,7 @@ module _ (lv : ℕ) (next : Descriptor) (a : State) (settled : IsSettled a.core)
 
     -- where it wasn't committed
     since : (why : CommitFault) → CommitEnds next p begun b (Err why) → CommandBroke (removing lv a) p a b why
-    since why ends = broken_since (commanding N NoPartition 0) p p (removing lv a) a begun b (begins_leaves p) refl refl why (broken (HasCommitted next begun b) p begun b (settled_entered a (Removing (Lv lv)) settled) why ends)
+    since why ends = broken_since (commanding N NoPartition 0) p p (removing lv a) (removing lv a) a begun b (begins_leaves p) refl refl why (broken (HasCommitted next begun b) p begun b (settled_entered a (Removing (Lv lv)) settled) why ends)
 
     commit_break : (why : CommitFault) → CommitEnds next p begun b (Err why) → RemoveEnds lv next p a b (Err why)
     commit_break (commit.WentOff have total) ends = since (commit.WentOff have total) ends

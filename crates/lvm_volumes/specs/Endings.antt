@@ -13,8 +13,10 @@ use Rattle.lvm_write.specs.Written.{IsDarkened, IsGivenUp}
 use Rattle.lvm_commit.specs.LawsOfVolumes.{IsOnlyGroupOn, IsOnlyGroupSince}
 use Rattle.lvm_commit.specs.Settling.{NoneIsLeft, HasLostQuorum}
 use Rattle.lvm_session.specs.declared.open.Power.TheVariants as power
+use Rattle.lvm_session.specs.Dark.{all_dark}
 use Rattle.lvm_session.specs.State.{Core, State}
 use Rattle.lvm_session.specs.Judging.{copies_in, is_wanted_stale}
+use Rattle.lvm_core.specs.Committing.{with_one_out}
 use Rattle.lvm_core.specs.Held.{IsHeld, AreNotesHome}
 use Rattle.lvm_core.specs.Leaves.{Scope, NoPartition, EntersVolumes}
 use Rattle.lvm_volume_plan.specs.declared.fault.GroupFault.{GroupFault}
@@ -29,10 +31,12 @@ pub record CommandDarkened (entered : Log) (old new : State) : Type 0 where
   pub history : new.core.history ≡ cut_log entered
   pub descriptor : new.core.descriptor ≡ old.core.descriptor
   pub requests : new.core.requests ≡ []
+  pub is : new.core ≡ all_dark (record old.core { history = entered; pool = with_one_out old.core.pool; status = new.core.status; homes = new.core.homes })
 
 -- The members that aren't missing have too few votes to write, since a transfer to one has failed: the session has gone off.
 pub record CommandWentOff (entered : Log) (have total : ℕ) (old new : State) : Type 0 where
   pub lost : HasLostQuorum old.core.status new.core.status old.device new.device have total
+  pub is : new.core ≡ record old.core { history = entered; status = new.core.status; homes = new.core.homes; power = power.Off }
   pub power : new.core.power ≡ power.Off
   pub history : new.core.history ≡ entered
   pub descriptor : new.core.descriptor ≡ old.core.descriptor
@@ -46,6 +50,7 @@ pub record CommandStuck (entered : Log) (patience : ℕ) (old new : State) : Typ
   pub history : new.core.history ≡ entered
   pub descriptor : new.core.descriptor ≡ old.core.descriptor
   pub requests : new.core.requests ≡ []
+  pub is : new.core ≡ record old.core { history = entered; pool = with_one_out old.core.pool; status = new.core.status; homes = new.core.homes }
 
 -- A transfer of the disk failed, and the session goes on with the descriptor and the history that it had.
 pub record CommandFailed (disk : ℕ) (old new : State) : Type 0 where

@@ -1,0 +1,63 @@
+-- What a request might do next, as far as that shows without its facts.
+use Rattle.std.specs.Prelude.{Bool, true, false, ◌&&◌, not, if◌then◌else◌}
+use Rattle.std.specs.List.{list_any}
+use Rattle.lvm_path.specs.declared.request.Phase.{Phase}
+use Rattle.lvm_path.specs.declared.request.Phase.TheVariants as phase
+use Rattle.lvm_path.specs.declared.request.Request.{Request}
+use Rattle.lvm_path.specs.Asks.{is_write}
+use Rattle.lvm_path.specs.Targets.{is_begun}
+use Rattle.lvm_session.specs.State.{Core}
+use Rattle.lvm_session.specs.Judging.{copies_for, is_changed, is_usable}
+
+-- a write that hasn't started its data
+abbrev pub is_unbegun : Request → Bool
+is_unbegun r = is_write r.ask && not (is_begun r.targets.items)
+
+-- in this phase it might land, where some copy is usable or none is
+abbrev pub might_land_in : Phase → Request → Bool → Bool
+might_land_in phase.Held r usable = not usable
+might_land_in phase.WantEntry r usable = not usable
+might_land_in phase.WantRecord r usable = not usable
+might_land_in phase.Data r usable = if is_write r.ask then is_unbegun r && not usable else true
+might_land_in phase.WantStatus r usable = true
+might_land_in phase.Landed r usable = false
+
+abbrev pub might_land : Core → Request → Bool
+might_land core r = might_land_in r.phase r (list_any (is_usable core) (copies_for core r.ask))
+
+-- in this phase it might be admitted, or admitted again, where its targets are others or aren't
+abbrev pub might_admit_in : Phase → Request → Bool → Bool
+might_admit_in phase.Held r changed = true
+might_admit_in phase.WantEntry r changed = changed
+might_admit_in phase.WantRecord r changed = changed
+might_admit_in phase.Data r changed = is_unbegun r && changed
+might_admit_in phase.WantStatus r changed = false
+might_admit_in phase.Landed r changed = false
+
+abbrev pub might_admit : Core → Request → Bool
+might_admit core r = might_admit_in r.phase r (is_changed core r)
+
+-- it waits for an entry
+abbrev pub wants_entry : Phase → Bool
+wants_entry phase.Held = false
+wants_entry phase.WantEntry = true
+wants_entry phase.WantRecord = false
+wants_entry phase.Data = false
+wants_entry phase.WantStatus = false
+wants_entry phase.Landed = false
+
+-- its track group might be pinned
+abbrev pub might_pin : Request → Bool
+might_pin r = wants_entry r.phase && not r.pinned
+
+-- in this phase a transfer of it might be started
+abbrev pub might_start_in : Phase → Bool
+might_start_in phase.Held = false
+might_start_in phase.WantEntry = false
+might_start_in phase.WantRecord = true
+might_start_in phase.Data = true
+might_start_in phase.WantStatus = false
+might_start_in phase.Landed = false
+
+abbrev pub might_start : Request → Bool
+might_start r = might_start_in r.phase

@@ -1,0 +1,58 @@
+//! What a request might do next, as far as that shows without its facts.
+ghost use Rattle.std.specs.Prelude.{◌≡◌};
+ghost use Rattle.lvm_num.specs.Descriptor.{IsValid};
+ghost use Rattle.lvm_session.specs.Fields.{core_of};
+ghost use Rattle.lvm_session.specs.Judging.{IsWithin};
+ghost use Rattle.lvm_firsts.specs.Might.{might_admit, might_land, might_pin, might_start};
+
+use lvm_facts::{has_usable, is_changed, is_unbegun};
+use lvm_path::{Phase, Request};
+use lvm_session::Session;
+
+// Whether it might land: no copy is usable of one that hasn't started its data, or its transfers may have ended.
+pub fn might_land(session: &Session, request: &Request) -> bool
+    requires valid { IsValid session.now.descriptor }
+    requires within { IsWithin session.now.descriptor request.now.ask }
+    ensures { result ≡ might_land (core_of session.now) request.now }
+{
+    match request.phase {
+        Phase::Held | Phase::WantEntry | Phase::WantRecord => !has_usable(session, &request.ask),
+        Phase::Data => {
+            if request.ask.is_write() {
+                is_unbegun(request) && !has_usable(session, &request.ask)
+            } else {
+                true
+            }
+        }
+        Phase::WantStatus => true,
+        Phase::Landed => false,
+    }
+}
+
+// Whether it might be admitted, or admitted again: it is held, or hasn't started its data, and its targets are others.
+pub fn might_admit(session: &Session, request: &Request) -> bool
+    requires valid { IsValid session.now.descriptor }
+    requires within { IsWithin session.now.descriptor request.now.ask }
+    ensures { result ≡ might_admit (core_of session.now) request.now }
+{
+    match request.phase {
+        Phase::Held => true,
+        Phase::WantEntry | Phase::WantRecord => is_changed(session, request),
+        Phase::Data => is_unbegun(request) && is_changed(session, request),
+        Phase::WantStatus | Phase::Landed => false,
+    }
+}
+
+/// Whether it might pin its track group: it waits for an entry.
+pub fn might_pin(request: &Request) -> bool
+    ensures { result ≡ might_pin request.now }
+{
+    matches!(request.phase, Phase::WantEntry) && !request.pinned
+}
+
+// Whether a transfer of it might be started: it waits for its record, or its data may go.
+pub fn might_start(request: &Request) -> bool
+    ensures { result ≡ might_start request.now }
+{
+    matches!(request.phase, Phase::WantRecord | Phase::Data)
+}
