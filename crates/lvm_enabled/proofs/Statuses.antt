@@ -1,6 +1,6 @@
 -- Two statuses say the same exactly where they are one.
 use Rattle.std.proofs.Common.{◌≡◌, ◌==◌, ℕ, Bool, true, false, List, [], ◌∷◌, refl, sym, ◌∙◌, ap, subst}
-use Rattle.std.specs.Prelude.{◌&&◌, not, bytes_eq, if◌then◌else◌}
+use Rattle.std.specs.Prelude.{◌≢◌, ◌↔◌, ◌&&◌, IsTrue, not, bytes_eq, if◌then◌else◌}
 use Rattle.std.specs.Bool.{Decides}
 use Rattle.std.proofs.lemmas.Bool.Decides.{Decides-and, Decides-eqb, Decides-like}
 use Rattle.std.proofs.lemmas.Slice.Eq.{bytes_eq-Decides}
@@ -48,3 +48,13 @@ status_one a b =
     alike i g d r =
         ap (λ n. record a { id = n }) i ∙ ap (λ (t : Bool). record a { id = b.id; big = t }) g ∙ ap (λ (x : List ℕ). record a { id = b.id; big = b.big; dirty = x }) d
         ∙ ap (λ (x : List StatusRow). record b { rows = x }) r
+
+-- so they don't exactly where they differ
+pub differ_is : (a b : Status) (differ : Bool) → (IsTrue differ ↔ (a ≢ b)) → differ ≡ not (same_status a b)
+differ_is a b differ tells = by differ (same_status a b) refl refl
+  where
+    by : (d s : Bool) → differ ≡ d → same_status a b ≡ s → differ ≡ not (same_status a b)
+    by true true is same = absurd (tells.0 is ((status_one a b).0 same))
+    by true false is same = is ∙ sym (ap not same)
+    by false true is same = is ∙ sym (ap not same)
+    by false false is same = absurd (let e : false ≡ true = sym is ∙ tells.1 (λ one. let t : true ≡ false = sym ((status_one a b).1 one) ∙ same in absurd (cc t)) in cc e)

@@ -1,5 +1,5 @@
 //! Whether a write of the status is due.
-ghost use Rattle.std.specs.Prelude.{◌≡◌};
+ghost use Rattle.std.specs.Prelude.{◌≡◌, not};
 ghost use Rattle.std.specs.List.{list_any};
 ghost use Rattle.lvm_num.specs.declared.descriptor.PvRow.{PvRow};
 ghost use Rattle.lvm_num.specs.Disks.{has};
@@ -8,14 +8,13 @@ ghost use Rattle.lvm_session.specs.Enabled.{is_status_due, same_status};
 ghost use Rattle.lvm_session.specs.Sound.{IsFitting};
 ghost use Rattle.lvm_enabled.specs.Plain.{plain_status};
 
-use lvm_num::Status;
 use lvm_session::{Event, Session};
 
-// Whether they say the same.
-fn says_the_same(a: &Status, b: &Status) -> bool
-    ensures { result ≡ same_status a.now b.now }
+// Whether something is wanted that isn't committed.
+fn differs(session: &Session) -> bool
+    ensures { result ≡ not (same_status session.now.updater.wanted session.now.updater.committed) }
 {
-    a == b
+    session.updater.differs()
 }
 
 // Whether a write of the status in flight isn't started.
@@ -39,10 +38,7 @@ fn is_status_due(session: &Session) -> bool
     if session.updater.in_flight().is_some() {
         return any_is_unstarted(session);
     }
-    !says_the_same(
-        session.updater.wanted().as_status(),
-        session.updater.committed().as_status(),
-    )
+    differs(session)
 }
 
 /// The start of a write of the status, where one is due, whether or not a buffer is there for it.

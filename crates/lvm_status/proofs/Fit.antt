@@ -24,17 +24,18 @@ as_many old new same =
     omega (arith, ap (λ disks. length {A = ℕ} disks) same.disks, length-map new.rows (λ (row : StatusRow). row.disk), length-map old.rows (λ (row : StatusRow). row.disk))
 
 -- another wanted status of the same members, and no more to write
-pub fit_next : (d : Descriptor) (committed wanted flying new : Status) (writes next : Writes) → IsFit d committed wanted flying writes → SameMembers wanted new
+pub fit_next : (d : Descriptor) (committed wanted flying new : Status) (writes next : Writes) (known : Bool) → IsFit d committed wanted flying writes known → SameMembers wanted new
     → ((disk : ℕ) → has next.unstarted disk ≡ true → has writes.unstarted disk ≡ true)
     → ((disk : ℕ) → has next.started disk ≡ true → has writes.started disk ≡ true)
-    → IsFit d committed new flying next
-fit_next d committed wanted flying new writes next fit same unstarted started = record {
+    → IsFit d committed new flying next false
+fit_next d committed wanted flying new writes next known fit same unstarted started = record {
   valid = fit.valid;
   rows = λ disk. has_row-same wanted new same disk ∙ fit.rows disk;
   as_many = fit.as_many ∙ sym (as_many wanted new same);
   as_many_flying = fit.as_many_flying ∙ sym (as_many wanted new same);
   unstarted_members = λ disk is. fit.unstarted_members disk (unstarted disk is);
   started_members = λ disk is. fit.started_members disk (started disk is);
+  same = λ is. absurd (cc is);
 }
 
 -- a disk of what is left of a set is one of the set

@@ -4,3 +4,4 @@ pub mod Same
 pub mod Sound
 pub mod Sessions
 pub mod Rows
+pub mod Differing

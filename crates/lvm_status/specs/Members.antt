@@ -21,11 +21,12 @@ all_rows d s = list_all (λ (member : PvRow). has_row s member.disk) d.pvs
 abbrev pub all_members : Descriptor → Status → Bool
 all_members d s = list_all (λ (row : StatusRow). is_member d row.disk) s.rows
 
--- A valid group whose members have rows in the wanted status, as many as in the others; and only members are written.
-pub record IsFit (d : Descriptor) (committed wanted flying : Status) (writes : Writes) : Type 0 where
+-- A valid group whose members have rows in the wanted status, as many as in the others; only members are written; and where it is known what is wanted is committed.
+pub record IsFit (d : Descriptor) (committed wanted flying : Status) (writes : Writes) (known : Bool) : Type 0 where
   pub valid : IsValid d
   pub rows : HasItsRows d wanted
   pub as_many : length committed.rows ≡ length wanted.rows
   pub as_many_flying : length flying.rows ≡ length wanted.rows
   pub unstarted_members : (disk : ℕ) → has writes.unstarted disk ≡ true → is_member d disk ≡ true
   pub started_members : (disk : ℕ) → has writes.started disk ≡ true → is_member d disk ≡ true
+  pub same : known ≡ true → wanted ≡ committed

@@ -1,5 +1,5 @@
 //! The updater.
-ghost use Rattle.std.specs.Prelude.{All, ◌≡◌, ◌↔◌, ◌<◌, ◌+◌, ◌^◌, None, [], ◌||◌, IsTrue, IfOk, IfSome, if◌then◌else◌};
+ghost use Rattle.std.specs.Prelude.{All, ◌≡◌, ◌≢◌, ◌↔◌, ◌<◌, ◌+◌, ◌^◌, None, [], ◌||◌, IsTrue, IfOk, IfSome, if◌then◌else◌};
 ghost use Rattle.std.specs.List.{list_any};
 ghost use Rattle.std.specs.Option.{option_copied};
 ghost use Rattle.lvm_num.specs.declared.descriptor.PvRow.{PvRow};
@@ -31,6 +31,8 @@ pub struct Updater {
     is_flying: bool,
     writes: Writes,
     stamp: Stamp,
+    // whether it is known that what is wanted is committed
+    is_known: bool,
 }
 
 impl Model for Updater {
@@ -49,7 +51,7 @@ impl Model for Updater {
       stamp = u.stamp;
     } };
 
-    ghost invariant = { λ u. IsFit u.group u.committed u.wanted u.flying u.writes };
+    ghost invariant = { λ u. IsFit u.group u.committed u.wanted u.flying u.writes u.is_known };
 }
 
 impl Updater {
@@ -72,6 +74,7 @@ impl Updater {
             is_flying: false,
             writes: Writes::none(),
             stamp: Stamp { epoch: 0, seq: 0 },
+            is_known: true,
         })
     }
 
@@ -104,6 +107,7 @@ impl Updater {
         // The wanted table is a status that a record may state.
         let _ = self.wanted.as_status();
         let there = members_there(&self.group, &self.wanted);
+        self.is_known = false;
         mark_volumes(&mut self.wanted, volumes, there);
     }
 
@@ -170,6 +174,16 @@ impl Updater {
         &self.wanted
     }
 
+    /// Whether something is wanted that isn't committed. No table is read where none has changed since the last commit.
+    pub fn differs(&self) -> bool
+        ensures { IsTrue result ↔ (self.now.wanted ≢ self.now.committed) }
+    {
+        if self.is_known {
+            return false;
+        }
+        !says_the_same(&self.wanted, &self.committed)
+    }
+
     /// What is in flight, to be written under the stamp.
     pub fn in_flight(&self) -> Option<&StaleTable>
         ensures { option_copied result ≡ self.now.in_flight }
@@ -226,6 +240,7 @@ impl Updater {
         ensures wanted { Changes change self.old.wanted self.new.wanted }
         ensures rest { seen self.new ≡ record (seen self.old) { wanted = self.new.wanted; unstarted = given_up change (has self.old.writes.unstarted) } }
     {
+        self.is_known = false;
         match change {
             Change::Stale(pp) => self.wanted.mark(pp),
             Change::Fresh(pp) => self.wanted.clear(pp),
@@ -249,6 +264,7 @@ impl Updater {
             self.writes.written = self.writes.written.with(disk);
         } else {
             self.writes.failed = self.writes.failed.with(disk);
+            self.is_known = false;
             self.wanted.set_missing(disk, true);
         }
     }
@@ -274,6 +290,7 @@ impl Updater {
     {
         if self.is_flying {
             self.committed.copy_from(&self.flying);
+            self.is_known = says_the_same(&self.wanted, &self.committed);
         }
     }
 

@@ -22,5 +22,5 @@ with-self-inside-requires-else-ok c =
 
 pub invariant_of-self-else-ok : goal.invariant_of-self-else-ok
 invariant_of-self-else-ok c =
-    fit_next c.self.inside.group c.self.inside.committed c.self.inside.wanted c.self.inside.flying c.set_missing.new.self c.self.inside.writes _ c.self.invariant c.set_missing.ensures.members
+    fit_next c.self.inside.group c.self.inside.committed c.self.inside.wanted c.self.inside.flying c.set_missing.new.self c.self.inside.writes _ c.self.inside.is_known c.self.invariant c.set_missing.ensures.members
     (λ disk is. is) (stays c.self.inside.writes.started c.without-self-inside.result c.args.disk c.without-self-inside.ensures)

@@ -9,12 +9,12 @@ use Rattle.lvm_status.proofs.updater.Updater.set_wanted.Goals as goal
 
 pub invariant_of-self : goal.invariant_of-self
 invariant_of-self c =
-    fit_next c.self.inside.group c.self.inside.committed c.self.inside.wanted c.self.inside.flying c.mark.new.self c.self.inside.writes c.self.inside.writes c.self.invariant c.mark.ensures.members
+    fit_next c.self.inside.group c.self.inside.committed c.self.inside.wanted c.self.inside.flying c.mark.new.self c.self.inside.writes c.self.inside.writes c.self.inside.is_known c.self.invariant c.mark.ensures.members
     (λ disk is. is) (λ disk is. is)
 
 pub invariant_of-self-in-Fresh : goal.invariant_of-self-in-Fresh
 invariant_of-self-in-Fresh c =
-    fit_next c.self.inside.group c.self.inside.committed c.self.inside.wanted c.self.inside.flying c.clear.new.self c.self.inside.writes c.self.inside.writes c.self.invariant c.clear.ensures.members
+    fit_next c.self.inside.group c.self.inside.committed c.self.inside.wanted c.self.inside.flying c.clear.new.self c.self.inside.writes c.self.inside.writes c.self.inside.is_known c.self.invariant c.clear.ensures.members
     (λ disk is. is) (λ disk is. is)
 
 pub without-self-inside-requires : goal.without-self-inside-requires
@@ -25,15 +25,15 @@ without-self-inside-requires c =
 
 pub invariant_of-self-in-Missing : goal.invariant_of-self-in-Missing
 invariant_of-self-in-Missing c =
-    fit_next c.self.inside.group c.self.inside.committed c.self.inside.wanted c.self.inside.flying c.set_missing.new.self c.self.inside.writes _ c.self.invariant c.set_missing.ensures.members
+    fit_next c.self.inside.group c.self.inside.committed c.self.inside.wanted c.self.inside.flying c.set_missing.new.self c.self.inside.writes _ c.self.inside.is_known c.self.invariant c.set_missing.ensures.members
     (stays c.self.inside.writes.unstarted c.without-self-inside.result c.in-Missing.disk c.without-self-inside.ensures) (λ disk is. is)
 
 pub invariant_of-self-in-Dirty : goal.invariant_of-self-in-Dirty
 invariant_of-self-in-Dirty c =
-    fit_next c.self.inside.group c.self.inside.committed c.self.inside.wanted c.self.inside.flying c.set_dirty.new.self c.self.inside.writes c.self.inside.writes c.self.invariant c.set_dirty.ensures.members
+    fit_next c.self.inside.group c.self.inside.committed c.self.inside.wanted c.self.inside.flying c.set_dirty.new.self c.self.inside.writes c.self.inside.writes c.self.inside.is_known c.self.invariant c.set_dirty.ensures.members
     (λ disk is. is) (λ disk is. is)
 
 pub invariant_of-self-in-Clean : goal.invariant_of-self-in-Clean
 invariant_of-self-in-Clean c =
-    fit_next c.self.inside.group c.self.inside.committed c.self.inside.wanted c.self.inside.flying c.set_dirty-in-Clean.new.self c.self.inside.writes c.self.inside.writes c.self.invariant c.set_dirty-in-Clean.ensures.members
+    fit_next c.self.inside.group c.self.inside.committed c.self.inside.wanted c.self.inside.flying c.set_dirty-in-Clean.new.self c.self.inside.writes c.self.inside.writes c.self.inside.is_known c.self.invariant c.set_dirty-in-Clean.ensures.members
     (λ disk is. is) (λ disk is. is)
