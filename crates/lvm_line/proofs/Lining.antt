@@ -1,5 +1,5 @@
 -- Lines, by how they are read.
-use Rattle.std.proofs.Common.{◌≡◌, ◌≤◌, ℕ, List, Bool, Option, Some, None, IfSome, IsSome, Result, Ok, refl, sym, ap, subst, arith}
+use Rattle.std.proofs.Common.{◌≡◌, ◌≤◌, ℕ, List, Bool, false, Option, Some, None, IfSome, IsSome, Result, Ok, refl, sym, ap, subst, arith}
 use Rattle.lvm_disk.specs.Device.{Device, HasSectors}
 use Rattle.lvm_io.specs.Count.{next_count}
 use Rattle.lvm_vol.specs.Log.{Log}
@@ -10,7 +10,7 @@ use Rattle.lvm_parse.specs.Grammar.{line_of}
 use Rattle.lvm_parse.specs.Answering.{IsMkvgLine}
 use Rattle.lvm_core.specs.declared.parts.Room.{Room}
 use Rattle.lvm_session.specs.State.{Core}
-use Rattle.lvm_copy_lines.specs.passed.Stage.{CommandEnds, IsAsked, GoesOn, InFull, Shows, WithoutMemory, most_refusals, IsBetweenStage, IsFitting}
+use Rattle.lvm_copy_lines.specs.passed.Stage.{CommandEnds, IsAsked, IsLeftBy, is_unheard, GoesOn, InFull, Shows, WithoutMemory, most_refusals, IsBetweenStage, IsFitting}
 use Rattle.lvm_copy_lines.specs.passed.Stage.{history_in, history_of, session_in, shelf_in, session_of, state_in, IsBetween, State, without_facts}
 use Rattle.lvm_copy_lines.specs.passed.Stage.{Holder, Reply, Stage}
 use Rattle.lvm_copy_lines.specs.passed.GroupLines.{MkvgDoes, NoMemoryForLine, NoMkvgWhileOn, DiskShows, DiskOfGroup, GroupShows, GroupThatIsOn}
@@ -42,6 +42,27 @@ pub one_disk : (disk disks : ℕ) (session : Option Core) (answer : Reply) → D
 one_disk disk disks session answer (NoGroupForDisk none is) = one_refused answer refusal.NoGroup is
 one_disk disk disks session answer (DiskOfGroup core some (NoSuchMember none is)) = one_refused answer (refusal.NoDisk disk) is
 one_disk disk disks session answer (DiskOfGroup core some (ListsMember row there its shows)) = one_shown _ answer shows
+
+-- ---- of a listing something was heard
+
+heard_shown : (text : List ℕ) (answer : Reply) → Shows text answer → is_unheard answer ≡ false
+heard_shown text answer (InFull is) = ap is_unheard is
+heard_shown text answer (WithoutMemory is) = ap is_unheard is
+
+pub heard_group : (volumes : Bool) (name : List ℕ) (session : Option Core) (answer : Reply) → GroupShows volumes name session answer → is_unheard answer ≡ false
+heard_group volumes name session answer (NoGroupToList none is) = ap is_unheard is
+heard_group volumes name session answer (GroupThatIsOn core some (OtherGroup other is)) = ap is_unheard is
+heard_group volumes name session answer (GroupThatIsOn core some (ListsGroup its shows)) = heard_shown _ answer shows
+
+pub heard_volume : (name : List ℕ) (session : Option Core) (answer : Reply) → VolumeShows name session answer → is_unheard answer ≡ false
+heard_volume name session answer (NoGroupForVolume none is) = ap is_unheard is
+heard_volume name session answer (VolumeOfGroup core some (NoSuchVolume none is)) = ap is_unheard is
+heard_volume name session answer (VolumeOfGroup core some (ListsVolume lv its shows)) = heard_shown _ answer shows
+
+pub heard_disk : (disk disks : ℕ) (session : Option Core) (answer : Reply) → DiskShows disk disks session answer → is_unheard answer ≡ false
+heard_disk disk disks session answer (NoGroupForDisk none is) = ap is_unheard is
+heard_disk disk disks session answer (DiskOfGroup core some (NoSuchMember none is)) = ap is_unheard is
+heard_disk disk disks session answer (DiskOfGroup core some (ListsMember row there its shows)) = heard_shown _ answer shows
 
 -- ---- lines
 
@@ -123,6 +144,13 @@ pub done_by : {S : Type 0} (device : S → Device) (room : Room) (it other : Com
     → CommandEnds device (λ log. CommandDoes log room other) (IsOrder (Ok (Some other))) (role_of (Ok (Some other))) old new answer before after → now ≡ asked_after (Ok (Some other)) asked → CommandIsDone device room it old new answer before after asked now
 done_by device room it other old new answer before after asked now is ends count =
     subst (λ (c : Command). CommandIsDone device room c old new answer before after asked now) (sym is) (record { ends = ends; asked = count })
+
+-- so one whose stage was left
+pub served_by : {S : Type 0} (device : S → Device) (room : Room) (it other : Command) (old kept : Stage S) (answer : Reply) (new : Stage S) (says : Reply) (last asked : ℕ) → it ≡ other → IsLeftBy device kept answer new → says ≡ answer
+    → CommandEnds device (λ log. CommandDoes log room other) (IsOrder (Ok (Some other))) (role_of (Ok (Some other))) old new answer last last → asked ≡ asked_after (Ok (Some other)) asked → CommandIsDone device room it old new says last last asked asked
+served_by device room it other old kept answer new says last asked is left same ends count =
+    done_by device room it other old new says last last asked asked is
+    (subst (λ (r : Reply). CommandEnds device (λ log. CommandDoes log room other) (IsOrder (Ok (Some other))) (role_of (Ok (Some other))) old new r last last) (sym same) ends) count
 
 -- and one that changes nothing
 pub listed_by : {S : Type 0} (device : S → Device) (room : Room) (it other : Command) (old new : Stage S) (answer : Reply) (last asked : ℕ) → it ≡ other → IsFitting old → IsBetweenStage device old → new ≡ old → most_refusals answer ≤ 1

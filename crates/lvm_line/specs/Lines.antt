@@ -10,7 +10,10 @@ use Rattle.lvm_operands.specs.declared.rest.Misfit.{Misfit}
 use Rattle.lvm_parse.specs.Grammar.{line_of}
 use Rattle.lvm_core.specs.declared.parts.Room.{Room}
 use Rattle.lvm_copy_lines.specs.passed.DiskLines.{ReadDoes, WriteDoes, ArrangeDoes, CutDoes}
-use Rattle.lvm_copy_lines.specs.passed.Stage.{CommandEnds, GoesOn, Role, Aside, OfGroup, OfGroupWhere, OfRequests, IsRefused, IsBetween, State, Reply, Stage}
+use Rattle.lvm_copy_lines.specs.passed.Stage.{CommandEnds, GoesOn, Role, Aside, OfGroup, OfGroupWhere, OfRequests, IsRefused, IsStuck, IsBetween, State, Reply}
+use Rattle.lvm_copy_lines.specs.passed.Stage.{IsFitting, IsLeftBy, Stage, history_in, state_in, without_facts}
+use Rattle.lvm_line.specs.declared.line.InPlace.{InPlace}
+use Rattle.lvm_line.specs.declared.line.InPlace.TheVariants as in_place
 use Rattle.lvm_copy_lines.specs.passed.GroupLines.{MkvgDoes, VaryonDoes, VaryoffDoes, GroupShows, VolumeShows, DiskShows}
 use Rattle.lvm_copy_lines.specs.passed.RangeLines.{RdDoes, WrDoes, PostDoes, StepDoes}
 use Rattle.lvm_copy_lines.specs.passed.RangeLinesWaiting.{WaitDoes}
@@ -73,14 +76,17 @@ IsOrder (Ok (Some (command.Heal disk))) = Unit {0}
 IsOrder (Ok (Some (command.Cut word))) = Unit {0}
 IsOrder other = ⊥
 
--- a command that isn't a listing
-abbrev pub IsChange : Result (Option Command) Misfit → Type 0
-IsChange (Ok None) = ⊥
-IsChange (Err misfit) = ⊥
-IsChange (Ok (Some (command.Lsvg volumes name))) = ⊥
-IsChange (Ok (Some (command.Lslv name))) = ⊥
-IsChange (Ok (Some (command.Lspv disk))) = ⊥
-IsChange other = Unit {0}
+-- a command that isn't done in place
+abbrev pub IsLeftToDo : Result (Option Command) Misfit → Type 0
+IsLeftToDo (Ok None) = ⊥
+IsLeftToDo (Err misfit) = ⊥
+IsLeftToDo (Ok (Some (command.Lsvg volumes name))) = ⊥
+IsLeftToDo (Ok (Some (command.Lslv name))) = ⊥
+IsLeftToDo (Ok (Some (command.Lspv disk))) = ⊥
+IsLeftToDo (Ok (Some (command.Rd name at count))) = ⊥
+IsLeftToDo (Ok (Some (command.Wr name at count word))) = ⊥
+IsLeftToDo (Ok (Some (command.Post name at count word))) = ⊥
+IsLeftToDo other = Unit {0}
 
 -- how often the clock has been asked after a line: once more by `mkvg` and `varyonvg` alone
 abbrev pub asked_after : Result (Option Command) Misfit → ℕ → ℕ
@@ -101,3 +107,33 @@ pub record IsLine (log : Log) (room : Room) (line : List ℕ) (answer : Reply) (
   pub whole : HasSectors old.moment.device
   pub between : IsBetween old.moment old.session old.posts
   pub named : IfSome old.session (λ core. core.history.run ≡ log.run)
+
+-- ---- lines that are done in place
+
+-- A command leads to what becomes of the stage that it leaves, at whatever moment the clock stands; or it is left to do, and nothing changes.
+abbrev pub CommandInPlace : {S : Type 0} → (S → Device) → Command → Stage S → Stage S → Option Reply → Type 0
+CommandInPlace device c old kept (Some answer) =
+    (left : Stage _) → IsLeftBy device kept answer left → (room : Room) (last : ℕ) → CommandEnds device (λ log. CommandDoes log room c) (IsOrder (Ok (Some c))) (role_of (Ok (Some c))) old left answer last last
+CommandInPlace device c old kept None = (kept ≡ old) × IsLeftToDo (Ok (Some c))
+
+-- A line leads from one stage to another while the clock goes on, and the parts go on to fit.
+pub record IsFinished {S : Type 0} (device : S → Device) (room : Room) (line : List ℕ) (old new : Stage S) (answer : Reply) (before after : ℕ) : Type 0 where
+  pub is_line : IsLine (without_facts (history_in old)) room line answer (state_in device old before) (state_in device new after)
+  pub rooms : without_facts (history_in new) ≡ without_facts (history_in old)
+  pub fits : IsFitting new
+
+-- so it does where the clock isn't asked
+abbrev pub LineEnds : {S : Type 0} → (S → Device) → Room → List ℕ → Stage S → Stage S → Reply → Type 0
+LineEnds device room line old new answer = (last : ℕ) → IsFinished device room line old new answer last last
+
+-- It is done where the stage stays, and its session goes on; or is over, and so leads to what becomes of the stage; or it is left to do, and nothing changes.
+abbrev pub DoesInPlace : {S : Type 0} → (S → Device) → List ℕ → Stage S → Stage S → InPlace → Type 0
+DoesInPlace device line old kept (in_place.Done answer) = ((room : Room) → LineEnds device room line old kept answer) × (IsStuck answer → ⊥)
+DoesInPlace device line old kept (in_place.Over answer) = (left : Stage _) → IsLeftBy device kept answer left → (room : Room) → LineEnds device room line old left answer
+DoesInPlace device line old kept in_place.Left = (kept ≡ old) × IsLeftToDo (line_of line)
+
+-- The session of a stage that a line leaves goes on behind this answer, or is over.
+abbrev pub StandsBehind : {S : Type 0} → (S → Device) → Stage S → Reply → InPlace → Type 0
+StandsBehind device kept answer (in_place.Done says) = (says ≡ answer) × IsLeftBy device kept answer kept × (IsStuck answer → ⊥)
+StandsBehind device kept answer (in_place.Over says) = says ≡ answer
+StandsBehind device kept answer in_place.Left = ⊥

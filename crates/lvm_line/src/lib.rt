@@ -6,4 +6,4 @@ mod laws;
 mod line;
 
 pub use laws::{refusals_have_causes, varyons_restate};
-pub use line::{answer_line, do_line};
+pub use line::{InPlace, answer_line, do_line, finish_line};

@@ -5,7 +5,7 @@ ghost use Rattle.lvm_core.specs.declared.parts.Room.{Room};
 ghost use Rattle.lvm_vol.specs.Log.{Log};
 ghost use Rattle.lvm_parse.specs.Grammar.{line_of};
 ghost use Rattle.lvm_parse.specs.Within.{IsWithin};
-ghost use Rattle.lvm_line.specs.Lines.{CommandDoes, CommandIsDone, IsLine, IsChange, asked_after};
+ghost use Rattle.lvm_line.specs.Lines.{CommandInPlace, CommandIsDone, DoesInPlace, IsFinished, IsLine, StandsBehind, asked_after};
 ghost use Rattle.lvm_copy_lines.specs.passed.Stage.{IsStuck, most_refusals, history_in, session_in, state_in, IsBetweenStage, IsFitting};
 ghost use Rattle.lvm_copy_lines.specs.passed.Stage.{without_facts};
 
@@ -78,19 +78,31 @@ fn do_command<S: Shelf, C: Clock>(
             let reply = list_disk(alloc, &stage, disk);
             stage.answered(reply)
         }
-        Command::Rd { name, at, count } => do_rd(alloc, stage, name, at, count),
+        Command::Rd { name, at, count } => {
+            let mut stage = stage;
+            let reply = do_rd(alloc, &mut stage, name, at, count);
+            stage.left(reply)
+        }
         Command::Wr {
             name,
             at,
             count,
             word,
-        } => do_wr(stage, name, at, count, word),
+        } => {
+            let mut stage = stage;
+            let reply = do_wr(&mut stage, name, at, count, word);
+            stage.left(reply)
+        }
         Command::Post {
             name,
             at,
             count,
             word,
-        } => do_post(stage, name, at, count, word),
+        } => {
+            let mut stage = stage;
+            let reply = do_post(&mut stage, name, at, count, word);
+            stage.left(reply)
+        }
         Command::Wait => do_wait(alloc, stage),
         Command::Step { turns } => do_step(stage, turns),
         Command::RawRd { disk, at, count } => do_read(alloc, stage, disk, at, count),
@@ -120,35 +132,73 @@ fn refuse_unread<S: Shelf>(stage: Stage<S>) -> Answered<S>
     }
 }
 
-// What a command is answered that is a listing.
-fn list<S: Shelf>(alloc: Global, stage: &Stage<S>, command: Command) -> Option<Reply>
-    ensures does { IfSome result (λ reply. (log : Log) (room : Room) (last : ℕ) → CommandDoes log room command (state_in S.device stage.now last) (state_in S.device stage.now last) reply) }
-    ensures heard { IfSome result (λ reply. IsStuck reply → ⊥) }
-    ensures few { IfSome result (λ reply. most_refusals reply ≤ 1) }
-    ensures change { IfNone result (IsChange (Ok (Some command))) }
+// What a command is answered that is done where the stage stays.
+fn serve<S: Shelf>(alloc: Global, stage: &mut Stage<S>, command: Command) -> Option<Reply>
+    requires between { IsBetweenStage S.device stage.old }
+    requires fits { IsFitting stage.old }
+    requires within { IsWithin command }
+    ensures { CommandInPlace S.device command stage.old stage.new result }
 {
     match command {
         Command::Lsvg { volumes, name } => Some(list_group(alloc, stage, volumes, name)),
         Command::Lslv { name } => Some(list_volume(alloc, stage, name)),
         Command::Lspv { disk } => Some(list_disk(alloc, stage, disk)),
+        Command::Rd { name, at, count } => Some(do_rd(alloc, stage, name, at, count)),
+        Command::Wr {
+            name,
+            at,
+            count,
+            word,
+        } => Some(do_wr(stage, name, at, count, word)),
+        Command::Post {
+            name,
+            at,
+            count,
+            word,
+        } => Some(do_post(stage, name, at, count, word)),
         _ => None,
     }
 }
 
-/// Answers a line, without its line feed, that leaves all as it is: one without a command, one that isn't in the
-/// language, and a listing. None only where it asks for another command, which `do_line` does. The stage isn't given
-/// away for it, so that such lines cost no move of it.
-pub fn answer_line<S: Shelf>(alloc: Global, stage: &Stage<S>, line: &[u8]) -> Option<Reply>
-    requires between { IsBetweenStage S.device stage.now }
-    ensures line { IfSome result (λ reply. (room : Room) (last : ℕ) → IsLine (without_facts (history_in stage.now)) room line.now reply (state_in S.device stage.now last) (state_in S.device stage.now last)) }
-    ensures heard { IfSome result (λ reply. IsStuck reply → ⊥) }
-    ensures change { IfNone result (IsChange (line_of line.now)) }
+/// What became of a line for which the stage wasn't given away, since it is large to move.
+#[derive(Drop)]
+pub enum InPlace {
+    /// It is done, and answered so.
+    Done(Reply),
+    /// It is done, and answered so; the session is over, and `Stage::left` makes of the stage what stands behind the line.
+    Over(Reply),
+    /// `do_line` does it.
+    Left,
+}
+
+// How a line that was answered so leaves the stage.
+fn behind<S: Shelf>(stage: &Stage<S>, reply: Reply) -> InPlace
+    ensures { StandsBehind S.device stage.now reply result }
+{
+    if stage.goes_on(&reply) {
+        InPlace::Done(reply)
+    } else {
+        InPlace::Over(reply)
+    }
+}
+
+/// Does a line, without its line feed, where the stage stays: one without a command, one that isn't in the language, a
+/// listing, and a range of a volume that is read, written or posted. Other commands are left to `do_line`.
+pub fn answer_line<S: Shelf>(alloc: Global, stage: &mut Stage<S>, line: &[u8]) -> InPlace
+    requires between { IsBetweenStage S.device stage.old }
+    requires fits { IsFitting stage.old }
+    ensures { DoesInPlace S.device line.now stage.old stage.new result }
 {
     match parse(alloc, line) {
-        Ok(None) => Some(Reply::Silent),
-        Ok(Some(command)) => list(alloc, stage, command),
-        Err(ParseFault::BadLine { column }) => Some(Reply::Refused(Refusal::BadLine { column })),
-        Err(ParseFault::Memory) => None,
+        Ok(None) => InPlace::Done(Reply::Silent),
+        Ok(Some(command)) => match serve(alloc, stage, command) {
+            Some(reply) => behind(stage, reply),
+            None => InPlace::Left,
+        },
+        Err(ParseFault::BadLine { column }) => {
+            InPlace::Done(Reply::Refused(Refusal::BadLine { column }))
+        }
+        Err(ParseFault::Memory) => InPlace::Left,
     }
 }
 
@@ -177,5 +227,27 @@ pub fn do_line<S: Shelf, C: Clock>(
             let _ = clock.now();
             refuse_unread(stage)
         }
+    }
+}
+
+/// What stands behind a line, and its reply, where the stage is given away after `answer_line`: all is done but what is
+/// over, or left to do.
+pub fn finish_line<S: Shelf, C: Clock>(
+    alloc: Global,
+    stage: Stage<S>,
+    did: InPlace,
+    clock: &mut C,
+    room: Room,
+    line: &[u8],
+) -> Answered<S>
+    requires between { did ≡ InPlace.Left → IsBetweenStage S.device stage }
+    requires fits { did ≡ InPlace.Left → IsFitting stage }
+    requires room { IsRoom room }
+    ensures { (old : Stage S.Denot) → DoesInPlace S.device line.now old stage did → IsFinished S.device room line.now old result.stage result.reply (C.last clock.old) (C.last clock.new) }
+{
+    match did {
+        InPlace::Done(reply) => stage.answered(reply),
+        InPlace::Over(reply) => stage.left(reply),
+        InPlace::Left => do_line(alloc, stage, clock, room, line),
     }
 }

@@ -5,6 +5,7 @@ pub mod Ending
 pub mod Steps
 pub mod Holding
 pub mod Naming
+pub mod Heard
 pub mod Lines
 pub mod Refusing
 pub mod Adding

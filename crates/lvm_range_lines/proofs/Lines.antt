@@ -25,13 +25,15 @@ use Rattle.lvm_posts.specs.Pieces.{piece_lp}
 use Rattle.lvm_group_lines.specs.passed.Ranges.{AskRangeGives, Asks, IsAskedFor, range_fault, AskRangeFault, FinishGives, Finished, WasStuck}
 use Rattle.lvm_group_lines.specs.passed.Ranges.{KeepsOthers, IsUnfinished}
 use Rattle.lvm_group_lines.specs.passed.Stage.{Reply, Stage, EndsUnasked, OfRequests, InFull, Shows, WithoutMemory, most_refusals, HaveRooms}
-use Rattle.lvm_group_lines.specs.passed.Stage.{IsBetweenStage, IsCarried, IsFitting, state_in, ArePosted, State}
+use Rattle.lvm_group_lines.specs.passed.Stage.{ComesTo, IsBetweenStage, IsCarried, IsFitting, state_in, ArePosted, State, is_unheard}
+use Rattle.lvm_group_lines.specs.passed.HolderVariants as holder
 use Rattle.lvm_group_lines.specs.passed.ReplyVariants as reply
 use Rattle.lvm_group_lines.proofs.passed.Stage.{over_landed}
-use Rattle.lvm_range_lines.specs.Leaving.{EndsBy, FailsIf, KeepsPosts, StageEndsBy, StageFailsIf, Waited, serving}
+use Rattle.lvm_range_lines.specs.Leaving.{EndsBy, FailsIf, KeepsPosts, Waited, serving}
 use Rattle.lvm_range_lines.specs.Refusals.{Ending, ending_of, is_stuck, range_refusal, reply_of}
 use Rattle.lvm_range_lines.specs.Requests.{AsksByName, EndsWell, Fails, Finishes, IsFinished, NoMemory, OnVolume, ShowsBlocks, ShowsThem, There}
 use Rattle.lvm_range_lines.proofs.Ending.{RunsTo, carried_ends, carried_leaves, ended_is_over, stuck_ends, unstuck}
+use Rattle.lvm_range_lines.proofs.Heard.{carried_by, unheard_fault}
 use Rattle.lvm_range_lines.proofs.Naming.{IsTaken, taken_so}
 use Rattle.lvm_range_lines.proofs.Posting.{asked_behind, others_posted}
 
@@ -125,7 +127,7 @@ module _ {S : Type 0} (device : S → Device) (first : S × Core) (posts : Vec P
           posted rooms_then carried
 
       fails : (why : RangeFault) → FinishGives asked left (state_of device mid) (state_of device end) (Err why) → Waited left (state_of device mid) (state_of device end)
-          → (b : Bool) → is_stuck why ≡ b → StageFailsIf b device end posts bytes1 stage → answer ≡ reply.Refused (range_refusal why) → EndsUnasked device Does ⊥ OfRequests (serving first posts bytes) stage answer
+          → (b : Bool) → is_stuck why ≡ b → ComesTo device b (holder.Serving end) posts bytes1 stage → answer ≡ reply.Refused (range_refusal why) → EndsUnasked device Does ⊥ OfRequests (serving first posts bytes) stage answer
       fails why finishes waited true stuck ended is =
           let same = only_stuck why stuck in
           let on = unfinished_on asked (state_of device end) sound (unstuck device first posts bytes fits between end to) (stuck_unfinished asked left (state_of device mid) (state_of device end) (subst (λ (w : RangeFault). FinishGives asked left (state_of device mid) (state_of device end) (Err w)) same finishes)) in
@@ -141,10 +143,14 @@ module _ {S : Type 0} (device : S → Device) (first : S × Core) (posts : Vec P
 
     -- whatever it answered
     pub finished_ends : (done : Result Reply RangeFault) → (left : ℕ) × FinishGives asked left (state_of device mid) (state_of device end) (ending_of done) × Waited left (state_of device mid) (state_of device end)
-        → StageEndsBy done device end posts bytes1 stage → answer ≡ reply_of done → IfOk done (Says (state_of device end) asked) → ((a : Reply) → Says (state_of device end) asked a → most_refusals a ≤ 1)
+        → ComesTo device (is_unheard answer) (holder.Serving end) posts bytes1 stage → answer ≡ reply_of done → IfOk done (Says (state_of device end) asked)
+        → ((a : Reply) → Says (state_of device end) asked a → (most_refusals a ≤ 1) × (is_unheard a ≡ false))
         → EndsUnasked device Does ⊥ OfRequests (serving first posts bytes) stage answer
-    finished_ends (Ok says) made ends is its_says one = well made.0 made.1 made.2 ends (subst (Says (state_of device end) asked) (sym is) its_says) (subst (λ (a : Reply). most_refusals a ≤ 1) (sym is) (one says its_says))
-    finished_ends (Err why) made ends is its_says one = fails made.0 why made.1 made.2 (is_stuck why) refl ends is
+    finished_ends (Ok says) made comes is its_says one =
+        well made.0 made.1 made.2 (carried_by device end posts bytes1 answer says stage is (one says its_says).1 comes)
+        (subst (Says (state_of device end) asked) (sym is) its_says) (subst (λ (a : Reply). most_refusals a ≤ 1) (sym is) (one says its_says).0)
+    finished_ends (Err why) made comes is its_says one =
+        fails made.0 why made.1 made.2 (is_stuck why) refl (subst (λ (b : Bool). ComesTo device b (holder.Serving end) posts bytes1 stage) (ap is_unheard is ∙ unheard_fault why) comes) is
 
 -- ---- the lines of blocks
 

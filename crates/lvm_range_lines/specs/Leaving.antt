@@ -9,7 +9,8 @@ use Rattle.lvm_session.specs.State.{Core, State as Session, state}
 use Rattle.lvm_posts.specs.declared.fault.RangeFault.{RangeFault}
 use Rattle.lvm_posts.specs.declared.posts.Post.{Post}
 use Rattle.lvm_group_lines.specs.passed.HolderVariants as holder
-use Rattle.lvm_group_lines.specs.passed.Stage.{Stage, patience_of_line, IsCarried, IsClosed, IsEnded, posts_ended, ArePosted, State}
+use Rattle.lvm_group_lines.specs.passed.Stage.{Reply, Stage, EndsUnasked, OfRequests, patience_of_line, IsBetweenStage, IsClosed, IsFitting, IsLeftBy}
+use Rattle.lvm_group_lines.specs.passed.Stage.{posts_ended, ArePosted, State}
 use Rattle.lvm_range_lines.specs.Refusals.{is_stuck}
 
 -- ---- states
@@ -67,18 +68,14 @@ serving driver posts bytes = record { holder = holder.Serving driver; posts = po
 abbrev pub resting : {S : Type 0} → S × Core → Vec Post → Vec ℕ → Stage S
 resting driver posts bytes = record { holder = holder.Empty driver; posts = posts; bytes = bytes }
 
--- what stands behind a range that failed
-abbrev pub StageFailsIf : {S : Type 0} → Bool → (S → Device) → S × Core → Vec Post → Vec ℕ → Stage S → Type 0
-StageFailsIf true device driver posts bytes stage = IsEnded device driver posts.items stage
-StageFailsIf false device driver posts bytes stage = IsCarried device driver posts bytes driver.1.power stage
+-- A line goes on in the session of a stage, and ends by what becomes of the stage behind it.
+abbrev pub EndsInPlace : {S : Type 0} → (S → Device) → (State → State → Reply → Type 0) → Stage S → Stage S → Reply → Type 0
+EndsInPlace device Does old kept answer = (stage : Stage _) → IsLeftBy device kept answer stage → EndsUnasked device (λ log. Does) ⊥ OfRequests old stage answer
 
-abbrev pub StageFails : {S : Type 0} → RangeFault → (S → Device) → S × Core → Vec Post → Vec ℕ → Stage S → Type 0
-StageFails why device driver posts bytes stage = StageFailsIf (is_stuck why) device driver posts bytes stage
-
--- and behind one that was waited for
-abbrev pub StageEndsBy : {S A : Type 0} → Result A RangeFault → (S → Device) → S × Core → Vec Post → Vec ℕ → Stage S → Type 0
-StageEndsBy (Ok done) device driver posts bytes stage = IsCarried device driver posts bytes driver.1.power stage
-StageEndsBy (Err why) device driver posts bytes stage = StageFails why device driver posts bytes stage
+-- So it does in this session, whatever posts stand there.
+abbrev pub EndsInSession : {S : Type 0} → (S → Device) → (State → State → Reply → Type 0) → S × Core → Vec ℕ → S × Core → Vec ℕ → Reply → Type 0
+EndsInSession device Does old bytes kept bytes1 answer =
+    (posts : Vec Post) → IsFitting (serving old posts bytes) → IsBetweenStage device (serving old posts bytes) → EndsInPlace device Does (serving old posts bytes) (serving kept posts bytes1) answer
 
 -- posts stay what they are
 abbrev pub KeepsPosts : Core → Core → Type 0

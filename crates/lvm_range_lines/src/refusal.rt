@@ -1,6 +1,6 @@
 //! Why a range isn't read or written, as the refusal of its line.
 ghost use Rattle.std.specs.Prelude.{◌≡◌};
-ghost use Rattle.lvm_range_lines.specs.Refusals.{ask_refusal, is_stuck, range_refusal};
+ghost use Rattle.lvm_range_lines.specs.Refusals.{ask_refusal, range_refusal};
 
 use lvm_group_lines::below::ranges::AskRangeFault;
 use lvm_group_lines::below::stage::Refusal;
@@ -29,19 +29,5 @@ pub fn range_refusal(fault: RangeFault) -> Refusal
         RangeFault::Lost => Refusal::Lost,
         RangeFault::ReadFailed => Refusal::ReadFailed,
         RangeFault::NoFresh { lp } => Refusal::NoFresh { lp },
-    }
-}
-
-/// Whether nothing was heard of its transfers.
-pub fn is_stuck(fault: RangeFault) -> bool
-    ensures { result ≡ is_stuck fault }
-{
-    match fault {
-        RangeFault::Stuck => true,
-        RangeFault::Dark
-        | RangeFault::WentOff { have: _, total: _ }
-        | RangeFault::Lost
-        | RangeFault::ReadFailed
-        | RangeFault::NoFresh { lp: _ } => false,
     }
 }

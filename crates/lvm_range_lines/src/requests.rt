@@ -7,16 +7,16 @@ ghost use Rattle.lvm_posts.specs.Pieces.{IsLaidOut};
 ghost use Rattle.lvm_posts.specs.Posts.{AreHeld};
 ghost use Rattle.lvm_group_lines.specs.passed.Ranges.{IsAskedFor, FinishGives, KeepsOthers, HasEndedWell, IsRead};
 ghost use Rattle.lvm_group_lines.specs.passed.Running.{RunsOn};
-ghost use Rattle.lvm_group_lines.specs.passed.Stage.{EndsUnasked, OfRequests, Shows, HaveRooms, IsBetweenStage, IsFitting};
-ghost use Rattle.lvm_range_lines.specs.Leaving.{KeepsPosts, StageEndsBy, StageFails, Waited, serving};
+ghost use Rattle.lvm_group_lines.specs.passed.Stage.{Shows, IsBetweenStage, IsFitting};
+ghost use Rattle.lvm_range_lines.specs.Leaving.{EndsInPlace, EndsInSession, KeepsPosts, Waited, serving};
 ghost use Rattle.lvm_range_lines.specs.Requests.{AsksByName, PostDoes, RdDoes, ShowsBlocks, WrDoes};
-ghost use Rattle.lvm_range_lines.specs.Refusals.{blocks_text, ending_of, range_refusal, reply_of};
+ghost use Rattle.lvm_range_lines.specs.Refusals.{blocks_text, ending_of, reply_of};
 
-use crate::refusal::{ask_refusal, is_stuck, range_refusal};
+use crate::refusal::{ask_refusal, range_refusal};
 use lvm_disk::Shelf;
 use lvm_group_lines::below::driver::Driver;
 use lvm_group_lines::below::ranges::{ask_range, finish_range, read_blocks};
-use lvm_group_lines::below::stage::{Answered, Holder, Refusal, Reply, Stage, number_of};
+use lvm_group_lines::below::stage::{Holder, Refusal, Reply, Stage, number_of};
 use lvm_num::{Memory, Name, Text};
 use lvm_posts::{Asked, Post, RangeFault};
 use lvm_replies::show_block;
@@ -69,60 +69,54 @@ fn add(posts: &mut Vec<Post>, post: Post)
 
 // Posts a range in a session that is on.
 fn post_on<S: Shelf>(
-    driver: Driver<S>,
-    posts: Vec<Post>,
-    bytes: Vec<u8>,
+    driver: &mut Driver<S>,
+    posts: &mut Vec<Post>,
+    bytes: &mut Vec<u8>,
     name: Name,
     at: u64,
     count: u32,
     word: u64,
-) -> Answered<S>
-    requires fits { IsFitting (serving driver posts bytes) }
-    requires between { IsBetweenStage S.device (serving driver posts bytes) }
+) -> Reply
+    requires fits { IsFitting (serving driver.old posts.old bytes.old) }
+    requires between { IsBetweenStage S.device (serving driver.old posts.old bytes.old) }
     requires some { 1 ≤ count }
     requires most { count ≤ 4096 }
-    ensures { EndsUnasked S.device (λ _. PostDoes name at count word) ⊥ OfRequests (serving driver posts bytes) result.stage result.reply }
+    ensures { EndsInPlace S.device (PostDoes name at count word) (serving driver.old posts.old bytes.old) (serving driver.new posts.new bytes.new) result }
 {
-    let mut driver = driver;
-    let mut posts = posts;
-    let mut bytes = bytes;
-    match ask(&mut driver, name, at, count, Some(word), &mut bytes) {
+    match ask(driver, name, at, count, Some(word), bytes) {
         Ok(asked) => {
-            is_sound(&driver);
-            add(&mut posts, Post { asked, ended: None });
-            Stage::carried(driver, posts, bytes).answered(Reply::Posted)
+            is_sound(driver);
+            add(posts, Post { asked, ended: None });
+            Reply::Posted
         }
-        Err(why) => Stage::carried(driver, posts, bytes).refused(why),
+        Err(why) => Reply::Refused(why),
     }
 }
 
-/// Asks for a range of a volume to be written, the first block filled with the word; `wait` answers it.
-pub fn do_post<S: Shelf>(stage: Stage<S>, name: Name, at: u64, count: u32, word: u64) -> Answered<S>
-    requires fits { IsFitting stage }
-    requires between { IsBetweenStage S.device stage }
+/// Asks for a range of a volume to be written, the first block filled with the word; `wait` answers it. The stage isn't
+/// given away for it: `Stage::left` makes of it what stands behind the line.
+pub fn do_post<S: Shelf>(stage: &mut Stage<S>, name: Name, at: u64, count: u32, word: u64) -> Reply
+    requires fits { IsFitting stage.old }
+    requires between { IsBetweenStage S.device stage.old }
     requires some { 1 ≤ count }
     requires most { count ≤ 4096 }
-    ensures { EndsUnasked S.device (λ _. PostDoes name at count word) ⊥ OfRequests stage result.stage result.reply }
+    ensures { EndsInPlace S.device (PostDoes name at count word) stage.old stage.new result }
 {
-    let Stage {
-        holder,
-        posts,
-        bytes,
-    } = stage;
-    match holder {
-        Holder::Off { shelf, history } => Stage {
-            holder: Holder::Off { shelf, history },
-            posts,
-            bytes,
-        }
-        .refused(Refusal::NoGroup),
-        Holder::Empty { driver } => Stage {
-            holder: Holder::Empty { driver },
-            posts,
-            bytes,
-        }
-        .refused(Refusal::NoVolume),
-        Holder::Serving { driver } => post_on(driver, posts, bytes, name, at, count, word),
+    match &mut stage.holder {
+        Holder::Off {
+            shelf: _,
+            history: _,
+        } => Reply::Refused(Refusal::NoGroup),
+        Holder::Empty { driver: _ } => Reply::Refused(Refusal::NoVolume),
+        Holder::Serving { driver } => post_on(
+            driver,
+            &mut stage.posts,
+            &mut stage.bytes,
+            name,
+            at,
+            count,
+            word,
+        ),
     }
 }
 
@@ -135,40 +129,13 @@ fn is_sound<S: Shelf>(driver: &Driver<S>)
     let _ = driver.power();
 }
 
-// The stage and the reply after a range failed.
-fn failed<S: Shelf>(
-    driver: Driver<S>,
-    posts: Vec<Post>,
-    bytes: Vec<u8>,
-    why: RangeFault,
-) -> Answered<S>
-    ensures stage { StageFails why S.device driver posts bytes result.stage }
-    ensures reply { result.reply ≡ Reply.Refused (range_refusal why) }
-    ensures rooms { (entries : ℕ) → HaveRooms entries posts bytes → HaveRooms entries result.stage.posts result.stage.bytes }
+// The reply after a range was waited for.
+fn finished(done: Result<Reply, RangeFault>) -> Reply
+    ensures { result ≡ reply_of done }
 {
-    if is_stuck(why) {
-        Stage::ended(driver, posts, bytes).refused(range_refusal(why))
-    } else {
-        Stage::carried(driver, posts, bytes).refused(range_refusal(why))
-    }
-}
-
-// The stage and the reply after a range was waited for.
-fn finished<S: Shelf>(
-    driver: Driver<S>,
-    posts: Vec<Post>,
-    bytes: Vec<u8>,
-    done: Result<Reply, RangeFault>,
-) -> Answered<S>
-    ensures stage { StageEndsBy done S.device driver posts bytes result.stage }
-    ensures reply { result.reply ≡ reply_of done }
-    ensures rooms { (entries : ℕ) → HaveRooms entries posts bytes → HaveRooms entries result.stage.posts result.stage.bytes }
-    ensures sound { IsSound (state_of S.device driver) }
-{
-    is_sound(&driver);
     match done {
-        Ok(reply) => Stage::carried(driver, posts, bytes).answered(reply),
-        Err(why) => failed(driver, posts, bytes, why),
+        Ok(reply) => reply,
+        Err(why) => Reply::Refused(range_refusal(why)),
     }
 }
 
@@ -191,58 +158,44 @@ fn write_reply<S: Shelf>(driver: &mut Driver<S>, asked: &Asked) -> Result<Reply,
 
 // Writes a range in a session that is on.
 fn wr_on<S: Shelf>(
-    driver: Driver<S>,
-    posts: Vec<Post>,
-    bytes: Vec<u8>,
+    driver: &mut Driver<S>,
+    bytes: &mut Vec<u8>,
     name: Name,
     at: u64,
     count: u32,
     word: u64,
-) -> Answered<S>
-    requires fits { IsFitting (serving driver posts bytes) }
-    requires between { IsBetweenStage S.device (serving driver posts bytes) }
+) -> Reply
+    requires on { driver.old.1.power ≡ power.On }
     requires some { 1 ≤ count }
     requires most { count ≤ 4096 }
-    ensures { EndsUnasked S.device (λ _. WrDoes name at count word) ⊥ OfRequests (serving driver posts bytes) result.stage result.reply }
+    requires room { 131072 ≤ vec_capacity bytes.old }
+    ensures { EndsInSession S.device (WrDoes name at count word) driver.old bytes.old driver.new bytes.new result }
 {
-    let mut driver = driver;
-    let mut bytes = bytes;
-    match ask(&mut driver, name, at, count, Some(word), &mut bytes) {
+    match ask(driver, name, at, count, Some(word), bytes) {
         Ok(asked) => {
-            let done = write_reply(&mut driver, &asked);
-            finished(driver, posts, bytes, done)
+            let done = write_reply(driver, &asked);
+            is_sound(driver);
+            finished(done)
         }
-        Err(why) => Stage::carried(driver, posts, bytes).refused(why),
+        Err(why) => Reply::Refused(why),
     }
 }
 
-/// Writes a range of a volume, the first block filled with the word.
-pub fn do_wr<S: Shelf>(stage: Stage<S>, name: Name, at: u64, count: u32, word: u64) -> Answered<S>
-    requires fits { IsFitting stage }
-    requires between { IsBetweenStage S.device stage }
+/// So writes a range of a volume, the first block filled with the word.
+pub fn do_wr<S: Shelf>(stage: &mut Stage<S>, name: Name, at: u64, count: u32, word: u64) -> Reply
+    requires fits { IsFitting stage.old }
+    requires between { IsBetweenStage S.device stage.old }
     requires some { 1 ≤ count }
     requires most { count ≤ 4096 }
-    ensures { EndsUnasked S.device (λ _. WrDoes name at count word) ⊥ OfRequests stage result.stage result.reply }
+    ensures { EndsInPlace S.device (WrDoes name at count word) stage.old stage.new result }
 {
-    let Stage {
-        holder,
-        posts,
-        bytes,
-    } = stage;
-    match holder {
-        Holder::Off { shelf, history } => Stage {
-            holder: Holder::Off { shelf, history },
-            posts,
-            bytes,
-        }
-        .refused(Refusal::NoGroup),
-        Holder::Empty { driver } => Stage {
-            holder: Holder::Empty { driver },
-            posts,
-            bytes,
-        }
-        .refused(Refusal::NoVolume),
-        Holder::Serving { driver } => wr_on(driver, posts, bytes, name, at, count, word),
+    match &mut stage.holder {
+        Holder::Off {
+            shelf: _,
+            history: _,
+        } => Reply::Refused(Refusal::NoGroup),
+        Holder::Empty { driver: _ } => Reply::Refused(Refusal::NoVolume),
+        Holder::Serving { driver } => wr_on(driver, &mut stage.bytes, name, at, count, word),
     }
 }
 
@@ -310,62 +263,48 @@ fn read_reply<S: Shelf>(
 // Reads a range in a session that is on.
 fn rd_on<S: Shelf>(
     alloc: Global,
-    driver: Driver<S>,
-    posts: Vec<Post>,
-    bytes: Vec<u8>,
+    driver: &mut Driver<S>,
+    bytes: &mut Vec<u8>,
     name: Name,
     at: u64,
     count: u32,
-) -> Answered<S>
-    requires fits { IsFitting (serving driver posts bytes) }
-    requires between { IsBetweenStage S.device (serving driver posts bytes) }
+) -> Reply
+    requires on { driver.old.1.power ≡ power.On }
     requires some { 1 ≤ count }
     requires most { count ≤ 4096 }
-    ensures { EndsUnasked S.device (λ _. RdDoes name at count) ⊥ OfRequests (serving driver posts bytes) result.stage result.reply }
+    requires room { 131072 ≤ vec_capacity bytes.old }
+    ensures { EndsInSession S.device (RdDoes name at count) driver.old bytes.old driver.new bytes.new result }
 {
-    let mut driver = driver;
-    let mut bytes = bytes;
-    match ask(&mut driver, name, at, count, None, &mut bytes) {
+    match ask(driver, name, at, count, None, bytes) {
         Ok(asked) => {
-            let done = read_reply(alloc, &mut driver, &asked, count);
-            finished(driver, posts, bytes, done)
+            let done = read_reply(alloc, driver, &asked, count);
+            is_sound(driver);
+            finished(done)
         }
-        Err(why) => Stage::carried(driver, posts, bytes).refused(why),
+        Err(why) => Reply::Refused(why),
     }
 }
 
-/// Reads a range of a volume.
+/// So reads a range of a volume.
 pub fn do_rd<S: Shelf>(
     alloc: Global,
-    stage: Stage<S>,
+    stage: &mut Stage<S>,
     name: Name,
     at: u64,
     count: u32,
-) -> Answered<S>
-    requires fits { IsFitting stage }
-    requires between { IsBetweenStage S.device stage }
+) -> Reply
+    requires fits { IsFitting stage.old }
+    requires between { IsBetweenStage S.device stage.old }
     requires some { 1 ≤ count }
     requires most { count ≤ 4096 }
-    ensures { EndsUnasked S.device (λ _. RdDoes name at count) ⊥ OfRequests stage result.stage result.reply }
+    ensures { EndsInPlace S.device (RdDoes name at count) stage.old stage.new result }
 {
-    let Stage {
-        holder,
-        posts,
-        bytes,
-    } = stage;
-    match holder {
-        Holder::Off { shelf, history } => Stage {
-            holder: Holder::Off { shelf, history },
-            posts,
-            bytes,
-        }
-        .refused(Refusal::NoGroup),
-        Holder::Empty { driver } => Stage {
-            holder: Holder::Empty { driver },
-            posts,
-            bytes,
-        }
-        .refused(Refusal::NoVolume),
-        Holder::Serving { driver } => rd_on(alloc, driver, posts, bytes, name, at, count),
+    match &mut stage.holder {
+        Holder::Off {
+            shelf: _,
+            history: _,
+        } => Reply::Refused(Refusal::NoGroup),
+        Holder::Empty { driver: _ } => Reply::Refused(Refusal::NoVolume),
+        Holder::Serving { driver } => rd_on(alloc, driver, &mut stage.bytes, name, at, count),
     }
 }

@@ -2,6 +2,7 @@ pub mod passed
 pub mod Cuts
 pub mod Ends
 pub mod Going
+pub mod Leaving
 pub mod Lighting
 pub mod Passive
 pub mod Posting

@@ -1,5 +1,5 @@
 -- The texts of replies.
-use Rattle.std.specs.Prelude.{◌≡◌, ℕ, List, [], codes}
+use Rattle.std.specs.Prelude.{◌≡◌, ℕ, Bool, true, false, List, [], codes}
 use Rattle.lvm_replies.specs.Refusals.{refusal_text}
 use Rattle.lvm_replies.specs.Texts.{stepped_text}
 use Rattle.lvm_stage.specs.Refusals.{shown}
@@ -37,6 +37,11 @@ most_refusals other = refusals_of other
 -- nothing was heard of a transfer, and the run ends
 abbrev pub IsStuck : Reply → Type 0
 IsStuck answer = answer ≡ reply.Refused refusal.Stuck
+
+-- so as a truth value
+abbrev pub is_unheard : Reply → Bool
+is_unheard (reply.Refused refusal.Stuck) = true
+is_unheard other = false
 
 -- it is refused, and nothing changes
 abbrev pub IsRefused : Refusal → Reply → State → State → Type 0

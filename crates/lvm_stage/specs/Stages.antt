@@ -1,5 +1,5 @@
 -- A stage, as the state between two lines.
-use Rattle.std.specs.Prelude.{◌≡◌, ◌≢◌, ◌⊎◌, ◌^◌, ◌/◌, ◌<◌, ◌≤◌, ℕ, Bool, List, [], length, map, Option, Some, None, vec_capacity}
+use Rattle.std.specs.Prelude.{◌≡◌, ◌≢◌, ◌⊎◌, ◌^◌, ◌/◌, ◌<◌, ◌≤◌, ℕ, Bool, true, false, List, [], length, map, Option, Some, None, vec_capacity}
 use Rattle.std.specs.Global.{Vec}
 use Rattle.lvm_num.specs.Votes.{total_votes}
 use Rattle.lvm_disk.specs.Device.{Device}
@@ -14,8 +14,10 @@ use Rattle.lvm_session.specs.State.{Core, votes_there}
 use Rattle.lvm_posts.specs.declared.posts.Post.{Post}
 use Rattle.lvm_posts.specs.Posts.{ended_with}
 use Rattle.lvm_stage.specs.State.{State, IsBetween}
+use Rattle.lvm_stage.specs.Replies.{is_unheard}
 use Rattle.lvm_stage.specs.declared.holder.Holder.{Holder}
 use Rattle.lvm_stage.specs.declared.holder.Holder.TheVariants as holder
+use Rattle.lvm_stage.specs.declared.reply.Reply.{Reply}
 use Rattle.lvm_stage.specs.declared.stage.Stage.{Stage}
 
 -- ---- its holder
@@ -122,6 +124,24 @@ pub record IsEnded {S : Type 0} (device : S → Device) (driver : S × Core) (po
 abbrev pub IsCarried : {S : Type 0} → (S → Device) → S × Core → Vec Post → Vec ℕ → Power → Stage S → Type 0
 IsCarried device driver posts bytes power.On stage = stage ≡ record { holder = holder.Serving driver; posts = posts; bytes = bytes }
 IsCarried device driver posts bytes other stage = IsEnded device driver posts.items stage
+
+-- the session of a group with volumes, if it holds one, isn't over
+abbrev pub IsOnIn : {S : Type 0} → Holder S → Type 0
+IsOnIn (holder.Off shelf history) = Unit {0}
+IsOnIn (holder.Empty driver) = Unit {0}
+IsOnIn (holder.Serving driver) = driver.1.power ≡ power.On
+
+-- the stage behind a line that left its session where it was: closed where nothing was heard of a transfer, or the session is over
+abbrev pub ComesTo : {S : Type 0} → (S → Device) → Bool → Holder S → Vec Post → Vec ℕ → Stage S → Type 0
+ComesTo device unheard (holder.Off shelf history) posts bytes stage = stage ≡ record { holder = holder.Off shelf history; posts = posts; bytes = bytes }
+ComesTo device unheard (holder.Empty driver) posts bytes stage = stage ≡ record { holder = holder.Empty driver; posts = posts; bytes = bytes }
+ComesTo device true (holder.Serving driver) posts bytes stage = IsEnded device driver posts.items stage
+ComesTo device false (holder.Serving driver) posts bytes stage = IsCarried device driver posts bytes driver.1.power stage
+
+-- A line that was answered so left its session where it was, and this is the stage behind it.
+pub record IsLeftBy {S : Type 0} (device : S → Device) (kept : Stage S) (answer : Reply) (stage : Stage S) : Type 0 where
+  pub comes : ComesTo device (is_unheard answer) kept.holder kept.posts kept.bytes stage
+  pub rooms : (entries : ℕ) → HaveRooms entries kept.posts kept.bytes → HaveRooms entries stage.posts stage.bytes
 
 -- ---- the group of its session
 

@@ -1,13 +1,14 @@
 //! Who holds the shelf and the history between two lines.
-ghost use Rattle.std.specs.Prelude.{◌≡◌, None, length};
+ghost use Rattle.std.specs.Prelude.{◌≡◌, IsTrue, None, length};
 ghost use Rattle.std.specs.Option.{option_map};
 ghost use Rattle.lvm_disk.specs.Steps.{MayArrange, ArrangeGives};
 ghost use Rattle.lvm_session.specs.Dark.{after_arrange};
-ghost use Rattle.lvm_stage.specs.Stages.{GivesBack, IsOfKind, history_after, history_of, open_in, session_of, shelf_of};
+ghost use Rattle.lvm_stage.specs.Stages.{GivesBack, IsOfKind, IsOnIn, history_after, history_of, open_in, session_of, shelf_of};
 
 use lvm_core::Closed;
 use lvm_disk::{Arrange, Shelf};
 use lvm_history::History;
+use lvm_session::Power;
 use lvm_tie_copies::below::driver;
 
 /// Who holds the shelf and the history: nobody, while no group is on, or its session.
@@ -44,6 +45,23 @@ impl<S: Shelf> Holder<S> {
             } => 0,
             Holder::Empty { driver } => driver.open(),
             Holder::Serving { driver } => driver.open(),
+        }
+    }
+
+    /// Whether its session isn't over, where it has one of a group with volumes.
+    pub fn goes_on(&self) -> bool
+        ensures { IsTrue result → IsOnIn self.now }
+    {
+        match self {
+            Holder::Off {
+                shelf: _,
+                history: _,
+            }
+            | Holder::Empty { driver: _ } => true,
+            Holder::Serving { driver } => match driver.power() {
+                Power::On => true,
+                Power::Off | Power::Dark | Power::Stuck => false,
+            },
         }
     }
 

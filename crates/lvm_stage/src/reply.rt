@@ -3,7 +3,7 @@ ghost use Rattle.std.specs.Prelude.{◌≡◌, ◌++◌, IsTrue, IfOk, OnOk};
 ghost use Rattle.std.specs.String.{string_bytes};
 ghost use Rattle.lvm_replies.specs.Refusals.{is_refusal};
 ghost use Rattle.lvm_stage.specs.Refusals.{shown};
-ghost use Rattle.lvm_stage.specs.Replies.{reply_text};
+ghost use Rattle.lvm_stage.specs.Replies.{is_unheard, reply_text};
 
 use lvm_num::{Memory, Text};
 use lvm_replies::{Carried, push_refusal, show_refusal};
@@ -92,6 +92,18 @@ pub enum Reply {
     Answers { text: Text, refused: u32 },
     /// `refused`, with the refusal's number, its name and what it carries.
     Refused(Refusal),
+}
+
+impl Reply {
+    /// Whether nothing was heard of a transfer.
+    pub fn is_unheard(&self) -> bool
+        ensures { result ≡ is_unheard self.now }
+    {
+        match self {
+            Reply::Refused(Refusal::Stuck) => true,
+            _ => false,
+        }
+    }
 }
 
 // A refusal by its number and what it carries.

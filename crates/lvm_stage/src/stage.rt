@@ -1,6 +1,7 @@
 //! What stands between two lines of a script.
 ghost use Rattle.std.specs.Prelude.{◌≡◌, ◌↔◌, ℕ, [], length, IsTrue, IsFalse, IsSome, IfSome, IfOk, None};
-ghost use Rattle.lvm_stage.specs.Stages.{GivesBack, HaveRooms, IsCarried, IsEnded, IsNotOn, IsOn, history_in, posts_ended, session_in, session_of, shelf_in};
+ghost use Rattle.lvm_stage.specs.Replies.{IsStuck};
+ghost use Rattle.lvm_stage.specs.Stages.{ComesTo, GivesBack, HaveRooms, IsCarried, IsEnded, IsLeftBy, IsNotOn, IsOn, history_in, posts_ended, session_in, session_of, shelf_in};
 
 use crate::holder::Holder;
 use crate::reply::{Refusal, Reply};
@@ -63,6 +64,23 @@ fn end_session<S: Shelf>(holder: &Holder<S>, posts: &mut [Post])
             let (have, total) = driver.votes();
             end_posts(posts, have, total);
         }
+    }
+}
+
+// The stage of a session that a line has left where it was.
+fn serving_left<S: Shelf>(
+    driver: Driver<S>,
+    posts: Vec<Post>,
+    bytes: Vec<u8>,
+    unheard: bool,
+) -> Stage<S>
+    ensures comes { ComesTo S.device unheard (Holder.Serving driver) posts bytes result }
+    ensures rooms { (entries : ℕ) → HaveRooms entries posts bytes → HaveRooms entries result.posts result.bytes }
+{
+    if unheard {
+        Stage::ended(driver, posts, bytes)
+    } else {
+        Stage::carried(driver, posts, bytes)
     }
 }
 
@@ -153,6 +171,46 @@ impl<S: Shelf> Stage<S> {
                 bytes,
             },
             Power::Off | Power::Dark | Power::Stuck => Stage::ended(driver, posts, bytes),
+        }
+    }
+
+    /// What a line leaves that was answered so and has left its session where it was: one that is over has ended, and so
+    /// has one of which nothing was heard.
+    pub fn left(self, reply: Reply) -> Answered<S>
+        ensures left { IsLeftBy S.device self reply result.stage }
+        ensures reply { result.reply ≡ reply }
+    {
+        let unheard = reply.is_unheard();
+        let Stage {
+            holder,
+            posts,
+            bytes,
+        } = self;
+        match holder {
+            Holder::Off { shelf, history } => Stage {
+                holder: Holder::Off { shelf, history },
+                posts,
+                bytes,
+            },
+            Holder::Empty { driver } => Stage {
+                holder: Holder::Empty { driver },
+                posts,
+                bytes,
+            },
+            Holder::Serving { driver } => serving_left(driver, posts, bytes, unheard),
+        }
+        .answered(reply)
+    }
+
+    /// Whether it goes on as it is behind a line that was answered so: something was heard, and its session isn't over.
+    pub fn goes_on(&self, reply: &Reply) -> bool
+        ensures left { IsTrue result → IsLeftBy S.device self.now reply.now self.now }
+        ensures heard { IsTrue result → IsStuck reply.now → ⊥ }
+    {
+        if reply.is_unheard() {
+            false
+        } else {
+            self.holder.goes_on()
         }
     }
 

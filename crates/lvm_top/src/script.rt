@@ -13,7 +13,7 @@ use lvm_core::Room;
 use lvm_disk::Shelf;
 use lvm_io::{Clock, Lines, NextLine, Sink, SinkFault, Source, write_all};
 use lvm_line::below::stage::{Refusal, Reply, Stage, memory_text, refusal_line};
-use lvm_line::{answer_line, do_line};
+use lvm_line::{InPlace, answer_line, finish_line};
 use lvm_num::{Memory, Rows};
 use lvm_replies::show_stepped;
 use std::alloc::Global;
@@ -205,20 +205,24 @@ pub fn do_lines<S: Shelf, I: Source, O: Sink, C: Clock>(
                 };
             }
         };
-        // Such lines are many in long scripts, and a stage is large to move.
-        if let Some(reply) = answer_line(alloc, &stage, line.as_slice()) {
-            let (count, stop) = write_reply(alloc, out, reply, refused);
-            refused = count;
-            if stop.is_some() {
-                return Done {
-                    stage,
-                    refused,
-                    stop,
-                };
+        let text = line.as_slice();
+        let did = match answer_line(alloc, &mut stage, text) {
+            InPlace::Done(reply) => {
+                // Such lines are many in long scripts, and a stage is large to move.
+                let (count, stop) = write_reply(alloc, out, reply, refused);
+                refused = count;
+                if stop.is_some() {
+                    return Done {
+                        stage,
+                        refused,
+                        stop,
+                    };
+                }
+                continue;
             }
-            continue;
-        }
-        let answered = do_line(alloc, stage, clock, room, line.as_slice());
+            did => did,
+        };
+        let answered = finish_line(alloc, stage, did, clock, room, text);
         stage = answered.stage;
         let (count, stop) = write_reply(alloc, out, answered.reply, refused);
         refused = count;

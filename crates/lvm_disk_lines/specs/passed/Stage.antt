@@ -4,9 +4,10 @@ pub use Rattle.lvm_stage.specs.Ends.{CommandEnds, EndsUnasked, patience_of_line}
 pub use Rattle.lvm_stage.specs.Lighting.{IsRelit, refusal_of}
 pub use Rattle.lvm_stage.specs.Moments.{Aside, AtRestEach, GoesOn, HasBegunHeld, IsAllowed, IsAlone, IsBrokenOff, IsRequesting, OfGroup, OfGroupWhere}
 pub use Rattle.lvm_stage.specs.Moments.{OfRequests, Role}
-pub use Rattle.lvm_stage.specs.Replies.{InFull, IsRefused, IsStuck, Shows, WithoutMemory, most_refusals, refusals_of, reply_text}
-pub use Rattle.lvm_stage.specs.Stages.{GivesBack, HaveRooms, IsBetweenStage, IsCarried, IsClosed, IsEnded, IsFitting, IsNotOn, IsOfKind, IsOn}
-pub use Rattle.lvm_stage.specs.Stages.{history_in, history_of, moment_in, open_in, posts_ended, session_in, session_of, shelf_in, shelf_of, state_in}
+pub use Rattle.lvm_stage.specs.Replies.{InFull, IsRefused, IsStuck, Shows, WithoutMemory, is_unheard, most_refusals, refusals_of, reply_text}
+pub use Rattle.lvm_stage.specs.Stages.{ComesTo, GivesBack, HaveRooms, IsBetweenStage, IsCarried, IsClosed, IsEnded, IsFitting, IsLeftBy, IsNotOn}
+pub use Rattle.lvm_stage.specs.Stages.{IsOfKind, IsOn, history_in, history_of, moment_in, open_in, posts_ended, session_in, session_of, shelf_in}
+pub use Rattle.lvm_stage.specs.Stages.{shelf_of, state_in}
 pub use Rattle.lvm_stage.specs.State.{ArePosted, IsAtRest, IsBetween, IsOnBetween, IsPosted, IsTimely, StandsAlone, StandsBy, State, log_with}
 pub use Rattle.lvm_stage.specs.State.{without_facts}
 pub use Rattle.lvm_stage.specs.declared.holder.Holder.{Holder}

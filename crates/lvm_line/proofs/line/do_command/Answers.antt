@@ -1,7 +1,7 @@
 use Rattle.std.proofs.Common.{◌≤◌, refl, sym, subst, ℕ, List, length}
 use Rattle.lvm_copy_lines.specs.passed.Stage.{CommandEnds, Aside, most_refusals, session_in, shelf_in, Reply}
 use Rattle.lvm_copy_lines.specs.passed.GroupLines.{MkvgDoes, DiskShows, GroupShows, VolumeShows}
-use Rattle.lvm_line.proofs.Lining.{done_by, listed_by, one_disk, one_group, one_volume}
+use Rattle.lvm_line.proofs.Lining.{done_by, listed_by, one_disk, one_group, one_volume, served_by}
 use Rattle.lvm_line.proofs.line.do_command.Goals as goal
 
 pub returns-in-Mkvg : goal.returns-in-Mkvg
@@ -44,13 +44,19 @@ pub returns-in-Cut : goal.returns-in-Cut
 returns-in-Cut g c = done_by g.S.Shelf.device c.args.room c.args.command _ _ _ c.do_cut.result.reply _ _ _ _ c.in-Cut.is (c.do_cut.ensures (g.C.Clock.last c.args.clock.now)) refl
 
 pub returns-in-Rd : goal.returns-in-Rd
-returns-in-Rd g c = done_by g.S.Shelf.device c.args.room c.args.command _ _ _ c.do_rd.result.reply _ _ _ _ c.in-Rd.is (c.do_rd.ensures (g.C.Clock.last c.args.clock.now)) refl
+returns-in-Rd g c =
+    served_by g.S.Shelf.device c.args.room c.args.command _ c.args.stage c.do_rd.new.stage c.do_rd.result c.left.result.stage c.left.result.reply (g.C.Clock.last c.args.clock.now) (g.C.Clock.asked c.args.clock.now) c.in-Rd.is c.left.ensures.left c.left.ensures.reply
+    (c.do_rd.ensures c.left.result.stage c.left.ensures.left (g.C.Clock.last c.args.clock.now)) refl
 
 pub returns-in-Wr : goal.returns-in-Wr
-returns-in-Wr g c = done_by g.S.Shelf.device c.args.room c.args.command _ _ _ c.do_wr.result.reply _ _ _ _ c.in-Wr.is (c.do_wr.ensures (g.C.Clock.last c.args.clock.now)) refl
+returns-in-Wr g c =
+    served_by g.S.Shelf.device c.args.room c.args.command _ c.args.stage c.do_wr.new.stage c.do_wr.result c.left-in-Wr.result.stage c.left-in-Wr.result.reply (g.C.Clock.last c.args.clock.now) (g.C.Clock.asked c.args.clock.now) c.in-Wr.is c.left-in-Wr.ensures.left c.left-in-Wr.ensures.reply
+    (c.do_wr.ensures c.left-in-Wr.result.stage c.left-in-Wr.ensures.left (g.C.Clock.last c.args.clock.now)) refl
 
 pub returns-in-Post : goal.returns-in-Post
-returns-in-Post g c = done_by g.S.Shelf.device c.args.room c.args.command _ _ _ c.do_post.result.reply _ _ _ _ c.in-Post.is (c.do_post.ensures (g.C.Clock.last c.args.clock.now)) refl
+returns-in-Post g c =
+    served_by g.S.Shelf.device c.args.room c.args.command _ c.args.stage c.do_post.new.stage c.do_post.result c.left-in-Post.result.stage c.left-in-Post.result.reply (g.C.Clock.last c.args.clock.now) (g.C.Clock.asked c.args.clock.now) c.in-Post.is c.left-in-Post.ensures.left c.left-in-Post.ensures.reply
+    (c.do_post.ensures c.left-in-Post.result.stage c.left-in-Post.ensures.left (g.C.Clock.last c.args.clock.now)) refl
 
 pub returns-in-Wait : goal.returns-in-Wait
 returns-in-Wait g c = done_by g.S.Shelf.device c.args.room c.args.command _ _ _ c.do_wait.result.reply _ _ _ _ c.in-Wait.is (c.do_wait.ensures (g.C.Clock.last c.args.clock.now)) refl
