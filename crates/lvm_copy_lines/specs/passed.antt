@@ -11,6 +11,7 @@ pub mod QuiescedVariants
 pub mod RangeLines
 pub mod RangeLinesWaiting
 pub mod Ranges
+pub mod Recover
 pub mod RefusalVariants
 pub mod ReplyVariants
 pub mod Running
@@ -18,7 +19,6 @@ pub mod Stage
 pub mod Tie
 pub mod TieCommands
 pub mod TieCopies
-pub mod TieGroups
 pub mod Varyon
 pub mod VolumeLines
 pub mod Volumes

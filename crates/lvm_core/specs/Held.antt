@@ -3,7 +3,6 @@ use Rattle.std.specs.Prelude.{◌≡◌, ℕ, IfSome, IsTrue}
 use Rattle.lvm_disk.specs.Device.{Image, Device, image_of}
 use Rattle.lvm_kept.specs.Contents.{contents_of}
 use Rattle.lvm_kept.specs.Group.{is_named}
-use Rattle.lvm_steps.specs.VaryingOn.{HasNoActive}
 use Rattle.lvm_mwc.specs.Cache.{is_named as is_named_by}
 use Rattle.lvm_commit.specs.Committed.{HoldsCommitted}
 use Rattle.lvm_session.specs.State.{Core, is_there}
@@ -19,8 +18,7 @@ NotesAreHome core image = (d lv group : ℕ) → IsTrue (is_there core d) → is
 abbrev pub AreNotesHome : Device → Core → Type 0
 AreNotesHome device core = IfSome device.media (λ media. NotesAreHome core (image_of device.sizes media))
 
--- As a session begins the disks hold what it says is committed, and their notes name what its cache does. Those of a group with a volume in mode active are
--- left as they were found.
+-- As a session begins the disks hold what it says is committed, and their notes name what its cache does.
 pub record StartsHeld (device : Device) (core : Core) : Type 0 where
   pub held : IsHeld device core
-  pub notes : HasNoActive core.descriptor → AreNotesHome device core
+  pub notes : AreNotesHome device core

@@ -1,5 +1,5 @@
 //! Laws of group commands at rest. Each call does nothing: its contract is the law.
-ghost use Rattle.lvm_even.specs.Even.{MklvKeepsEven, RmlvKeepsEven, OffIsEven, OffVolumeIsEven, FewerAreEven};
+ghost use Rattle.lvm_even.specs.Even.{MklvKeepsEven, RmlvKeepsEven, OffIsEven, ZeroedVolumeIsEven, FewerAreEven};
 
 /// What `mklv` writes, whatever its answer, keeps the usable copies of the volumes that were there even.
 pub fn mklv_keeps_even()
@@ -16,9 +16,9 @@ pub fn off_is_even()
     ensures { OffIsEven }
 {}
 
-/// It stays so with one volume in mode off more.
-pub fn off_volume_is_even()
-    ensures { OffVolumeIsEven }
+/// Any group stays even with one volume more, of which all partitions are zeros.
+pub fn zeroed_volume_is_even()
+    ensures { ZeroedVolumeIsEven }
 {}
 
 /// Any group stays even with a volume less.

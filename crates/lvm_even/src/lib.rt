@@ -3,4 +3,6 @@
 
 mod laws;
 
-pub use laws::{fewer_are_even, mklv_keeps_even, off_is_even, off_volume_is_even, rmlv_keeps_even};
+pub use laws::{
+    fewer_are_even, mklv_keeps_even, off_is_even, rmlv_keeps_even, zeroed_volume_is_even,
+};

@@ -346,7 +346,7 @@ module _ (w : NewGroup) (device : Device) (homes : Homes) (its : IsBeginning w d
     held = if_told new.media (λ is. HoldsCommitted (image_of new.sizes is) core.descriptor core.status.committed (is_there core) core.status.stamp core.homes) (λ is told_new.
         let was = before is told_new in
         holds was.0 is was.1 told_new);
-    notes = λ quiet. if_told new.media (λ is. NotesAreHome core (image_of new.sizes is)) (λ is told_new.
+    notes = if_told new.media (λ is. NotesAreHome core (image_of new.sizes is)) (λ is told_new.
         let was = before is told_new in
         forgotten was.0 is was.1 told_new);
   }

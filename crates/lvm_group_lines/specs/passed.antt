@@ -17,6 +17,6 @@ pub mod Stage
 pub mod Tie
 pub mod TieCommands
 pub mod TieCopies
-pub mod TieGroups
+pub mod Recover
 pub mod Varyon
 pub mod Volumes

@@ -11,7 +11,8 @@ use Rattle.lvm_core.specs.declared.parts.Room.{Room}
 use Rattle.lvm_session.specs.State.{Core}
 use Rattle.lvm_num.specs.declared.descriptor.Descriptor.{Descriptor}
 use Rattle.lvm_disk.specs.Device.{Device}
-use Rattle.lvm_copy_lines.specs.passed.Varyon.{HasNoConsistency, IsRestated, IsRecovered}
+use Rattle.lvm_copy_lines.specs.passed.Recover.{HasNoPassive}
+use Rattle.lvm_copy_lines.specs.passed.Varyon.{IsRestated, IsRecovered}
 use Rattle.lvm_copy_lines.specs.passed.Quiesce.{Quiesces}
 use Rattle.lvm_copy_lines.specs.passed.Driver.{DrainFault}
 use Rattle.lvm_copy_lines.specs.passed.VolumeLines.{IsUndrained}
@@ -86,12 +87,12 @@ HasCause read why old new = WasUndrained why old new ⊎ CauseOf read why old ne
 abbrev pub CauseLaw : Type 0
 CauseLaw = (log : Log) (room : Room) (line : List ℕ) (why : Refusal) (old new : State) → IsLine log room line (reply.Refused why) old new → HasCause (line_of line) why old new
 
--- The records of the group stand again, and where no volume of it has consistency it is recovered.
+-- The records of the group stand again, and where no volume of it is in mode passive it is recovered.
 pub record IsBroughtBack (old new : Device) (group : Descriptor) : Type 0 where
   pub restated : IsRestated old new group
-  pub recovered : HasNoConsistency group → IsRecovered old new group
+  pub recovered : HasNoPassive group → IsRecovered old new group
 
--- A group that a line has varied on is on, with its records and data as they should be, recovered where no volume of it has consistency, where the clock's
+-- A group that a line has varied on is on, with its records and data as they should be, recovered where no volume of it is in mode passive, where the clock's
 -- moments rise; from the shelf on which the transfers of before have ended.
 abbrev pub VaryonLaw : Type 0
 VaryonLaw =

@@ -16,7 +16,7 @@ pub mod Running
 pub mod Stage
 pub mod Tie
 pub mod TieCommands
-pub mod TieGroups
+pub mod Recover
 pub mod Varyon
 pub mod VolumeLines
 pub mod Volumes

@@ -155,6 +155,10 @@ pub fn mode_of(word: &[u8]) -> Option<Mode>
 {
     if word == b"n".as_slice() {
         Some(Mode::Off)
+    } else if word == b"y".as_slice() {
+        Some(Mode::Active)
+    } else if word == b"a".as_slice() {
+        Some(Mode::Active)
     } else {
         None
     }

@@ -17,7 +17,7 @@ mkvg_choice o word =
 abbrev pub no_mkvg_options : MkvgOptions
 no_mkvg_options = record { force = false; name = None; mib = None }
 
--- the options of `mklv`, of which `-y NAME` and `-w n` must stand
+-- the options of `mklv`, of which `-y NAME` must stand
 abbrev pub mklv_choice : MklvOptions → List ℕ → Choice MklvOptions
 mklv_choice o word =
     if is_new word (codes "-y") (is_some o.name) then Valued (λ value. option_map (λ name. record o { name = Some name }) (name_in value))

@@ -4,6 +4,7 @@ use Rattle.std.proofs.lemmas.Bool.Decides.{nat_tests}
 use Rattle.std.proofs.lemmas.List.{length-take}
 use Rattle.std.proofs.lemmas.List.Quantifiers.{position-Some}
 use Rattle.std.proofs.Common.{◌≡◌, ℕ, ◌+◌, ◌≤◌, ◌<◌, ◌==◌, Bool, true, false, cond, List, [], ◌∷◌, ◌++◌, length, take, Option, Some, None, Result, Ok, Err, refl, sym, subst, arith, length-append}
+use Rattle.lvm_num.specs.declared.descriptor.Mode.TheVariants as mode
 use Rattle.lvm_num.specs.declared.descriptor.Policy.TheVariants as policy
 use Rattle.lvm_parse.specs.declared.command.Command.{Command}
 use Rattle.lvm_parse.specs.declared.command.Command.TheVariants as command
@@ -252,7 +253,7 @@ lsvg_in : (high : ℕ) (l : Left) → LeftIn high l → In high (lsvg l)
 lsvg_in high l b = last_then high name_in (option (codes "-l") l).1 (option_is_in high (codes "-l") l b) (command.Lsvg (option (codes "-l") l).0)
 
 mklv_in : (high : ℕ) (l : Left) → LeftIn high l → In high (mklv l)
-mklv_in high l b = options_then high mklv_choice no_mklv_options l b _ (λ o b. required_then high o.0.name o.1 b _ (λ name. required_then high o.0.mode o.1 b _ (λ mode. operand_then high name_in o.1 b _ (λ group b. last_then high partitions_in group.1 b (command.Mklv name (unwrap_or o.0.copies 1) mode (unwrap_or o.0.policy policy.Parallel) group.0)))))
+mklv_in high l b = options_then high mklv_choice no_mklv_options l b _ (λ o b. required_then high o.0.name o.1 b _ (λ name. operand_then high name_in o.1 b _ (λ group b. last_then high partitions_in group.1 b (command.Mklv name (unwrap_or o.0.copies 1) (unwrap_or o.0.mode mode.Active) (unwrap_or o.0.policy policy.Parallel) group.0))))
 
 rmlv_in : (high : ℕ) (l : Left) → LeftIn high l → In high (rmlv l)
 rmlv_in high l b = last_then high name_in (option (codes "-f") l).1 (option_is_in high (codes "-f") l b) command.Rmlv

@@ -1,6 +1,6 @@
 -- What the grammar says of the numbers and the disks of a command.
 use Rattle.std.proofs.Common.{◌≡◌, ◌≢◌, ◌≤◌, ◌<◌, zero, suc, ◌∷◌, ◌++◌, [], ℕ, List, Bool, true, false, not, ◌&&◌, ◌||◌, length, Option, Some, None, Result, Ok, Err, is_some, if◌then◌else◌, get_or, refl, sym, ◌∙◌, ap, subst, arith, eq-eqb}
-use Rattle.std.specs.Prelude.{◌==◌, nat_le, nat_lt, AllPairs, IsTrue, codes, bytes_eq}
+use Rattle.std.specs.Prelude.{◌==◌, nat_le, nat_lt, AllPairs, IsTrue, codes, bytes_eq, unwrap_or}
 use Rattle.std.specs.Option.{ForSome, option_map}
 use Rattle.std.specs.List.{list_any}
 use Rattle.std.proofs.lemmas.Bool.{leb-true}
@@ -8,7 +8,7 @@ use Rattle.std.proofs.lemmas.List.Quantifiers.{all_pairs_push}
 use Rattle.lvm_num.specs.Descriptor.{is_size}
 use Rattle.lvm_num.specs.Name.{is_name}
 use Rattle.lvm_num.specs.declared.descriptor.Mode.{Mode}
-use Rattle.lvm_num.specs.declared.descriptor.Mode.TheVariants.{Off}
+use Rattle.lvm_num.specs.declared.descriptor.Mode.TheVariants.{Active, Off, Passive}
 use Rattle.lvm_literals.specs.Words.{only, number_in, number_within, count_in, size_in, name_in, disk_in, word_in, mode_in, partitions_in, turns_in, copies_in, policy_in}
 use Rattle.lvm_operands.specs.declared.range.BlockRange.{BlockRange}
 use Rattle.lvm_operands.specs.declared.rest.Misfit.{Misfit}
@@ -161,27 +161,30 @@ choice_is_fit o word fit =
 
 -- ---- the options of `mklv`
 
-IsOff : MklvOptions → Type 0
-IsOff o = ForSome o.mode (λ given. given ≡ Off)
+IsBuilt : MklvOptions → Type 0
+IsBuilt o = ForSome o.mode (λ given. given ≡ Passive → ⊥)
 
-with_other : {X : Type 0} (f : X → MklvOptions) (meaning : List ℕ → Option X) → ((x : X) → IsOff (f x)) → (word : List ℕ) (after : MklvOptions) → option_map f (meaning word) ≡ Some after → IsOff after
-with_other f meaning off word after is = mapped IsOff f (meaning word) after (λ x found. off x) is
+with_other : {X : Type 0} (f : X → MklvOptions) (meaning : List ℕ → Option X) → ((x : X) → IsBuilt (f x)) → (word : List ℕ) (after : MklvOptions) → option_map f (meaning word) ≡ Some after → IsBuilt after
+with_other f meaning built word after is = mapped IsBuilt f (meaning word) after (λ x found. built x) is
 
-with_mode : (o : MklvOptions) (word : List ℕ) (after : MklvOptions) → option_map (λ mode. record o { mode = Some mode }) (mode_in word) ≡ Some after → IsOff after
-unfolding IsOff
-with_mode o word after is = mapped IsOff (λ mode. record o { mode = Some mode }) (mode_in word) after (λ mode found given its. (let h : mode ≡ given = cc (its) in sym h ∙ alone (bytes_eq word (codes "n")) mode found)) is
+with_mode : (o : MklvOptions) (word : List ℕ) (after : MklvOptions) → option_map (λ mode. record o { mode = Some mode }) (mode_in word) ≡ Some after → IsBuilt after
+unfolding IsBuilt
+with_mode o word after is = mapped IsBuilt (λ mode. record o { mode = Some mode }) (mode_in word) after
+    (λ mode found given its passive. (let h : mode ≡ given = cc (its) in not_passive (bytes_eq word (codes "n")) (bytes_eq word (codes "y")) (bytes_eq word (codes "a")) mode found (h ∙ passive))) is
   where
-    alone : (b : Bool) (mode : Mode) → (if b then Some Off else None) ≡ Some mode → mode ≡ Off
-    alone true mode same = cc (same)
-    alone false mode same = absurd (cc (same))
+    not_passive : (n y a : Bool) (mode : Mode) → (if n then Some Off else (if y then Some Active else (if a then Some Active else None))) ≡ Some mode → mode ≡ Passive → ⊥
+    not_passive true y a mode same passive = cc (same, passive)
+    not_passive false true a mode same passive = cc (same, passive)
+    not_passive false false true mode same passive = cc (same, passive)
+    not_passive false false false mode same passive = cc (same)
 
-choice_is_off : (o : MklvOptions) (word : List ℕ) → IsOff o → Keeping IsOff (mklv_choice o word)
-unfolding IsOff
-choice_is_off o word off =
-    keeping_if IsOff (is_new word (codes "-y") (is_some o.name)) _ _ (with_other (λ name. record o { name = Some name }) name_in (λ name. off))
-    (keeping_if IsOff (is_new word (codes "-c") (is_some o.copies)) _ _ (with_other (λ copies. record o { copies = Some copies }) copies_in (λ copies. off))
-    (keeping_if IsOff (is_new word (codes "-w") (is_some o.mode)) _ _ (with_mode o)
-    (keeping_if IsOff (is_new word (codes "-d") (is_some o.policy)) _ _ (with_other (λ policy. record o { policy = Some policy }) policy_in (λ policy. off)) tt)))
+choice_is_built : (o : MklvOptions) (word : List ℕ) → IsBuilt o → Keeping IsBuilt (mklv_choice o word)
+unfolding IsBuilt
+choice_is_built o word built =
+    keeping_if IsBuilt (is_new word (codes "-y") (is_some o.name)) _ _ (with_other (λ name. record o { name = Some name }) name_in (λ name. built))
+    (keeping_if IsBuilt (is_new word (codes "-c") (is_some o.copies)) _ _ (with_other (λ copies. record o { copies = Some copies }) copies_in (λ copies. built))
+    (keeping_if IsBuilt (is_new word (codes "-w") (is_some o.mode)) _ _ (with_mode o)
+    (keeping_if IsBuilt (is_new word (codes "-d") (is_some o.policy)) _ _ (with_other (λ policy. record o { policy = Some policy }) policy_in (λ policy. built)) tt)))
 
 -- ---- disks
 
@@ -277,12 +280,13 @@ unfolding Fits
 fits_lslv l = fits_if (option (codes "-m") l).0 _ _ (fits_then (last name_in (option (codes "-m") l).1) (λ name. Ok (command.Lslv name)) (λ name is. tt)) tt
 
 fits_mklv : (l : Left) → Fits (mklv l)
-unfolding Fits IsOff options
-fits_mklv l = fits_then (options mklv_choice no_mklv_options l) _ (λ o options_are. fits_then (required o.0.name o.1) _ (λ name named. fits_then (required o.0.mode o.1) _ (λ mode mode_is.
-    fits_then (operand name_in o.1) _ (λ group in_group. fits_then (last partitions_in group.1) _ (λ lps partitions_are. (some_partitions group.1 lps partitions_are, in_mode o mode options_are mode_is))))))
+unfolding Fits IsBuilt options
+fits_mklv l = fits_then (options mklv_choice no_mklv_options l) _ (λ o options_are. fits_then (required o.0.name o.1) _ (λ name named.
+    fits_then (operand name_in o.1) _ (λ group in_group. fits_then (last partitions_in group.1) _ (λ lps partitions_are. (some_partitions group.1 lps partitions_are, in_mode o options_are o.0.mode refl)))))
   where
-    in_mode : (o : MklvOptions × Left) (mode : Mode) → options mklv_choice no_mklv_options l ≡ Ok o → required o.0.mode o.1 ≡ Ok mode → mode ≡ Off
-    in_mode o mode options_are mode_is = options_keep IsOff mklv_choice choice_is_off no_mklv_options l.words l.end o (λ given its. absurd (cc (its))) options_are mode (found_of o.0.mode (next_column o.1) mode mode_is)
+    in_mode : (o : MklvOptions × Left) → options mklv_choice no_mklv_options l ≡ Ok o → (given : Option Mode) → o.0.mode ≡ given → unwrap_or given Active ≡ Passive → ⊥
+    in_mode o options_are None is passive = cc (passive)
+    in_mode o options_are (Some mode) is passive = options_keep IsBuilt mklv_choice choice_is_built no_mklv_options l.words l.end o (λ given its. absurd (cc (its))) options_are mode is passive
 
 fits_varyonvg : (l : Left) → Fits (varyonvg l)
 unfolding Fits

@@ -1,5 +1,6 @@
 -- The lines of the language: each rule says what follows the line's first word.
 use Rattle.std.specs.Prelude.{ℕ, if◌then◌else◌, List, [], ◌∷◌, Option, Some, None, unwrap_or, Result, Ok, codes, bytes_eq}
+use Rattle.lvm_num.specs.declared.descriptor.Mode.TheVariants as mode
 use Rattle.lvm_num.specs.declared.descriptor.Policy.TheVariants as policy
 use Rattle.lvm_parse.specs.declared.command.Command.{Command}
 use Rattle.lvm_parse.specs.declared.command.Command.TheVariants as command
@@ -94,11 +95,11 @@ lsvg l = let volumes = option (codes "-l") l in then_ (last name_in volumes.1) (
 
 -- ---- volumes
 
--- what follows the options of `mklv`; one copy and `p` where they aren't given
+-- what follows the options of `mklv`; one copy, mode active and `p` where they aren't given
 abbrev pub new_volume : MklvOptions → Left → Result Command Misfit
-new_volume o l = then_ (required o.name l) (λ name. then_ (required o.mode l) (λ mode. then_ (operand name_in l) (λ group. then_ (last partitions_in group.1) (λ lps. Ok (command.Mklv name (unwrap_or o.copies 1) mode (unwrap_or o.policy policy.Parallel) group.0 lps)))))
+new_volume o l = then_ (required o.name l) (λ name. then_ (operand name_in l) (λ group. then_ (last partitions_in group.1) (λ lps. Ok (command.Mklv name (unwrap_or o.copies 1) (unwrap_or o.mode mode.Active) (unwrap_or o.policy policy.Parallel) group.0 lps))))
 
--- `mklv -y NAME [-c N] -w n [-d p, s, ps or pr] NAME LPS`
+-- `mklv -y NAME [-c N] [-w n, y or a] [-d p, s, ps or pr] NAME LPS`
 abbrev pub mklv : Left → Result Command Misfit
 mklv l = then_ (options mklv_choice no_mklv_options l) (λ o. new_volume o.0 o.1)
 

@@ -5,7 +5,7 @@ ghost use Rattle.lvm_operands.specs.Rests.{left};
 ghost use Rattle.lvm_parse.specs.Answering.{Answers};
 
 use crate::command::{Command, ParseFault};
-use lvm_num::{Policy, Rows};
+use lvm_num::{Mode, Policy, Rows};
 use lvm_operands::{
     Misfit, Rest, blocks, disk, disks, ends, is_disk_next, last_blocks, last_copies, last_disk,
     last_name, last_partitions, last_pattern, last_turns, misfit, name, next_column, next_word,
@@ -242,7 +242,7 @@ pub fn lslv(rest: Rest<'_>) -> Result<Command, Misfit>
     Ok(Command::Lslv { name })
 }
 
-/// `mklv -y NAME [-c N] -w n [-d p, s, ps or pr] NAME LPS`
+/// `mklv -y NAME [-c N] [-w n, y or a] [-d p, s, ps or pr] NAME LPS`
 pub fn mklv(rest: Rest<'_>) -> Result<Command, Misfit>
     ensures { result ≡ mklv (left rest.entry) }
 {
@@ -256,7 +256,7 @@ pub fn mklv(rest: Rest<'_>) -> Result<Command, Misfit>
 fn new_volume(options: MklvOptions, rest: Rest<'_>) -> Result<Command, Misfit>
     ensures { result ≡ new_volume options (left rest.entry) }
 {
-    let (Some(volume), Some(mode)) = (options.name, options.mode) else {
+    let Some(volume) = options.name else {
         return Err(misfit(next_column(rest)));
     };
     match name(rest) {
@@ -265,7 +265,7 @@ fn new_volume(options: MklvOptions, rest: Rest<'_>) -> Result<Command, Misfit>
             Ok(Command::Mklv {
                 name: volume,
                 copies: options.copies.unwrap_or(1),
-                mode,
+                mode: options.mode.unwrap_or(Mode::Active),
                 policy: options.policy.unwrap_or(Policy::Parallel),
                 group,
                 lps,

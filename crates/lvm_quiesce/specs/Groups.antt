@@ -18,7 +18,7 @@ use Rattle.lvm_core.specs.Held.{StartsHeld}
 use Rattle.lvm_core.specs.Settled.{IsSettled, HasSpareNumbers}
 use Rattle.lvm_group.specs.NewGroup.{NewGroup, MayBegin, RefusesFirst}
 use Rattle.lvm_group.specs.Made.{MkvgGives}
-use Rattle.lvm_varyon.specs.Restated.{HasNoConsistency}
+use Rattle.lvm_recover.specs.Recovered.{HasNoPassive}
 use Rattle.lvm_varyon.specs.Varied.{VaryonGives, IsRestated, IsRecovered}
 use Rattle.lvm_quiesce.specs.Behind.{ClockIsAheadEach}
 use Rattle.lvm_quiesce.specs.Ends.{Quiesces, IsCutEnding, IsStuckEnding}
@@ -60,7 +60,7 @@ IsFullFor log why = (why ≡ cause.HistoryFull) × (spare_entries log ≡ 0)
 pub record VariesOnAt {S : Type 0} (device : S → Device) (log : Log) (name : List ℕ) (moment : ℕ) (room : Room) (patience : ℕ) (old : Device) (outcome : Result (S × Core) (Refused S)) : Type 0 where
   pub gives : VaryonGives device old log name moment room patience outcome
   pub restated : IfOk outcome (λ driver. ClockIsAhead log.run moment old log.facts → IsRestated old (device driver.0) driver.1.descriptor)
-  pub recovered : IfOk outcome (λ driver. ClockIsAhead log.run moment old log.facts → HasNoConsistency driver.1.descriptor → IsRecovered old (device driver.0) driver.1.descriptor)
+  pub recovered : IfOk outcome (λ driver. ClockIsAhead log.run moment old log.facts → HasNoPassive driver.1.descriptor → IsRecovered old (device driver.0) driver.1.descriptor)
 
 -- `varyonvg`, of which want of an entry is judged first
 abbrev pub VaryonOnceQuiet : {S : Type 0} → (S → Device) → Log → List ℕ → ℕ → Room → ℕ → Device → Result (S × Core) (Refused S) → Type 0

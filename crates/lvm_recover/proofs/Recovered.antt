@@ -95,7 +95,7 @@ module _ (old begun copied new : Contents) (ranges : List Range) (disks : Disks)
   same_block d s = ap (λ (c : Contents). c.block d s) is.emptied.rest
 
   block_was : (d s : ℕ) → begun.block d s ≡ old.block d s
-  block_was d s = ap (λ (f : ℕ → ℕ → Sector). f d s) is.restated.same_data
+  block_was d s = ap (λ (f : ℕ → ℕ → Sector). f d s) is.same_data
 
   -- the usable copies
   usable : (row : LvRow) (lp : ℕ) → IsOneOf group.lvs row → fresh_on there (Some next) row lp ≡ fresh old disks id row lp
@@ -153,8 +153,7 @@ module _ (old begun copied new : Contents) (ranges : List Range) (disks : Disks)
       let hold : HoldOne copied group.mib (fresh_on there (Some shows.stands) row lp) b =
       even_there group next.value there begun facts is.within is.enough shows (is.keeps facts kept) copied is.valid
       (subst (λ (s : Stamped Status). IsRecopied begun group (Some s) there copied) (sym stands_is) is.copied_so)
-      (subst (λ (s : Stamped Status). AreEqualled begun group (Some s) there copied) (sym stands_is) is.equalled)
-      row lp b one on inside in
+      row lp b one (subst (λ (s : Stamped Status). AreEqualled begun group (Some s) there copied) (sym stands_is) is.equalled row lp b one inside) on inside in
       let by_next : HoldOne copied group.mib (fresh_on there (Some next) row lp) b = subst (λ (s : Stamped Status). HoldOne copied group.mib (fresh_on there (Some s) row lp) b) stands_is hold in
       let now : HoldOne new group.mib (fresh_on there (Some next) row lp) b = (by_next.0, held by_next.0 (fresh_on there (Some next) row lp) by_next.1) in
       subst (λ (set : Disks). HoldOne new group.mib (fresh_on set (status_among new disks id) row lp) b) (sym voters_now)

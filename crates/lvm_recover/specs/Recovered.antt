@@ -22,11 +22,12 @@ use Rattle.lvm_recover.specs.Recopied.{IsRecopied, AreEqualled, OnlyNotesOf}
 abbrev pub HasNoPassive : Descriptor → Type 0
 HasNoPassive group = (row : LvRow) → IsOneOf group.lvs row → row.mode ≡ Passive → ⊥
 
--- What a varyon has done of a group: its records are restated, with the notes as they were; then the named track groups are copied; then the notes are emptied.
+-- What a varyon has done of a group: its records are restated, with the data and the notes as they were; then the named track groups are copied; then the notes are emptied.
 pub record Recovers (old begun copied new : Contents) (ranges : List Range) (disks : Disks) (group : Descriptor) : Type 0 where
   pub valid : IsValid group
   pub within : IsWithinDisks begun
   pub restated : Restated old begun disks group
+  pub same_data : begun.block ≡ old.block
   pub same_voters : (d : ℕ) → is_voter begun disks group.id d ≡ is_voter old disks group.id d
   pub same_notes : (d lv track_group : ℕ) → IsTrue (is_voter old disks group.id d) → is_named begun d lv track_group ≡ is_named old d lv track_group
   pub enough : CanWrite group (is_voter old disks group.id)

@@ -19,7 +19,7 @@ use Rattle.lvm_posts.specs.Posts.{AreAnswered, AreHeld}
 use Rattle.lvm_quiesce.specs.Behind.{IsAheadEach}
 use Rattle.lvm_tie_copies.specs.passed.Earlier.{AreGone}
 use Rattle.lvm_tie_copies.specs.passed.TieCommands.{StandsAfter}
-use Rattle.lvm_tie_copies.specs.passed.TieGroups.{AreOff}
+use Rattle.lvm_tie_copies.specs.passed.Recover.{HasNoPassive}
 
 -- The shelf and what the history has so far, the session of the group that is on, if one is, the posts whose answers aren't taken, and the clock's last moment.
 pub record State : Type 0 where
@@ -90,9 +90,9 @@ pub record IsTimely (run : ℕ) (s : State) : Type 0 where
 
 -- ---- what stands on the disks
 
--- Where its group has a volume and no request is open, at most one group has a quorum among all disks, and all its volumes are in mode off.
+-- Where its group has a volume and no request is open, at most one group has a quorum among all disks, and none of its volumes is in mode passive.
 abbrev pub StandsAlone : Device → Core → Type 0
-StandsAlone device core = core.requests ≡ [] → core.descriptor.lvs ≢ [] → IsOneByAllOn device × AreOff core.descriptor
+StandsAlone device core = core.requests ≡ [] → core.descriptor.lvs ≢ [] → IsOneByAllOn device × HasNoPassive core.descriptor
 
 -- After each earlier history with which the run may have begun, the disks stand by the session, where its group stands alone.
 abbrev pub StandsBy : ℕ → Moment → State → Type 0

@@ -12,6 +12,6 @@ pub mod Running
 pub mod Tie
 pub mod TieCommands
 pub mod TieCopies
-pub mod TieGroups
+pub mod Recover
 pub mod Varyon
 pub mod Volumes

@@ -277,12 +277,17 @@ fn copies_are_spelled(rt: HostRuntime) {
     );
 }
 
-// The volume lv00 in datavg, without a note.
+// The volume lv00 in datavg, in mode off.
 fn volume(rt: &impl Abort, copies: u8, policy: Policy, lps: u32) -> Command {
+    volume_in(rt, Mode::Off, copies, policy, lps)
+}
+
+// The volume lv00 in datavg, in a mode.
+fn volume_in(rt: &impl Abort, mode: Mode, copies: u8, policy: Policy, lps: u32) -> Command {
     Command::Mklv {
         name: name(rt, b"lv00"),
         copies,
-        mode: Mode::Off,
+        mode,
         policy,
         group: name(rt, b"datavg"),
         lps,
@@ -315,5 +320,22 @@ fn a_new_volume_is_spelled(rt: HostRuntime) {
         &rt,
         b"mklv -y lv00 -d p -w n datavg 1",
         volume(&rt, 1, Policy::Parallel, 1),
+    );
+}
+
+#[test]
+fn a_volume_is_active_unless_it_is_said(rt: HostRuntime) {
+    let active = volume_in(&rt, Mode::Active, 2, Policy::Parallel, 7);
+    spells(&rt, b"mklv -y lv00 -c 2 datavg 7", active);
+    let active = volume_in(&rt, Mode::Active, 2, Policy::Parallel, 7);
+    spells(&rt, b"mklv -y lv00 -c 2 -w y datavg 7", active);
+    let active = volume_in(&rt, Mode::Active, 2, Policy::Parallel, 7);
+    spells(&rt, b"mklv -w a -c 2 -y lv00 datavg 7", active);
+    all_refused(
+        &rt,
+        &[
+            (b"mklv -y lv00 -w p datavg 1", 17),
+            (b"mklv -y lv00 -w yy datavg 1", 17),
+        ],
     );
 }

@@ -3,7 +3,6 @@ use Rattle.std.proofs.Common.{◌≡◌, ◌⊎◌, inl, inr, ⊎_elim, ℕ, [],
 use Rattle.std.specs.Prelude.{◌≢◌}
 use Rattle.std.proofs.lemmas.List.Elements.{All-contains}
 use Rattle.lvm_num.specs.declared.descriptor.Descriptor.{Descriptor}
-use Rattle.lvm_num.specs.declared.descriptor.Mode.TheVariants.{Off}
 use Rattle.lvm_num.specs.declared.place.Pp.{Pp}
 use Rattle.lvm_num.specs.Descriptor.{is_member}
 use Rattle.lvm_num.specs.Geometry.{volume_blocks}
@@ -21,12 +20,14 @@ use Rattle.lvm_volume_plan.specs.declared.fault.GroupFault.{GroupFault}
 use Rattle.lvm_volume_plan.specs.declared.fault.GroupFault.TheVariants as fault
 use Rattle.lvm_volume_plan.specs.declared.new_volume.NewVolume.{NewVolume}
 use Rattle.lvm_volume_plan.specs.NewVolume.{row_for, with_volume}
+use Rattle.lvm_even.specs.passed.Volumes.{AreZeroed}
 use Rattle.lvm_handover.specs.passed.Volumes.{IfOn, StillHeld, IsChosen, IsVolumeMade, MklvGives, making, to_make}
 use Rattle.lvm_handover.proofs.passed.Volumes.{free_of}
 use Rattle.lvm_handover.specs.Serving.{IsCommanded}
 use Rattle.lvm_even.proofs.Even.{mklv_keeps_even}
-use Rattle.lvm_even.proofs.OffLemmas.{off_volume_is_even}
+use Rattle.lvm_even.proofs.OffLemmas.{zeroed_volume_is_even}
 use Rattle.lvm_rest.specs.Rest.{IsEven}
+use Rattle.lvm_rest.proofs.Good.{mib_positive}
 use Rattle.lvm_handover.specs.passed.TieBegins.{shown_to}
 use Rattle.lvm_tie_commands.specs.Commands.{IsAloneAtFirst, IsLeftStandingSince, MayBeCommanded, MklvGoesOn}
 use Rattle.lvm_tie_commands.proofs.Commands.{KeepsEven, is_alone, keeps_on, left_standing, on_all}
@@ -37,6 +38,7 @@ record IsMade (v : NewVolume) (old new : Session) : Type 0 where
   map : List Pp
   is : new.core.descriptor ≡ with_volume old.core.descriptor (row_for v lv map)
   enters : EntersVolumes old.core.history.facts new.core.history.facts
+  zeros : AreZeroed old.core.descriptor.mib map new.device
 
 abbrev IsMadeOrNot : NewVolume → Session → Session → Type 0
 IsMadeOrNot v old new = (new.core.descriptor ≡ old.core.descriptor) ⊎ IsMade v old new
@@ -45,6 +47,7 @@ made : (v : NewVolume) (lv : ℕ) (old new : Session) → IsVolumeMade v lv old 
 made v lv old new it = inr (record {
   lv = lv;
   map = it.map;
+  zeros = it.zeros;
   is = ap (λ (c : Core). c.descriptor) it.is;
   enters = subst (λ (facts : List Fact). EntersVolumes old.core.history.facts facts) (sym (ap (λ (c : Core). c.history.facts) it.is))
       (let one = enters_one old.core.history.facts (Making_ lv (volume_blocks old.core.descriptor.mib v.lps) v.mode) refl in
@@ -71,7 +74,7 @@ made_or_not v before old new (Err fault.HistoryFull) gives = refused v old new g
 made_or_not v before old new (Err fault.Memory) gives = refused v old new gives.0
 
 module _ (run : ℕ) (first : Moment) (v : NewVolume) (before after : ℕ) (old new : Session) (answer : Result ℕ GroupFault)
-    (may : MayBeCommanded run first old) (one : IsAloneAtFirst old new) (off : v.mode ≡ Off) (c : IsCommanded (to_make v old.core) before after old new answer) where
+    (may : MayBeCommanded run first old) (one : IsAloneAtFirst old new) (c : IsCommanded (to_make v old.core) before after old new answer) where
   keeps : Keeps run first (moment_of new)
   keeps = keeps_on run first old new may c.began (to_make v old.core) before after c.leaves (is_alone run first old new may c.began one)
 
@@ -88,7 +91,7 @@ module _ (run : ℕ) (first : Moment) (v : NewVolume) (before after : ℕ) (old 
         ⊎_elim
         (λ (same : new.core.descriptor ≡ old.core.descriptor). subst (λ (g : Descriptor). IsEven (shown_to new is) g (Some stands) (is_there new.core)) (sym same) kept)
         (λ (it : IsMade v old new). subst (λ (g : Descriptor). IsEven (shown_to new is) g (Some stands) (is_there new.core)) (sym it.is)
-        (off_volume_is_even (shown_to new is) old.core.descriptor (Some stands) (is_there new.core) v it.lv it.map off kept))
+        (zeroed_volume_is_even new.device is old.core.descriptor (Some stands) (is_there new.core) v it.lv it.map (mib_positive old.core.descriptor may.sound.fitting.valid) told_new it.zeros kept))
         made
 
     enters : new.core.descriptor.lvs ≢ [] → old.core.descriptor.lvs ≡ [] → IsOneByAllOn old.device
@@ -99,8 +102,8 @@ module _ (run : ℕ) (first : Moment) (v : NewVolume) (before after : ℕ) (old 
         left_standing run first old new may c.began (to_make v old.core) before after c.leaves on still members keeps_even enters keeps whole past begins
 
 pub mklv_goes_on : MklvGoesOn
-mklv_goes_on run first v before after old new answer may one off c gives = (
-  keeps run first v before after old new answer may one off c,
+mklv_goes_on run first v before after old new answer may one c gives = (
+  keeps run first v before after old new answer may one c,
   on_all answer (IsSettled new.core) (StillHeld old new) (IsMadeOrNot v old new) (IsLeftStandingSince run first new) c.on c.still (made_or_not v before old new answer gives)
-      (λ on still made. left_so run first v before after old new answer may one off c made on still),
+      (λ on still made. left_so run first v before after old new answer may one c made on still),
 )

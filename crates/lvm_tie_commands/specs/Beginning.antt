@@ -15,7 +15,7 @@ use Rattle.lvm_core.specs.Settled.{IsSettled}
 use Rattle.lvm_handover.specs.passed.Varyon.{ComesOn}
 use Rattle.lvm_handover.specs.passed.Group.{IsMade, NewGroup}
 use Rattle.lvm_handover.specs.passed.Tie.{IsStamped}
-use Rattle.lvm_tie_groups.specs.Coming.{AreOff}
+use Rattle.lvm_recover.specs.Recovered.{HasNoPassive}
 use Rattle.lvm_tie_commands.specs.Standing.{StandsAfter, StandsSince}
 
 -- The session of this run has begun, settled and sound, a span leads to it, and its disks hold what it says.
@@ -27,11 +27,11 @@ pub record HasBegun (run : ℕ) (first : Moment) (s : Session) : Type 0 where
   pub keeps : Keeps run first (moment_of s)
   pub held : StartsHeld s.device s.core
 
--- Where a varyon has begun it: with a volume, where on each crash image at most one group has a quorum among all disks, and no copies have to be made even.
+-- Where a varyon has begun it: with a volume, where on each crash image at most one group has a quorum among all disks, and no volume is in mode passive.
 abbrev pub VariedOnStands : Type 0
 VariedOnStands = (run : ℕ) (first : Moment) (was : Log) (name : List ℕ) (moment : ℕ) (room : Room) (old : Device) (s : Session)
     → ComesOn old s.device was name moment room s.core → HasBegun run first s → HasSectors s.device
-    → (s.core.descriptor.lvs ≢ [] → IsOneByAllOn s.device × AreOff s.core.descriptor) → StandsSince run first s
+    → (s.core.descriptor.lvs ≢ [] → IsOneByAllOn s.device × HasNoPassive s.core.descriptor) → StandsSince run first s
 
 -- Where a mkvg has: the group has no volume.
 abbrev pub MadeStands : Type 0

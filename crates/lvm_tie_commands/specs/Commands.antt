@@ -1,6 +1,5 @@
 -- Over a command on the volumes of a session, by the contract of its call: what stands on the disks goes on to stand.
 use Rattle.std.specs.Prelude.{◌≡◌, ℕ, List, [], Result}
-use Rattle.lvm_num.specs.declared.descriptor.Mode.TheVariants.{Off}
 use Rattle.lvm_num.specs.declared.place.Pp.{Pp}
 use Rattle.lvm_disk.specs.Device.{HasSectors}
 use Rattle.lvm_vol.specs.Facts.{Fact}
@@ -42,7 +41,7 @@ IsLeftStandingSince run first new = HasSectors new.device → (past : List Fact)
 -- A span goes on over the making of a volume, whatever its answer, and where the session does, it is left so;
 abbrev pub MklvGoesOn : Type 0
 MklvGoesOn = (run : ℕ) (first : Moment) (v : NewVolume) (before after : ℕ) (old new : Session) (answer : Result ℕ GroupFault)
-    → MayBeCommanded run first old → IsAloneAtFirst old new → v.mode ≡ Off → IsCommanded (to_make v old.core) before after old new answer → MklvGives v before old new answer
+    → MayBeCommanded run first old → IsAloneAtFirst old new → IsCommanded (to_make v old.core) before after old new answer → MklvGives v before old new answer
     → Keeps run first (moment_of new) × IfOn answer (IsLeftStandingSince run first new)
 
 -- and so it is over the removal of one.

@@ -7,6 +7,6 @@ pub mod Handover
 pub mod Ranges
 pub mod Running
 pub mod Tie
-pub mod TieGroups
+pub mod Recover
 pub mod Varyon
 pub mod Volumes

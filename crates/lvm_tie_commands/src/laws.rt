@@ -3,7 +3,7 @@ ghost use Rattle.lvm_tie_commands.specs.Beginning.{MadeStands, VariedOnStands};
 ghost use Rattle.lvm_tie_commands.specs.Commands.{MklvGoesOn, RmlvGoesOn};
 
 /// What stands on the disks of a session that a varyon has begun, after each earlier history: of a group with volumes,
-/// where these are all in mode off and on each crash image at most one group has a quorum among all disks.
+/// where none of these is in mode passive and on each crash image at most one group has a quorum among all disks.
 pub fn varied_on_stands()
     ensures { VariedOnStands }
 {}
@@ -14,7 +14,7 @@ pub fn made_stands()
 {}
 
 /// A span goes on over `mklv`, whatever it answers; and what stands on the disks of the session goes on to stand, where
-/// this does and the volume is in mode off.
+/// this does, whatever the mode of the volume.
 pub fn mklv_goes_on()
     ensures { MklvGoesOn }
 {}

@@ -9,6 +9,6 @@ pub mod Ranges
 pub mod Running
 pub mod Tie
 pub mod TieCommands
-pub mod TieGroups
+pub mod Recover
 pub mod Varyon
 pub mod Volumes

@@ -41,6 +41,10 @@ use Rattle.lvm_session.specs.Causes.{faults_at_first}
 use Rattle.lvm_session.specs.Sound.{IsFitting as IsFittingTable, IsSound, is_dark}
 use Rattle.lvm_core.specs.declared.parts.Room.{Room}
 use Rattle.lvm_core.specs.Held.{NotesAreHome}
+use Rattle.lvm_core.proofs.Held.{empty_names_none}
+use Rattle.lvm_mwc.specs.Cache.{is_named as is_named_by}
+use Rattle.lvm_kept.proofs.Finding.{images_within}
+use Rattle.lvm_recover.proofs.Equalling.{quiet_is_even}
 use Rattle.lvm_core.specs.Sound.{HaveAllLanded, IsFitting}
 use Rattle.lvm_core.specs.Starting.{IsRoom, room_of}
 use Rattle.lvm_group.specs.NewGroup.{given_up, new_group, new_status}
@@ -49,7 +53,7 @@ use Rattle.lvm_rest.proofs.Marking.{none_is_left_behind}
 use Rattle.lvm_tie.specs.Tied.{IsGood, moment_of}
 use Rattle.lvm_tie_begins.specs.Begins.{BeginsSound, StandsAtRest, Start, begun, shown_to}
 use Rattle.lvm_tie_begins.proofs.Beginning.{begins_good}
-use Rattle.lvm_tie_groups.specs.Coming.{AreOff, IsBegun, IsDriven, IsMadeEven, LeadsTo, MadeServes, OffIsMadeEven, VariedOnServes}
+use Rattle.lvm_tie_groups.specs.Coming.{IsBegun, IsDriven, IsMadeEven, LeadsTo, MadeServes, VariedIsMadeEven, VariedOnServes}
 use Rattle.lvm_tie_groups.proofs.Entailing.{few_updates, not_entailed}
 
 -- what holds of the media that is told
@@ -243,11 +247,18 @@ module _ (was log : Log) (moment : ℕ) (room : Room) (old : Device) (s : Sessio
 
 -- ---- where there is nothing to recover
 
-pub off_is_made_even : OffIsMadeEven
-off_is_made_even was moment room old s media it clock told off = record {
-  notes = of_told (λ (m : Media). NotesAreHome s.core (image_of s.device.sizes m)) s.device.media media told ((it.started.held clock).notes (λ row volume active. absurd (cc (sym (off row volume) ∙ active))));
-  even = λ shows row lp b volume kept block. absurd (kept (off row volume));
-}
+-- the notes are home, as the session begins
+home : (was : Log) (moment : ℕ) (room : Room) (old : Device) (s : Session) (media : Media) → IsBegun was moment room old s → ClockIsAhead was.run moment old was.facts → s.device.media ≡ Some media → NotesAreHome s.core (image_of s.device.sizes media)
+home was moment room old s media it clock told = of_told (λ (m : Media). NotesAreHome s.core (image_of s.device.sizes m)) s.device.media media told (it.started.held clock).notes
+
+pub varied_is_made_even : VariedIsMadeEven
+varied_is_made_even past was name moment room old s media on it clock told none kept =
+    let notes = home was moment room old s media it clock told in
+    record {
+      notes = notes;
+      even = λ shows. quiet_is_even (shown_to s media) s.core.descriptor s.core.status.committed (is_there s.core) past it.sound.fitting.valid (images_within (image_of s.device.sizes media)) it.started.settled.votes shows none
+          (λ d lv group present. notes d lv group present ∙ ap (λ (c : Core). is_named_by c.cache d lv group) on.first.is ∙ empty_names_none on.written.group on.first.parts.cache on.first.reserved.cache d lv group) kept;
+    }
 
 -- ---- by varyon
 
@@ -277,7 +288,9 @@ made_serves m was w room old s media made it leads driven only =
       is = made.core_is;
     } in
     let none : s.core.descriptor.lvs ≡ [] = ap (λ (c : Core). c.descriptor.lvs) made.core_is ∙ ap (λ (d : Descriptor). d.lvs) made.parts.descriptor in
-    let off : AreOff s.core.descriptor = λ row volume. absurd (subst (λ (rows : List LvRow). IsOneOf rows row) none volume) in
     let early = made.clear.moment in
     serves was (given_up was w.disks) w.moment room old s media refl b it (omega (arith, early)) driven leads.clock only
-    (off_is_made_even was w.moment room old s media it leads.clock driven.told off) m leads
+    (record {
+      notes = home was w.moment room old s media it leads.clock driven.told;
+      even = λ shows row lp b volume soft inside. absurd (subst (λ (rows : List LvRow). IsOneOf rows row) none volume);
+    }) m leads

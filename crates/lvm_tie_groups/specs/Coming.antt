@@ -1,12 +1,10 @@
 -- A session that mkvg or varyon has begun, by what their contracts say: where it is good.
 use Rattle.std.specs.Prelude.{false, ◌≡◌, ℕ, ◌<◌, ◌^◌, List, [], Some}
-use Rattle.lvm_num.specs.declared.descriptor.Descriptor.{Descriptor}
-use Rattle.lvm_num.specs.declared.descriptor.LvRow.{LvRow}
-use Rattle.lvm_num.specs.declared.descriptor.Mode.TheVariants.{Off}
 use Rattle.lvm_disk.specs.Device.{Device, Media, AreSectors, image_of}
+use Rattle.lvm_vol.specs.Facts.{Fact}
 use Rattle.lvm_vol.specs.Log.{Log}
 use Rattle.lvm_vol.specs.Order.{Ordered}
-use Rattle.lvm_kept.specs.Group.{IsOneOf}
+use Rattle.lvm_kept.specs.Kept.{Kept}
 use Rattle.lvm_kept.specs.Moments.{Moment, StaysCalm}
 use Rattle.lvm_steps.specs.Moments.{Keeps}
 use Rattle.lvm_steps.specs.Requests.{at}
@@ -23,6 +21,7 @@ use Rattle.lvm_varyon.specs.Varied.{ComesOn}
 use Rattle.lvm_group.specs.Made.{IsMade}
 use Rattle.lvm_group.specs.NewGroup.{NewGroup}
 use Rattle.lvm_rest.specs.Rest.{IsEven}
+use Rattle.lvm_recover.specs.Recovered.{HasNoPassive}
 use Rattle.lvm_tie.specs.Tied.{IsGood}
 use Rattle.lvm_tie_begins.specs.Begins.{ShowsIts, shown_to}
 
@@ -58,13 +57,11 @@ pub record IsMadeEven (s : Session) (media : Media) : Type 0 where
   pub notes : NotesAreHome s.core (image_of s.device.sizes media)
   pub even : (shows : ShowsIts s media) → IsEven (shown_to s media) s.core.descriptor (Some shows.stands) (is_there s.core)
 
--- It has nothing to do where all volumes are in mode off, as where there is none.
-abbrev pub AreOff : Descriptor → Type 0
-AreOff group = (row : LvRow) → IsOneOf group.lvs row → row.mode ≡ Off
-
-abbrev pub OffIsMadeEven : Type 0
-OffIsMadeEven = (was : Log) (moment : ℕ) (room : Room) (old : Device) (s : Session) (media : Media)
-    → IsBegun was moment room old s → ClockIsAhead was.run moment old was.facts → s.device.media ≡ Some media → AreOff s.core.descriptor → IsMadeEven s media
+-- So it is where no volume is in mode passive: once the notes name nothing, what the disks keep makes the usable copies even.
+abbrev pub VariedIsMadeEven : Type 0
+VariedIsMadeEven = (past : List Fact) (was : Log) (name : List ℕ) (moment : ℕ) (room : Room) (old : Device) (s : Session) (media : Media)
+    → ComesOn old s.device was name moment room s.core → IsBegun was moment room old s → ClockIsAhead was.run moment old was.facts → s.device.media ≡ Some media
+    → HasNoPassive s.core.descriptor → Kept (shown_to s media) past → IsMadeEven s media
 
 -- ---- where it is good
 

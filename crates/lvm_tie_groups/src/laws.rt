@@ -1,5 +1,5 @@
 //! Laws of sessions before, between and after commands on their groups. Each call does nothing: its contract is the law.
-ghost use Rattle.lvm_tie_groups.specs.Coming.{MadeAlone, MadeServes, OffIsMadeEven, VariedOnServes};
+ghost use Rattle.lvm_tie_groups.specs.Coming.{MadeAlone, MadeServes, VariedIsMadeEven, VariedOnServes};
 ghost use Rattle.lvm_tie_groups.specs.Examples.{PairsServe};
 ghost use Rattle.lvm_tie_groups.specs.Settled.{SettledServes, SettledTies, TiedHolds, TiedSettles};
 
@@ -31,9 +31,9 @@ pub fn varied_on_serves()
     ensures { VariedOnServes }
 {}
 
-/// Its notes are home and its copies even where all volumes of the group are in mode off.
-pub fn off_is_made_even()
-    ensures { OffIsMadeEven }
+/// Its notes are home and its copies even where no volume of the group is in mode passive and its disks keep a history.
+pub fn varied_is_made_even()
+    ensures { VariedIsMadeEven }
 {}
 
 /// A session that a mkvg has begun is good, by the contract of that call, where on each crash image at most one group

@@ -4,6 +4,6 @@
 mod laws;
 
 pub use laws::{
-    made_alone, made_serves, off_is_made_even, pairs_serve, settled_serves, settled_ties,
-    tied_holds, tied_settles, varied_on_serves,
+    made_alone, made_serves, pairs_serve, settled_serves, settled_ties, tied_holds, tied_settles,
+    varied_is_made_even, varied_on_serves,
 };

@@ -23,13 +23,14 @@ use Rattle.lvm_core.specs.declared.refused.Refused.{Refused}
 use Rattle.lvm_session.specs.State.{Core}
 use Rattle.lvm_stamps.proofs.Stamps.{later_is_ahead_too}
 use Rattle.lvm_line.specs.passed.ReplyVariants as reply
-use Rattle.lvm_line.specs.passed.Varyon.{Refuses, order}
+use Rattle.lvm_line.specs.passed.Varyon.{Refuses}
+use Rattle.lvm_line.proofs.passed.Varyon.{failed_rests, wrote_broken, wrote_equalled, wrote_failed}
 use Rattle.lvm_top.specs.Standing.{MayHaveCommitted}
 use Rattle.lvm_top.proofs.Begun.{IsIts}
 use Rattle.lvm_top.proofs.Devices.{IsShelf, NothingNew, same_nothing, unwritten_nothing}
 use Rattle.lvm_top.proofs.Making.{IsAskedFor, parts_find, refused_finds}
 use Rattle.lvm_top.proofs.Quiet.{lit_nothing, quiet_nothing, stays_nothing}
-use Rattle.lvm_top.proofs.Varying.{written_nothing}
+use Rattle.lvm_top.proofs.Varying.{all_nothing}
 
 -- ---- the clock
 
@@ -133,11 +134,11 @@ module _ (log : Log) (old new : State) (answer : Reply) (shelf : IsShelf old.mom
       stops_nothing (cause.NoQuorum have total) heard refuses = unwritten_nothing mid left refuses.1.unwritten refuses.1.rested.ready.flights
       stops_nothing (cause.ClockBack seen) heard refuses = unwritten_nothing mid left refuses.1.unwritten refuses.1.rested.ready.flights
       stops_nothing (cause.DiskFailed disk) heard refuses =
-          let stops = refuses.1.writes.how.stops in
-          written_nothing mid left name new.last _ refuses.1 (mid_shelf mid quiet) some (behind mid quiet asks) (stops.before ++ stops.hand ∷ []) stops.only refuses.1.writes.how.rested.ready.flights
+          let failed = refuses.1.writes.how in
+          all_nothing mid left name new.last _ refuses.1 (mid_shelf mid quiet) some (behind mid quiet asks) (wrote_failed _ refuses.1.copies refuses.1.writes.read left disk failed) (failed_rests _ refuses.1.copies refuses.1.writes.read left disk failed)
       stops_nothing cause.Dark heard refuses = ⊎_elim
           (λ un. unwritten_nothing mid left un refuses.1.how.flights)
-          (λ it. written_nothing mid left name new.last _ it (mid_shelf mid quiet) some (behind mid quiet asks) (it.writes.how.before ++ it.writes.how.hand ∷ []) it.writes.how.only refuses.1.how.flights)
+          (λ it. all_nothing mid left name new.last _ it (mid_shelf mid quiet) some (behind mid quiet asks) (wrote_broken _ it.copies it.writes.read left it.writes.how) refuses.1.how.flights)
           refuses.1.when
       stops_nothing cause.Stuck heard refuses = absurd (heard refl)
       stops_nothing cause.Memory heard refuses = unwritten_nothing mid left refuses.1.0 refuses.1.1.ready.flights
@@ -166,8 +167,8 @@ module _ (log : Log) (old new : State) (answer : Reply) (shelf : IsShelf old.mom
     outcome_nothing room left is (Ok core) asks (WentQuiet may once) gone id k it =
         let written = once.goes.gives.written in
         quiet_nothing old.moment.device once.mid once.quiesces id k
-        (written_nothing once.mid left name new.last _ written (mid_shelf once.mid once.quiesces) (some_moment old.last new.last asks) (behind once.mid once.quiesces asks) (order written.group) written.writes.how.keeps
-        written.writes.how.rested.ready.flights id k (subst (λ (d : Device). MayBeFound d id k) (sym gone.0) it))
+        (all_nothing once.mid left name new.last _ written (mid_shelf once.mid once.quiesces) (some_moment old.last new.last asks) (behind once.mid once.quiesces asks) (wrote_equalled _ written.copies written.writes.read left core.homes written.writes.how)
+        written.writes.how.equal.rested.ready.flights id k (subst (λ (d : Device). MayBeFound d id k) (sym gone.0) it))
     outcome_nothing room left is (Err why) asks (WentQuiet may once) gone id k it =
         quiet_nothing old.moment.device once.mid once.quiesces id k
         (stops_nothing asks once.mid left once.quiesces once.left why (not_stuck why gone.answered) once.goes.gives.0 id k (lit_nothing why left new.moment.device gone.lit id k it))

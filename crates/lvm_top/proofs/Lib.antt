@@ -19,5 +19,6 @@ pub mod Lines
 pub mod Acknowledged
 pub mod Modes
 pub mod Scripts
+mod Recovering
 pub mod OneGroup
 pub mod Turning

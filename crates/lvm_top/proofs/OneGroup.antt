@@ -45,13 +45,13 @@ use Rattle.lvm_line.specs.passed.CopyLines.{RmlvcopyDoes, NoGroupForRmlvcopy, Bu
 use Rattle.lvm_top.specs.Script.{Script, NoLine, NextLine, AreAllowed, EndsAllowed, StaysAlone, Ends, AtLine, InLine, EndsAlone, EndsHeard, entry_state, empty_log, facts_of}
 use Rattle.lvm_top.specs.Run.{exit_state}
 use Rattle.lvm_top.proofs.Concluding.{how_ended, stuck_ends, stuck_still}
-use Rattle.lvm_top.proofs.Modes.{IsOffOn, committed_off, session_off}
+use Rattle.lvm_top.proofs.Modes.{HasNoPassiveOn, committed_off, session_off}
 use Rattle.lvm_top.proofs.Quiet.{lit_nothing, quiet_nothing, stays_nothing}
 use Rattle.lvm_top.proofs.Volumes.{as_group, done_finds, found_before, idle_nothing, undrained_nothing}
 use Rattle.lvm_top.proofs.Copying.{fewer_id, more_id}
 use Rattle.lvm_top.proofs.Scripting.{script_went}
 use Rattle.lvm_top.specs.Laws.{MayStart}
-use Rattle.lvm_top.specs.OneGroup.{FindsOff, FindsOneGroup, IsUnforced, AreUnforced, EndsUnforced, UnforcedStaysAlone, UnforcedRunsAlone, BlankFindsOneGroup}
+use Rattle.lvm_top.specs.OneGroup.{FindsNoPassive, FindsOneGroup, IsUnforced, AreUnforced, EndsUnforced, UnforcedStaysAlone, UnforcedRunsAlone, BlankFindsOneGroup}
 use Rattle.lvm_top.specs.Standing.{MayHaveCommitted, StoodBefore}
 use Rattle.lvm_top.proofs.Begun.{IsIts}
 use Rattle.lvm_top.proofs.Devices.{IsShelf, NothingNew, then_nothing, same_nothing, unwritten_nothing}
@@ -59,7 +59,7 @@ use Rattle.lvm_top.proofs.Groups.{asked, asked_nothing, not_stuck}
 use Rattle.lvm_top.proofs.Lines.{by_reading}
 use Rattle.lvm_top.proofs.Making.{parts_find, refused_finds}
 use Rattle.lvm_top.proofs.Scripts.{last_told, run_may_start, stood, went_so}
-use Rattle.lvm_line.specs.passed.TieGroups.{AreOff}
+use Rattle.lvm_line.specs.passed.Recover.{HasNoPassive}
 
 -- ---- what is found is shown, and what has a quorum is found
 
@@ -260,23 +260,23 @@ module _ (log : Log) (old new : State) (answer : Reply) (shelf : IsShelf old.mom
 -- ---- the lines of a script
 
 -- where one group may be found, with such volumes, and a session has no other
-alone_so : (role : Role) (old new : State) → IsAllowed role old → FindsOneGroup old.moment.device → IsOffOn old → IsAlone role old new
+alone_so : (role : Role) (old new : State) → IsAllowed role old → FindsOneGroup old.moment.device → HasNoPassiveOn old → IsAlone role old new
 alone_so role old new allowed one off = record { enters = λ enters. one_by_all old.moment.device one; acts = λ acting. by_session old.session off; allowed = allowed }
   where
-    by_session : (o : Option Core) → IfSome o (λ core. AreOff core.descriptor) → IfSome o (StandsAlone old.moment.device)
+    by_session : (o : Option Core) → IfSome o (λ core. HasNoPassive core.descriptor) → IfSome o (StandsAlone old.moment.device)
     by_session None off = tt
     by_session (Some core) off = λ none some. (one_by_all old.moment.device one, off)
 
-module _ (log : Log) (room : Room) (past : List Fact) (first : State) (begin : MayStart log.run past first) (one : FindsOneGroup first.moment.device) (off : FindsOff first.moment.device) where
+module _ (log : Log) (room : Room) (past : List Fact) (first : State) (begin : MayStart log.run past first) (one : FindsOneGroup first.moment.device) (off : FindsNoPassive first.moment.device) where
   -- all that is so of the lines
   record ScriptOff {lines : List (List ℕ)} {replies : List Reply} {last : State} (script : Script log room first lines replies last) : Type 0 where
     alone : StaysAlone script
     finds_one : FindsOneGroup last.moment.device
-    finds_off : FindsOff last.moment.device
-    session : IsOffOn last
+    finds_off : FindsNoPassive last.moment.device
+    session : HasNoPassiveOn last
 
   script_one : {lines : List (List ℕ)} {replies : List Reply} {last : State} (script : Script log room first lines replies last) → AreUnforced script → AreAllowed script → ScriptOff script
-  script_one NoLine unforced allowed = record { alone = tt; finds_one = one; finds_off = off; session = subst (λ (s : Option Core). IfSome s (λ core. AreOff core.descriptor)) (sym begin.off) tt }
+  script_one NoLine unforced allowed = record { alone = tt; finds_one = one; finds_off = off; session = subst (λ (s : Option Core). IfSome s (λ core. HasNoPassive core.descriptor)) (sym begin.off) tt }
   script_one (NextLine {mid = mid} {new = new} line answer said heard says before it) unforced allowed =
       let so_far = script_one before unforced.0 allowed.0 in
       let went = script_went log room first before in
@@ -288,7 +288,7 @@ module _ (log : Log) (room : Room) (past : List Fact) (first : State) (begin : M
       let stood_so = stood log room past first begin before so_far.alone (role_of (line_of line)) new now in
       let told_new : IsSome new.moment.device.media = last_told log room past first begin (NextLine line answer said heard says before it) (so_far.alone, now) in
       let finds = by_reading log room line answer mid new shelf leaves heard timely it.named (line_of line) refl stood_so it.does in
-      let off_new : FindsOff new.moment.device = λ id k found. ⊎_elim (λ was. so_far.finds_off id k was) (λ committed. committed_off line (line_of line) refl answer mid new so_far.session id k committed) (finds id k found) in
+      let off_new : FindsNoPassive new.moment.device = λ id k found. ⊎_elim (λ was. so_far.finds_off id k was) (λ committed. committed_off line (line_of line) refl answer mid new so_far.session id k committed) (finds id k found) in
       record {
         alone = (so_far.alone, now);
         finds_one = line_one log mid new answer shelf leaves heard timely it.named (last_told log room past first begin before so_far.alone) so_far.finds_one room line unforced.1 (line_of line) refl stood_so it.does;
@@ -296,14 +296,14 @@ module _ (log : Log) (room : Room) (past : List Fact) (first : State) (begin : M
         session = session_off log room answer mid new so_far.session (it.goes.begins timely) told_new off_new leaves it.named (line_of line) stood_so it.does;
       }
 
-  ends_alone : {mid last : State} {done : List (List ℕ)} {said : List Reply} {front : List ℕ} (ends : Ends log room mid last done said front) → EndsAllowed ends → FindsOneGroup mid.moment.device → IsOffOn mid → EndsAlone ends
+  ends_alone : {mid last : State} {done : List (List ℕ)} {said : List Reply} {front : List ℕ} (ends : Ends log room mid last done said front) → EndsAllowed ends → FindsOneGroup mid.moment.device → HasNoPassiveOn mid → EndsAlone ends
   ends_alone (AtLine same) allowed found session = tt
   ends_alone {mid = mid} {last = last} (InLine line answer said front rest says split it) allowed found session = alone_so (role_of (line_of line)) mid last allowed found session
 
   -- what is so where they end, unless nothing was heard of a transfer
   ends_one : {lines : List (List ℕ)} {replies : List Reply} {mid last : State} {done : List (List ℕ)} {said : List Reply} {front : List ℕ} (script : Script log room first lines replies mid) → ScriptOff script → AreUnforced script → AreAllowed script
-      → (ends : Ends log room mid last done said front) → EndsHeard ends → EndsUnforced ends → EndsAllowed ends → FindsOneGroup last.moment.device × IsOffOn last
-  ends_one script so_far before were (AtLine same) heard unforced allowed = (subst (λ (s : State). FindsOneGroup s.moment.device) (sym same) so_far.finds_one, subst IsOffOn (sym same) so_far.session)
+      → (ends : Ends log room mid last done said front) → EndsHeard ends → EndsUnforced ends → EndsAllowed ends → FindsOneGroup last.moment.device × HasNoPassiveOn last
+  ends_one script so_far before were (AtLine same) heard unforced allowed = (subst (λ (s : State). FindsOneGroup s.moment.device) (sym same) so_far.finds_one, subst HasNoPassiveOn (sym same) so_far.session)
   ends_one script so_far before were (InLine line answer said front rest says split it) heard unforced allowed =
       let all = script_one (NextLine line answer said heard says script it) (before, unforced) (were, allowed) in
       (all.finds_one, all.session)

@@ -35,8 +35,8 @@ use Rattle.lvm_write.proofs.Writing.{told_at}
 use Rattle.lvm_begin.specs.Beginning.{Beginning, Part, describes, states, IsOfParts}
 use Rattle.lvm_core.proofs.Sizes.{descriptor_fits}
 use Rattle.lvm_core.specs.Leaves.{MayBeFound}
-use Rattle.lvm_line.specs.passed.Varyon.{answering, MayComeOn, records_on, HasWritten, beginning}
-use Rattle.lvm_line.proofs.passed.Varyon.{holds_finds, status_fits}
+use Rattle.lvm_line.specs.passed.Varyon.{answering, MayComeOn, records_on, HasWritten, Recopy, beginning}
+use Rattle.lvm_line.proofs.passed.Varyon.{HasWrote, found_restated, holds_finds, status_fits}
 use Rattle.lvm_top.proofs.Begun.{MayDescribe, IsIts, begun_finds}
 use Rattle.lvm_top.proofs.Devices.{IsShelf, NothingNew, unwritten_nothing}
 
@@ -66,7 +66,7 @@ told_first old new R both image left = go old.media new.media refl both left
     go None None is told may = absurd may
     go None (Some k) is told may = absurd told
 
-module _ (old new : Device) (name : List ℕ) (moment : ℕ) (How : Descriptor → Beginning → Device → Type 0) (written : HasWritten old new name moment How) where
+module _ (old new : Device) (name : List ℕ) (moment : ℕ) (How : Beginning → List Recopy → Device → Type 0) (written : HasWritten old new name moment How) where
   abbrev group : Descriptor
   group = written.group
 
@@ -134,16 +134,21 @@ module _ (old new : Device) (name : List ℕ) (moment : ℕ) (How : Descriptor �
       may_describe = record { describe = describe; state = state; later = λ d r shows own. shown_before.descriptors d r shows }
 
     -- whatever of the records has landed
-    pub written_nothing : (parts : List Part) → KeepsShelf targets (IsOfParts (beginning moment written.group written.next targets written.writes.homes) parts) written.writes.read new → new.flights ≡ [] → NothingNew old new
-    written_nothing parts keeps still id k it =
+    written_nothing : (last : Device) (parts : List Part) → KeepsShelf targets (IsOfParts (beginning moment written.group written.next targets written.writes.homes) parts) written.writes.read last → last.flights ≡ [] → NothingNew old last
+    written_nothing last parts keeps still id k it =
         let read : Device = written.writes.read in
         let un = written.writes.unwritten in
         let b : Beginning = beginning moment written.group written.next targets written.writes.homes in
         let may : (media : Media) → read.media ≡ Some media → MayDescribe b written.group written.next (image_of read.sizes media) = λ media told.
         subst (λ (sizes : List ℕ). MayDescribe b written.group written.next (image_of sizes media)) (sym un.sizes) (may_describe media (sym un.media ∙ told)) in
-        let first = told_first read new (λ was is. ChangesBy (IsOfParts b parts) (image_of read.sizes was) (image_of new.sizes is)) keeps.media it.0 it.1 in
+        let first = told_first read last (λ was is. ChangesBy (IsOfParts b parts) (image_of read.sizes was) (image_of last.sizes is)) keeps.media it.0 it.1 in
         ⊎_elim
         (λ (before : MayBeFound read id k). unwritten_nothing old read un written.writes.rested.ready.flights id k before)
         (λ (its : IsIts written.group id k).
         subst (λ (d : Descriptor). MayBeFound old id d) (sym its.1) (subst (λ (i : ℕ). MayBeFound old i written.group) (sym its.0) (was_found first.0 (sym un.media ∙ first.1))))
-        (begun_finds b written.group written.next parts read new may keeps.media still id k it)
+        (begun_finds b written.group written.next parts read last may keeps.media still id k it)
+
+    -- whatever of all that it writes has
+    pub all_nothing : HasWrote (beginning moment written.group written.next targets written.writes.homes) written.copies written.writes.read new → new.flights ≡ [] → NothingNew old new
+    all_nothing it still id k found = written_nothing it.restated it.parts it.records (it.rested still) id k
+        (found_restated (beginning moment written.group written.next targets written.writes.homes) written.copies written.writes.read new written.found.shown written.group (Some written.was) targets written.planned it still id k found)

@@ -10,7 +10,7 @@ use Rattle.lvm_steps.specs.Moments.{IsEarlier}
 use Rattle.lvm_stamps.specs.Behind.{IsBehind}
 use Rattle.lvm_core.specs.declared.parts.Room.{Room}
 use Rattle.lvm_core.specs.Leaves.{MayBeFound}
-use Rattle.lvm_line.specs.passed.TieGroups.{AreOff}
+use Rattle.lvm_line.specs.passed.Recover.{HasNoPassive}
 use Rattle.lvm_line.specs.passed.Stage.{State, Reply}
 use Rattle.lvm_top.specs.Run.{Run, IsRun, RanAlone}
 use Rattle.lvm_top.specs.Script.{Script, NoLine, NextLine, AreAllowed, EndsAllowed, StaysAlone, Ends, AtLine, InLine}
@@ -22,9 +22,9 @@ use Rattle.lvm_top.specs.Standing.{HasFewDisks}
 abbrev pub FindsOneGroup : Device → Type 0
 FindsOneGroup device = (v w : ℕ) (g h : Descriptor) → MayBeFound device v g → MayBeFound device w h → v ≡ w
 
--- and has volumes in mode off alone
-abbrev pub FindsOff : Device → Type 0
-FindsOff device = (id : ℕ) (k : Descriptor) → MayBeFound device id k → AreOff k
+-- and has no volume in mode passive
+abbrev pub FindsNoPassive : Device → Type 0
+FindsNoPassive device = (id : ℕ) (k : Descriptor) → MayBeFound device id k → HasNoPassive k
 
 -- the line is no `mkvg -f`
 abbrev pub IsUnforced : List ℕ → Type 0
@@ -47,20 +47,20 @@ RanUnforced ran = AreUnforced ran.lines.script × EndsUnforced ran.lines.ends
 abbrev pub RanAllowed : {r : Run} → IsRun r → Type 0
 RanAllowed ran = AreAllowed ran.lines.script × EndsAllowed ran.lines.ends
 
--- Over disks on which one group may be found, with volumes in mode off alone, lines without a `mkvg -f` leave it so, and so there is no other one where a volume is
+-- Over disks on which one group may be found, without volumes in mode passive, lines without a `mkvg -f` leave it so, and so there is no other one where a volume is
 -- made or removed, or acted on, if what the lines ask for besides holds.
 abbrev pub UnforcedStaysAlone : Type 0
 UnforcedStaysAlone =
     (log : Log) (room : Room) (past : List Fact) (first : State) (lines : List (List ℕ)) (replies : List Reply) (last : State) (script : Script log room first lines replies last)
-    → MayStart log.run past first → FindsOneGroup first.moment.device → FindsOff first.moment.device → AreUnforced script → AreAllowed script
-    → StaysAlone script × FindsOneGroup last.moment.device × FindsOff last.moment.device
+    → MayStart log.run past first → FindsOneGroup first.moment.device → FindsNoPassive first.moment.device → AreUnforced script → AreAllowed script
+    → StaysAlone script × FindsOneGroup last.moment.device × FindsNoPassive last.moment.device
 
 -- So it is of a run,
 abbrev pub UnforcedRunsAlone : Type 0
 UnforcedRunsAlone =
     (r : Run) (ran : IsRun r) (past : List Fact)
-    → HasFewDisks r.entry → IsReady r.entry → IsBehind r.named r.entry → IsEarlier r.named r.entry past → FindsOneGroup r.entry → FindsOff r.entry → RanUnforced ran → RanAllowed ran → RanAlone ran
+    → HasFewDisks r.entry → IsReady r.entry → IsBehind r.named r.entry → IsEarlier r.named r.entry past → FindsOneGroup r.entry → FindsNoPassive r.entry → RanUnforced ran → RanAllowed ran → RanAlone ran
 
 -- and of each over disks of zeros, on which no group is found.
 abbrev pub BlankFindsOneGroup : Type 0
-BlankFindsOneGroup = (device : Device) → IsToldBlank device → FindsOneGroup device × FindsOff device
+BlankFindsOneGroup = (device : Device) → IsToldBlank device → FindsOneGroup device × FindsNoPassive device

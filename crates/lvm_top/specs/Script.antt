@@ -35,7 +35,7 @@ pub data Script (log : Log) (room : Room) (first : State) : List (List ℕ) → 
       → Script log room first lines replies mid → IsLine log room line answer mid new → Script log room first (lines ++ line ∷ []) (replies ++ said ∷ []) new
 
 -- In each of the lines that enters a volume's making or removal, or acts on the session of a group with volumes, at most one group has a quorum among all disks,
--- and the volumes of that group are in mode off; and what a line asks for besides holds of its session.
+-- and no volume of that group is in mode passive; and what a line asks for besides holds of its session.
 abbrev pub StaysAlone : {log : Log} {room : Room} {first : State} {lines : List (List ℕ)} {replies : List Reply} {last : State} → Script log room first lines replies last → Type 0
 StaysAlone NoLine = Unit {0}
 StaysAlone (NextLine {mid = mid} {new = new} line answer said goes says before does) = StaysAlone before × IsAlone (role_of (line_of line)) mid new

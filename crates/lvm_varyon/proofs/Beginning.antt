@@ -1,13 +1,12 @@
 -- What the choice and the clock say of the writes of a varyon: they may be made.
 use Rattle.std.proofs.Common.{◌≡◌, ◌≢◌, ◌⊎◌, inl, inr, ⊎_elim, ℕ, ◌<◌, ◌≤◌, Bool, true, false, ◌&&◌, ◌==◌, List, length, Option, Some, None, refl, sym, ap, subst, ◌∙◌, arith, ◌||◌, ◌∷◌, [], eq-eqb}
-use Rattle.std.specs.Prelude.{IsTrue, ◌^◌, not, nat_lt, nat_le, slice_get, slice_index_or, option_and_then, option_map, unwrap_or, IfSome}
+use Rattle.std.specs.Prelude.{IsTrue, ◌^◌, nat_lt, nat_le, slice_get, slice_index_or, option_and_then, option_map, unwrap_or, IfSome}
 use Rattle.std.specs.List.{list_any}
 use Rattle.std.proofs.lemmas.Bool.Decides.{nat_tests}
 use Rattle.std.proofs.lemmas.Option.{slice_get_within, get_or_from_slice_get}
 use Rattle.lvm_num.specs.declared.record.Kind.TheVariants as kind
 use Rattle.lvm_num.specs.declared.record.Framed.{Framed}
-use Rattle.lvm_num.specs.declared.descriptor.Mode.{Mode}
-use Rattle.lvm_num.specs.declared.descriptor.Mode.TheVariants.{Active, Passive, Off}
+use Rattle.lvm_num.specs.declared.descriptor.Mode.TheVariants.{Passive}
 use Rattle.lvm_num.specs.declared.descriptor.PvRow.{PvRow}
 use Rattle.lvm_num.specs.declared.descriptor.LvRow.{LvRow}
 use Rattle.lvm_num.specs.declared.descriptor.Descriptor.{Descriptor}
@@ -40,7 +39,7 @@ use Rattle.lvm_survey.specs.Surveyed.{surveyed}
 use Rattle.lvm_area.specs.Reading.{under}
 use Rattle.lvm_core.specs.declared.parts.Room.{Room}
 use Rattle.lvm_begin.specs.Beginning.{Beginning, describes, states, MayBeginAgain}
-use Rattle.lvm_next.specs.Next.{IsNextStatus, is_active, is_passive, has_active, has_passive}
+use Rattle.lvm_next.specs.Next.{IsNextStatus, is_passive, has_passive}
 use Rattle.lvm_next.proofs.Building.{copy_is_placed, is_member_of}
 use Rattle.lvm_varyon.specs.declared.plan.Plan.{Plan}
 use Rattle.lvm_varyon.specs.Found.{records_on}
@@ -56,10 +55,6 @@ use Rattle.lvm_varyon.proofs.Sizes.{status_fits}
 both : (a b : Bool) → a ≡ true → b ≡ true → a && b ≡ true
 both true b e f = f
 both false b e f = absurd cc
-
-not_true : (b : Bool) → not b ≡ true → b ≡ false
-not_true true e = absurd cc
-not_true false e = refl
 
 within : (d n : ℕ) → d < n → nat_lt d n ≡ true
 within d n lt = grind (arith, nat_tests)
@@ -107,24 +102,6 @@ room_enough mib (row ∷ rows) d size e = by_test (row.disk == d) (nat_le (secto
 
 clash : (b : Bool) → b ≡ true → b ≡ false → ⊥
 clash b e f = cc
-
--- no volume is in mode active
-not_active : (m : Mode) → is_active m ≡ false → m ≡ Active → ⊥
-not_active Active e is = absurd cc
-not_active Passive e is = absurd cc
-not_active Off e is = absurd cc
-
-quiet_rows : (rows : List LvRow) → list_any (λ (row : LvRow). is_active row.mode) rows ≡ false → (row : LvRow) → IsOneOf rows row → row.mode ≡ Active → ⊥
-quiet_rows rows none row is = by_rows rows none is
-  where
-    or_both : (a b : Bool) → (a || b) ≡ false → (a ≡ false) × (b ≡ false)
-    or_both true b e = absurd cc
-    or_both false b e = (refl, e)
-
-    by_rows : (rows : List LvRow) → list_any (λ (r : LvRow). is_active r.mode) rows ≡ false → IsOneOf rows row → row.mode ≡ Active → ⊥
-    by_rows [] e is = absurd is
-    by_rows (r ∷ rs) e (inl same) = not_active row.mode (ap (λ (x : LvRow). is_active x.mode) same ∙ (or_both (is_active r.mode) (list_any (λ (x : LvRow). is_active x.mode) rs) e).0)
-    by_rows (r ∷ rs) e (inr there) = by_rows rs (or_both (is_active r.mode) (list_any (λ (x : LvRow). is_active x.mode) rs) e).1 there
 
 passive_row : (rows : List LvRow) (row : LvRow) → IsOneOf rows row → row.mode ≡ Passive → list_any (λ (r : LvRow). r.number == row.number && is_passive r.mode) rows ≡ true
 passive_row [] row is passive = absurd is
@@ -266,7 +243,7 @@ module _ (old read : Device) (survey : Survey) (is : IsSurveyOf old read survey)
           (is_read_again by.next by.next_is.valid)
           (λ d target. (there d target, spared d target, session_may_go (write_of kind.Status framed (has plan.targets) plan.homes) moment old media d told whole behind (omega arith) (there d target)))
 
-      pub may_begin : MayBeginAgain (beginning moment by.group by.next (has plan.targets) plan.homes) (not (has_active by.group)) by.group by.next (answered_by survey) by.was (image_of old.sizes media)
+      pub may_begin : MayBeginAgain (beginning moment by.group by.next (has plan.targets) plan.homes) false by.group by.next (answered_by survey) by.was (image_of old.sizes media)
       may_begin = record {
         members = by.valid.head.a_member;
         found = finds;
@@ -283,5 +260,5 @@ module _ (old read : Device) (survey : Survey) (is : IsSurveyOf old read survey)
         marks = carries (contents_of (image_of old.sizes media)) by.group (answered_by survey) by.was by.next by.valid (subst (λ (vs : Disks). IsNextStatus by.group vs by.was by.next) voters_are by.next_is) was_found;
         state = status_may;
         later = λ d r shows its. (shown_before 2).statuses d r shows;
-        quiet = λ e. quiet_rows by.group.lvs (not_true (has_active by.group) e);
+        quiet = λ e. absurd cc;
       }

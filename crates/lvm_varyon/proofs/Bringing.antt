@@ -1,8 +1,7 @@
 -- The reading, the plan and the writes together.
-use Rattle.std.proofs.Common.{◌≡◌, ◌≢◌, inl, inr, ℕ, ◌+◌, ◌-◌, ◌<◌, ◌≤◌, List, Option, Some, None, Result, Ok, Err, refl, sym, ap, subst, ◌∙◌, arith}
+use Rattle.std.proofs.Common.{◌≡◌, ◌≢◌, inl, inr, ℕ, ◌+◌, ◌-◌, ◌<◌, ◌≤◌, List, Option, Some, None, Result, Ok, Err, refl, sym, subst, ◌∙◌, arith}
 use Rattle.std.proofs.lemmas.Bool.{cases_lt}
-use Rattle.std.specs.Prelude.{IsTrue, not, ◌^◌, IfSome}
-use Rattle.lvm_num.specs.declared.descriptor.Descriptor.{Descriptor}
+use Rattle.std.specs.Prelude.{IsTrue, false, ◌^◌, IfSome}
 use Rattle.lvm_num.specs.Disks.{Disks, has}
 use Rattle.lvm_num.specs.declared.record.Kind.TheVariants as kind
 use Rattle.lvm_num.specs.Record.{Frames}
@@ -11,6 +10,8 @@ use Rattle.lvm_disk.specs.Device.{Media, Device, image_of, HasSectors}
 use Rattle.lvm_disk.specs.Steps.{BothTold}
 use Rattle.lvm_kept.specs.Contents.{Contents}
 use Rattle.lvm_kept.specs.Plans.{ChangesBy}
+use Rattle.lvm_kept.specs.Torn.{IsOfNote}
+use Rattle.lvm_write.specs.Notes.{empty_note_sector}
 use Rattle.lvm_stamps.specs.Behind.{StampsBefore, beginning_at, IsBehind}
 use Rattle.lvm_stamps.proofs.Stamps.{later_is_ahead_too, before_is_behind}
 use Rattle.lvm_stamps.proofs.Shelves.{unwritten_stays_behind}
@@ -24,17 +25,23 @@ use Rattle.lvm_area.specs.Reading.{IsUnwritten, IsCutOff}
 use Rattle.lvm_core.specs.declared.parts.Room.{Room}
 use Rattle.lvm_core.specs.declared.refused.Cause.{Cause}
 use Rattle.lvm_core.specs.declared.refused.Cause.TheVariants as cause
-use Rattle.lvm_begin.specs.Beginning.{Beginning, Part, again_beginning, again_order, IsOfParts, MayBeginAgain}
+use Rattle.lvm_begin.specs.Beginning.{Beginning, Part, again_beginning, IsOfParts, MayBeginAgain}
 use Rattle.lvm_begin.proofs.Following.{stamps_are_of_beginning}
-use Rattle.lvm_next.specs.Next.{IsNextStatus, has_active}
+use Rattle.lvm_next.specs.Next.{IsNextStatus}
+use Rattle.lvm_recovery.specs.declared.copying.Recopy.{Recopy}
+use Rattle.lvm_recovery.specs.Copying.{IsOfCopies, sources_and_targets}
+use Rattle.lvm_recovery.specs.Planned.{ArePlanned}
 use Rattle.lvm_varyon.specs.declared.plan.Plan.{Plan}
 use Rattle.lvm_varyon.specs.Chosen.{answering, last_moment}
-use Rattle.lvm_varyon.specs.Writing.{beginning, order, AllWritten, WasBrokenOff, OneWriteFailed, IsStillOut}
+use Rattle.lvm_varyon.specs.Equal.{AllWritesGive, BrokeOff, IsEqualled, OneFailed}
+use Rattle.lvm_varyon.specs.Writing.{beginning, IsStillOut}
 use Rattle.lvm_varyon.specs.Varied.{HasWritten, AtChoice, WasStopped, Stops, IsAheadOfDisks, IsBrought, BringGives, brought_of}
-use Rattle.lvm_varyon.specs.Parts.{IsSurveyOf, StopsReading, NotChosen, IsPlan, StopsWriting, AgainWritesGive}
+use Rattle.lvm_varyon.specs.Parts.{IsSurveyOf, StopsReading, NotChosen, IsPlan}
 use Rattle.lvm_varyon.proofs.Seeing.{if_told, answered_by, found_at}
 use Rattle.lvm_varyon.proofs.Beginning.{spared, may_begin, target_answers}
+use Rattle.lvm_varyon.proofs.Beside.{beside_stays_behind, copies_beside, notes_beside}
 use Rattle.lvm_varyon.proofs.Placed.{placed}
+use Rattle.lvm_varyon.proofs.Wrote.{HasWrote, same_misses, same_sizes, wrote}
 
 -- ---- it stopped before the first write
 
@@ -93,12 +100,9 @@ module _ (old read : Device) (survey : Survey) (is : IsSurveyOf old read survey)
   pub beginning_is : again_beginning moment plan.descriptor plan.status (has plan.targets) plan.homes ≡ beginning moment by.group by.next (answering (surveyed survey) by.group) plan.homes
   beginning_is = λ i. again_beginning moment (by.descriptor i) (by.status i) (targets_are i) plan.homes
 
-  pub order_is : again_order plan.forget ≡ order by.group
-  order_is = ap again_order by.forget
-
   -- what was written, of the group that may come on
-  abbrev pub has_written : (new : Device) → new.counts.misses ≡ read.counts.misses → (How : Descriptor → Beginning → Device → Type 0)
-      → How by.group (again_beginning moment plan.descriptor plan.status (has plan.targets) plan.homes) read → HasWritten old new name moment How
+  abbrev pub has_written : (new : Device) → new.counts.misses ≡ read.counts.misses → (How : Beginning → List Recopy → Device → Type 0)
+      → How (again_beginning moment plan.descriptor plan.status (has plan.targets) plan.homes) plan.copies read → HasWritten old new name moment How
   has_written new same How how = record {
     found = found_at old read survey is new same;
     group = by.group;
@@ -107,6 +111,8 @@ module _ (old read : Device) (survey : Survey) (is : IsSurveyOf old read survey)
     chosen = by.chosen;
     answered = λ d target. target_answers old read survey is name moment some room plan by d (by.targets d ∙ target);
     next_is = subst (λ (t : Disks). IsNextStatus by.group t by.was by.next) targets_are by.next_is;
+    copies = plan.copies;
+    planned = subst (λ (t : Disks). ArePlanned (surveyed survey) by.group (Some by.was) t plan.copies) targets_are by.copies;
     writes = record {
       read = read;
       unwritten = is.unwritten;
@@ -114,12 +120,18 @@ module _ (old read : Device) (survey : Survey) (is : IsSurveyOf old read survey)
       homes = plan.homes;
       spared = if_told old.media (λ media. (d : ℕ) → IsTrue (answering (surveyed survey) by.group d) → SparesNewest plan.homes (image_of old.sizes media) d)
           (λ media told d target. spared old read survey is name moment some room plan by media told d (by.targets d ∙ target));
-      how = subst (λ (b : Beginning). How by.group b read) beginning_is how;
+      how = subst (λ (b : Beginning). How b plan.copies read) beginning_is how;
     };
   }
 
+  -- the records may be written, of the members that answer
+  pub may_have : HasSectors old → IsAheadOfDisks moment old → (media : Media) → old.media ≡ Some media
+      → MayBeginAgain (beginning moment by.group by.next (answering (surveyed survey) by.group) plan.homes) false by.group by.next (answered_by survey) by.was (image_of old.sizes media)
+  may_have whole ahead media told = subst (λ (t : Disks). MayBeginAgain (beginning moment by.group by.next t plan.homes) false by.group by.next (answered_by survey) by.was (image_of old.sizes media)) targets_are
+      (may_begin old read survey is name moment some room plan by media told whole (ahead by.chosen.early))
+
   module _ (new : Device) (before between : ℕ) (falls : between ≤ before) (waited : RoseBy (before - between) old.counts.waits read.counts.waits) where
-    b : Beginning
+    abbrev b : Beginning
     b = again_beginning moment plan.descriptor plan.status (has plan.targets) plan.homes
 
     left_out : IsStillOut between read new → IsStillOut before old new
@@ -136,48 +148,38 @@ module _ (old read : Device) (survey : Survey) (is : IsSurveyOf old read survey)
     cut_off : IsCutOff read new → IsCutOff old new
     cut_off cut = record { power = cut.power; flights = cut.flights; cuts = subst (λ (n : ℕ). Rose n new.counts.cuts) is.rested.cuts cut.cuts }
 
-    broken : (How : Type 0) → How → WasBrokenOff (again_beginning moment plan.descriptor plan.status (has plan.targets) plan.homes) (again_order plan.forget) read new → WasStopped old new name moment How
-    broken How how off = record {
-      how = how;
-      when = inr (has_written new off.only.misses (λ group b r. WasBrokenOff b (order group) r new) (subst (λ (parts : List Part). WasBrokenOff (again_beginning moment plan.descriptor plan.status (has plan.targets) plan.homes) parts read new) order_is off));
-    }
+    broken : (How : Type 0) → How → HasWrote b plan.copies read new → BrokeOff b plan.copies read new → WasStopped old new name moment How
+    broken How how it off = record { how = how; when = inr (has_written new (same_misses b plan.copies read new it) (λ b copies r. BrokeOff b copies r new) off) }
 
-    stops_writing : (why : Cause) → StopsWriting between (again_beginning moment plan.descriptor plan.status (has plan.targets) plan.homes) (again_order plan.forget) read new why → Stops old new name moment before why
-    stops_writing (cause.DiskFailed disk) bad = has_written new bad.stops.only.misses (λ group b r. OneWriteFailed b (order group) disk r new)
-        (subst (λ (parts : List Part). OneWriteFailed (again_beginning moment plan.descriptor plan.status (has plan.targets) plan.homes) parts disk read new) order_is bad)
-    stops_writing cause.Dark off = broken (IsCutOff old new) (cut_off off.0) off.1
-    stops_writing cause.Stuck off = broken (IsStillOut before old new) (left_out off.0) off.1
-    stops_writing cause.Memory off = absurd off
-    stops_writing cause.HistoryFull off = off
-    stops_writing cause.NoRecord off = absurd off
-    stops_writing cause.Ambiguous off = absurd off
-    stops_writing (cause.NoQuorum have total) off = absurd off
-    stops_writing (cause.ClockBack seen) off = absurd off
-    stops_writing (cause.NoDisk disk) off = off
-    stops_writing (cause.TooMany limit) off = off
-    stops_writing (cause.TooSmall disk) off = off
-    stops_writing cause.GroupExists off = off
+    stops_writing : (why : Cause) → AllWritesGive between b plan.copies read new (Err why) → HasWrote b plan.copies read new → Stops old new name moment before why
+    stops_writing (cause.DiskFailed disk) bad it = has_written new (same_misses b plan.copies read new it) (λ b copies r. OneFailed b copies disk r new) bad
+    stops_writing cause.Dark off it = broken (IsCutOff old new) (cut_off off.0) it off.1
+    stops_writing cause.Stuck off it = broken (IsStillOut before old new) (left_out off.0) it off.1
+    stops_writing cause.Memory off it = absurd off
+    stops_writing cause.HistoryFull off it = off
+    stops_writing cause.NoRecord off it = absurd off
+    stops_writing cause.Ambiguous off it = absurd off
+    stops_writing (cause.NoQuorum have total) off it = absurd off
+    stops_writing (cause.ClockBack seen) off it = absurd off
+    stops_writing (cause.NoDisk disk) off it = off
+    stops_writing (cause.TooMany limit) off it = off
+    stops_writing (cause.TooSmall disk) off it = off
+    stops_writing cause.GroupExists off it = off
 
-    abbrev pub all_written : (homes : Homes) → AllWritten (again_beginning moment plan.descriptor plan.status (has plan.targets) plan.homes) (again_order plan.forget) homes read new
-        → HasWritten old new name moment (λ group b r. AllWritten b (order group) homes r new)
-    all_written homes well = has_written new well.keeps.misses (λ group b r. AllWritten b (order group) homes r new)
-        (subst (λ (parts : List Part). AllWritten (again_beginning moment plan.descriptor plan.status (has plan.targets) plan.homes) parts homes read new) order_is well)
-
-    brought : HasSectors old → (homes : Homes) → AllWritten (again_beginning moment plan.descriptor plan.status (has plan.targets) plan.homes) (again_order plan.forget) homes read new → IsBrought old new name moment room plan.parts homes
-    brought whole homes well = record {
-      written = all_written homes well;
+    brought : HasSectors old → (homes : Homes) → IsEqualled b homes plan.copies read new → HasWrote b plan.copies read new → IsBrought old new name moment room plan.parts homes
+    brought whole homes well it = record {
+      written = has_written new (same_misses b plan.copies read new it) (λ b copies r. IsEqualled b homes copies r new) well;
       valid = by.valid;
       reserved = by.parts;
-      placed = placed old read survey is name moment some room plan by new (well.keeps.sizes ∙ is.unwritten.sizes);
-      may = λ ahead media told. subst (λ (t : Disks). MayBeginAgain (beginning moment by.group by.next t plan.homes) (not (has_active by.group)) by.group by.next (answered_by survey) by.was (image_of old.sizes media)) targets_are
-          (may_begin old read survey is name moment some room plan by media told whole (ahead by.chosen.early));
+      placed = placed old read survey is name moment some room plan by new (same_sizes b plan.copies read new it ∙ is.unwritten.sizes);
+      may = λ ahead media told. may_have whole ahead media told;
     }
 
     -- whatever they answer
-    pub brings : HasSectors old → (r : Result Homes Cause) → AgainWritesGive between (again_beginning moment plan.descriptor plan.status (has plan.targets) plan.homes) (again_order plan.forget) read new r
+    pub brings : HasSectors old → (r : Result Homes Cause) → AllWritesGive between (again_beginning moment plan.descriptor plan.status (has plan.targets) plan.homes) plan.copies read new r
         → BringGives old new name moment before room (brought_of plan.parts r)
-    brings whole (Ok homes) well = brought whole homes well
-    brings whole (Err why) off = stops_writing why off
+    brings whole (Ok homes) well = brought whole homes well (wrote b plan.copies read new between (Ok homes) well)
+    brings whole (Err why) off = stops_writing why off (wrote b plan.copies read new between (Err why) off)
 
 -- ---- what stands on the disks
 
@@ -188,8 +190,8 @@ unwritten_behind moment old new whole same fits ahead = elim (cases_lt moment la
 ]
 
 module _ (old read : Device) (survey : Survey) (is : IsSurveyOf old read survey) (name : List ℕ) (moment : ℕ) (some : moment ≢ 0) (room : Room) (plan : Plan) (by : IsPlan survey name moment room plan) where
-  -- whatever became of the writes
-  pub written_behind : (new : Device) (parts : List Part) → HasSectors old → IsAheadOfDisks moment old
+  -- whatever became of the records
+  written_behind : (new : Device) (parts : List Part) → HasSectors old → IsAheadOfDisks moment old
       → KeepsShelf (has plan.targets) (IsOfParts (again_beginning moment plan.descriptor plan.status (has plan.targets) plan.homes) parts) read new → IsBehind (moment + 1) new
   written_behind new parts whole ahead keeps = before_is_behind (record { epoch = moment; seq = 3 }) (moment + 1) new (omega arith)
       (if_told new.media (λ media. StampsBefore (record { epoch = moment; seq = 3 }) (image_of new.sizes media)) (λ is_media told.
@@ -209,3 +211,11 @@ module _ (old read : Device) (survey : Survey) (is : IsSurveyOf old read survey)
       told_before None (Some n) R m e both = absurd both
       told_before (Some w) None R m e both = absurd cc
       told_before (Some w) (Some n) R m e both = let same : n ≡ m = cc in (w, refl, subst (R w) same both)
+
+  -- and of all writes
+  pub all_behind : (new : Device) → HasSectors old → IsAheadOfDisks moment old → HasWrote (again_beginning moment plan.descriptor plan.status (has plan.targets) plan.homes) plan.copies read new → IsBehind (moment + 1) new
+  all_behind new whole ahead it =
+      beside_stays_behind (moment + 1) (has plan.targets) (IsOfNote (has plan.targets) (empty_note_sector moment)) it.copied new (notes_beside (has plan.targets) (empty_note_sector moment)) it.forgets
+      (beside_stays_behind (moment + 1) (sources_and_targets plan.copies) (IsOfCopies it.restated plan.copies) it.restated it.copied
+      (copies_beside (surveyed survey) by.group (Some by.was) (has plan.targets) plan.copies by.copies it.restated) it.made
+      (written_behind it.restated it.parts whole ahead it.records))

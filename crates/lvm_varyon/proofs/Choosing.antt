@@ -24,6 +24,7 @@ use Rattle.lvm_survey.specs.Surveyed.{surveyed, IsSurveyValid}
 use Rattle.lvm_area.specs.Reading.{under}
 use Rattle.lvm_core.specs.declared.parts.Room.{Room}
 use Rattle.lvm_next.specs.Next.{IsNextStatus}
+use Rattle.lvm_recovery.specs.Planned.{ArePlanned}
 use Rattle.lvm_varyon.specs.declared.plan.Plan.{Plan}
 use Rattle.lvm_varyon.specs.Chosen.{Holds, last_moment, IsClockBack}
 use Rattle.lvm_varyon.specs.Parts.{IsPlanFor, IsPlan}
@@ -71,7 +72,7 @@ module _ (s : Survey) (name : List ℕ) (choice : Choice) (is : IsChosenGroup (s
   pub at_last : (moment : ℕ) → moment ≡ last_moment → IsClockBack (surveyed s) name moment moment
   at_last moment e = record { group = choice.descriptor; was = is.status; holds = holds; back = inr (e, e) }
 
-  pub planned : (moment : ℕ) (room : Room) (homes : Homes) (plan : Plan) → IsSurveyValid s → choice.seen < moment → moment < last_moment → SpareNewest s homes → IsPlanFor choice homes room plan → IsPlan s name moment room plan
+  pub planned : (moment : ℕ) (room : Room) (homes : Homes) (plan : Plan) → IsSurveyValid s → choice.seen < moment → moment < last_moment → SpareNewest s homes → IsPlanFor s choice homes room plan → IsPlan s name moment room plan
   planned moment room homes plan valid later early spare by = record {
     group = choice.descriptor;
     was = is.status;
@@ -82,7 +83,8 @@ module _ (s : Survey) (name : List ℕ) (choice : Choice) (is : IsChosenGroup (s
     next_is = subst (λ (n : ℕ). IsNextStatus choice.descriptor (has n) is.status by.next) (sym by.targets) was_by;
     descriptor = by.descriptor;
     status = by.status;
-    forget = by.forget;
+    copies = subst (λ (n : ℕ). ArePlanned (surveyed s) choice.descriptor (Some is.status) (has n) plan.copies) (sym by.targets)
+        (subst (λ (w : Stamped Status). ArePlanned (surveyed s) choice.descriptor (Some w) (has choice.answering) plan.copies) was_is (by.copies is.status.stamp));
     homes = subst (SpareNewest s) (sym by.same_homes) spare;
     parts = by.parts;
   }

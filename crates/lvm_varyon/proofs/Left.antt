@@ -1,5 +1,5 @@
 -- With its next status a group comes on with no copy left behind.
-use Rattle.std.proofs.Common.{◌≡◌, inl, inr, ⊎_elim, ℕ, Bool, true, false, ◌&&◌, ◌||◌, List, [], ◌∷◌, Some, refl, sym, ap, subst, ◌∙◌}
+use Rattle.std.proofs.Common.{◌≡◌, inl, inr, ⊎_elim, ℕ, Bool, true, false, ◌&&◌, ◌||◌, List, [], ◌∷◌, refl, sym, ap, ◌∙◌}
 use Rattle.std.specs.Prelude.{not, IsTrue, IsFalse, filter, if◌then◌else◌}
 use Rattle.std.specs.List.{list_any}
 use Rattle.lvm_num.specs.declared.place.Pp.{Pp}
@@ -11,8 +11,7 @@ use Rattle.lvm_num.specs.Record.{Stamped}
 use Rattle.lvm_num.specs.Status.{calls_stale, calls_missing}
 use Rattle.lvm_kept.specs.Group.{IsOneOf, IsSome}
 use Rattle.lvm_steps.proofs.Booleans.{either, clash, first, second, join}
-use Rattle.lvm_left.specs.Marking.{IsLeftIn}
-use Rattle.lvm_status.specs.Update.{Stored, members_there}
+use Rattle.lvm_status.specs.Update.{Stored}
 use Rattle.lvm_commit.specs.Settling.{there, NoneIsLeft}
 use Rattle.lvm_next.specs.Next.{IsLeftBehind, IsNextStatus}
 use Rattle.lvm_next.proofs.Building.{is_member_of, copy_is_placed}

@@ -1,132 +1,119 @@
--- A group without consistency is recovered once it is restated.
-use Rattle.std.proofs.Common.{◌≡◌, ◌⊎◌, inl, inr, ⊎_elim, ℕ, Bool, true, false, ◌&&◌, ◌||◌, ◌==◌, List, [], ◌∷◌, Option, Some, refl, sym, ap, subst, ◌∙◌}
-use Rattle.std.specs.Prelude.{IsTrue, if◌then◌else◌, not, find, is_some}
-use Rattle.std.specs.List.{list_any}
+-- A group that came on is recovered.
+use Rattle.std.proofs.Common.{◌≡◌, ◌⊎◌, inl, inr, ℕ, ◌+◌, ◌-◌, List, ◌++◌, Option, Some, refl, sym, ap, subst, ◌∙◌, arith}
+use Rattle.std.specs.Prelude.{IsTrue}
 use Rattle.std.proofs.lemmas.List.Elements.{recursion_from_All}
-use Rattle.lvm_num.specs.declared.place.Pp.{Pp}
-use Rattle.lvm_num.specs.declared.descriptor.Mode.{Mode}
-use Rattle.lvm_num.specs.declared.descriptor.Mode.TheVariants.{Passive, Off}
-use Rattle.lvm_num.specs.declared.descriptor.PvRow.{PvRow}
-use Rattle.lvm_num.specs.declared.descriptor.LvRow.{LvRow}
-use Rattle.lvm_num.specs.declared.descriptor.Descriptor.{Descriptor}
 use Rattle.lvm_num.specs.declared.status.Status.{Status}
 use Rattle.lvm_num.specs.Disks.{Disks}
-use Rattle.lvm_num.specs.Descriptor.{is_member, member_of}
+use Rattle.lvm_num.specs.Descriptor.{IsValid}
 use Rattle.lvm_num.specs.Record.{Stamped}
-use Rattle.lvm_num.specs.Status.{calls_dirty}
-use Rattle.lvm_disk.specs.Device.{Range}
-use Rattle.lvm_kept.specs.Contents.{Contents}
-use Rattle.lvm_kept.specs.Group.{is_voter, status_among, is_stale_by, fresh_on, IsOneOf, IsSome}
-use Rattle.lvm_kept.specs.Recovered.{IsRecordRange, IsCopyRange, IsMadeEqual, IsLeftBehind as IsLeftBehindBy, Recovered}
-use Rattle.lvm_next.specs.Next.{IsLeftBehind, is_active, is_passive, has_passive}
-use Rattle.lvm_next.specs.Restated.{Restated}
-use Rattle.lvm_varyon.specs.Restated.{AreOfRecords, HasNoConsistency}
-use Rattle.lvm_varyon.specs.Laws.{RestatedIsRecovered}
+use Rattle.lvm_num.specs.Votes.{CanWrite}
+use Rattle.lvm_disk.specs.Device.{Media, Range, Device, image_of}
+use Rattle.lvm_kept.specs.Contents.{Contents, contents_of}
+use Rattle.lvm_kept.specs.Group.{is_voter}
+use Rattle.lvm_kept.specs.Recovered.{IsRecordRange, IsCopyRange, Recovered}
+use Rattle.lvm_kept.specs.Torn.{IsOfNote}
+use Rattle.lvm_kept.proofs.Finding.{images_within}
+use Rattle.lvm_homes.specs.declared.homes.Homes.{Homes}
+use Rattle.lvm_write.specs.Notes.{empty_note_sector}
+use Rattle.lvm_write.specs.Written.{IsInPlan}
+use Rattle.lvm_commit.specs.Committed.{ShowsCommitted}
+use Rattle.lvm_recover.specs.Recopied.{IsRecopied, AreNamedEqualled, OnlyNotesOf}
+use Rattle.lvm_recover.specs.Recovered.{HasNoPassive}
+use Rattle.lvm_recover.proofs.Equalling.{named_are_all}
+use Rattle.lvm_recover.proofs.Recovered.{recovered_by_copying}
+use Rattle.lvm_recovery.specs.Copying.{IsInOneRun, LogsOnly}
+use Rattle.lvm_recovery.specs.Planned.{ArePlanned}
+use Rattle.lvm_recovery.proofs.Ending.{same_notes_same_plan}
+use Rattle.lvm_recovery.proofs.Logged.{only_planned, only_then, only_told, only_wider}
+use Rattle.lvm_recovery.proofs.Runs.{runs_are_of_copies}
+use Rattle.lvm_varyon.specs.Chosen.{answering}
+use Rattle.lvm_varyon.specs.Equal.{MakesEqual}
+use Rattle.lvm_varyon.proofs.After.{HasRecords, MayHaveRecords, found, record_ranges, records_keep, restated, same_data, same_names, shows, voters}
+use Rattle.lvm_varyon.proofs.Equalled.{ends, enough, names_as_found, none_named}
 
-is_off : {P : Type 0} (m : Mode) → m ≡ Off → m ≡ Passive → P
-is_off m e f = let clash : Off ≡ Passive = sym e ∙ f in absurd cc
+-- what is written of notes are records
+note_range : (targets : Disks) (epoch : ℕ) (r : Range) → IsInPlan (IsOfNote targets (empty_note_sector epoch)) r → IsTrue (targets r.disk) × IsRecordRange r
+note_range targets epoch r inside =
+    let some = inside.0 in
+    let first = inside.1 r.first (omega arith) (omega (arith, some)) in
+    let last = inside.1 (r.first + r.count - 1) (omega (arith, some)) (omega (arith, some)) in
+    let at_first = first.1.place in
+    let at_last = last.1.place in
+    (first.1.target, inl (omega (arith, at_first), omega (arith, at_last, some)))
 
--- ---- no volume is of another mode
+module _ (old new : Device) (name : List ℕ) (moment : ℕ) (homes : Homes) (w : HasRecords old new name moment homes) (was now : Media) (told : old.media ≡ Some was) (told_now : new.media ≡ Some now) (may : MayHaveRecords old new name moment homes w was)
+    (valid : IsValid w.group) (last : Device) (equal : MakesEqual w.copies moment (answering w.found.shown w.group) new last) (between is : Media) (told_between : equal.copied.media ≡ Some between) (told_last : last.media ≡ Some is) where
+  abbrev targets : Disks
+  targets = answering w.found.shown w.group
 
-none_active : (rows : List LvRow) → ((row : LvRow) → IsOneOf rows row → row.mode ≡ Off) → list_any (λ (row : LvRow). is_active row.mode) rows ≡ false
-none_active [] off = refl
-none_active (r ∷ rs) off = ap (λ (m : Mode). is_active m || list_any (λ (row : LvRow). is_active row.mode) rs) (off r (inl refl)) ∙ none_active rs (λ row one. off row (inr one))
+  abbrev before : Contents
+  before = contents_of (image_of old.sizes was)
 
-none_passive : (rows : List LvRow) (n : ℕ) → ((row : LvRow) → IsOneOf rows row → row.mode ≡ Off) → list_any (λ (row : LvRow). row.number == n && is_passive row.mode) rows ≡ false
-none_passive [] n off = refl
-none_passive (r ∷ rs) n off = ap (λ (m : Mode). ((r.number == n) && is_passive m) || list_any (λ (row : LvRow). row.number == n && is_passive row.mode) rs) (off r (inl refl))
-    ∙ ap (λ (b : Bool). b || list_any (λ (row : LvRow). row.number == n && is_passive row.mode) rs) (and_none (r.number == n)) ∙ none_passive rs n (λ row one. off row (inr one))
-  where
-    and_none : (b : Bool) → b && false ≡ false
-    and_none true = refl
-    and_none false = refl
+  abbrev after : Contents
+  after = contents_of (image_of new.sizes now)
 
--- ---- members
+  abbrev final : Contents
+  final = contents_of (image_of last.sizes is)
 
-some_member : (rows : List PvRow) (d : ℕ) → is_some (find (λ (row : PvRow). row.disk == d) rows) ≡ list_any (λ (row : PvRow). row.disk == d) rows
-some_member [] d = refl
-some_member (r ∷ rs) d = by_test (r.disk == d) (some_member rs d)
-  where
-    by_test : (t : Bool) → is_some (find (λ (row : PvRow). row.disk == d) rs) ≡ list_any (λ (row : PvRow). row.disk == d) rs → is_some (if t then Some r else find (λ (row : PvRow). row.disk == d) rs) ≡ (t || list_any (λ (row : PvRow). row.disk == d) rs)
-    by_test true e = refl
-    by_test false e = e
+  abbrev there : Disks
+  there = is_voter before w.found.answered w.group.id
 
-both : (a b : Bool) → a && b ≡ true → (a ≡ true) × (b ≡ true)
-both true true e = (refl, refl)
-both true false e = absurd cc
-both false b e = absurd cc
+  abbrev next : Stamped Status
+  next = (restated old new name moment homes w was now told told_now may).status
 
-join : (a b : Bool) → a ≡ true → b ≡ true → a && b ≡ true
-join true b e f = f
-join false b e f = absurd cc
+  voters_are : targets ≡ there
+  voters_are = voters old new name moment homes w was now told told_now may
 
-not_true : (b : Bool) → not b ≡ true → b ≡ false
-not_true true e = absurd cc
-not_true false e = refl
+  on_target : (d : ℕ) → IsTrue (there d) → IsTrue (targets d)
+  on_target d voter = ap (λ (v : Disks). v d) voters_are ∙ voter
 
-true_not : (b : Bool) → b ≡ false → not b ≡ true
-true_not true e = absurd cc
-true_not false e = refl
+  on_voter : (d : ℕ) → IsTrue (targets d) → IsTrue (there d)
+  on_voter d target = sym (ap (λ (v : Disks). v d) voters_are) ∙ target
 
-clash : {P : Type 0} (b : Bool) → b ≡ true → b ≡ false → P
-clash b e f = absurd cc
+  -- ---- ranges
 
-module _ (old : Contents) (ranges : List Range) (new : Contents) (disks : Disks) (group : Descriptor) (is : Restated old new disks group) (of : AreOfRecords old disks group.id ranges) (off : HasNoConsistency group) where
-  member_is : (d : ℕ) → is_some (member_of group d) ≡ is_member group d
-  member_is d = some_member group.pvs d
+  abbrev Counts : Range → Type 0
+  Counts r = IsTrue (there r.disk) × (IsRecordRange r ⊎ IsCopyRange before w.found.answered w.group.id w.group r)
 
-  left : (p : Pp) → IsLeftBehind group (is_voter old disks group.id) is.was p → IsLeftBehindBy old disks group.id group p
-  left p l = record {
-    row = l.row;
-    lp = l.lp;
-    volume = l.volume;
-    inside = l.inside;
-    one = l.one;
-    absent = l.absent;
-    other = subst (λ (o : Option (Stamped Status)). IsSome (fresh_on (is_voter old disks group.id) o l.row l.lp)) (sym is.was_found) l.other;
-  }
+  planned_first : ArePlanned before w.group (Some w.was) there w.copies
+  planned_first = subst (λ (v : Disks). ArePlanned before w.group (Some w.was) v w.copies) voters_are
+      (same_notes_same_plan w.found.shown before w.group (Some w.was) targets w.copies
+      (λ d lv g target. names_as_found old new name moment homes w was now told told_now may valid d lv g target ∙ same_names old new name moment homes w was now told told_now may d lv g) w.planned)
 
-  left_by : (p : Pp) → IsLeftBehindBy old disks group.id group p → IsLeftBehind group (is_voter old disks group.id) is.was p
-  left_by p l = record {
-    row = l.row;
-    lp = l.lp;
-    volume = l.volume;
-    inside = l.inside;
-    one = l.one;
-    absent = l.absent;
-    other = subst (λ (o : Option (Stamped Status)). IsSome (fresh_on (is_voter old disks group.id) o l.row l.lp)) is.was_found l.other;
-  }
+  logs : LogsOnly Counts old.wrote last.wrote
+  logs =
+      let records : LogsOnly Counts old.wrote new.wrote = subst (λ (o : Option (List Range)). LogsOnly Counts o new.wrote) w.writes.unwritten.wrote
+      (only_wider (λ (r : Range). IsTrue (targets r.disk) × IsRecordRange r) Counts w.writes.read.wrote new.wrote (λ r one. (on_voter r.disk one.0, inl one.1)) (record_ranges old new name moment homes w was now told told_now may)) in
+      let copies : LogsOnly Counts new.wrote equal.copied.wrote = only_wider (IsInOneRun w.copies) Counts new.wrote equal.copied.wrote
+      (λ r one. let its = runs_are_of_copies before w.found.answered w.group w.was w.copies r valid may.was_found planned_first one in (its.0, inr its.1)) equal.made.ranges in
+      let notes : LogsOnly Counts equal.copied.wrote last.wrote = only_planned (IsOfNote targets (empty_note_sector moment)) Counts equal.copied.wrote last.wrote
+      (λ r inside. let its = note_range targets moment r inside in (on_voter r.disk its.0, inl its.1)) equal.only.wrote in
+      only_then Counts old.wrote new.wrote last.wrote records (only_then Counts new.wrote equal.copied.wrote last.wrote copies notes)
 
-  stale_was : (p : Pp) → is_stale_by (status_among old disks group.id) p ≡ is_stale_by (Some is.was) p
-  stale_was p = ap (λ (o : Option (Stamped Status)). is_stale_by o p) is.was_found
+  -- ---- what was done, by the voters
 
-  pub recovered : Recovered old ranges new disks group.id group
-  recovered = record {
-    found_before = is.found;
-    same_disks = is.same_disks;
-    same_sizes = is.same_sizes;
-    ranges = recursion_from_All (λ r. IsTrue (is_voter old disks group.id r.disk) × (IsRecordRange r ⊎ IsCopyRange old disks group.id group r)) ranges (λ k d lt. let one = of k d lt in (one.0, inl one.1));
-    equal = λ row lp b volume inside made. absurd (subst (λ (m : Mode). IsMadeEqual old disks group.id group m row.number b) (off row volume) made);
-    others = λ d s past. inl (λ i. is.same_data i d s);
-    descriptor = is.descriptor;
-    status = is.status;
-    found = is.status_found;
-    missing = λ d. (
-      λ e. let two = both (is_member group d) (not (is_voter old disks group.id d)) (sym (is.next.missing d) ∙ e) in (member_is d ∙ two.0, not_true (is_voter old disks group.id d) two.1),
-      λ e. is.next.missing d ∙ join (is_member group d) (not (is_voter old disks group.id d)) (sym (member_is d) ∙ e.0) (true_not (is_voter old disks group.id d) e.1),
-    );
-    stale = λ p row member. let its = is.next.stale p (sym (member_is p.disk) ∙ ap is_some member) in (
-      λ e. ⊎_elim (λ was_so. inl (stale_was p ∙ was_so)) (λ l. inr (left p l)) (its.0 e),
-      λ e. its.1 (⊎_elim (λ was_so. inl (sym (stale_was p) ∙ was_so)) (λ l. inr (left_by p l)) e),
-    );
-    strangers = λ p none. is.next.strangers p (sym (member_is p.disk) ∙ ap is_some none);
-    dirty = λ lv. (
-      λ e. let two = both (calls_dirty is.was.value lv) (has_passive group lv) (sym (is.next.dirty lv) ∙ e) in clash (has_passive group lv) two.1 (none_passive group.lvs lv off),
-      λ e. is_off e.row.mode (off e.row e.volume) e.mode,
-    );
-    notes = λ d lv track_group voter. is.notes (none_active group.lvs off) d lv track_group voter;
-    consistent = λ facts kept row lp b volume inside some. absurd (some (off row volume));
-  }
+  -- by the targets
+  abbrev IsDone : Disks → Contents → Type 0
+  IsDone v copied = ((shown : ShowsCommitted after w.group w.next v) × (shown.stands ≡ next)) × IsRecopied after w.group (Some next) v copied × AreNamedEqualled after w.group (Some next) v copied × OnlyNotesOf v copied final × CanWrite w.group v
 
-pub restated_is_recovered : RestatedIsRecovered
-restated_is_recovered old ranges new disks group is of off = recovered old ranges new disks group is of off
+  pub recovered : (first more : List Range) → old.wrote ≡ Some first → last.wrote ≡ Some (first ++ more) → HasNoPassive w.group → Recovered before more final w.found.answered w.group.id w.group
+  recovered first more wrote wrote_last soft =
+      let e = ends old new name moment homes w was now told told_now may valid last equal between is told_between told_last in
+      let done = subst (λ (v : Disks). IsDone v e.copied) voters_are ((shows old new name moment homes w was now told told_now may, refl), e.recopied, e.equalled, e.emptied, enough old new name moment homes w was now told told_now may valid) in
+      recovered_by_copying before after e.copied final more w.found.answered w.group (record {
+        valid = valid;
+        within = images_within (image_of new.sizes now);
+        restated = restated old new name moment homes w was now told told_now may;
+        same_data = same_data old new name moment homes w was now told told_now may;
+        same_voters = λ d. ap (λ (v : Disks). v d) (found old new name moment homes w was now told told_now may).1;
+        same_notes = λ d lv g voter. same_names old new name moment homes w was now told told_now may d lv g;
+        enough = done.4;
+        shows = done.0.0;
+        stands = done.0.1;
+        copied_so = done.1;
+        equalled = named_are_all w.group (Some next) there after e.copied soft done.2;
+        emptied = done.3;
+        empty = λ d lv g voter. none_named old new name moment homes w was now told told_now may valid last equal between is told_between told_last d lv g (on_target d voter);
+        ranges_are = recursion_from_All Counts more (only_told Counts old.wrote last.wrote first more wrote wrote_last logs);
+        keeps = records_keep old new name moment homes w was now told told_now may;
+      }) soft

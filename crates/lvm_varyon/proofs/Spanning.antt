@@ -1,18 +1,16 @@
 -- A varyon as a part of a run.
-use Rattle.std.proofs.Common.{◌≡◌, ◌≢◌, ℕ, ◌≤◌, Bool, true, false, ◌&&◌, not, IsTrue, arith, List, Option, Some, None, refl, sym, ap, subst, ◌∙◌}
+use Rattle.std.proofs.Common.{◌≡◌, ◌≢◌, ℕ, ◌≤◌, Bool, true, false, ◌&&◌, not, IsTrue, arith, List, refl, sym, ap, subst, ◌∙◌}
 use Rattle.std.specs.Prelude.{if◌then◌else◌}
 use Rattle.lvm_num.specs.declared.descriptor.Descriptor.{Descriptor}
 use Rattle.lvm_num.specs.Disks.{Disks}
 use Rattle.lvm_num.specs.Descriptor.{is_member}
 use Rattle.lvm_num.specs.Votes.{all_disks, votes_in, CanRead, CanWrite}
 use Rattle.lvm_num.proofs.VotesLemmas.{read_is_write, more_is_enough, more_have_more}
-use Rattle.lvm_disk.specs.Device.{Media, Device, image_of}
+use Rattle.lvm_disk.specs.Device.{Device, image_of}
 use Rattle.lvm_disk.specs.Paths.{DeviceStep, Path}
-use Rattle.lvm_disk.specs.Steps.{BothTold}
 use Rattle.lvm_vol.specs.Facts.{Fact, Cut, On}
 use Rattle.lvm_vol.specs.Log.{Log, spare_entries, is_uncut, with_fact, cut_log}
 use Rattle.lvm_kept.specs.Moments.{StaysCalm}
-use Rattle.lvm_kept.specs.Contents.{contents_of}
 use Rattle.lvm_kept.specs.Group.{ReadsBy}
 use Rattle.lvm_kept.proofs.Finding.{finding_reads}
 use Rattle.lvm_steps.specs.Moments.{Keeps, StaysKept}
@@ -27,7 +25,7 @@ use Rattle.lvm_core.specs.declared.refused.Cause.{Cause}
 use Rattle.lvm_core.specs.declared.refused.Cause.TheVariants as cause
 use Rattle.lvm_commit.specs.Committed.{HoldsCommitted}
 use Rattle.lvm_commit.specs.Settling.{NoneIsLeft}
-use Rattle.lvm_core.specs.Held.{IsHeld, NotesAreHome, StartsHeld}
+use Rattle.lvm_core.specs.Held.{NotesAreHome, StartsHeld}
 use Rattle.lvm_core.specs.Settled.{IsSettled, HasSpareNumbers}
 use Rattle.lvm_core.proofs.Settling.{starts_settled, starts_numbered}
 use Rattle.lvm_session_start.specs.declared.parts.Parts.{Parts}
@@ -35,11 +33,10 @@ use Rattle.lvm_session_start.specs.Beginning.{first_core}
 use Rattle.lvm_session.specs.State.{Core, is_there}
 use Rattle.lvm_varyon.specs.Varied.{IsRecovered, ComesOn, IsRestated, IsAheadOfDisks, IsBrought, last_stamp, log_after}
 use Rattle.lvm_varyon.specs.Chosen.{answering}
-use Rattle.lvm_varyon.specs.Restated.{HasNoConsistency}
+use Rattle.lvm_recover.specs.Recovered.{HasNoPassive}
 use Rattle.lvm_varyon.proofs.Left.{next_leaves_none}
-use Rattle.lvm_varyon.proofs.Recovering.{restated_is_recovered}
 use Rattle.lvm_varyon.proofs.Seeing.{if_told}
-use Rattle.lvm_varyon.proofs.After.{restated, ranges, forgotten, holds}
+use Rattle.lvm_varyon.proofs.Holding.{holds, notes_home, recovers, restated, was_told}
 
 -- ---- the span
 
@@ -99,18 +96,10 @@ refused_calm cause.GroupExists log old new = same_calm log old new
 
 -- ---- the group is on
 
-told_before : (a b : Option Media) (R : Media → Media → Type 0) (m : Media) → b ≡ Some m → BothTold a b R → (was : Media) × (a ≡ Some was)
-told_before None None R m e both = absurd cc
-told_before None (Some n) R m e both = absurd both
-told_before (Some w) None R m e both = absurd cc
-told_before (Some w) (Some n) R m e both = (w, refl)
-
-told_after : (a b : Option Media) (R : Media → Media → Type 0) (m : Media) → a ≡ Some m → BothTold a b R → (now : Media) × (b ≡ Some now)
-told_after None b R m e both = absurd cc
-told_after (Some w) None R m e both = absurd both
-told_after (Some w) (Some n) R m e both = (n, refl)
-
 module _ (old new : Device) (log : Log) (name : List ℕ) (moment : ℕ) (room : Room) (parts : Parts) (homes : Homes) (core : Core) (is : IsBrought old new name moment room parts homes) (core_is : core ≡ first_core parts log (last_stamp moment) homes core.origin.faults) where
+  group_is : core.descriptor ≡ is.written.group
+  group_is = ap (λ (c : Core). c.descriptor) core_is ∙ is.reserved.descriptor
+
   pub comes_on : 1 ≤ spare_entries log → ComesOn old new log name moment room core
   comes_on spare = subst (ComesOn old new log name moment room) (sym core_is) (record {
     spare = spare;
@@ -118,19 +107,14 @@ module _ (old new : Device) (log : Log) (name : List ℕ) (moment : ℕ) (room :
     first = record { parts = parts; reserved = is.reserved; is = refl };
   })
 
-  held : ClockIsAhead log.run moment old log.facts → IsHeld new core
-  held clock = if_told new.media (λ media. HoldsCommitted (image_of new.sizes media) core.descriptor core.status.committed (is_there core) core.status.stamp core.homes) (λ now told_now.
-      let before = told_before is.written.writes.read.media new.media _ now told_now is.written.writes.how.keeps.media in
-      let told : old.media ≡ Some before.0 = sym is.written.writes.unwritten.media ∙ before.1 in
-      holds old new name moment room parts homes is (ahead_of log.run moment old log.facts clock) before.0 now told told_now core log core_is (clock is.written.chosen.early).behind)
-
   pub starts_held : ClockIsAhead log.run moment old log.facts → StartsHeld new core
   starts_held clock = record {
-    held = held clock;
-    notes = λ quiet. if_told new.media (λ media. NotesAreHome core (image_of new.sizes media)) (λ now told_now.
-        let before = told_before is.written.writes.read.media new.media _ now told_now is.written.writes.how.keeps.media in
-        let told : old.media ≡ Some before.0 = sym is.written.writes.unwritten.media ∙ before.1 in
-        forgotten old new name moment room parts homes is (ahead_of log.run moment old log.facts clock) before.0 now told told_now core log core_is quiet);
+    held = if_told new.media (λ media. HoldsCommitted (image_of new.sizes media) core.descriptor core.status.committed (is_there core) core.status.stamp core.homes) (λ last told_last.
+        let first = was_told old new name moment room parts homes is last told_last in
+        holds old new name moment room parts homes is first.0 last first.1 told_last (ahead_of log.run moment old log.facts clock) core log core_is (clock is.written.chosen.early).behind);
+    notes = if_told new.media (λ media. NotesAreHome core (image_of new.sizes media)) (λ last told_last.
+        let first = was_told old new name moment room parts homes is last told_last in
+        notes_home old new name moment room parts homes is first.0 last first.1 told_last (ahead_of log.run moment old log.facts clock) core log core_is);
   }
 
   -- no copy is left behind, since the next status calls them stale
@@ -140,24 +124,18 @@ module _ (old new : Device) (log : Log) (name : List ℕ) (moment : ℕ) (room :
       (ap (λ (u : Updates). u.group) is.reserved.status) (ap (λ (u : Updates). u.wanted) is.reserved.status)))
 
   pub is_restated : ClockIsAhead log.run moment old log.facts → IsRestated old new core.descriptor
-  is_restated clock = subst (IsRestated old new) (sym (ap (λ (c : Core). c.descriptor) core_is ∙ is.reserved.descriptor)) (record {
+  is_restated clock = subst (IsRestated old new) (sym group_is) (record {
     disks = is.written.found.answered;
     answered = is.written.found.have;
-    shows = λ was now told told_now. restated old new name moment room parts homes is (ahead_of log.run moment old log.facts clock) was now told told_now;
-    ranges = λ was first more told wrote wrote_now.
-        let after = told_after is.written.writes.read.media new.media _ was (is.written.writes.unwritten.media ∙ told) is.written.writes.how.keeps.media in
-        ranges old new name moment room parts homes is (ahead_of log.run moment old log.facts clock) was after.0 told after.1 first more wrote wrote_now;
+    shows = λ was last told told_last. restated old new name moment room parts homes is was last told told_last (ahead_of log.run moment old log.facts clock);
   })
 
-  pub is_recovered : ClockIsAhead log.run moment old log.facts → HasNoConsistency core.descriptor → IsRecovered old new core.descriptor
-  is_recovered clock quiet =
-      let r = is_restated clock in
-      record {
-        disks = r.disks;
-        answered = r.answered;
-        recovered = λ was now before more told told_now wrote wrote_now.
-            restated_is_recovered (contents_of (image_of old.sizes was)) more (contents_of (image_of new.sizes now)) r.disks core.descriptor (r.shows was now told told_now) (r.ranges was before more told wrote wrote_now) quiet;
-      }
+  pub is_recovered : ClockIsAhead log.run moment old log.facts → HasNoPassive core.descriptor → IsRecovered old new core.descriptor
+  is_recovered clock soft = subst (IsRecovered old new) (sym group_is) (record {
+    disks = is.written.found.answered;
+    answered = is.written.found.have;
+    recovered = λ was last first more told told_last wrote wrote_last. recovers old new name moment room parts homes is was last told told_last (ahead_of log.run moment old log.facts clock) first more wrote wrote_last (subst HasNoPassive group_is soft);
+  })
 
   pub on_keeps : Path DeviceStep (StaysKept old) old new → ClockIsAhead log.run moment old log.facts → Keeps log.run (at old log.facts) (at new core.history.facts)
   on_keeps path clock = subst (λ (c : Core). Keeps log.run (at old log.facts) (at new c.history.facts)) (sym core_is)

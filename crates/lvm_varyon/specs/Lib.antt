@@ -4,4 +4,4 @@ pub mod Writing
 pub mod Restated
 pub mod Varied
 pub mod Parts
-pub mod Laws
+pub mod Equal

@@ -1,5 +1,5 @@
 -- The parts of a varyon: the reading of the shelf, the plan by what was read, and its writes.
-use Rattle.std.specs.Prelude.{◌≡◌, ℕ, not, length, List, Some, Result, Ok, Err, slice_get}
+use Rattle.std.specs.Prelude.{◌≡◌, ℕ, length, List, Some, Result, Ok, Err, slice_get}
 use Rattle.lvm_num.specs.declared.record.Stamp.{Stamp}
 use Rattle.lvm_num.specs.declared.descriptor.Descriptor.{Descriptor}
 use Rattle.lvm_num.specs.declared.status.Status.{Status}
@@ -29,7 +29,9 @@ use Rattle.lvm_core.specs.declared.refused.Cause.TheVariants as cause
 use Rattle.lvm_core.specs.Starting.{IsReservedFor}
 use Rattle.lvm_begin.specs.Beginning.{Beginning, Part, again_beginning}
 use Rattle.lvm_varyon.specs.declared.plan.Plan.{Plan}
-use Rattle.lvm_next.specs.Next.{IsNextStatus, has_active}
+use Rattle.lvm_next.specs.Next.{IsNextStatus}
+use Rattle.lvm_recovery.specs.declared.copying.Recopy.{Recopy}
+use Rattle.lvm_recovery.specs.Planned.{ArePlanned}
 use Rattle.lvm_varyon.specs.Chosen.{answering, MayComeOn, IsClockBack}
 use Rattle.lvm_varyon.specs.Writing.{AllWritten, WasBrokenOff, OneWriteFailed, IsStillOut}
 
@@ -91,22 +93,22 @@ cause_of (fault.NoQuorum have total) = cause.NoQuorum have total
 cause_of fault.Memory = cause.Memory
 
 -- what is to be written of the group of a choice, to these slots, and the parts of its session
-pub record IsPlanFor (choice : Choice) (homes : Homes) (room : Room) (plan : Plan) : Type 0 where
+pub record IsPlanFor (survey : Survey) (choice : Choice) (homes : Homes) (room : Room) (plan : Plan) : Type 0 where
   pub next : Status
   pub next_is : (stamp : Stamp) → IsNextStatus choice.descriptor (has choice.answering) (record { stamp = stamp; value = choice.status }) next
   pub descriptor : plan.descriptor ≡ descriptor_bytes choice.descriptor
   pub status : plan.status ≡ status_bytes next
   pub targets : plan.targets ≡ choice.answering
-  pub forget : plan.forget ≡ not (has_active choice.descriptor)
+  pub copies : (stamp : Stamp) → ArePlanned (surveyed survey) choice.descriptor (Some (record { stamp = stamp; value = choice.status })) (has choice.answering) plan.copies
   pub same_homes : plan.homes ≡ homes
   pub parts : IsReservedFor choice.descriptor next room plan.parts
 
--- the same, where the choice has the status with which the group comes on
-pub record IsPlanOfChoice (choice : Choice) (homes : Homes) (room : Room) (plan : Plan) : Type 0 where
+-- the same with these copies, where the choice has the status with which the group comes on
+pub record IsPlanOfChoice (choice : Choice) (copies : List Recopy) (homes : Homes) (room : Room) (plan : Plan) : Type 0 where
   pub descriptor : plan.descriptor ≡ descriptor_bytes choice.descriptor
   pub status : plan.status ≡ status_bytes choice.status
   pub targets : plan.targets ≡ choice.answering
-  pub forget : plan.forget ≡ not (has_active choice.descriptor)
+  pub same_copies : plan.copies ≡ copies
   pub same_homes : plan.homes ≡ homes
   pub parts : IsReservedFor choice.descriptor choice.status room plan.parts
 
@@ -121,7 +123,7 @@ pub record IsPlan (survey : Survey) (name : List ℕ) (moment : ℕ) (room : Roo
   pub next_is : IsNextStatus group (has plan.targets) was next
   pub descriptor : plan.descriptor ≡ descriptor_bytes group
   pub status : plan.status ≡ status_bytes next
-  pub forget : plan.forget ≡ not (has_active group)
+  pub copies : ArePlanned (surveyed survey) group (Some was) (has plan.targets) plan.copies
   pub homes : SpareNewest survey plan.homes
   pub parts : IsReservedFor group next room plan.parts
 
@@ -155,6 +157,6 @@ module _ (patience : ℕ) (b : Beginning) (parts : List Part) (read new : Device
   StopsWriting (cause.TooSmall disk) = ⊥
   StopsWriting cause.GroupExists = ⊥
 
-  abbrev pub AgainWritesGive : Result Homes Cause → Type 0
-  AgainWritesGive (Ok homes) = AllWritten b parts homes read new
+  abbrev pub AgainWritesGive : Result (Homes × Buffer) Cause → Type 0
+  AgainWritesGive (Ok got) = AllWritten b parts got.0 read new
   AgainWritesGive (Err why) = StopsWriting why

@@ -1,21 +1,7 @@
--- What is written where a group comes on without copying, and where its disks are told.
-use Rattle.std.specs.Prelude.{◌≡◌, ◌++◌, ℕ, List, Some, IsTrue, All}
-use Rattle.lvm_num.specs.declared.descriptor.Mode.TheVariants.{Off}
-use Rattle.lvm_num.specs.declared.descriptor.LvRow.{LvRow}
-use Rattle.lvm_num.specs.declared.descriptor.Descriptor.{Descriptor}
-use Rattle.lvm_num.specs.Disks.{Disks}
+-- What holds between two moments of disks that are told.
+use Rattle.std.specs.Prelude.{◌≡◌, ◌++◌, List, Some}
 use Rattle.lvm_disk.specs.Device.{Media, Range, Device, image_of}
 use Rattle.lvm_kept.specs.Contents.{Contents, contents_of}
-use Rattle.lvm_kept.specs.Group.{is_voter, IsOneOf}
-use Rattle.lvm_kept.specs.Recovered.{IsRecordRange}
-
--- these ranges are of records of a group's voters
-abbrev pub AreOfRecords : Contents → Disks → ℕ → List Range → Type 0
-AreOfRecords c disks id ranges = All (λ r. IsTrue (is_voter c disks id r.disk) × IsRecordRange r) ranges
-
--- no volume of the group has consistency
-abbrev pub HasNoConsistency : Descriptor → Type 0
-HasNoConsistency group = (row : LvRow) → IsOneOf group.lvs row → row.mode ≡ Off
 
 -- this holds of what the disks show at two moments and of the ranges that were written between them, where the media and the ranges are told
 abbrev pub WhereTold : Device → Device → (Contents → List Range → Contents → Type 0) → Type 0

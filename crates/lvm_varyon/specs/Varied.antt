@@ -1,12 +1,12 @@
 -- How a varyon ends.
-use Rattle.std.specs.Prelude.{◌≡◌, ◌⊎◌, ◌+◌, ◌<◌, ◌≤◌, ◌++◌, ℕ, not, List, Some, IsTrue, Result, Ok, Err}
+use Rattle.std.specs.Prelude.{◌≡◌, ◌⊎◌, ◌<◌, ◌≤◌, false, ℕ, List, Some, IsTrue, Result, Ok, Err}
 use Rattle.lvm_num.specs.declared.record.Stamp.{Stamp}
 use Rattle.lvm_num.specs.declared.descriptor.Descriptor.{Descriptor}
 use Rattle.lvm_num.specs.declared.status.Status.{Status}
 use Rattle.lvm_num.specs.Disks.{Disks}
 use Rattle.lvm_num.specs.Descriptor.{IsValid}
 use Rattle.lvm_num.specs.Record.{Stamped}
-use Rattle.lvm_disk.specs.Device.{Media, Range, Device, image_of}
+use Rattle.lvm_disk.specs.Device.{Media, Device, image_of}
 use Rattle.lvm_vol.specs.Log.{Log, spare_entries, cut_log}
 use Rattle.lvm_kept.specs.Contents.{Contents, contents_of}
 use Rattle.lvm_kept.specs.Recovered.{Recovered}
@@ -25,14 +25,17 @@ use Rattle.lvm_session_start.specs.Beginning.{first_core}
 use Rattle.lvm_session.specs.State.{Core}
 use Rattle.lvm_begin.specs.Beginning.{Beginning, MayBeginAgain}
 use Rattle.lvm_varyon.specs.Found.{Found, HaveAnswered}
-use Rattle.lvm_next.specs.Next.{IsNextStatus, has_active}
+use Rattle.lvm_next.specs.Next.{IsNextStatus}
 use Rattle.lvm_varyon.specs.Chosen.{answering, last_moment, MayComeOn, IsClockBack}
-use Rattle.lvm_varyon.specs.Writing.{beginning, order, Writes, AllWritten, WasBrokenOff, OneWriteFailed, IsStillOut}
 use Rattle.lvm_next.specs.Restated.{Restated}
-use Rattle.lvm_varyon.specs.Restated.{AreOfRecords, WhereTold}
+use Rattle.lvm_recovery.specs.declared.copying.Recopy.{Recopy}
+use Rattle.lvm_recovery.specs.Planned.{ArePlanned}
+use Rattle.lvm_varyon.specs.Writing.{beginning, Writes, IsStillOut}
+use Rattle.lvm_varyon.specs.Equal.{IsEqualled, OneFailed, BrokeOff}
+use Rattle.lvm_varyon.specs.Restated.{WhereTold}
 
 -- The group that the name chooses may come on, and this was written to its members that answer, with its next status.
-pub record HasWritten (old new : Device) (name : List ℕ) (moment : ℕ) (How : Descriptor → Beginning → Device → Type 0) : Type 0 where
+pub record HasWritten (old new : Device) (name : List ℕ) (moment : ℕ) (How : Beginning → List Recopy → Device → Type 0) : Type 0 where
   pub found : Found old new
   pub group : Descriptor
   pub was : Stamped Status
@@ -41,7 +44,10 @@ pub record HasWritten (old new : Device) (name : List ℕ) (moment : ℕ) (How :
   -- its members that answer are disks that did
   pub answered : (d : ℕ) → IsTrue (answering found.shown group d) → IsTrue (found.answered d)
   pub next_is : IsNextStatus group (answering found.shown group) was next
-  pub writes : Writes old moment group next (answering found.shown group) (How group)
+  -- the copies of track groups that their notes name
+  pub copies : List Recopy
+  pub planned : ArePlanned found.shown group (Some was) (answering found.shown group) copies
+  pub writes : Writes old moment group next (answering found.shown group) (λ b read. How b copies read)
 
 -- the stamp of the last record that a varyon writes
 abbrev pub last_stamp : ℕ → Stamp
@@ -53,20 +59,19 @@ pub record IsFirst (group : Descriptor) (next : Status) (log : Log) (moment : �
   pub reserved : IsReservedFor group next room parts
   pub is : core ≡ first_core parts log (last_stamp moment) core.homes core.origin.faults
 
--- The group that the name chooses is on: its records stand, and its session begins with them.
+-- The group that the name chooses is on: its records stand, its named track groups were copied and its notes emptied, and its session begins with them.
 pub record ComesOn (old new : Device) (log : Log) (name : List ℕ) (moment : ℕ) (room : Room) (core : Core) : Type 0 where
   pub spare : 1 ≤ spare_entries log
-  pub written : HasWritten old new name moment (λ group b read. AllWritten b (order group) core.homes read new)
+  pub written : HasWritten old new name moment (λ b copies read. IsEqualled b core.homes copies read new)
   pub first : IsFirst written.group written.next log moment room core
 
--- What the disks then show, and what was written, where that is told and the clock's moments rise.
+-- What the disks then show, where that is told and the clock's moments rise.
 pub record IsRestated (old new : Device) (group : Descriptor) : Type 0 where
   pub disks : Disks
   pub answered : HaveAnswered old new disks
   pub shows : (was is : Media) → old.media ≡ Some was → new.media ≡ Some is → Restated (contents_of (image_of old.sizes was)) (contents_of (image_of new.sizes is)) disks group
-  pub ranges : (was : Media) (before more : List Range) → old.media ≡ Some was → old.wrote ≡ Some before → new.wrote ≡ Some (before ++ more) → AreOfRecords (contents_of (image_of old.sizes was)) disks group.id more
 
--- So a group without consistency is recovered, by the disks that answered.
+-- A group without volumes in mode passive is recovered, by the disks that answered.
 pub record IsRecovered (old new : Device) (group : Descriptor) : Type 0 where
   pub disks : Disks
   pub answered : HaveAnswered old new disks
@@ -81,10 +86,10 @@ pub record AtChoice (old new : Device) (Why : Contents → Type 0) : Type 0 wher
   pub found : Found old new
   pub why : Why found.shown
 
--- it stopped while the shelf was read or while this was written
+-- it stopped while the shelf was read or behind that, while this was written
 pub record WasStopped (old new : Device) (name : List ℕ) (moment : ℕ) (How : Type 0) : Type 0 where
   pub how : How
-  pub when : IsUnwritten old new ⊎ HasWritten old new name moment (λ group b read. WasBrokenOff b (order group) read new)
+  pub when : IsUnwritten old new ⊎ HasWritten old new name moment (λ b copies read. BrokeOff b copies read new)
 
 module _ (old new : Device) (name : List ℕ) (moment patience : ℕ) where
   -- Why no group came on where the history has room: each refusal where it holds and those before it don't; want of memory is free. The others are of other commands.
@@ -93,7 +98,7 @@ module _ (old new : Device) (name : List ℕ) (moment patience : ℕ) where
   Stops cause.Ambiguous = AtChoice old new (λ c. HasRecord c name × IsAmbiguous c name)
   Stops (cause.NoQuorum have total) = AtChoice old new (λ c. LacksQuorum c name have total)
   Stops (cause.ClockBack seen) = AtChoice old new (λ c. IsClockBack c name moment seen)
-  Stops (cause.DiskFailed disk) = HasWritten old new name moment (λ group b read. OneWriteFailed b (order group) disk read new)
+  Stops (cause.DiskFailed disk) = HasWritten old new name moment (λ b copies read. OneFailed b copies disk read new)
   Stops cause.Dark = WasStopped old new name moment (IsCutOff old new)
   Stops cause.Stuck = WasStopped old new name moment (IsStillOut patience old new)
   Stops cause.Memory = IsUnwritten old new × IsRested old new
@@ -137,13 +142,13 @@ IsAheadOfDisks moment device = moment < last_moment → IsBehind moment device
 
 -- The group that the name chooses has its records, and these are the parts of its session.
 pub record IsBrought (old new : Device) (name : List ℕ) (moment : ℕ) (room : Room) (parts : Parts) (homes : Homes) : Type 0 where
-  pub written : HasWritten old new name moment (λ group b read. AllWritten b (order group) homes read new)
+  pub written : HasWritten old new name moment (λ b copies read. IsEqualled b homes copies read new)
   pub valid : IsValid written.group
   pub reserved : IsReservedFor written.group written.next room parts
   pub placed : ArePlaced new.sizes parts.descriptor parts.updater.wanted
   -- by the choice and the clock
   pub may : IsAheadOfDisks moment old → (media : Media) → old.media ≡ Some media
-      → MayBeginAgain (beginning moment written.group written.next (answering written.found.shown written.group) written.writes.homes) (not (has_active written.group)) written.group written.next written.found.answered written.was (image_of old.sizes media)
+      → MayBeginAgain (beginning moment written.group written.next (answering written.found.shown written.group) written.writes.homes) false written.group written.next written.found.answered written.was (image_of old.sizes media)
 
 abbrev pub BringGives : Device → Device → List ℕ → ℕ → ℕ → Room → Result (Parts × Homes) Cause → Type 0
 BringGives old new name moment patience room (Ok got) = IsBrought old new name moment room got.0 got.1

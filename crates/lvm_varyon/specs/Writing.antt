@@ -1,5 +1,5 @@
 -- What a varyon writes once the shelf has been read.
-use Rattle.std.specs.Prelude.{◌≡◌, ℕ, true, not, [], ◌∷◌, List, IsTrue, IfSome}
+use Rattle.std.specs.Prelude.{◌≡◌, ℕ, true, [], ◌∷◌, List, IsTrue, IfSome}
 use Rattle.lvm_num.specs.declared.descriptor.Descriptor.{Descriptor}
 use Rattle.lvm_num.specs.declared.status.Status.{Status}
 use Rattle.lvm_num.specs.Disks.{Disks}
@@ -11,17 +11,12 @@ use Rattle.lvm_homes.specs.declared.homes.Homes.{Homes}
 use Rattle.lvm_write.specs.Homes.{SparesNewest}
 use Rattle.lvm_write.specs.Written.{KeepsShelf}
 use Rattle.lvm_area.specs.Reading.{IsUnwritten, IsRested}
-use Rattle.lvm_begin.specs.Beginning.{Beginning, Part, again_beginning, again_order, IsOfParts, AllStand}
+use Rattle.lvm_begin.specs.Beginning.{Beginning, Part, again_beginning, IsOfParts, AllStand}
 use Rattle.lvm_begin.specs.Ends.{BothFlip, HasNoFault, StopsAt, IsLowestFailed, WasTriedOnTargets}
-use Rattle.lvm_next.specs.Next.{has_active}
 
 -- the records that go to the members that answer: the descriptor under sequence 1 of the moment, the status under sequence 2
 abbrev pub beginning : ℕ → Descriptor → Status → Disks → Homes → Beginning
 beginning moment group next targets homes = again_beginning moment (descriptor_bytes group) (status_bytes next) targets homes
-
--- the order of the writes: the notes are emptied at last, where the group has no volume in mode active
-abbrev pub order : Descriptor → List Part
-order group = again_order (not (has_active group))
 
 -- The shelf was read, and then this was written or tried, from one moment to another, each record to the slot that doesn't hold the newest.
 pub record Writes (old : Device) (moment : ℕ) (group : Descriptor) (next : Status) (targets : Disks) (How : Beginning → Device → Type 0) : Type 0 where

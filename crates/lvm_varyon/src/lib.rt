@@ -1,10 +1,8 @@
-//! The varying on of a volume group: which group a name chooses, its next status, and its records under a new moment.
+//! The varying on of a volume group: which group a name chooses, its next status, its records under a new moment, and its copies made equal.
 #![tactic(auto)]
 
-mod laws;
 mod plan;
 mod vary;
 mod writes;
 
-pub use laws::restated_is_recovered;
 pub use vary::varyon;

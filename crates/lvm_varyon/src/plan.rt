@@ -1,5 +1,9 @@
 //! What a varyon writes, by what the disks show.
-ghost use Rattle.std.specs.Prelude.{◌≡◌, IfOk};
+ghost use Rattle.std.specs.Prelude.{◌≡◌, Some, IfOk};
+ghost use Rattle.lvm_num.specs.declared.record.Stamp.{Stamp};
+ghost use Rattle.lvm_num.specs.Disks.{has};
+ghost use Rattle.lvm_survey.specs.Surveyed.{surveyed};
+ghost use Rattle.lvm_recovery.specs.Planned.{ArePlanned};
 ghost use Rattle.lvm_num.specs.Descriptor.{IsValid};
 ghost use Rattle.lvm_num.specs.Status.{IsValidStatus};
 ghost use Rattle.lvm_survey.specs.Rows.{AreRows};
@@ -12,9 +16,11 @@ ghost use Rattle.lvm_num.specs.StatusBytes.{status_bytes};
 
 use lvm_core::{Cause, Parts, Room};
 use lvm_homes::Homes;
-use lvm_next::{has_active, next_status};
+use lvm_next::next_status;
 use lvm_num::{DiskSet, Memory, Name, Rows, Status};
 use lvm_quorum::{Choice, ChooseFault, choose};
+use lvm_recovery::{Recopy, named_by, plan_copies};
+use lvm_stale::StaleTable;
 use lvm_survey::Survey;
 use lvm_write::homes_of;
 use std::alloc::Global;
@@ -33,8 +39,8 @@ pub struct Plan {
     pub targets: DiskSet,
     /// The slots that come next.
     pub homes: Homes,
-    /// Whether the notes are emptied.
-    pub forget: bool,
+    /// What makes usable copies equal where the targets' notes say that they may differ.
+    pub copies: Rows<Recopy>,
 }
 
 /// The plan by a survey, where the group of the name may come on under this moment.
@@ -60,7 +66,7 @@ pub fn plan_of(
     if moment <= choice.seen {
         return Err(Cause::ClockBack { seen: choice.seen });
     }
-    match plan_for(alloc, choice, homes_of(survey), room) {
+    match plan_for(alloc, survey, choice, homes_of(survey), room) {
         Ok(plan) => Ok(plan),
         Err(Memory) => Err(Cause::Memory),
     }
@@ -79,14 +85,42 @@ fn cause_of(fault: ChooseFault) -> Cause
 }
 
 // The plan of the group that was chosen.
-fn plan_for(alloc: Global, choice: Choice, homes: Homes, room: Room) -> Result<Plan, Memory>
+fn plan_for(
+    alloc: Global,
+    survey: &Survey,
+    choice: Choice,
+    homes: Homes,
+    room: Room,
+) -> Result<Plan, Memory>
+    requires rows { AreRows survey.now }
     requires descriptor { IsValid choice.descriptor }
     requires status { IsValidStatus choice.status }
     requires room { IsRoom room }
-    ensures { IfOk result (IsPlanFor choice homes room) }
+    ensures { IfOk result (IsPlanFor survey.now choice homes room) }
 {
+    let copies = copies_for(alloc, survey, &choice)?;
     let next = next_status(alloc, &choice.descriptor, &choice.status, choice.answering)?;
-    plan_with(alloc, with_status(choice, next), homes, room)
+    plan_with(alloc, with_status(choice, next), copies, homes, room)
+}
+
+// What makes the usable copies of the group equal, by the status that was found and what the notes of the members
+// that answer name.
+fn copies_for(alloc: Global, survey: &Survey, choice: &Choice) -> Result<Rows<Recopy>, Memory>
+    requires rows { AreRows survey.now }
+    requires descriptor { IsValid choice.now.descriptor }
+    requires status { IsValidStatus choice.now.status }
+    ensures { (stamp : Stamp) → IfOk result (λ copies. ArePlanned (surveyed survey.now) choice.now.descriptor (Some (record { stamp = stamp; value = choice.now.status })) (has choice.now.answering) copies) }
+{
+    let named = named_by(alloc, survey, choice.answering)?;
+    let table = StaleTable::from_status(alloc, &choice.status)?;
+    let copies = plan_copies(
+        alloc,
+        &choice.descriptor,
+        &table,
+        choice.answering,
+        named.as_slice(),
+    )?;
+    Ok(Rows::new(copies))
 }
 
 // The choice with another status.
@@ -108,15 +142,20 @@ fn with_status(choice: Choice, status: Status) -> Choice
 }
 
 // The plan by which a group comes on with the status of the choice.
-fn plan_with(alloc: Global, choice: Choice, homes: Homes, room: Room) -> Result<Plan, Memory>
+fn plan_with(
+    alloc: Global,
+    choice: Choice,
+    copies: Rows<Recopy>,
+    homes: Homes,
+    room: Room,
+) -> Result<Plan, Memory>
     requires descriptor { IsValid choice.descriptor }
     requires status { IsValidStatus choice.status }
     requires group { IsOneGroup choice.descriptor choice.status }
     requires room { IsRoom room }
-    ensures { IfOk result (IsPlanOfChoice choice homes room) }
+    ensures { IfOk result (IsPlanOfChoice choice copies homes room) }
 {
     let bytes = encode(alloc, &choice)?;
-    let forget = !has_active(&choice.descriptor);
     let targets = choice.answering;
     let parts = Parts::new(alloc, choice, room)?;
     Ok(Plan {
@@ -125,7 +164,7 @@ fn plan_with(alloc: Global, choice: Choice, homes: Homes, room: Room) -> Result<
         status: bytes.status,
         targets,
         homes,
-        forget,
+        copies,
     })
 }
 

@@ -7,16 +7,17 @@ ghost use Rattle.lvm_stamps.specs.Behind.{ClockIsAhead, IsBehind};
 ghost use Rattle.lvm_session_start.specs.Beginning.{AreFaults};
 ghost use Rattle.lvm_core.specs.Sound.{HaveAllLanded};
 ghost use Rattle.lvm_core.specs.Starting.{IsRoom};
-ghost use Rattle.lvm_varyon.specs.Restated.{HasNoConsistency};
+ghost use Rattle.lvm_recover.specs.Recovered.{HasNoPassive};
 ghost use Rattle.lvm_core.specs.State.{state_of};
 ghost use Rattle.lvm_core.specs.Coming.{BringsOn, IsStarted, shelf_left, history_left};
 ghost use Rattle.lvm_varyon.specs.Varied.{VaryonGives, IsRestated, IsRecovered, BringGives, IsAheadOfDisks, brought_of, log_after, Stops};
 ghost use Rattle.lvm_area.specs.Reading.{OnlyReads};
 ghost use Rattle.lvm_write.specs.Parts.{Spends};
-ghost use Rattle.lvm_varyon.specs.Parts.{IsPlannedBy};
+ghost use Rattle.lvm_varyon.specs.Parts.{IsPlannedBy, plan_beginning};
+ghost use Rattle.lvm_varyon.specs.Equal.{AllWritesGive, AllWritesKeep, MayWritePlan};
 
 use crate::plan::{Plan, plan_of};
-use crate::writes::{read_disks, write_plan};
+use crate::writes::{make_equal, read_disks, write_plan};
 use lvm_core::{Cause, Driver, Parts, Refused, Room};
 use lvm_disk::Shelf;
 use lvm_history::History;
@@ -28,15 +29,18 @@ use std::alloc::Global;
 /// Varies the group of a name on: reads the records of all disks of the shelf, chooses the group's newest
 /// descriptor and status by the members that answer, and writes both to these under the moment, the status
 /// with a row for exactly the members. Missing are then those that don't answer, and stale, beside what
-/// was, their copies of which another is fresh. The notes are emptied where no volume is in mode active.
+/// was, their copies of which another is fresh. Then each track group of a volume in mode active that the note of one
+/// of these members names is copied from the first of its fresh copies on them to the others, and at last their notes
+/// are emptied.
 ///
 /// # Errors
 ///
 /// In this order: `HistoryFull` where no entry is spare; `Dark` and `Stuck` while the disks are read;
 /// `NoRecord`, `Ambiguous` and `NoQuorum` by what those show that answer; `ClockBack` where the moment
 /// isn't later than each record of the group, or is the last one. Up to here nothing is written.
-/// Then `Dark`, `Stuck`, or `DiskFailed` where a write to a member that answered failed, the lowest of
-/// these. `Memory` comes before the first write alone.
+/// Then `Dark`, `Stuck`, or `DiskFailed` where a transfer of a member that answered failed: the lowest of these while
+/// records or notes were written, the first one while copies were made, be it that the first fresh copy can't be read.
+/// `Memory` comes before the first write alone.
 pub fn varyon<S: Shelf>(
     alloc: Global,
     shelf: S,
@@ -55,7 +59,7 @@ pub fn varyon<S: Shelf>(
     ensures starts { IfOk result (λ driver. IsStarted history.run moment (S.device shelf) history (state_of S.device driver)) }
     ensures faults { IfOk result (λ driver. AreFaults (S.device driver.0) driver.1.origin.faults) }
     ensures restated { IfOk result (λ driver. ClockIsAhead history.run moment (S.device shelf) history.facts → IsRestated (S.device shelf) (S.device driver.0) driver.1.descriptor) }
-    ensures recovered { IfOk result (λ driver. ClockIsAhead history.run moment (S.device shelf) history.facts → HasNoConsistency driver.1.descriptor → IsRecovered (S.device shelf) (S.device driver.0) driver.1.descriptor) }
+    ensures recovered { IfOk result (λ driver. ClockIsAhead history.run moment (S.device shelf) history.facts → HasNoPassive driver.1.descriptor → IsRecovered (S.device shelf) (S.device driver.0) driver.1.descriptor) }
     // whatever the answer
     ensures leaves { BringsOn history.run moment patience.old.left patience.new.left (S.device shelf) (S.device (shelf_left result)) history (history_left result) }
 {
@@ -109,8 +113,28 @@ fn bring<S: Shelf>(
     ensures kept { IsAheadOfDisks moment (S.device shelf.old) → Path DeviceStep (StaysKept (S.device shelf.old)) (S.device shelf.old) (S.device shelf.new) }
 {
     let (plan, buf) = read_plan(alloc, shelf, name, moment, room, patience)?;
-    let written = write_plan(shelf, &plan, moment, buf, patience);
+    let written = write_all(shelf, &plan, moment, buf, patience);
     begin_with(plan, written)
+}
+
+// Writes the records of a plan, makes its copies and empties the notes.
+fn write_all<S: Shelf>(
+    shelf: &mut S,
+    plan: &Plan,
+    moment: u64,
+    buf: Pbuf,
+    patience: &mut Patience,
+) -> Result<Homes, Cause>
+    requires ready { IsReady (S.device shelf.old) }
+    requires moment { moment ≢ 0 }
+    requires may { MayWritePlan (S.device shelf.old) plan.now }
+    ensures gives { AllWritesGive patience.old.left (plan_beginning moment plan.now) plan.now.copies (S.device shelf.old) (S.device shelf.new) result }
+    ensures spends { Spends patience.old.left patience.new.left (S.device shelf.old) (S.device shelf.new) }
+    ensures kept { AllWritesKeep (plan_beginning moment plan.now) plan.now.copies (S.device shelf.old) (S.device shelf.new) }
+{
+    let (homes, buf) = write_plan(shelf, plan, moment, buf, patience)?;
+    make_equal(shelf, plan, moment, buf, patience)?;
+    Ok(homes)
 }
 
 // What the session of a plan begins with, where its records were written.

@@ -1,5 +1,5 @@
 //! The reading of a shelf, and the writes of a varyon.
-ghost use Rattle.std.specs.Prelude.{◌≢◌, ◌≤◌, length};
+ghost use Rattle.std.specs.Prelude.{false, ◌≢◌, ◌≤◌, length, All};
 ghost use Rattle.lvm_num.specs.declared.record.Kind.TheVariants as kind;
 ghost use Rattle.lvm_num.specs.Disks.{has};
 ghost use Rattle.lvm_num.specs.Record.{longest_content};
@@ -10,6 +10,10 @@ ghost use Rattle.lvm_begin.specs.Beginning.{again_beginning, again_order, IsOfPa
 ghost use Rattle.lvm_begin.specs.Kept.{AgainStaysKept};
 ghost use Rattle.lvm_write.specs.Writes.{DiskWritesLeave};
 ghost use Rattle.lvm_area.specs.Reading.{OnlyReads};
+ghost use Rattle.lvm_write.specs.Parts.{Spends};
+ghost use Rattle.lvm_recovery.specs.Copying.{MayCopy, AreApart};
+ghost use Rattle.lvm_recovery.specs.Equalising.{EqualisedStaysKept};
+ghost use Rattle.lvm_varyon.specs.Equal.{EqualGives};
 ghost use Rattle.lvm_varyon.specs.Parts.{SurveyGives, plan_beginning, AgainWritesGive};
 
 use crate::plan::Plan;
@@ -18,6 +22,7 @@ use lvm_core::Cause;
 use lvm_disk::Shelf;
 use lvm_homes::Homes;
 use lvm_num::{DiskSet, Pbuf};
+use lvm_recovery::equalise;
 use lvm_survey::{Survey, Surveyed, survey_disks};
 use lvm_transfer::Patience;
 use std::alloc::Global;
@@ -43,23 +48,22 @@ pub fn read_disks<S: Shelf>(
     }
 }
 
-/// Writes the descriptor and the status of a plan to its targets, and empties their notes or leaves them. The slots
-/// that come next come back.
+/// Writes the descriptor and the status of a plan to its targets. The slots that come next come back, and the buffer.
 pub fn write_plan<S: Shelf>(
     shelf: &mut S,
     plan: &Plan,
     moment: u64,
     buf: Pbuf,
     patience: &mut Patience,
-) -> Result<Homes, Cause>
+) -> Result<(Homes, Pbuf), Cause>
     requires ready { IsReady (S.device shelf.old) }
     requires moment { moment ≢ 0 }
     requires descriptor { length plan.now.descriptor ≤ longest_content kind.Descriptor }
     requires status { length plan.now.status ≤ longest_content kind.Status }
     requires targets { HaveRoom (S.device shelf.old) (has plan.now.targets) }
-    ensures gives { AgainWritesGive patience.old.left (plan_beginning moment plan.now) (again_order plan.now.forget) (S.device shelf.old) (S.device shelf.new) result }
-    ensures leaves { DiskWritesLeave (has plan.now.targets) (IsOfParts (plan_beginning moment plan.now) (again_order plan.now.forget)) patience.old.left patience.new.left (S.device shelf.old) (S.device shelf.new) }
-    ensures kept { AgainStaysKept (plan_beginning moment plan.now) plan.now.forget (S.device shelf.old) (S.device shelf.new) }
+    ensures gives { AgainWritesGive patience.old.left (plan_beginning moment plan.now) (again_order false) (S.device shelf.old) (S.device shelf.new) result }
+    ensures leaves { DiskWritesLeave (has plan.now.targets) (IsOfParts (plan_beginning moment plan.now) (again_order false)) patience.old.left patience.new.left (S.device shelf.old) (S.device shelf.new) }
+    ensures kept { AgainStaysKept (plan_beginning moment plan.now) false (S.device shelf.old) (S.device shelf.new) }
 {
     write_records(
         shelf,
@@ -68,7 +72,6 @@ pub fn write_plan<S: Shelf>(
         moment,
         plan.targets,
         plan.homes,
-        plan.forget,
         buf,
         patience,
     )
@@ -82,24 +85,54 @@ fn write_records<S: Shelf>(
     moment: u64,
     targets: DiskSet,
     homes: Homes,
-    forget: bool,
     buf: Pbuf,
     patience: &mut Patience,
-) -> Result<Homes, Cause>
+) -> Result<(Homes, Pbuf), Cause>
     requires ready { IsReady (S.device shelf.old) }
     requires moment { moment ≢ 0 }
     requires descriptor { length descriptor.now ≤ longest_content kind.Descriptor }
     requires status { length status.now ≤ longest_content kind.Status }
     requires targets { HaveRoom (S.device shelf.old) (has targets) }
-    ensures gives { let b = again_beginning moment descriptor.now status.now (has targets) homes in AgainWritesGive patience.old.left b (again_order forget) (S.device shelf.old) (S.device shelf.new) result }
-    ensures leaves { let b = again_beginning moment descriptor.now status.now (has targets) homes in DiskWritesLeave (has targets) (IsOfParts b (again_order forget)) patience.old.left patience.new.left (S.device shelf.old) (S.device shelf.new) }
-    ensures kept { let b = again_beginning moment descriptor.now status.now (has targets) homes in AgainStaysKept b forget (S.device shelf.old) (S.device shelf.new) }
+    ensures gives { let b = again_beginning moment descriptor.now status.now (has targets) homes in AgainWritesGive patience.old.left b (again_order false) (S.device shelf.old) (S.device shelf.new) result }
+    ensures leaves { let b = again_beginning moment descriptor.now status.now (has targets) homes in DiskWritesLeave (has targets) (IsOfParts b (again_order false)) patience.old.left patience.new.left (S.device shelf.old) (S.device shelf.new) }
+    ensures kept { let b = again_beginning moment descriptor.now status.now (has targets) homes in AgainStaysKept b false (S.device shelf.old) (S.device shelf.new) }
 {
     let mut homes = homes;
     match begin_again(
-        shelf, descriptor, status, moment, targets, forget, &mut homes, buf, patience,
+        shelf, descriptor, status, moment, targets, false, &mut homes, buf, patience,
     ) {
-        Begun::Ended { buf: _ } => Ok(homes),
+        Begun::Ended { buf } => Ok((homes, buf)),
+        Begun::DiskFailed { disk, buf: _ } => Err(Cause::DiskFailed { disk }),
+        Begun::Dark => Err(Cause::Dark),
+        Begun::Stuck => Err(Cause::Stuck),
+    }
+}
+
+/// Makes the copies of a plan, and then empties the notes of its targets.
+pub fn make_equal<S: Shelf>(
+    shelf: &mut S,
+    plan: &Plan,
+    moment: u64,
+    buf: Pbuf,
+    patience: &mut Patience,
+) -> Result<(), Cause>
+    requires ready { IsReady (S.device shelf.old) }
+    requires ranges { All (MayCopy (S.device shelf.old).sizes) plan.now.copies }
+    requires apart { AreApart plan.now.copies }
+    requires targets { HaveRoom (S.device shelf.old) (has plan.now.targets) }
+    ensures gives { EqualGives patience.old.left plan.now.copies moment (has plan.now.targets) (S.device shelf.old) (S.device shelf.new) result }
+    ensures spends { Spends patience.old.left patience.new.left (S.device shelf.old) (S.device shelf.new) }
+    ensures kept { EqualisedStaysKept plan.now.copies (has plan.now.targets) (S.device shelf.old) (S.device shelf.new) }
+{
+    match equalise(
+        shelf,
+        plan.copies.as_slice(),
+        moment,
+        plan.targets,
+        buf,
+        patience,
+    ) {
+        Begun::Ended { buf: _ } => Ok(()),
         Begun::DiskFailed { disk, buf: _ } => Err(Cause::DiskFailed { disk }),
         Begun::Dark => Err(Cause::Dark),
         Begun::Stuck => Err(Cause::Stuck),

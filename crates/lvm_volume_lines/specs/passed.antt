@@ -15,12 +15,12 @@ pub mod RangeLinesWaiting
 pub mod Ranges
 pub mod RefusalVariants
 pub mod ReplyVariants
+pub mod Recover
 pub mod Running
 pub mod Stage
 pub mod Tie
 pub mod TieCommands
 pub mod TieCopies
-pub mod TieGroups
 pub mod Varyon
 pub mod VolumePlan
 pub mod Volumes

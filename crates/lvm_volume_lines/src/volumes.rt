@@ -1,6 +1,6 @@
 //! The lines that make or remove a volume.
 ghost use Rattle.std.specs.Prelude.{◌≡◌, ◌≤◌, ℕ, [], All, IfOk, IfErr, IfSome, IsSome, IsTrue, IsFalse, Err, true};
-ghost use Rattle.lvm_num.specs.declared.descriptor.Mode.TheVariants.{Off};
+ghost use Rattle.lvm_num.specs.declared.descriptor.Mode.TheVariants.{Passive};
 ghost use Rattle.lvm_transfer.specs.Transfer.{Relights};
 ghost use Rattle.lvm_status.specs.Calls.{IsMarkable};
 ghost use Rattle.lvm_status.specs.Members.{HasItsRows};
@@ -248,7 +248,7 @@ fn make_volume<S: Shelf>(
     requires sound { IsSound (state_of S.device driver) }
     requires rows { HasItsRows driver.1.descriptor driver.1.origin.table }
     requires some { 1 ≤ lps }
-    requires off { mode ≡ Off }
+    requires built { mode ≡ Passive → ⊥ }
     ensures { let w = wanted name copies mode policy lps in
         IsCarriedOut S.device (λ was is given. MklvGives w patience.old.left was is given) none_added (to_make w driver.1) patience.old.left driver posts bytes result.stage result.reply }
 {
@@ -300,7 +300,7 @@ pub fn do_mklv<S: Shelf>(
     requires fits { IsFitting stage }
     requires between { IsBetweenStage S.device stage }
     requires some { 1 ≤ lps }
-    requires off { mode ≡ Off }
+    requires built { mode ≡ Passive → ⊥ }
     ensures { EndsUnasked S.device (λ _. MklvDoes (wanted name copies mode policy lps) group) ⊥ OfGroup stage result.stage result.reply }
 {
     if !stage.is_on(group) {

@@ -1,5 +1,5 @@
-use Rattle.std.proofs.Common.{◌≡◌, ◌≤◌, Err, sym, subst, []}
-use Rattle.std.specs.Prelude.{IfOk, IfErr, length}
+use Rattle.std.proofs.Common.{sym, subst, []}
+use Rattle.std.specs.Prelude.{IfOk, IfErr}
 use Rattle.std.proofs.lemmas.Result.{err_from_is_err_and}
 use Rattle.lvm_vol.specs.Log.{Log, spare_entries}
 use Rattle.lvm_homes.specs.declared.homes.Homes.{Homes}

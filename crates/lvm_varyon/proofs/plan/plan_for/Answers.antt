@@ -1,4 +1,4 @@
-use Rattle.std.proofs.Common.{Result, Ok, Err, refl, sym, subst}
+use Rattle.std.proofs.Common.{List, Some, Result, Ok, Err, sym, subst}
 use Rattle.std.specs.Prelude.{IfOk}
 use Rattle.lvm_num.specs.declared.Memory.{Memory}
 use Rattle.lvm_num.specs.declared.record.Stamp.{Stamp}
@@ -6,11 +6,15 @@ use Rattle.lvm_num.specs.declared.status.Status.{Status}
 use Rattle.lvm_num.specs.Descriptor.{IsValid}
 use Rattle.lvm_num.specs.Disks.{has}
 use Rattle.lvm_num.specs.Status.{IsValidStatus}
+use Rattle.lvm_survey.specs.declared.row.Survey.{Survey}
+use Rattle.lvm_survey.specs.Surveyed.{surveyed}
 use Rattle.lvm_quorum.specs.declared.choice.Choice.{Choice}
 use Rattle.lvm_homes.specs.declared.homes.Homes.{Homes}
 use Rattle.lvm_core.specs.declared.parts.Room.{Room}
 use Rattle.lvm_session_start.specs.Parts.{IsOneGroup}
 use Rattle.lvm_next.specs.Next.{IsNextStatus}
+use Rattle.lvm_recovery.specs.declared.copying.Recopy.{Recopy}
+use Rattle.lvm_recovery.specs.Planned.{ArePlanned}
 use Rattle.lvm_varyon.specs.declared.plan.Plan.{Plan}
 use Rattle.lvm_varyon.specs.Parts.{IsPlanFor, IsPlanOfChoice}
 use Rattle.lvm_varyon.proofs.plan.plan_for.Goals as goal
@@ -19,16 +23,18 @@ no_stamp : Stamp
 no_stamp = record { epoch = 0; seq = 0 }
 
 -- the plan with the next status is the one of the choice
-planned_for : (choice : Choice) (next : Status) (homes : Homes) (room : Room) → ((stamp : Stamp) → IsNextStatus choice.descriptor (has choice.answering) (record { stamp = stamp; value = choice.status }) next)
-    → (r : Result Plan Memory) → IfOk r (IsPlanOfChoice (record choice { status = next }) homes room) → IfOk r (IsPlanFor choice homes room)
-planned_for choice next homes room next_is (Err why) is = tt
-planned_for choice next homes room next_is (Ok plan) is = record {
+planned_for : (survey : Survey) (choice : Choice) (copies : List Recopy) (next : Status) (homes : Homes) (room : Room)
+    → ((stamp : Stamp) → IsNextStatus choice.descriptor (has choice.answering) (record { stamp = stamp; value = choice.status }) next)
+    → ((stamp : Stamp) → ArePlanned (surveyed survey) choice.descriptor (Some (record { stamp = stamp; value = choice.status })) (has choice.answering) copies)
+    → (r : Result Plan Memory) → IfOk r (IsPlanOfChoice (record choice { status = next }) copies homes room) → IfOk r (IsPlanFor survey choice homes room)
+planned_for survey choice copies next homes room next_is planned (Err why) is = tt
+planned_for survey choice copies next homes room next_is planned (Ok plan) is = record {
   next = next;
   next_is = next_is;
   descriptor = is.descriptor;
   status = is.status;
   targets = is.targets;
-  forget = is.forget;
+  copies = λ stamp. subst (λ (l : List Recopy). ArePlanned (surveyed survey) choice.descriptor (Some (record { stamp = stamp; value = choice.status })) (has choice.answering) l) (sym is.same_copies) (planned stamp);
   same_homes = is.same_homes;
   parts = is.parts;
 }
@@ -46,5 +52,5 @@ plan_with-requires-clause-group c =
 
 pub returns : goal.returns
 returns c =
-    planned_for c.args.choice c.in_ok-next.next c.args.homes c.args.room c.in_ok-next.ensures c.plan_with.result
-    (subst (λ (x : Choice). IfOk c.plan_with.result (IsPlanOfChoice x c.args.homes c.args.room)) c.with_status.ensures c.plan_with.ensures)
+    planned_for c.args.survey.now c.args.choice c.in_ok-copies.copies c.in_ok-next.next c.args.homes c.args.room c.in_ok-next.ensures c.in_ok-copies.ensures c.plan_with.result
+    (subst (λ (x : Choice). IfOk c.plan_with.result (IsPlanOfChoice x c.in_ok-copies.copies c.args.homes c.args.room)) c.with_status.ensures c.plan_with.ensures)

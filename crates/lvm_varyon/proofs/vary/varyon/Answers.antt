@@ -1,4 +1,4 @@
-use Rattle.std.proofs.Common.{◌+◌, ◌≤◌, sym, ap, subst, arith}
+use Rattle.std.proofs.Common.{◌≤◌, sym, ap, subst, arith}
 use Rattle.lvm_disk.specs.Device.{Device}
 use Rattle.lvm_disk.specs.Paths.{Here}
 use Rattle.lvm_vol.specs.Log.{Log, spare_entries}

@@ -1,4 +1,4 @@
-use Rattle.std.proofs.Common.{◌≡◌, ◌≤◌, ℕ, List, length, sym, subst}
+use Rattle.std.proofs.Common.{◌≡◌, ◌≤◌, ℕ, false, List, length, sym, subst}
 use Rattle.lvm_num.specs.declared.record.Kind.TheVariants as kind
 use Rattle.lvm_num.specs.Disks.{has}
 use Rattle.lvm_num.specs.Record.{longest_content}
@@ -29,7 +29,7 @@ returns g c =
     let after = c.write_records.new.patience.left in
     let so = of_plan c.args.moment plan c.as_slice.result.now c.as_slice-2.result.now c.as_slice.ensures c.as_slice-2.ensures in
     record {
-      gives = so (λ (b : Beginning). AgainWritesGive before b (again_order plan.forget) old new c.write_records.result) c.write_records.ensures.gives;
-      leaves = so (λ (b : Beginning). DiskWritesLeave (has plan.targets) (IsOfParts b (again_order plan.forget)) before after old new) c.write_records.ensures.leaves;
-      kept = so (λ (b : Beginning). AgainStaysKept b plan.forget old new) c.write_records.ensures.kept;
+      gives = so (λ (b : Beginning). AgainWritesGive before b (again_order false) old new c.write_records.result) c.write_records.ensures.gives;
+      leaves = so (λ (b : Beginning). DiskWritesLeave (has plan.targets) (IsOfParts b (again_order false)) before after old new) c.write_records.ensures.leaves;
+      kept = so (λ (b : Beginning). AgainStaysKept b false old new) c.write_records.ensures.kept;
     }

@@ -1,4 +1,4 @@
-use Rattle.std.proofs.Common.{ℕ, List, Result, Ok, Err, sym, ap, subst, ◌∙◌}
+use Rattle.std.proofs.Common.{ℕ, List, Result, Ok, Err, ap, subst, ◌∙◌}
 use Rattle.std.specs.Prelude.{IfOk}
 use Rattle.lvm_num.specs.declared.Memory.{Memory}
 use Rattle.lvm_num.specs.declared.descriptor.Descriptor.{Descriptor}
@@ -12,7 +12,7 @@ use Rattle.lvm_quorum.specs.declared.choice.Choice.{Choice}
 use Rattle.lvm_core.specs.declared.parts.Room.{Room}
 use Rattle.lvm_core.specs.Starting.{IsReservedFor}
 use Rattle.lvm_group.specs.declared.plan.Plan.{Plan}
-use Rattle.lvm_group.specs.NewGroup.{descriptor_for, status_for}
+use Rattle.lvm_group.specs.NewGroup.{status_for}
 use Rattle.lvm_group.specs.Planned.{IsChoiceFor, IsPlanOf, IsPlanned}
 use Rattle.lvm_group.proofs.plan.Plan.new.Goals as goal
 

@@ -1,0 +1,2 @@
+-- Passed on from `lvm_recover`.
+pub use Rattle.lvm_group_lines.specs.passed.Recover.{HasNoPassive}

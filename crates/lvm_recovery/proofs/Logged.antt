@@ -1,0 +1,56 @@
+-- Ranges that are told, one transfer after another.
+use Rattle.std.proofs.Common.{◌≡◌, ℕ, ◌+◌, ◌-◌, ◌<◌, ◌≤◌, Bool, true, List, [], ◌++◌, Option, Some, None, refl, sym, ap, subst, ◌∙◌, append_assoc, arith, All}
+use Rattle.std.proofs.lemmas.List.{append_cancel_left, append-nil}
+use Rattle.std.proofs.lemmas.List.Elements.{All-nil, All-weaker, All-append}
+use Rattle.lvm_num.specs.declared.place.Place.{Place}
+use Rattle.lvm_num.specs.Buffer.{Buffer}
+use Rattle.lvm_disk.specs.Device.{Range}
+use Rattle.lvm_kept.specs.Plans.{Plan}
+use Rattle.lvm_write.specs.Written.{IsInPlan, LogsPlan}
+use Rattle.lvm_recovery.specs.Copying.{IsInRun, IsOfStep, LogsOnly}
+
+-- what a step may bring is told as a part of its run, and of a read nothing is
+pub in_run : (write : Bool) (place : Place) (buf : Buffer) (range : Range) → IsInPlan (IsOfStep write place buf) range → (write ≡ true) × IsInRun place range
+in_run write place buf range inside =
+    let some = inside.0 in
+    let first = inside.1 range.first (omega arith) (omega (arith, some)) in
+    let last = inside.1 (range.first + range.count - 1) (omega (arith, some)) (omega (arith, some)) in
+    let at_first = first.1.at.sector in
+    let at_last = last.1.at.sector in
+    let below = last.1.at.inside in
+    (first.1.writes, record { disk = first.1.at.disk; low = omega (arith, at_first); some = some; high = omega (arith, at_last, below, some) })
+
+pub only_planned : (P : Plan) (Q : Range → Type 0) (a b : Option (List Range)) → ((range : Range) → IsInPlan P range → Q range) → LogsPlan P a b → LogsOnly Q a b
+only_planned P Q None None more one = tt
+only_planned P Q None (Some b) more one = absurd one
+only_planned P Q (Some a) None more one = tt
+only_planned P Q (Some a) (Some b) more one = (one.0, one.1, All-weaker (IsInPlan P) Q more one.0 one.2)
+
+pub only_wider : (P Q : Range → Type 0) (a b : Option (List Range)) → ((range : Range) → P range → Q range) → LogsOnly P a b → LogsOnly Q a b
+only_wider P Q None None more one = tt
+only_wider P Q None (Some b) more one = absurd one
+only_wider P Q (Some a) None more one = tt
+only_wider P Q (Some a) (Some b) more one = (one.0, one.1, All-weaker P Q more one.0 one.2)
+
+pub only_none : (Q : Range → Type 0) (a : Option (List Range)) → LogsOnly Q a a
+only_none Q None = tt
+only_none Q (Some a) = ([], sym (append-nil a), All-nil Q)
+
+pub only_then : (Q : Range → Type 0) (a b c : Option (List Range)) → LogsOnly Q a b → LogsOnly Q b c → LogsOnly Q a c
+only_then Q None None None one two = tt
+only_then Q None None (Some c) one two = absurd two
+only_then Q None (Some b) c one two = absurd one
+only_then Q (Some a) None None one two = tt
+only_then Q (Some a) None (Some c) one two = absurd two
+only_then Q (Some a) (Some b) None one two = tt
+only_then Q (Some a) (Some b) (Some c) one two = (one.0 ++ two.0, two.1 ∙ ap (λ (l : List Range). l ++ two.0) one.1 ∙ append_assoc a one.0 two.0, All-append Q one.0 two.0 one.2 two.2)
+
+-- those that are told between two lists that are told
+pub only_told : (Q : Range → Type 0) (a b : Option (List Range)) (first more : List Range) → a ≡ Some first → b ≡ Some (first ++ more) → LogsOnly Q a b → All Q more
+only_told Q None b first more e f logs = absurd cc
+only_told Q (Some x) None first more e f logs = absurd cc
+only_told Q (Some x) (Some y) first more e f logs =
+    let same : x ≡ first = cc in
+    let all : y ≡ first ++ more = cc in
+    let it : logs.0 ≡ more = append_cancel_left first logs.0 more (ap (λ (z : List Range). z ++ logs.0) (sym same) ∙ sym logs.1 ∙ all) in
+    subst (All Q) it logs.2

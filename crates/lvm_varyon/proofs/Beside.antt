@@ -1,0 +1,127 @@
+-- Changes beside the slots of records leave these as they are.
+use Rattle.std.proofs.Common.{◌≡◌, ◌⊎◌, inl, inr, ⊎_elim, ℕ, ◌+◌, ◌<◌, ◌≤◌, List, [], Option, Some, None, refl, sym, ap, subst, ◌∙◌, arith}
+use Rattle.std.specs.Prelude.{IsSomeAnd}
+use Rattle.lvm_num.specs.declared.place.Place.{Place}
+use Rattle.lvm_num.specs.declared.record.Kind.{Kind}
+use Rattle.lvm_num.specs.declared.record.Kind.TheVariants as kind
+use Rattle.lvm_num.specs.declared.record.Stamp.{Stamp}
+use Rattle.lvm_num.specs.declared.descriptor.Descriptor.{Descriptor}
+use Rattle.lvm_num.specs.declared.status.Status.{Status}
+use Rattle.lvm_num.specs.Buffer.{Sector}
+use Rattle.lvm_num.specs.Disks.{Disks}
+use Rattle.lvm_num.specs.DescriptorBytes.{descriptor_of}
+use Rattle.lvm_num.specs.StatusBytes.{status_of}
+use Rattle.lvm_num.specs.Geometry.{data_start}
+use Rattle.lvm_num.specs.Note.{Noted}
+use Rattle.lvm_num.specs.Record.{Stamped, slot_start, slot_size}
+use Rattle.lvm_disk.specs.Device.{Media, Image, Flight, Device, IsInFlight, IsCrashImage, image_of}
+use Rattle.lvm_disk.specs.Steps.{BothTold}
+use Rattle.lvm_kept.specs.Contents.{Contents, contents_of, descriptor_on, status_on, note_sector}
+use Rattle.lvm_kept.specs.Group.{Finds, descriptor_among, has_quorum, is_voter}
+use Rattle.lvm_kept.proofs.Contained.{at-same, newest-same}
+use Rattle.lvm_steps.proofs.Making.{media_may}
+use Rattle.lvm_core.specs.Leaves.{MayBeFound}
+use Rattle.lvm_kept.specs.Plans.{Plan, ChangesBy}
+use Rattle.lvm_kept.specs.Torn.{IsOfNote}
+use Rattle.lvm_stamps.specs.Behind.{StampsBefore, beginning_at, IsBehind}
+use Rattle.lvm_stamps.specs.Laws.{IsOtherOrEarlier}
+use Rattle.lvm_stamps.proofs.Writes.{changes_widen, earlier_keep_before, notes_and_data_are_outside}
+use Rattle.lvm_homes.specs.declared.homes.Homes.{Homes}
+use Rattle.lvm_write.specs.Homes.{SparesNewest}
+use Rattle.lvm_write.specs.Written.{KeepsShelf}
+use Rattle.lvm_write.proofs.Writing.{both_from, both_then, changes_then, if_told, told_at}
+use Rattle.lvm_begin.proofs.Slots.{slot_for_same}
+use Rattle.lvm_recovery.specs.declared.copying.Recopy.{Recopy}
+use Rattle.lvm_recovery.specs.Copying.{IsOfCopies}
+use Rattle.lvm_recovery.specs.Planned.{ArePlanned}
+
+-- the sector is a note's, or one of data
+abbrev pub IsBesideSlots : Plan
+IsBesideSlots d s value = (s ≡ note_sector) ⊎ (data_start ≤ s)
+
+not_beside : (kind : Kind) (slot s : ℕ) → slot < 2 → slot_start kind slot ≤ s → s < slot_start kind slot + slot_size kind → (s ≡ note_sector) ⊎ (data_start ≤ s) → ⊥
+not_beside kind.Descriptor slot s two low high (inl note) = omega (arith, two, low, high, note)
+not_beside kind.Descriptor slot s two low high (inr data_there) = omega (arith, two, low, high, data_there)
+not_beside kind.Status slot s two low high (inl note) = omega (arith, two, low, high, note)
+not_beside kind.Status slot s two low high (inr data_there) = omega (arith, two, low, high, data_there)
+
+module _ (old new : Image) (by : ChangesBy IsBesideSlots old new) where
+  pub beside_keeps_before : (stamp : Stamp) → StampsBefore stamp old → StampsBefore stamp new
+  beside_keeps_before stamp before = earlier_keep_before stamp old new (changes_widen IsBesideSlots (IsOtherOrEarlier stamp) old new (λ d s value beside. inl (λ kind. notes_and_data_are_outside kind d s value beside)) by) before
+
+  same_slots : (kind : Kind) (d slot s : ℕ) → slot < 2 → slot_start kind slot ≤ s → s < slot_start kind slot + slot_size kind → new.sector d s ≡ old.sector d s
+  same_slots kind d slot s two low high = ⊎_elim (λ same. same) (λ (beside : IsBesideSlots d s (new.sector d s)). absurd (not_beside kind slot s two low high beside)) (by.each d s)
+
+  pub beside_spares : (homes : Homes) (d : ℕ) → SparesNewest homes old d → SparesNewest homes new d
+  beside_spares homes d spares = record {
+    descriptor = spares.descriptor ∙ sym (slot_for_same descriptor_of kind.Descriptor (old.sector d) (new.sector d) (same_slots kind.Descriptor d));
+    status = spares.status ∙ sym (slot_for_same status_of kind.Status (old.sector d) (new.sector d) (same_slots kind.Status d));
+  }
+
+-- planned copies bring data
+pub copies_beside : (c : Contents) (group : Descriptor) (status : Option (Stamped Status)) (there : Disks) (copies : List Recopy) → ArePlanned c group status there copies
+    → (old : Device) (d s : ℕ) (value : Sector) → IsOfCopies old copies d s value → IsBesideSlots d s value
+copies_beside c group status there copies planned old d s value of =
+    let p = planned.each of.one of.among in
+    let place = ap (λ (x : Place). x.sector) p.into in
+    let at = of.its.at.sector in
+    inr (omega (arith, place, at))
+
+pub notes_beside : (targets : Disks) (sector : Sector) (d s : ℕ) (value : Sector) → IsOfNote targets sector d s value → IsBesideSlots d s value
+notes_beside targets sector d s value of = inl of.place
+
+-- what stands on a shelf stays from before a moment
+pub beside_stays_behind : (moment : ℕ) (T : Disks) (P : Plan) (old new : Device) → ((d s : ℕ) (value : Sector) → P d s value → IsBesideSlots d s value) → KeepsShelf T P old new → IsBehind moment old → IsBehind moment new
+beside_stays_behind moment T P old new beside keeps behind = if_told new.media (λ media. StampsBefore (beginning_at moment) (image_of new.sizes media)) (λ is told.
+    let from = both_from old.media new.media (λ was now. ChangesBy P (image_of old.sizes was) (image_of new.sizes now)) is keeps.media told in
+    beside_keeps_before (image_of old.sizes from.0) (image_of new.sizes is) (changes_widen P IsBesideSlots (image_of old.sizes from.0) (image_of new.sizes is) beside from.2) (beginning_at moment)
+    (told_at old.media (λ m. StampsBefore (beginning_at moment) (image_of old.sizes m)) from.0 from.1 behind))
+
+-- ---- what is found
+
+-- of other notes and other data
+finds_other : (c : Contents) (note : ℕ → Option Noted) (block : ℕ → ℕ → Sector) (disks : Disks) (id : ℕ) (k : Descriptor) → Finds (record c { note = note; block = block }) disks id k → Finds c disks id k
+unfolding has_quorum is_voter descriptor_among
+finds_other c note block disks id k f = record { quorum = f.quorum; newest = f.newest; found = f.found; is = f.is }
+
+module _ (old new : Image) (by : ChangesBy IsBesideSlots old new) where
+  same_records : contents_of new ≡ record (contents_of old) { note = (contents_of new).note; block = (contents_of new).block }
+  unfolding descriptor_on status_on
+  same_records =
+      let disks : new.disks ≡ old.disks = by.same.disks in
+      let size : (d : ℕ) → new.size d ≡ old.size d = by.same.size in
+      let descriptors : (d : ℕ) → descriptor_on new d ≡ descriptor_on old d = λ d. at-same descriptor_of kind.Descriptor old new d by.same
+      (newest-same descriptor_of kind.Descriptor (old.sector d) (new.sector d) (same_slots old new by kind.Descriptor d)) in
+      let statuses : (d : ℕ) → status_on new d ≡ status_on old d = λ d. at-same status_of kind.Status old new d by.same (newest-same status_of kind.Status (old.sector d) (new.sector d) (same_slots old new by kind.Status d)) in
+      λ t. record { disks = disks t; size = λ d. size d t; descriptor = λ d. descriptors d t; status = λ d. statuses d t; note = (contents_of new).note; block = (contents_of new).block }
+
+  finds_before : (disks : Disks) (id : ℕ) (k : Descriptor) → Finds (contents_of new) disks id k → Finds (contents_of old) disks id k
+  finds_before disks id k f = finds_other (contents_of old) (contents_of new).note (contents_of new).block disks id k (subst (λ (c : Contents). Finds c disks id k) same_records f)
+
+-- So what may be found of a shelf on which nothing is out may be found before changes beside the slots.
+pub beside_found : (old new : Device) → BothTold old.media new.media (λ was is. ChangesBy IsBesideSlots (image_of old.sizes was) (image_of new.sizes is)) → new.flights ≡ [] → (id : ℕ) (k : Descriptor) → MayBeFound new id k → MayBeFound old id k
+beside_found old new both still id k (image, left, found) = go old.media new.media refl both left
+  where
+    go : (o n : Option Media) → old.media ≡ o → BothTold o n (λ was is. ChangesBy IsBesideSlots (image_of old.sizes was) (image_of new.sizes is)) → IsSomeAnd n (λ m. IsCrashImage (image_of new.sizes m) new.flights image) → MayBeFound old id k
+    go None None told by may = absurd may
+    go None (Some n) told by may = absurd by
+    go (Some m) None told by may = absurd may
+    go (Some m) (Some n) told by may =
+        let by_image : ChangesBy IsBesideSlots (image_of old.sizes m) image = record {
+          same = record { disks = may.same.disks ∙ by.same.disks; size = λ d. may.same.size d ∙ by.same.size d };
+          each = λ d s. ⊎_elim
+              (λ (is : image.sector d s ≡ n d s). ⊎_elim (λ same. inl (is ∙ same)) (λ (beside : IsBesideSlots d s (n d s)). inr (subst (IsBesideSlots d s) (sym is) beside)) (by.each d s))
+              (λ flying. absurd (subst (λ (l : List Flight). IsInFlight l d s (image.sector d s)) still flying))
+              (may.each d s);
+        } in
+        (image_of old.sizes m, media_may old m told, (found.0, finds_before (image_of old.sizes m) image by_image found.0 id k found.1))
+
+-- the copies and the emptying of notes are such changes
+pub both_beside : (old mid new : Device) (T U : Disks) (P Q : Plan) → ((d s : ℕ) (value : Sector) → P d s value → IsBesideSlots d s value) → ((d s : ℕ) (value : Sector) → Q d s value → IsBesideSlots d s value)
+    → KeepsShelf T P old mid → KeepsShelf U Q mid new → BothTold old.media new.media (λ was is. ChangesBy IsBesideSlots (image_of old.sizes was) (image_of new.sizes is))
+both_beside old mid new T U P Q of_first of_then first then_ = both_then old.media mid.media new.media
+    (λ was is. ChangesBy P (image_of old.sizes was) (image_of mid.sizes is))
+    (λ was is. ChangesBy Q (image_of mid.sizes was) (image_of new.sizes is))
+    (λ was is. ChangesBy IsBesideSlots (image_of old.sizes was) (image_of new.sizes is))
+    (λ a b c one two. changes_then IsBesideSlots (image_of old.sizes a) (image_of mid.sizes b) (image_of new.sizes c) (changes_widen P IsBesideSlots (image_of old.sizes a) (image_of mid.sizes b) of_first one) (changes_widen Q IsBesideSlots (image_of mid.sizes b) (image_of new.sizes c) of_then two))
+    first.media then_.media
