@@ -2,3 +2,4 @@ pub mod passed
 pub mod Giving
 pub mod Carrying
 pub mod Lines
+pub mod Synced

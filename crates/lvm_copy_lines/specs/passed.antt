@@ -14,8 +14,10 @@ pub mod Ranges
 pub mod Recover
 pub mod RefusalVariants
 pub mod ReplyVariants
+pub mod Resync
 pub mod Running
 pub mod Stage
+pub mod SyncFaultVariants
 pub mod Tie
 pub mod TieCommands
 pub mod TieCopies

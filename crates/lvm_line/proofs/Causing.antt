@@ -46,7 +46,7 @@ use Rattle.lvm_copy_lines.proofs.passed.VolumeLines.{mklv_facts, rmlv_facts}
 use Rattle.lvm_copy_lines.proofs.Giving.{mklvcopy_facts, rmlvcopy_facts}
 use Rattle.lvm_line.proofs.Faulting.{known_group, undrained}
 use Rattle.lvm_line.proofs.Knowing.{Known, by_reply, easy, has_by}
-use Rattle.lvm_line.proofs.Requesting.{rd_told, wr_told, post_told, wait_told, step_told}
+use Rattle.lvm_line.proofs.Requesting.{rd_told, wr_told, post_told, wait_told, step_told, sync_group_told, sync_volume_told}
 
 -- ---- groups
 
@@ -273,6 +273,8 @@ known log room (Ok (Some (command.Rd name at count))) why old new does = (let to
 known log room (Ok (Some (command.Wr name at count word))) why old new does = (let told = wr_told name at count word why old new does in record { cause = tt; off = told.off; unwritten = λ h t is. absurd (told.counted h t is) })
 known log room (Ok (Some (command.Post name at count word))) why old new does = (let told = post_told name at count word why old new does in record { cause = tt; off = told.off; unwritten = λ h t is. absurd (told.counted h t is) })
 known log room (Ok (Some command.Wait)) why old new does = (let told = wait_told why old new does in record { cause = tt; off = told.off; unwritten = λ h t is. absurd (told.counted h t is) })
+known log room (Ok (Some (command.SyncVolume name))) why old new does = (let told = sync_volume_told name why old new does in record { cause = tt; off = told.off; unwritten = λ h t is. absurd (told.counted h t is) })
+known log room (Ok (Some (command.SyncGroup name))) why old new does = (let told = sync_group_told name why old new does in record { cause = tt; off = told.off; unwritten = λ h t is. absurd (told.counted h t is) })
 known log room (Ok (Some (command.Step turns))) why old new does = (let told = step_told turns why old new does in record { cause = tt; off = told.off; unwritten = λ h t is. absurd (told.counted h t is) })
 known log room (Ok (Some (command.Lslv name))) why old new (NoGroupForVolume none is, same) = by_reply _ why refusal.NoGroup old new is (easy _ refusal.NoGroup old new (inr tt) (λ e. cc) (λ h t e. cc))
 known log room (Ok (Some (command.Lslv name))) why old new (VolumeOfGroup core some (NoSuchVolume none is), same) = by_reply _ why refusal.NoVolume old new is (easy _ refusal.NoVolume old new (inr tt) (λ e. cc) (λ h t e. cc))

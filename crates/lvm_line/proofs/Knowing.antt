@@ -28,6 +28,8 @@ has_by (Ok (Some (command.Rd name at count))) why old new holds = tt
 has_by (Ok (Some (command.Wr name at count word))) why old new holds = tt
 has_by (Ok (Some (command.Post name at count word))) why old new holds = tt
 has_by (Ok (Some command.Wait)) why old new holds = tt
+has_by (Ok (Some (command.SyncVolume name))) why old new holds = tt
+has_by (Ok (Some (command.SyncGroup name))) why old new holds = tt
 has_by (Ok (Some (command.Step turns))) why old new holds = tt
 has_by other why old new holds = inr holds
 
@@ -37,5 +39,7 @@ has_undrained (Ok (Some (command.Rd name at count))) why old new holds = tt
 has_undrained (Ok (Some (command.Wr name at count word))) why old new holds = tt
 has_undrained (Ok (Some (command.Post name at count word))) why old new holds = tt
 has_undrained (Ok (Some command.Wait)) why old new holds = tt
+has_undrained (Ok (Some (command.SyncVolume name))) why old new holds = tt
+has_undrained (Ok (Some (command.SyncGroup name))) why old new holds = tt
 has_undrained (Ok (Some (command.Step turns))) why old new holds = tt
 has_undrained other why old new holds = inl holds

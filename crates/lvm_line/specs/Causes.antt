@@ -80,6 +80,8 @@ HasCause (Ok (Some (command.Rd name at count))) why old new = Unit {0}
 HasCause (Ok (Some (command.Wr name at count word))) why old new = Unit {0}
 HasCause (Ok (Some (command.Post name at count word))) why old new = Unit {0}
 HasCause (Ok (Some command.Wait)) why old new = Unit {0}
+HasCause (Ok (Some (command.SyncVolume name))) why old new = Unit {0}
+HasCause (Ok (Some (command.SyncGroup name))) why old new = Unit {0}
 HasCause (Ok (Some (command.Step turns))) why old new = Unit {0}
 HasCause read why old new = WasUndrained why old new ⊎ CauseOf read why old new
 

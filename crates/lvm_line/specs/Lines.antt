@@ -18,6 +18,7 @@ use Rattle.lvm_copy_lines.specs.passed.GroupLines.{MkvgDoes, VaryonDoes, Varyoff
 use Rattle.lvm_copy_lines.specs.passed.RangeLines.{RdDoes, WrDoes, PostDoes, StepDoes}
 use Rattle.lvm_copy_lines.specs.passed.RangeLinesWaiting.{WaitDoes}
 use Rattle.lvm_copy_lines.specs.Copies.{MklvcopyDoes, RmlvcopyDoes}
+use Rattle.lvm_copy_lines.specs.Resyncing.{SyncGroupDoes, SyncVolumeDoes}
 use Rattle.lvm_copy_lines.specs.passed.TieCopies.{KeepsShownOf}
 use Rattle.lvm_copy_lines.specs.passed.VolumeLines.{MklvDoes, RmlvDoes, wanted}
 use Rattle.lvm_copy_lines.specs.passed.RefusalVariants as refusal
@@ -41,6 +42,8 @@ CommandDoes log room (command.Rd name at count) old new answer = RdDoes name at 
 CommandDoes log room (command.Wr name at count word) old new answer = WrDoes name at count word old new answer
 CommandDoes log room (command.Post name at count word) old new answer = PostDoes name at count word old new answer
 CommandDoes log room command.Wait old new answer = WaitDoes old new answer
+CommandDoes log room (command.SyncVolume name) old new answer = SyncVolumeDoes name old new answer
+CommandDoes log room (command.SyncGroup name) old new answer = SyncGroupDoes name old new answer
 CommandDoes log room (command.Step turns) old new answer = StepDoes turns old new answer
 CommandDoes log room (command.Lslv name) old new answer = IsListed old new (VolumeShows name old.session answer)
 CommandDoes log room (command.Lspv disk) old new answer = IsListed old new (DiskShows disk (length old.moment.device.sizes) old.session answer)
@@ -66,6 +69,8 @@ role_of (Ok (Some (command.Rd name at count))) = OfRequests
 role_of (Ok (Some (command.Wr name at count word))) = OfRequests
 role_of (Ok (Some (command.Post name at count word))) = OfRequests
 role_of (Ok (Some command.Wait)) = OfRequests
+role_of (Ok (Some (command.SyncVolume name))) = OfRequests
+role_of (Ok (Some (command.SyncGroup name))) = OfRequests
 role_of (Ok (Some (command.Step turns))) = OfRequests
 role_of other = Aside
 

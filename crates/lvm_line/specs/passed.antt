@@ -12,6 +12,7 @@ pub mod RangeLinesWaiting
 pub mod Ranges
 pub mod RefusalVariants
 pub mod ReplyVariants
+pub mod Resync
 pub mod Running
 pub mod Stage
 pub mod Tie

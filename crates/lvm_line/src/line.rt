@@ -16,7 +16,7 @@ use lvm_copy_lines::below::group_lines::{
 use lvm_copy_lines::below::range_lines::{do_post, do_rd, do_step, do_wait, do_wr};
 use lvm_copy_lines::below::stage::{Answered, Refusal, Reply, Stage};
 use lvm_copy_lines::below::volume_lines::{do_mklv, do_rmlv};
-use lvm_copy_lines::{do_mklvcopy, do_rmlvcopy};
+use lvm_copy_lines::{do_mklvcopy, do_rmlvcopy, do_sync_group, do_sync_volume};
 use lvm_core::Room;
 use lvm_disk::{Arrange, Shelf};
 use lvm_io::Clock;
@@ -70,6 +70,8 @@ fn do_command<S: Shelf, C: Clock>(
         Command::Rmlv { name } => do_rmlv(alloc, stage, name),
         Command::Mklvcopy { name, copies } => do_mklvcopy(alloc, stage, name, copies),
         Command::Rmlvcopy { name, copies } => do_rmlvcopy(alloc, stage, name, copies),
+        Command::SyncVolume { name } => do_sync_volume(stage, name),
+        Command::SyncGroup { name } => do_sync_group(stage, name),
         Command::Lslv { name } => {
             let reply = list_volume(alloc, &stage, name);
             stage.answered(reply)

@@ -14,7 +14,7 @@ use Rattle.lvm_literals.specs.Words.{number_in, count_in, partitions_in, turns_i
 use Rattle.lvm_operands.specs.declared.range.BlockRange.{BlockRange}
 use Rattle.lvm_operands.specs.Reading.{misfit, then_, or_misfit, column_of, next_column, operand_of, operand, option_of, option, ends_of, ends, last, is_next, blocks, last_blocks, Choice, NoOption, Alone, Valued, options_of, options, required, further_disk, one_or_more, disks_of, disks}
 use Rattle.lvm_options.specs.Options.{mkvg_choice, no_mkvg_options, mklv_choice, no_mklv_options}
-use Rattle.lvm_parse.specs.Grammar.{rd_disk, rd_volume, rd, wr_disk, wr_volume, wr, post, wait, step, fail, heal, lspv, cut_of, cut, mkvg, varyonvg, varyoffvg, lsvg, mklv, rmlv, mklvcopy, rmlvcopy, lslv, Row, rows, rule, line_of_words, readable, line_of}
+use Rattle.lvm_parse.specs.Grammar.{rd_disk, rd_volume, rd, wr_disk, wr_volume, wr, post, wait, step, fail, heal, lspv, cut_of, cut, mkvg, varyonvg, varyoffvg, lsvg, mklv, rmlv, mklvcopy, rmlvcopy, sync_group, syncvg, lslv, Row, rows, rule, line_of_words, readable, line_of}
 
 -- a column from 1 to this one
 abbrev pub IsIn : ℕ → ℕ → Type 0
@@ -258,6 +258,20 @@ mklv_in high l b = options_then high mklv_choice no_mklv_options l b _ (λ o b. 
 rmlv_in : (high : ℕ) (l : Left) → LeftIn high l → In high (rmlv l)
 rmlv_in high l b = last_then high name_in (option (codes "-f") l).1 (option_is_in high (codes "-f") l b) command.Rmlv
 
+sync_group_in : (high : ℕ) (l : Left) → LeftIn high l → In high (sync_group l)
+sync_group_in high l b = at (option (codes "-v") l) (option_is_in high (codes "-v") l b)
+  where
+    at : (group : Bool × Left) → LeftIn high group.1 → In high (cond group.0 (then_ (last name_in group.1) (λ name. Ok (command.SyncGroup name))) (misfit (next_column group.1)))
+    at (true, k) b = last_then high name_in k b command.SyncGroup
+    at (false, k) b = next_is_in high k.words k.end b.0 b.1
+
+syncvg_in : (high : ℕ) (l : Left) → LeftIn high l → In high (syncvg l)
+syncvg_in high l b = at (option (codes "-l") l) (option_is_in high (codes "-l") l b)
+  where
+    at : (volume : Bool × Left) → LeftIn high volume.1 → In high (cond volume.0 (then_ (last name_in volume.1) (λ name. Ok (command.SyncVolume name))) (sync_group volume.1))
+    at (true, k) b = last_then high name_in k b command.SyncVolume
+    at (false, k) b = sync_group_in high k b
+
 lslv_in : (high : ℕ) (l : Left) → LeftIn high l → In high (lslv l)
 lslv_in high l b = at (option (codes "-m") l) (option_is_in high (codes "-m") l b)
   where
@@ -271,7 +285,7 @@ RowsAreIn [] = ⊤
 RowsAreIn (r ∷ rs) = ((high : ℕ) (l : Left) → LeftIn high l → In high (r.reads l)) × RowsAreIn rs
 
 rows_in : RowsAreIn rows
-rows_in = (mkvg_in, (varyonvg_in, (varyoffvg_in, (lsvg_in, (mklv_in, (rmlv_in, (mklvcopy_in, (rmlvcopy_in, (lslv_in, (rd_in, (wr_in, (post_in, (wait_in, (step_in, (lspv_in, (fail_in, (heal_in, (cut_in, tt))))))))))))))))))
+rows_in = (mkvg_in, (varyonvg_in, (varyoffvg_in, (lsvg_in, (mklv_in, (rmlv_in, (mklvcopy_in, (rmlvcopy_in, (syncvg_in, (lslv_in, (rd_in, (wr_in, (post_in, (wait_in, (step_in, (lspv_in, (fail_in, (heal_in, (cut_in, tt)))))))))))))))))))
 
 rule_in : (high : ℕ) (rs : List Row) (word : List ℕ) (column : ℕ) (l : Left) → RowsAreIn rs → IsIn high column → LeftIn high l → In high (rule rs word column l)
 rule_in high [] word column l each own b = own

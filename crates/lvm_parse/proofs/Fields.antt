@@ -20,7 +20,7 @@ use Rattle.lvm_options.specs.Options.{mkvg_choice, no_mkvg_options, mklv_choice,
 use Rattle.lvm_options.proofs.Keeping.{mapped, Keeping, keeping_if, options_keep}
 use Rattle.lvm_parse.specs.declared.command.Command.{Command}
 use Rattle.lvm_parse.specs.declared.command.Command.TheVariants as command
-use Rattle.lvm_parse.specs.Grammar.{Row, rows, rule, rd_disk, rd_volume, rd, wr_disk, wr_volume, wr, post, wait, step, lspv, fail, heal, cut, cut_of, mkvg, varyonvg, varyoffvg, lsvg, mklv, rmlv, mklvcopy, rmlvcopy, lslv, line_of_words, readable, line_of}
+use Rattle.lvm_parse.specs.Grammar.{Row, rows, rule, rd_disk, rd_volume, rd, wr_disk, wr_volume, wr, post, wait, step, lspv, fail, heal, cut, cut_of, mkvg, varyonvg, varyoffvg, lsvg, mklv, rmlv, mklvcopy, rmlvcopy, sync_group, syncvg, lslv, line_of_words, readable, line_of}
 use Rattle.lvm_parse.specs.Within.{IsWithin}
 
 -- ---- what is read
@@ -275,6 +275,14 @@ fits_cut l = go l.words
     go [] = tt
     go (w ∷ words) = fits_then (last word_in l) (λ word. Ok (command.Cut word)) (λ word is. tt)
 
+fits_sync_group : (l : Left) → Fits (sync_group l)
+unfolding Fits
+fits_sync_group l = fits_if (option (codes "-v") l).0 _ _ (fits_then (last name_in (option (codes "-v") l).1) (λ name. Ok (command.SyncGroup name)) (λ name is. tt)) tt
+
+fits_syncvg : (l : Left) → Fits (syncvg l)
+unfolding Fits
+fits_syncvg l = fits_if (option (codes "-l") l).0 _ _ (fits_then (last name_in (option (codes "-l") l).1) (λ name. Ok (command.SyncVolume name)) (λ name is. tt)) (fits_sync_group (option (codes "-l") l).1)
+
 fits_lslv : (l : Left) → Fits (lslv l)
 unfolding Fits
 fits_lslv l = fits_if (option (codes "-m") l).0 _ _ (fits_then (last name_in (option (codes "-m") l).1) (λ name. Ok (command.Lslv name)) (λ name is. tt)) tt
@@ -322,7 +330,7 @@ RowsFit [] = Unit {0}
 RowsFit (r ∷ rs) = ((l : Left) → Fits (r.reads l)) × RowsFit rs
 
 rows_fit : RowsFit rows
-rows_fit = (fits_mkvg, (fits_varyonvg, (fits_varyoffvg, (fits_lsvg, (fits_mklv, (fits_rmlv, (fits_mklvcopy, (fits_rmlvcopy, (fits_lslv, (fits_rd, (fits_wr, (fits_post, (fits_wait, (fits_step, (fits_lspv, (fits_fail, (fits_heal, (fits_cut, tt))))))))))))))))))
+rows_fit = (fits_mkvg, (fits_varyonvg, (fits_varyoffvg, (fits_lsvg, (fits_mklv, (fits_rmlv, (fits_mklvcopy, (fits_rmlvcopy, (fits_syncvg, (fits_lslv, (fits_rd, (fits_wr, (fits_post, (fits_wait, (fits_step, (fits_lspv, (fits_fail, (fits_heal, (fits_cut, tt)))))))))))))))))))
 
 fits_rule : (rs : List Row) (word : List ℕ) (column : ℕ) (l : Left) → RowsFit rs → Fits (rule rs word column l)
 unfolding Fits

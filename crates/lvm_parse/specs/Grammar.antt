@@ -115,6 +115,14 @@ mklvcopy l = then_ (operand name_in l) (λ name. then_ (last copies_in name.1) (
 abbrev pub rmlvcopy : Left → Result Command Misfit
 rmlvcopy l = then_ (operand name_in l) (λ name. then_ (last copies_in name.1) (λ copies. Ok (command.Rmlvcopy name.0 copies)))
 
+-- `syncvg -v NAME`
+abbrev pub sync_group : Left → Result Command Misfit
+sync_group l = let group = option (codes "-v") l in if group.0 then then_ (last name_in group.1) (λ name. Ok (command.SyncGroup name)) else misfit (next_column group.1)
+
+-- `syncvg -l NAME` and `syncvg -v NAME`
+abbrev pub syncvg : Left → Result Command Misfit
+syncvg l = let volume = option (codes "-l") l in if volume.0 then then_ (last name_in volume.1) (λ name. Ok (command.SyncVolume name)) else sync_group volume.1
+
 -- `lslv -m NAME`
 abbrev pub lslv : Left → Result Command Misfit
 lslv l = let map = option (codes "-m") l in if map.0 then then_ (last name_in map.1) (λ name. Ok (command.Lslv name)) else misfit (next_column map.1)
@@ -136,7 +144,7 @@ abbrev pub rows_of_requests : List Row
 rows_of_requests = row (codes "rd") rd ∷ row (codes "wr") wr ∷ row (codes "post") post ∷ row (codes "wait") wait ∷ row (codes "step") step ∷ rows_of_disks
 
 abbrev pub rows_of_volumes : List Row
-rows_of_volumes = row (codes "mklv") mklv ∷ row (codes "rmlv") rmlv ∷ row (codes "mklvcopy") mklvcopy ∷ row (codes "rmlvcopy") rmlvcopy ∷ row (codes "lslv") lslv ∷ rows_of_requests
+rows_of_volumes = row (codes "mklv") mklv ∷ row (codes "rmlv") rmlv ∷ row (codes "mklvcopy") mklvcopy ∷ row (codes "rmlvcopy") rmlvcopy ∷ row (codes "syncvg") syncvg ∷ row (codes "lslv") lslv ∷ rows_of_requests
 
 abbrev pub rows_of_groups : List Row
 rows_of_groups = row (codes "varyonvg") varyonvg ∷ row (codes "varyoffvg") varyoffvg ∷ row (codes "lsvg") lsvg ∷ rows_of_volumes

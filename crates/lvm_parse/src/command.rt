@@ -59,6 +59,14 @@ pub enum Command {
         /// 0 to 9.
         copies: u8,
     },
+    /// `syncvg -l NAME`: bring up the stale copies of a volume.
+    SyncVolume {
+        name: Name,
+    },
+    /// `syncvg -v NAME`: bring up those of a group.
+    SyncGroup {
+        name: Name,
+    },
     /// `lslv -m NAME`: list where a volume's copies lie.
     Lslv {
         name: Name,

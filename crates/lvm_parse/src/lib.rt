@@ -31,6 +31,7 @@
 //! | `rmlv [-f] NAME` | remove a volume; `-f` changes nothing |
 //! | `mklvcopy NAME N` | give each logical partition of a volume so many copies |
 //! | `rmlvcopy NAME N` | leave each so many |
+//! | `syncvg -l NAME`, `syncvg -v NAME` | bring up the stale copies of a volume, or of the group |
 //! | `lslv -m NAME` | list where a volume's copies lie |
 //! | `lspv DISK` | list a member of the group |
 //! | `rd NAME BLOCK COUNT`, `rd DISK BLOCK COUNT` | read blocks of a volume, or of a disk |

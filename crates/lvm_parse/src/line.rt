@@ -8,7 +8,7 @@ ghost use Rattle.lvm_parse.specs.Answering.{Answers, AnswersLine, IsMkvgLine};
 use crate::command::{Command, ParseFault};
 use crate::rules::{
     cut, fail, heal, lslv, lspv, lsvg, mklv, mklvcopy, mkvg, post, rd, rmlv, rmlvcopy, step,
-    varyoffvg, varyonvg, wait, wr,
+    syncvg, varyoffvg, varyonvg, wait, wr,
 };
 use lvm_operands::{Misfit, Rest, Word, is_remark, misfit, next_word, unreadable_at};
 use std::alloc::Global;
@@ -64,6 +64,8 @@ fn volume_command(word: Word<'_>, rest: Rest<'_>) -> Result<Command, Misfit>
         mklvcopy(rest)
     } else if name == b"rmlvcopy".as_slice() {
         rmlvcopy(rest)
+    } else if name == b"syncvg".as_slice() {
+        syncvg(rest)
     } else if name == b"lslv".as_slice() {
         lslv(rest)
     } else {

@@ -1,6 +1,6 @@
 //! The lines of the language: each rule reads what follows the line's first word.
 ghost use Rattle.std.specs.Prelude.{◌≡◌};
-ghost use Rattle.lvm_parse.specs.Grammar.{rd_disk, rd_volume, rd, wr_disk, wr_volume, wr, post, wait, step, fail, heal, lspv, cut, new_group, mkvg, varyonvg, varyoffvg, lsvg, new_volume, mklv, rmlv, mklvcopy, rmlvcopy, lslv};
+ghost use Rattle.lvm_parse.specs.Grammar.{rd_disk, rd_volume, rd, wr_disk, wr_volume, wr, post, wait, step, fail, heal, lspv, cut, new_group, mkvg, varyonvg, varyoffvg, lsvg, new_volume, mklv, rmlv, mklvcopy, rmlvcopy, sync_group, syncvg, lslv};
 ghost use Rattle.lvm_operands.specs.Rests.{left};
 ghost use Rattle.lvm_parse.specs.Answering.{Answers};
 
@@ -228,6 +228,30 @@ pub fn rmlvcopy(rest: Rest<'_>) -> Result<Command, Misfit>
         }
         Err(misfit) => Err(misfit),
     }
+}
+
+// `syncvg -v NAME`
+fn sync_group(rest: Rest<'_>) -> Result<Command, Misfit>
+    ensures { result ≡ sync_group (left rest.entry) }
+{
+    let (group, rest) = option(rest, b"-v");
+    if !group {
+        return Err(misfit(next_column(rest)));
+    }
+    let name = last_name(rest)?;
+    Ok(Command::SyncGroup { name })
+}
+
+/// `syncvg -l NAME` and `syncvg -v NAME`
+pub fn syncvg(rest: Rest<'_>) -> Result<Command, Misfit>
+    ensures { result ≡ syncvg (left rest.entry) }
+{
+    let (volume, rest) = option(rest, b"-l");
+    if !volume {
+        return sync_group(rest);
+    }
+    let name = last_name(rest)?;
+    Ok(Command::SyncVolume { name })
 }
 
 /// `lslv -m NAME`

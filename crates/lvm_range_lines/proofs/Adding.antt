@@ -22,7 +22,7 @@ use Rattle.lvm_group_lines.specs.passed.ReplyVariants as reply
 use Rattle.lvm_group_lines.proofs.passed.Stage.{posts_need}
 use Rattle.lvm_range_lines.specs.Leaving.{KeepsPosts, serving}
 use Rattle.lvm_range_lines.specs.Requests.{AsksByName, PostDoes, Posted, There, post_of}
-use Rattle.lvm_range_lines.proofs.Ending.{carried_ends}
+use Rattle.lvm_range_lines.proofs.Ending.{carried_ends, runs_to}
 use Rattle.lvm_range_lines.proofs.Naming.{IsTaken, taken_so}
 use Rattle.lvm_range_lines.proofs.Posting.{asked_behind, posted_behind}
 
@@ -82,7 +82,7 @@ module _ {S : Type 0} (device : S → Device) (first : S × Core) (posts : Vec P
         omega (arith, none, long)
 
     pub posted_ends : EndsUnasked device (λ log. PostDoes name at count word) ⊥ OfRequests (serving first posts bytes) stage answer
-    posted_ends = carried_ends device first posts bytes fits between mid (record { runs = runs; sound = sound }) (λ log. PostDoes name at count word) posts1 bytes1 rooms stage answer few
+    posted_ends = carried_ends device first posts bytes fits between mid (runs_to device first mid runs sound) (λ log. PostDoes name at count word) posts1 bytes1 rooms stage answer few
         (λ last. There first.1 taken.lv refl taken.named (Posted (record {
           asked = asked;
           begun = mid.1;
@@ -90,4 +90,4 @@ module _ {S : Type 0} (device : S → Device) (first : S × Core) (posts : Vec P
           runs = subst (λ (s : S). RunsOn (state_of device first) (state (device s) mid.1)) shelf runs;
           goes = goes last;
           says = is;
-        }))) posted (rooms_then rooms) carried
+        }))) posted (rooms_then rooms) (λ power_is. runs.copy between.session.copy) carried

@@ -20,7 +20,7 @@ use Rattle.lvm_session.specs.Sound.{IsLit, IsSound, is_dark}
 use Rattle.lvm_group_lines.specs.passed.Tie.{moment_of}
 use Rattle.lvm_session.specs.State.{Core, votes_there}
 use Rattle.lvm_group_lines.specs.passed.Driver.{state_of}
-use Rattle.lvm_group_lines.specs.passed.Running.{RunsOn}
+use Rattle.lvm_group_lines.specs.passed.Running.{LeavesSession, RunsOn}
 use Rattle.lvm_group_lines.proofs.passed.Running.{stays_unstuck}
 use Rattle.lvm_posts.specs.declared.posts.Post.{Post}
 use Rattle.lvm_posts.specs.Posts.{ended_with}
@@ -68,8 +68,12 @@ closed_orders power.Stuck old new is = ap (λ (d : Device). d.orders) is
 
 -- where its session has run to
 pub record RunsTo {S : Type 0} (device : S → Device) (first end : S × Core) : Type 0 where
-  pub runs : RunsOn (state_of device first) (state_of device end)
+  pub leaves : LeavesSession (state_of device first) (state_of device end)
+  pub orders : (device end.0).orders ≡ (device first.0).orders
   pub sound : IsSound (state_of device end)
+
+pub runs_to : {S : Type 0} (device : S → Device) (first end : S × Core) → RunsOn (state_of device first) (state_of device end) → IsSound (state_of device end) → RunsTo device first end
+runs_to device first end runs sound = record { leaves = runs.leaves; orders = runs.orders; sound = sound }
 
 module _ {S : Type 0} (device : S → Device) (first : S × Core) (posts : Vec Post) (bytes : Vec ℕ) (fits : IsFitting (serving first posts bytes)) (between : IsBetweenStage device (serving first posts bytes)) where
   abbrev old : Stage S
@@ -80,36 +84,36 @@ module _ {S : Type 0} (device : S → Device) (first : S × Core) (posts : Vec P
 
   module _ (end : S × Core) (to : RunsTo device first end) where
     pub its : (last : ℕ) → IsRun OfRequests (state_in device old last) first.1 (state_of device end)
-    its last = record { alone = λ new alone. alone.acts tt; session = refl; facts = refl; volumes = fits.kind; between = between; leaves = to.runs.leaves; sound = to.sound }
+    its last = record { alone = λ new alone. alone.acts tt; session = refl; facts = refl; volumes = fits.kind; between = between; leaves = to.leaves; sound = to.sound }
 
     pub unstuck : end.1.power ≡ power.Stuck → ⊥
-    unstuck = stays_unstuck first.1 end.1 to.runs.leaves.keeps.power (λ stuck. let e : power.On ≡ power.Stuck = sym on_first.power ∙ stuck in cc e)
+    unstuck = stays_unstuck first.1 end.1 to.leaves.keeps.power (λ stuck. let e : power.On ≡ power.Stuck = sym on_first.power ∙ stuck in cc e)
 
     same_rooms : without_facts end.1.history ≡ without_facts first.1.history
-    same_rooms = to.runs.leaves.keeps.log
+    same_rooms = to.leaves.keeps.log
 
     room_is : end.1.history.room ≡ first.1.history.room
     room_is = ap (λ (log : Log). log.room) same_rooms
 
     volumes_stay : end.1.descriptor.lvs ≢ []
-    volumes_stay none = fits.kind (sym (ap (λ (d : Descriptor). d.lvs) to.runs.leaves.keeps.descriptor) ∙ none)
+    volumes_stay none = fits.kind (sym (ap (λ (d : Descriptor). d.lvs) to.leaves.keeps.descriptor) ∙ none)
 
     module _ (Does : Log → State → State → Reply → Type 0) (posts1 : Vec Post) (bytes1 : Vec ℕ) (rooms : HaveRooms first.1.history.room posts1 bytes1) (stage : Stage S) (answer : Reply)
         (few : most_refusals answer + length posts1.items ≤ length posts.items + 1)
         (does : (last : ℕ) → Does (without_facts first.1.history) (state_in device old last) (state_in device stage last) answer) where
       -- it goes on
-      goes_on : end.1.power ≡ power.On → ArePosted end.1.history.facts (Some end.1) posts1.items → stage ≡ serving end posts1 bytes1 → EndsUnasked device Does ⊥ OfRequests old stage answer
-      goes_on on posted is last = record {
+      goes_on : end.1.power ≡ power.On → end.1.copy ≡ None → ArePosted end.1.history.facts (Some end.1) posts1.items → stage ≡ serving end posts1 bytes1 → EndsUnasked device Does ⊥ OfRequests old stage answer
+      goes_on on shut posted is last = record {
         does = does last;
         goes = subst (λ (s : Stage S). GoesOn first.1.history.run OfRequests answer (state_in device old last) (state_in device s last)) (sym is)
-            (run_goes OfRequests (state_in device old last) first.1 (state_of device end) (its last) answer (state_in device (serving end posts1 bytes1) last) refl on (to.runs.copy on_first.copy) posted (λ not_asking. absurd (not_asking tt)) few);
+            (run_goes OfRequests (state_in device old last) first.1 (state_of device end) (its last) answer (state_in device (serving end posts1 bytes1) last) refl on shut posted (λ not_asking. absurd (not_asking tt)) few);
         rooms = ap (λ (s : Stage S). without_facts (history_in s)) is ∙ same_rooms;
         fits = subst IsFitting (sym is) (record {
           kind = volumes_stay;
           few = subst (λ n. n < 2 ^ 32) (sym room_is) fits.few;
           rooms = subst (λ n. HaveRooms n posts1 bytes1) (sym room_is) rooms;
         });
-        orders = λ none. ap (λ (s : Stage S). (device (shelf_in s)).orders) is ∙ to.runs.orders;
+        orders = λ none. ap (λ (s : Stage S). (device (shelf_in s)).orders) is ∙ to.orders;
       }
 
       -- it has ended
@@ -136,7 +140,7 @@ module _ {S : Type 0} (device : S → Device) (first : S × Core) (posts : Vec P
           goes = goes last;
           rooms = ap without_facts ended.history ∙ same_rooms;
           fits = fits_then;
-          orders = λ none. closed_orders end.1.power (device end.0) (device (shelf_in stage)) ended.shelf ∙ to.runs.orders;
+          orders = λ none. closed_orders end.1.power (device end.0) (device (shelf_in stage)) ended.shelf ∙ to.orders;
         }
 
         -- since it is over
@@ -184,15 +188,15 @@ module _ {S : Type 0} (device : S → Device) (first : S × Core) (posts : Vec P
             rests = λ not_asking. absurd (not_asking tt);
             begins = λ timely. tt;
             power = ap (λ (d : Device). d.power) same_device ∙ lit.power;
-            waits = let w = to.runs.leaves.keeps.counts.waits in let same = ap (λ (d : Device). d.counts.waits) same_device in omega (arith, w, same);
+            waits = let w = to.leaves.keeps.counts.waits in let same = ap (λ (d : Device). d.counts.waits) same_device in omega (arith, w, same);
             clock = omega arith;
             few = few_then;
           })
 
       -- whichever it is
-      module _ (posted : ArePosted end.1.history.facts (Some end.1) posts1.items) (rooms_then : HaveRooms first.1.history.room stage.posts stage.bytes) where
+      module _ (posted : ArePosted end.1.history.facts (Some end.1) posts1.items) (rooms_then : HaveRooms first.1.history.room stage.posts stage.bytes) (shut : end.1.power ≡ power.On → end.1.copy ≡ None) where
         by_power : (p : Power) → end.1.power ≡ p → IsCarried device end posts1 bytes1 p stage → EndsUnasked device Does ⊥ OfRequests old stage answer
-        by_power power.On is carried = goes_on is posted carried
+        by_power power.On is carried = goes_on is (shut is) posted carried
         by_power power.Off is carried = over_ends carried rooms_then (ap is_over is) posted
         by_power power.Dark is carried = over_ends carried rooms_then (ap is_over is) posted
         by_power power.Stuck is carried = absurd (unstuck is)

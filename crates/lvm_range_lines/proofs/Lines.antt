@@ -32,7 +32,7 @@ use Rattle.lvm_group_lines.proofs.passed.Stage.{over_landed}
 use Rattle.lvm_range_lines.specs.Leaving.{EndsBy, FailsIf, KeepsPosts, Waited, serving}
 use Rattle.lvm_range_lines.specs.Refusals.{Ending, ending_of, is_stuck, range_refusal, reply_of}
 use Rattle.lvm_range_lines.specs.Requests.{AsksByName, EndsWell, Fails, Finishes, IsFinished, NoMemory, OnVolume, ShowsBlocks, ShowsThem, There}
-use Rattle.lvm_range_lines.proofs.Ending.{RunsTo, carried_ends, carried_leaves, ended_is_over, stuck_ends, unstuck}
+use Rattle.lvm_range_lines.proofs.Ending.{RunsTo, carried_ends, carried_leaves, ended_is_over, runs_to, stuck_ends, unstuck}
 use Rattle.lvm_range_lines.proofs.Heard.{carried_by, unheard_fault}
 use Rattle.lvm_range_lines.proofs.Naming.{IsTaken, taken_so}
 use Rattle.lvm_range_lines.proofs.Posting.{asked_behind, others_posted}
@@ -91,8 +91,14 @@ module _ {S : Type 0} (device : S → Device) (first : S × Core) (posts : Vec P
   abbrev Does : Log → State → State → Reply → Type 0
   Does log old new answer = OnVolume name (λ core lv. Finishes write Says lv at count core old new answer) old new answer
 
+  all : RunsOn (state_of device first) (state_of device end)
+  all = runs_both (state_of device first) (state_of device mid) (state_of device end) begins runs
+
   to : RunsTo device first end
-  to = record { runs = runs_both (state_of device first) (state_of device mid) (state_of device end) begins runs; sound = sound }
+  to = runs_to device first end all sound
+
+  shut : end.1.power ≡ power.On → end.1.copy ≡ None
+  shut on = all.copy between.session.copy
 
   posted : ArePosted end.1.history.facts (Some end.1) posts.items
   posted = others_posted mid.1 posts.items asked (kept posts.items between.posted) (asked_behind first.1 write count mid.1 asked posts.items between.session.sound.told.requests between.posted its) end.1 others
@@ -106,7 +112,7 @@ module _ {S : Type 0} (device : S → Device) (first : S × Core) (posts : Vec P
       left = left;
       finishes = subst (λ (s : S). FinishGives asked left (state (device s) mid.1) (state_of device end) done) shelf finishes;
       waited = subst (λ (s : S). Waited left (state (device s) mid.1) (state_of device end)) shelf waited;
-      runs = to.runs;
+      runs = all;
       sound = sound;
       ends = ends;
     }
@@ -124,7 +130,7 @@ module _ {S : Type 0} (device : S → Device) (first : S × Core) (posts : Vec P
       well finishes waited carried says one =
           carried_ends device first posts bytes fits between end to Does posts bytes1 rooms stage answer (few one)
           (λ last. There first.1 taken.lv refl taken.named (EndsWell (state_of device end) asked (finished left (Ok tt) finishes waited stage last (carried_leaves device end posts bytes1 stage last carried) taken.lv taken.gives) says))
-          posted rooms_then carried
+          posted rooms_then shut carried
 
       fails : (why : RangeFault) → FinishGives asked left (state_of device mid) (state_of device end) (Err why) → Waited left (state_of device mid) (state_of device end)
           → (b : Bool) → is_stuck why ≡ b → ComesTo device b (holder.Serving end) posts bytes1 stage → answer ≡ reply.Refused (range_refusal why) → EndsUnasked device Does ⊥ OfRequests (serving first posts bytes) stage answer
@@ -139,7 +145,7 @@ module _ {S : Type 0} (device : S → Device) (first : S × Core) (posts : Vec P
           carried_ends device first posts bytes fits between end to Does posts bytes1 rooms stage answer (few (subst (λ (a : Reply). most_refusals a ≤ 1) (sym is) (omega arith)))
           (λ last. There first.1 taken.lv refl taken.named (Fails (state_of device end) asked why (finished left (Err why) finishes waited stage last
           (subst (λ (b : Bool). FailsIf b (state_of device end) posts.items last (state_in device stage last)) (sym heard) (carried_leaves device end posts bytes1 stage last carried)) taken.lv taken.gives) is))
-          posted rooms_then carried
+          posted rooms_then shut carried
 
     -- whatever it answered
     pub finished_ends : (done : Result Reply RangeFault) → (left : ℕ) × FinishGives asked left (state_of device mid) (state_of device end) (ending_of done) × Waited left (state_of device mid) (state_of device end)

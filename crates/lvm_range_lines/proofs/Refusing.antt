@@ -19,7 +19,7 @@ use Rattle.lvm_group_lines.specs.passed.ReplyVariants as reply
 use Rattle.lvm_range_lines.specs.Leaving.{KeepsPosts, serving}
 use Rattle.lvm_range_lines.specs.Refusals.{ask_refusal}
 use Rattle.lvm_range_lines.specs.Requests.{AsksByName, HasNone, IsNotAsked, NotThere, OnVolume, Refuses, Takes, There}
-use Rattle.lvm_range_lines.proofs.Ending.{RunsTo, carried_ends}
+use Rattle.lvm_range_lines.proofs.Ending.{RunsTo, carried_ends, runs_to}
 
 module _ {S : Type 0} (device : S → Device) (first : S × Core) (posts : Vec Post) (bytes : Vec ℕ) (fits : IsFitting (serving first posts bytes)) (between : IsBetweenStage device (serving first posts bytes))
     (name : List ℕ) (write : Option ℕ) (at count : ℕ) (Happens : State → State → Reply → Core → ℕ → Type 0)
@@ -56,9 +56,9 @@ module _ {S : Type 0} (device : S → Device) (first : S × Core) (posts : Vec P
       by (Takes lv asked named gives says) = absurd (cc says)
 
   to : RunsTo device first mid
-  to = record { runs = runs; sound = subst (λ (s : S). IsSound (state (device s) mid.1)) (sym shelf) (subst (λ (core : Core). IsSound (state (device first.0) core)) (sym does.0) between.session.sound) }
+  to = runs_to device first mid runs (subst (λ (s : S). IsSound (state (device s) mid.1)) (sym shelf) (subst (λ (core : Core). IsSound (state (device first.0) core)) (sym does.0) between.session.sound))
 
   pub refusing_ends : EndsUnasked device Does ⊥ OfRequests (serving first posts bytes) stage answer
   refusing_ends =
       let one : most_refusals answer ≤ 1 = subst (λ (a : Reply). most_refusals a ≤ 1) (sym is) (omega arith) in
-      carried_ends device first posts bytes fits between mid to Does posts bytes1 rooms stage answer (omega (arith, one)) (λ last. does.1 last (still does.0 last)) (kept posts.items between.posted) rooms_then carried
+      carried_ends device first posts bytes fits between mid to Does posts bytes1 rooms stage answer (omega (arith, one)) (λ last. does.1 last (still does.0 last)) (kept posts.items between.posted) rooms_then (λ on. runs.copy between.session.copy) carried

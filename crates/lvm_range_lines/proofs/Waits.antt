@@ -25,7 +25,7 @@ use Rattle.lvm_range_lines.specs.Leaving.{GoesOnWith, Waited, serving}
 use Rattle.lvm_range_lines.specs.Taking.{GoesBehind, IsClosedBehind, LandedEnds}
 use Rattle.lvm_range_lines.specs.Waiting.{AllHaveLanded, Awaits, Goes, InVain, IsAwaited, Over, TurnsForPosts, WaitDoes, WaitEnds}
 use Rattle.lvm_range_lines.proofs.Behind.{behind_goes, posts_few, waits_off}
-use Rattle.lvm_range_lines.proofs.Ending.{RunsTo, carried_ends, closed_orders, ended_is_over, its, stuck_ends, unstuck}
+use Rattle.lvm_range_lines.proofs.Ending.{RunsTo, carried_ends, closed_orders, ended_is_over, its, runs_to, stuck_ends, unstuck}
 use Rattle.lvm_range_lines.proofs.Landed.{long_ended, posted_ended}
 use Rattle.lvm_range_lines.proofs.Lines.{unfinished_on}
 
@@ -47,7 +47,7 @@ module _ {S : Type 0} (device : S → Device) (first : S × Core) (posts : Vec P
   old = serving first posts bytes
 
   to_mid : RunsTo device first mid
-  to_mid = record { runs = runs; sound = sound }
+  to_mid = runs_to device first mid runs sound
 
   does_so : (stage : Stage S) (answer : Reply) (last : ℕ) → WaitEnds (state_of device mid) left (state_in device old last) (state_in device stage last) answer → WaitDoes (state_in device old last) (state_in device stage last) answer
   does_so stage answer last ends = Awaits first.1 refl fits.kind (record { mid = state_of device mid; turns = turns; runs = runs; sound = sound; left = left; waited = waited; ends = ends })
@@ -56,11 +56,14 @@ module _ {S : Type 0} (device : S → Device) (first : S × Core) (posts : Vec P
 
   module _ (landed : AllHaveLanded posts.items (state_of device mid)) (stage : Stage S) (answer : Reply) (fits_then : IsFitting stage) where
     module _ (on : mid.1.power ≡ power.On) (goes : GoesBehind device mid stage answer posts.items) where
+      all : RunsOn (state_of device first) (state_of device goes.end)
+      all = runs_both (state_of device first) (state_of device mid) (state_of device goes.end) runs goes.runs
+
       to_end : RunsTo device first goes.end
-      to_end = record { runs = runs_both (state_of device first) (state_of device mid) (state_of device goes.end) runs goes.runs; sound = goes.sound }
+      to_end = runs_to device first goes.end all goes.sound
 
       room_is : goes.end.1.history.room ≡ first.1.history.room
-      room_is = ap (λ (log : Log). log.room) to_end.runs.leaves.keeps.log
+      room_is = ap (λ (log : Log). log.room) to_end.leaves.keeps.log
 
       rooms1 : HaveRooms first.1.history.room goes.none goes.bytes
       rooms1 = subst (λ n. HaveRooms n goes.none goes.bytes) room_is (subst IsFitting goes.is fits_then).rooms
@@ -75,7 +78,7 @@ module _ {S : Type 0} (device : S → Device) (first : S × Core) (posts : Vec P
       on_ends : EndsUnasked device Does ⊥ OfRequests old stage answer
       on_ends = carried_ends device first posts bytes fits between goes.end to_end Does goes.none goes.bytes rooms1 stage answer few_left
           (λ last. does_so stage answer last (Goes on landed (record { answers = goes.endings; end = state_of device goes.end; takes = goes.takes; runs = goes.runs; sound = goes.sound; goes = goes_as last; tells = goes.tells })))
-          (none_posted goes.end.1.history.facts (Some goes.end.1) goes.none.items goes.empty) (subst (λ (s : Stage S). HaveRooms first.1.history.room s.posts s.bytes) (sym goes.is) rooms1)
+          (none_posted goes.end.1.history.facts (Some goes.end.1) goes.none.items goes.empty) (subst (λ (s : Stage S). HaveRooms first.1.history.room s.posts s.bytes) (sym goes.is) rooms1) (λ power_is. all.copy between.session.copy)
           (subst (λ (p : Power). IsCarried device goes.end goes.none goes.bytes p stage) (sym goes.on) goes.is)
 
     -- ---- it is over

@@ -32,6 +32,8 @@ shown refusal.Stuck = record { number = 24; carried = carried.Nothing }
 shown refusal.HistoryFull = record { number = 25; carried = carried.Nothing }
 shown (refusal.InGroup disk) = record { number = 26; carried = carried.Disk disk }
 shown refusal.NoPlan = record { number = 27; carried = carried.Nothing }
+shown (refusal.SyncFailed disk) = record { number = 28; carried = carried.Disk disk }
 shown refusal.Memory = record { number = 29; carried = carried.Nothing }
 shown refusal.Busy = record { number = 30; carried = carried.Nothing }
+shown (refusal.Missing disk) = record { number = 31; carried = carried.Disk disk }
 shown (refusal.TableFull held) = record { number = 32; carried = carried.Number held }

@@ -1,7 +1,7 @@
 -- The texts of replies.
 use Rattle.std.specs.Prelude.{◌≡◌, ℕ, Bool, true, false, List, [], codes}
 use Rattle.lvm_replies.specs.Refusals.{refusal_text}
-use Rattle.lvm_replies.specs.Texts.{stepped_text}
+use Rattle.lvm_replies.specs.Texts.{stepped_text, synced_text}
 use Rattle.lvm_stage.specs.Refusals.{shown}
 use Rattle.lvm_stage.specs.State.{State}
 use Rattle.lvm_stage.specs.declared.reply.Refusal.{Refusal}
@@ -15,6 +15,7 @@ reply_text reply.Silent = []
 reply_text reply.Ok = codes "ok\n"
 reply_text reply.Posted = codes "posted\n"
 reply_text (reply.Stepped turns) = stepped_text turns
+reply_text (reply.Synced made) = synced_text made
 reply_text (reply.Lines text) = text
 reply_text (reply.Answers text refused) = text
 reply_text (reply.Refused why) = refusal_text (shown why)
@@ -25,13 +26,15 @@ refusals_of reply.Silent = 0
 refusals_of reply.Ok = 0
 refusals_of reply.Posted = 0
 refusals_of (reply.Stepped turns) = 0
+refusals_of (reply.Synced made) = 0
 refusals_of (reply.Lines text) = 0
 refusals_of (reply.Answers text refused) = refused
 refusals_of (reply.Refused why) = 1
 
--- how many it may answer, since the line of turns may find no memory
+-- how many it may answer, since the line of turns, or of copies, may find no memory
 abbrev pub most_refusals : Reply → ℕ
 most_refusals (reply.Stepped turns) = 1
+most_refusals (reply.Synced made) = 1
 most_refusals other = refusals_of other
 
 -- nothing was heard of a transfer, and the run ends

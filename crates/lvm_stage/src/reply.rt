@@ -67,10 +67,14 @@ pub enum Refusal {
     InGroup { disk: u16 },
     /// 27: the shelf takes no orders.
     NoPlan,
+    /// 28: a copy stayed stale, since its disk failed, which is this, or each copy that it might be read from.
+    SyncFailed { disk: u16 },
     /// 29: memory ran out.
     Memory,
     /// 30: a request of the session hasn't been answered.
     Busy,
+    /// 31: a copy stayed stale, since its disk is missing.
+    Missing { disk: u16 },
     /// 32: so many requests are open, and there isn't room for those of the line.
     TableFull { held: u32 },
 }
@@ -86,6 +90,8 @@ pub enum Reply {
     Posted,
     /// `stepped`, and how many turns did something.
     Stepped(u32),
+    /// `synced`, and how many copies were made fresh.
+    Synced(u32),
     /// The lines of a listing, or of the blocks that were read.
     Lines(Text),
     /// The lines of a `wait`: of each post how it ended, and `ok`. So many of them are refusals.
@@ -151,8 +157,10 @@ fn shown(refusal: &Refusal) -> lvm_replies::Refusal
         Refusal::HistoryFull => (25, Carried::Nothing),
         Refusal::InGroup { disk } => (26, Carried::Disk(*disk)),
         Refusal::NoPlan => (27, Carried::Nothing),
+        Refusal::SyncFailed { disk } => (28, Carried::Disk(*disk)),
         Refusal::Memory => (29, Carried::Nothing),
         Refusal::Busy => (30, Carried::Nothing),
+        Refusal::Missing { disk } => (31, Carried::Disk(*disk)),
         Refusal::TableFull { held } => (32, Carried::Number(u64::from(*held))),
     };
     lvm_replies::Refusal { number, carried }

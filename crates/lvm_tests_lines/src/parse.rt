@@ -277,6 +277,25 @@ fn copies_are_spelled(rt: HostRuntime) {
     );
 }
 
+#[test]
+fn resyncs_are_spelled(rt: HostRuntime) {
+    let name = name(&rt, b"lv00");
+    spells(&rt, b"syncvg -l lv00", Command::SyncVolume { name });
+    spells(&rt, b" syncvg  -v  lv00 ", Command::SyncGroup { name });
+    all_refused(
+        &rt,
+        &[
+            (b"syncvg", 7),
+            (b"syncvg lv00", 8),
+            (b"syncvg -l", 10),
+            (b"syncvg -l hdisk0", 11),
+            (b"syncvg -v -l lv00", 11),
+            (b"syncvg -l lv00 -v lv00", 16),
+            (b"syncvg -l lv00 lv00", 16),
+        ],
+    );
+}
+
 // The volume lv00 in datavg, in mode off.
 fn volume(rt: &impl Abort, copies: u8, policy: Policy, lps: u32) -> Command {
     volume_in(rt, Mode::Off, copies, policy, lps)

@@ -3,7 +3,9 @@ ghost use Rattle.lvm_replies.specs.Refusals.{is_refusal};
 
 use crate::fixtures::{check, check_at};
 use lvm_num::{Text, fill};
-use lvm_replies::{Carried, Refusal, push_refusal, show_block, show_refusal, show_stepped};
+use lvm_replies::{
+    Carried, Refusal, push_refusal, show_block, show_refusal, show_stepped, show_synced,
+};
 use std::process::Abort;
 
 // Whether a refusal has this text.
@@ -103,6 +105,12 @@ fn a_refusal_is_added_to_a_text(rt: HostRuntime) {
 fn turns_are_shown(rt: HostRuntime) {
     let shown = show_stepped(rt.alloc(), 1_000_000).expect(&rt, "memory");
     check(&rt, shown.as_str() == "stepped 1000000\n", "turns");
+}
+
+#[test]
+fn copies_are_shown(rt: HostRuntime) {
+    let shown = show_synced(rt.alloc(), 4_294_967_295).expect(&rt, "memory");
+    check(&rt, shown.as_str() == "synced 4294967295\n", "copies");
 }
 
 fn block(rt: &(impl Abort + AllocGlobal), at: u64, block: &[u8; 512]) -> Text {

@@ -1,5 +1,5 @@
 -- What is found after a line.
-use Rattle.std.proofs.Common.{◌≡◌, ◌⊎◌, inl, ℕ, [], List, Option, Some, None, Result, Ok, Err, refl, ap, subst}
+use Rattle.std.proofs.Common.{◌≡◌, ◌⊎◌, inl, ℕ, Bool, true, false, [], List, Option, Some, None, Result, Ok, Err, refl, ap, subst}
 use Rattle.lvm_num.specs.declared.descriptor.Descriptor.{Descriptor}
 use Rattle.std.specs.Prelude.{IfSome}
 use Rattle.lvm_disk.specs.declared.shelf.Arrange.{Arrange}
@@ -27,6 +27,10 @@ use Rattle.lvm_line.specs.passed.RangeLines.{EndsBy, GoesOnWith, IsOverWith, Lea
 use Rattle.lvm_line.specs.passed.RangeLines.{IsNotAsked, Posts, NotPosted, Posted, IsFinished, Finishes, NotBegun, EndsWell, Fails, StepDoes}
 use Rattle.lvm_line.specs.passed.RangeLines.{NoStepWhileOff, NothingMoves, Steps}
 use Rattle.lvm_line.specs.passed.RangeLinesWaiting.{WaitDoes, WhileOff as WaitsWhileOff, AtRest, Awaits, WaitsOff, WaitsOn, WaitEnds, Goes, Over}
+use Rattle.lvm_line.specs.passed.CopyLines.{IsSynced, NoGroupForSync, NoVolumeForSync, NothingSyncs, OtherGroupForSync, SyncGroupDoes, SyncVolumeDoes}
+use Rattle.lvm_line.specs.passed.CopyLines.{SyncsGroup, SyncsVolume, is_unheard}
+use Rattle.lvm_line.specs.passed.Resync.{Copy, SyncFault, group_copies, group_fault, volume_copies, volume_fault}
+use Rattle.lvm_line.specs.passed.RangeLines.{FailsIf}
 use Rattle.lvm_line.specs.passed.RangeLinesWaiting.{InVain}
 use Rattle.lvm_steps.specs.Requests.{at as moment_of}
 use Rattle.lvm_session.specs.declared.open.Power.{Power}
@@ -38,7 +42,7 @@ use Rattle.lvm_top.specs.Laws.{LineFindsNoMore}
 use Rattle.lvm_top.specs.Standing.{MayHaveCommitted, StoodBefore}
 use Rattle.lvm_top.proofs.Devices.{IsShelf, NothingNew, then_nothing, same_nothing, fewer_nothing}
 use Rattle.lvm_top.proofs.Groups.{mkvg_finds, varyon_nothing}
-use Rattle.lvm_top.proofs.Quiet.{closed_nothing, quiet_nothing, range_stays_nothing, runs_nothing}
+use Rattle.lvm_top.proofs.Quiet.{closed_nothing, quiet_nothing, range_stays_nothing, runs_nothing, session_nothing}
 use Rattle.lvm_top.proofs.Transfers.{relit_nothing, write_nothing, read_nothing}
 use Rattle.lvm_top.proofs.Volumes.{as_group, mklv_finds, rmlv_finds}
 use Rattle.lvm_top.proofs.Copying.{mklvcopy_finds, rmlvcopy_finds}
@@ -137,6 +141,23 @@ module _ (old new : State) (answer : Reply) (leaves : LeavesDescriptors old.mome
   step_nothing turns (NothingMoves core some empty says same) = same_nothing old.moment.device new.moment.device (ap (λ (s : State). s.moment.device) same)
   step_nothing turns (Steps core some vols its) = turns_nothing core its.end its.runs (leaves_nothing its.end.core.power its.end old.posts old.last its.leaves)
 
+  synced_nothing : (refused : Core → Option SyncFault) (copies : List Copy) (core : Core) → IsSynced refused copies core old new answer → NothingNew old.moment.device new.moment.device
+  synced_nothing refused copies core its = then_nothing old.moment.device its.end.device new.moment.device (session_nothing (state old.moment.device core) its.end leaves its.beside.leaves) (by (is_unheard its.result) its.leaves)
+    where
+      by : (b : Bool) → FailsIf b its.end old.posts old.last new → NothingNew its.end.device new.moment.device
+      by true ended = over_nothing its.end old.posts old.last new ended
+      by false left = leaves_nothing its.end.core.power its.end old.posts old.last left
+
+  sync_volume_nothing : (name : List ℕ) → SyncVolumeDoes name old new answer → NothingNew old.moment.device new.moment.device
+  sync_volume_nothing name (NoGroupForSync off is) = same_nothing old.moment.device new.moment.device (ap (λ (s : State). s.moment.device) is.1)
+  sync_volume_nothing name (NoVolumeForSync core some none is) = same_nothing old.moment.device new.moment.device (ap (λ (s : State). s.moment.device) is.1)
+  sync_volume_nothing name (SyncsVolume core lv some of its) = synced_nothing (λ c. volume_fault c lv) (volume_copies core.descriptor lv) core its
+
+  sync_group_nothing : (name : List ℕ) → SyncGroupDoes name old new answer → NothingNew old.moment.device new.moment.device
+  sync_group_nothing name (OtherGroupForSync off is) = same_nothing old.moment.device new.moment.device (ap (λ (s : State). s.moment.device) is.1)
+  sync_group_nothing name (NothingSyncs core some empty says same) = same_nothing old.moment.device new.moment.device (ap (λ (s : State). s.moment.device) same)
+  sync_group_nothing name (SyncsGroup core some vols its) = synced_nothing group_fault (group_copies core.descriptor) core its
+
   off_nothing : (closed : State) → WaitsOff closed new answer → NothingNew closed.moment.device new.moment.device
   off_nothing closed waits = same_nothing closed.moment.device new.moment.device (ap (λ (s : State). s.moment.device) waits.new_is)
 
@@ -177,6 +198,8 @@ module _ (log : Log) (room : Room) (line : List ℕ) (answer : Reply) (old new :
   by_reading (Ok (Some (command.Wr name at count word))) is stood does id k it = inl (volume_nothing old new answer leaves name _ (λ core lv. finishes_nothing old new answer leaves (Some word) _ at count core lv) does id k it)
   by_reading (Ok (Some (command.Post name at count word))) is stood does id k it = inl (volume_nothing old new answer leaves name _ (λ core lv. posts_nothing old new answer leaves at count word core lv) does id k it)
   by_reading (Ok (Some command.Wait)) is stood does id k it = inl (wait_nothing old new answer leaves does id k it)
+  by_reading (Ok (Some (command.SyncVolume name))) is stood does id k it = inl (sync_volume_nothing old new answer leaves name does id k it)
+  by_reading (Ok (Some (command.SyncGroup name))) is stood does id k it = inl (sync_group_nothing old new answer leaves name does id k it)
   by_reading (Ok (Some (command.Step turns))) is stood does id k it = inl (step_nothing old new answer leaves turns does id k it)
   by_reading (Ok (Some (command.RawRd disk at count))) is stood does id k it = inl (rd_nothing log old new answer disk at count does id k it)
   by_reading (Ok (Some (command.RawWr disk at count word))) is stood does id k it = inl (wr_nothing log old new answer disk at count word does id k it)

@@ -46,6 +46,10 @@ use Rattle.lvm_disk.specs.declared.shelf.Arrange.{Arrange}
 use Rattle.lvm_line.specs.passed.RangeLines.{EndsBy, GoesOnWith, LeavesBy, OnVolume, WhileOff, NotThere as VolumeNotThere, There, Posts, NotPosted}
 use Rattle.lvm_line.specs.passed.RangeLines.{Posted, Finishes, NotBegun, EndsWell, Fails, StepDoes, NoStepWhileOff, NothingMoves, Steps}
 use Rattle.lvm_line.specs.passed.RangeLinesWaiting.{WaitDoes, WhileOff as WaitsWhileOff, AtRest, Awaits, WaitsOff, WaitsOn, WaitEnds, Goes, Over}
+use Rattle.lvm_line.specs.passed.CopyLines.{IsSynced, NoGroupForSync, NoVolumeForSync, NothingSyncs, OtherGroupForSync, SyncGroupDoes, SyncVolumeDoes}
+use Rattle.lvm_line.specs.passed.CopyLines.{SyncsGroup, SyncsVolume, is_unheard}
+use Rattle.lvm_line.specs.passed.Resync.{Copy, SyncFault, group_copies, group_fault, volume_copies, volume_fault}
+use Rattle.lvm_line.specs.passed.RangeLines.{FailsIf}
 use Rattle.lvm_line.specs.passed.RangeLinesWaiting.{InVain}
 use Rattle.lvm_line.specs.Lines.{LineDoes, role_of}
 use Rattle.lvm_line.specs.passed.Stage.{HasBegunHeld, OfGroup, State, Reply}
@@ -123,6 +127,8 @@ committed_off line (Ok (Some (command.Rd name at count))) is answer old new off 
 committed_off line (Ok (Some (command.Wr name at count word))) is answer old new off id k it = absurd it.is
 committed_off line (Ok (Some (command.Post name at count word))) is answer old new off id k it = absurd it.is
 committed_off line (Ok (Some command.Wait)) is answer old new off id k it = absurd it.is
+committed_off line (Ok (Some (command.SyncVolume name))) is answer old new off id k it = absurd it.is
+committed_off line (Ok (Some (command.SyncGroup name))) is answer old new off id k it = absurd it.is
 committed_off line (Ok (Some (command.Step turns))) is answer old new off id k it = absurd it.is
 committed_off line (Ok (Some (command.RawRd disk at count))) is answer old new off id k it = absurd it.is
 committed_off line (Ok (Some (command.RawWr disk at count word))) is answer old new off id k it = absurd it.is
@@ -192,6 +198,26 @@ module _ (old new : State) (off : HasNoPassiveOn old) where
   posts_off : {answer : Reply} (at count word : ℕ) (core : Core) (lv : ℕ) → HasNoPassive core.descriptor → Posts lv at count word core old new answer → HasNoPassiveOn new
   posts_off at count word core lv its (NotPosted none) = same_off none.refused.1
   posts_off at count word core lv its (Posted done) = goes_off (state old.moment.device done.begun) _ old.last (runs_off (state old.moment.device core) (state old.moment.device done.begun) done.runs its) done.goes
+
+  synced_off : {answer : Reply} (refused : Core → Option SyncFault) (copies : List Copy) (core : Core) → HasNoPassive core.descriptor → IsSynced refused copies core old new answer → HasNoPassiveOn new
+  synced_off refused copies core its done = by (is_unheard done.result) done.leaves
+    where
+      then : HasNoPassive done.end.core.descriptor
+      then = subst HasNoPassive (sym done.beside.leaves.keeps.descriptor) its
+
+      by : (b : Bool) → FailsIf b done.end old.posts old.last new → HasNoPassiveOn new
+      by true ended = none_off ended.session
+      by false left = leaves_off done.end.core.power done.end old.posts old.last then left
+
+  sync_volume_off : {answer : Reply} (name : List ℕ) → SyncVolumeDoes name old new answer → HasNoPassiveOn new
+  sync_volume_off name (NoGroupForSync none is) = same_off is.1
+  sync_volume_off name (NoVolumeForSync core some none is) = same_off is.1
+  sync_volume_off name (SyncsVolume core lv some of done) = synced_off (λ c. volume_fault c lv) (volume_copies core.descriptor lv) core (of_core core some) done
+
+  sync_group_off : {answer : Reply} (name : List ℕ) → SyncGroupDoes name old new answer → HasNoPassiveOn new
+  sync_group_off name (OtherGroupForSync none is) = same_off is.1
+  sync_group_off name (NothingSyncs core some empty says same) = same_off same
+  sync_group_off name (SyncsGroup core some vols done) = synced_off group_fault (group_copies core.descriptor) core (of_core core some) done
 
   step_off : {answer : Reply} (turns : ℕ) → StepDoes turns old new answer → HasNoPassiveOn new
   step_off turns (NoStepWhileOff none is) = same_off is.1
@@ -322,6 +348,8 @@ session_off log room answer old new off begins told finds leaves named (Ok (Some
 session_off log room answer old new off begins told finds leaves named (Ok (Some (command.Wr name at count word))) stood does = volume_off old new off name _ (λ core lv. finishes_off old new off (Some word) _ at count core lv) does
 session_off log room answer old new off begins told finds leaves named (Ok (Some (command.Post name at count word))) stood does = volume_off old new off name _ (λ core lv. posts_off old new off at count word core lv) does
 session_off log room answer old new off begins told finds leaves named (Ok (Some command.Wait)) stood does = wait_off old new off does
+session_off log room answer old new off begins told finds leaves named (Ok (Some (command.SyncVolume name))) stood does = sync_volume_off old new off name does
+session_off log room answer old new off begins told finds leaves named (Ok (Some (command.SyncGroup name))) stood does = sync_group_off old new off name does
 session_off log room answer old new off begins told finds leaves named (Ok (Some (command.Step turns))) stood does = step_off old new off turns does
 session_off log room answer old new off begins told finds leaves named (Ok (Some (command.RawRd disk at count))) stood does = read_off old new off log disk at count does
 session_off log room answer old new off begins told finds leaves named (Ok (Some (command.RawWr disk at count word))) stood does = write_off old new off log disk at count word does

@@ -250,6 +250,8 @@ module _ (log : Log) (old new : State) (answer : Reply) (shelf : IsShelf old.mom
   line_one room line unforced (Ok (Some (command.Wr name at count word))) is stood does = other_one room line _ is stood (λ id k it. it.is) does
   line_one room line unforced (Ok (Some (command.Post name at count word))) is stood does = other_one room line _ is stood (λ id k it. it.is) does
   line_one room line unforced (Ok (Some command.Wait)) is stood does = other_one room line _ is stood (λ id k it. it.is) does
+  line_one room line unforced (Ok (Some (command.SyncVolume name))) is stood does = other_one room line _ is stood (λ id k it. it.is) does
+  line_one room line unforced (Ok (Some (command.SyncGroup name))) is stood does = other_one room line _ is stood (λ id k it. it.is) does
   line_one room line unforced (Ok (Some (command.Step turns))) is stood does = other_one room line _ is stood (λ id k it. it.is) does
   line_one room line unforced (Ok (Some (command.RawRd disk at count))) is stood does = other_one room line _ is stood (λ id k it. it.is) does
   line_one room line unforced (Ok (Some (command.RawWr disk at count word))) is stood does = other_one room line _ is stood (λ id k it. it.is) does

@@ -13,7 +13,7 @@ use Rattle.lvm_line.specs.passed.QuiescedVariants as quiesced
 use Rattle.lvm_line.specs.passed.Quiesce.{Quiesces, StaysOut, RangeStaysOut}
 use Rattle.lvm_line.proofs.passed.Quiesce.{ends_leave, ends_leave_no_more}
 use Rattle.lvm_line.specs.passed.Tie.{LeavesDescriptors}
-use Rattle.lvm_line.specs.passed.Running.{RunsOn}
+use Rattle.lvm_line.specs.passed.Running.{LeavesSession, RunsOn}
 use Rattle.lvm_line.specs.passed.Stage.{IsRelit, IsClosed}
 use Rattle.lvm_top.proofs.Devices.{NothingNew, then_nothing, same_nothing, fewer_nothing}
 use Rattle.lvm_top.proofs.Transfers.{relit_nothing}
@@ -51,5 +51,8 @@ closed_nothing power.Stuck old new is = freed_nothing old new is
 
 -- ---- turns
 
+pub session_nothing : (old new : Session) → LeavesDescriptors old.device → LeavesSession old new → NothingNew old.device new.device
+session_nothing old new leaves left id k (image, may, found) = (left.descriptors leaves).finds id k image may found
+
 pub runs_nothing : (old new : Session) → LeavesDescriptors old.device → RunsOn old new → NothingNew old.device new.device
-runs_nothing old new leaves runs id k (image, may, found) = (runs.leaves.descriptors leaves).finds id k image may found
+runs_nothing old new leaves runs = session_nothing old new leaves runs.leaves

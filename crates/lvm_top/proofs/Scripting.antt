@@ -99,6 +99,7 @@ said_few answer said (inl same) = subst (λ (r : Reply). refusals_of r ≤ most_
     its reply.Ok = omega arith
     its reply.Posted = omega arith
     its (reply.Stepped turns) = omega arith
+    its (reply.Synced made) = omega arith
     its (reply.Lines text) = omega arith
     its (reply.Answers text refused) = omega arith
     its (reply.Refused why) = omega arith
@@ -106,6 +107,7 @@ said_few answer said (inr (late, is)) = subst (λ (r : Reply). refusals_of r ≤
   where
     one : (r : Reply) → IsTrue (is_made_late r) → 1 ≤ most_refusals r
     one (reply.Stepped turns) late = omega arith
+    one (reply.Synced made) late = omega arith
     one (reply.Refused why) late = omega arith
     one reply.Silent late = absurd (cc (late))
     one reply.Ok late = absurd (cc (late))

@@ -18,6 +18,7 @@ use Rattle.lvm_line.specs.passed.ReplyVariants as reply
 abbrev pub is_made_late : Reply → Bool
 is_made_late (reply.Refused why) = true
 is_made_late (reply.Stepped turns) = true
+is_made_late (reply.Synced made) = true
 is_made_late reply.Silent = false
 is_made_late reply.Ok = false
 is_made_late reply.Posted = false

@@ -15,7 +15,7 @@ use lvm_io::{Clock, Lines, NextLine, Sink, SinkFault, Source, write_all};
 use lvm_line::below::stage::{Refusal, Reply, Stage, memory_text, refusal_line};
 use lvm_line::{InPlace, answer_line, finish_line};
 use lvm_num::{Memory, Rows};
-use lvm_replies::show_stepped;
+use lvm_replies::{show_stepped, show_synced};
 use std::alloc::Global;
 
 // Why a run ends before the input does.
@@ -66,6 +66,25 @@ fn say_stepped<O: Sink>(alloc: Global, out: &mut O, turns: u32) -> (Reply, Resul
     }
 }
 
+// Writes how many copies were made fresh, or where that finds no memory that it didn't. Answers which, and whether the sink
+// took it all.
+fn say_synced<O: Sink>(alloc: Global, out: &mut O, made: u32) -> (Reply, Result<(), SinkFault>)
+    ensures says { Says (Reply.Synced made) result.0 }
+    ensures whole { OnOk result.1 (WhereTold (O.held out.old) (O.held out.new) (λ a b. b ≡ a ++ reply_text result.0)) }
+    ensures front { OnErr result.1 (WhereTold (O.held out.old) (O.held out.new) (λ a b. WritesFront (reply_text result.0) a b)) }
+    ensures later { O.faults out.old ≤ O.faults out.new }
+    ensures cause { OnErr result.1 (Rose (O.faults out.old) (O.faults out.new)) }
+    ensures well { OnOk result.1 (O.faults out.new ≡ O.faults out.old) }
+{
+    match show_synced(alloc, made) {
+        Ok(line) => (Reply::Synced(made), write_all(out, line.as_bytes())),
+        Err(Memory) => (
+            Reply::Refused(Refusal::Memory),
+            write_all(out, memory_text()),
+        ),
+    }
+}
+
 // Writes the reply to a line, and nothing for a silent one. Answers what was written, and whether the sink
 // took it all.
 fn say<O: Sink>(alloc: Global, out: &mut O, answer: Reply) -> (Reply, Result<(), SinkFault>)
@@ -81,6 +100,7 @@ fn say<O: Sink>(alloc: Global, out: &mut O, answer: Reply) -> (Reply, Result<(),
         Reply::Ok => (Reply::Ok, write_all(out, b"ok\n")),
         Reply::Posted => (Reply::Posted, write_all(out, b"posted\n")),
         Reply::Stepped(turns) => say_stepped(alloc, out, turns),
+        Reply::Synced(made) => say_synced(alloc, out, made),
         Reply::Lines(text) => {
             let wrote = write_all(out, text.as_bytes());
             (Reply::Lines(text), wrote)
@@ -114,7 +134,12 @@ fn with_refusals(refused: u32, reply: &Reply) -> u32
             text: _,
             refused: more,
         } => refused + *more,
-        Reply::Silent | Reply::Ok | Reply::Posted | Reply::Stepped(_) | Reply::Lines(_) => refused,
+        Reply::Silent
+        | Reply::Ok
+        | Reply::Posted
+        | Reply::Stepped(_)
+        | Reply::Synced(_)
+        | Reply::Lines(_) => refused,
     }
 }
 

@@ -71,6 +71,12 @@ returns-in-Lsvg g c =
     (subst (λ (r : Reply). most_refusals r ≤ 1) (sym says) (one_group c.in-Lsvg.volumes c.in-Lsvg.name (session_in c.args.stage) c.list_group-reply.result c.list_group-reply.ensures))
     (λ log same. (subst (λ (r : Reply). GroupShows c.in-Lsvg.volumes c.in-Lsvg.name (session_in c.args.stage) r) (sym says) c.list_group-reply.ensures, same)) refl
 
+pub returns-in-SyncVolume : goal.returns-in-SyncVolume
+returns-in-SyncVolume g c = done_by g.S.Shelf.device c.args.room c.args.command _ _ _ c.do_sync_volume.result.reply _ _ _ _ c.in-SyncVolume.is (c.do_sync_volume.ensures (g.C.Clock.last c.args.clock.now)) refl
+
+pub returns-in-SyncGroup : goal.returns-in-SyncGroup
+returns-in-SyncGroup g c = done_by g.S.Shelf.device c.args.room c.args.command _ _ _ c.do_sync_group.result.reply _ _ _ _ c.in-SyncGroup.is (c.do_sync_group.ensures (g.C.Clock.last c.args.clock.now)) refl
+
 pub returns-in-Lslv : goal.returns-in-Lslv
 returns-in-Lslv g c =
     let says = c.answered-in-Lslv.ensures.reply in

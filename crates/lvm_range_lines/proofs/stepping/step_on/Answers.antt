@@ -2,7 +2,7 @@ use Rattle.std.proofs.Common.{◌≤◌, refl, sym, ◌∙◌, subst, arith}
 use Rattle.lvm_group_lines.specs.passed.Driver.{state_of}
 use Rattle.lvm_group_lines.specs.passed.Stage.{Reply, Stage, most_refusals, HaveRooms, IsCarried}
 use Rattle.lvm_range_lines.specs.Stepping.{StepDoes, Steps}
-use Rattle.lvm_range_lines.proofs.Ending.{RunsTo, carried_ends, carried_leaves}
+use Rattle.lvm_range_lines.proofs.Ending.{RunsTo, carried_ends, carried_leaves, runs_to}
 use Rattle.lvm_range_lines.proofs.Posting.{table_posts}
 use Rattle.lvm_range_lines.proofs.Steps.{step_few}
 use Rattle.lvm_range_lines.proofs.stepping.step_on.Goals as goal
@@ -16,7 +16,7 @@ returns g c =
     let stage = c.answered.result.stage in
     let answer = c.answered.result.reply in
     let says = c.answered.ensures.reply ∙ c.step_reply-reply.ensures.reply in
-    let to : RunsTo device first end = record { runs = made.runs; sound = c.step_reply-reply.ensures.sound } in
+    let to : RunsTo device first end = runs_to device first end made.runs c.step_reply-reply.ensures.sound in
     let carried : IsCarried device end c.args.posts c.args.bytes end.1.power stage = subst (IsCarried device end c.args.posts c.args.bytes end.1.power) (sym c.answered.ensures.stage) c.carried.ensures.carried in
     let one : most_refusals answer ≤ 1 = subst (λ (a : Reply). most_refusals a ≤ 1) (sym says) (step_few c.step-moved.result.0 (state_of device end) c.step-moved.result.1) in
     let rooms_then = subst (λ (s : Stage g.row.S.Denot). HaveRooms first.1.history.room s.posts s.bytes) (sym c.answered.ensures.stage) (c.carried.ensures.rooms first.1.history.room c.requires.fits.rooms) in
@@ -32,4 +32,4 @@ returns g c =
       leaves = carried_leaves device end c.args.posts c.args.bytes stage last carried;
       says = says;
     }))
-    (table_posts first.1 end.1 made.table c.args.posts.items c.requires.between.posted) rooms_then carried
+    (table_posts first.1 end.1 made.table c.args.posts.items c.requires.between.posted) rooms_then (λ on. made.runs.copy c.requires.between.session.copy) carried
