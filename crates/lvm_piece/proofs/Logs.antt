@@ -1,5 +1,5 @@
 -- What further entries leave of what a history says of a request, and of its room.
-use Rattle.std.proofs.Common.{◌≡◌, ◌≤◌, ◌+◌, ◌*◌, ◌∷◌, ◌++◌, [], ℕ, List, Bool, Option, Some, None, true, false, not, is_some, ◌&&◌, ◌||◌, ◌==◌, unwrap_or, take, if◌then◌else◌, arith, refl, ◌∙◌, ap}
+use Rattle.std.proofs.Common.{◌≡◌, ◌≤◌, ◌+◌, ◌*◌, ◌∷◌, ◌++◌, [], ℕ, List, Bool, Option, Some, None, true, false, not, is_some, ◌&&◌, ◌||◌, ◌==◌, unwrap_or, take, if◌then◌else◌, arith, refl, sym, ◌∙◌, ap, subst}
 use Rattle.std.specs.List.{find, filter_map, list_any, cons_option, sum_by}
 use Rattle.std.proofs.lemmas.List.Elements.{filter_map-append}
 use Rattle.std.proofs.lemmas.List.{append-nil}
@@ -7,6 +7,7 @@ use Rattle.std.proofs.lemmas.List.Sums.{sum_by-append}
 use Rattle.std.proofs.lemmas.List.Folds.{list_any-append, find-append}
 use Rattle.std.specs.Option.{option_or}
 use Rattle.lvm_steps.proofs.Spans.{later_append}
+use Rattle.lvm_piece.specs.Asking.{TakesRoom}
 use Rattle.lvm_piece.specs.Keeping.{HaveLanded, NoneComesOn}
 use Rattle.lvm_num.specs.Buffer.{Sector}
 use Rattle.lvm_vol.specs.declared.entry.Outcome.{Outcome}
@@ -96,36 +97,58 @@ blocks_begin facts r =
     last : (r : Request) → sum_by (λ (r : Request). r.count) (r ∷ []) ≡ r.count
     last r = omega arith
 
+-- with these entries the history has three less to spare, and the bytes of so many blocks
+abbrev HasRoomAfter : Log → ℕ → List Fact → Type 0
+HasRoomAfter log count facts = (spare_entries (record log { facts = facts }) + 3 ≡ spare_entries log) × (spare_bytes (record log { facts = facts }) + 512 * count ≡ spare_bytes log)
+
 -- a request that began, landed and was taken has used three entries, and the bytes of its blocks
 module _ (log : Log) (r : Request) (how : Outcome) (got : List Sector) where
   abbrev after : Log
   after = record log { facts = landing_ends (log.facts ++ Begun r ∷ []) r (Landed r how true got) }
 
-  pub entries_after : 3 ≤ spare_entries log → spare_entries after + 3 ≡ spare_entries log
+  entries_after : 3 ≤ spare_entries log → spare_entries after + 3 ≡ spare_entries log
   entries_after spare =
       let one = needed_more log.facts (Begun r) in
       let two = needed_more (log.facts ++ Begun r ∷ []) (Landed r how true got) in
       let three = needed_more ((log.facts ++ Begun r ∷ []) ++ Landed r how true got ∷ []) (Taken r) in
       omega (arith, one, two, three, spare)
 
-  pub bytes_after : 512 * r.count ≤ spare_bytes log → spare_bytes after + 512 * r.count ≡ spare_bytes log
+  bytes_after : 512 * r.count ≤ spare_bytes log → spare_bytes after + 512 * r.count ≡ spare_bytes log
   bytes_after spare =
       let one = blocks_begin log.facts r in
       let two = blocks_more (log.facts ++ Begun r ∷ []) (Landed r how true got) refl in
       let three = blocks_more ((log.facts ++ Begun r ∷ []) ++ Landed r how true got ∷ []) (Taken r) refl in
       omega (arith, one, two, three, spare)
 
-pub write_bytes : (log : Log) (r : Request) (how : Moved) → WasAnswered how → 512 * r.count ≤ spare_bytes log → spare_bytes (record log { facts = write_ends (log.facts ++ Begun r ∷ []) r how }) + 512 * r.count ≡ spare_bytes log
-write_bytes log r (moved.Done back) ended spare = bytes_after log r outcome.Done [] spare
-write_bytes log r (moved.Failed back) ended spare = bytes_after log r outcome.Lost [] spare
-write_bytes log r (moved.Dark started) ended spare = absurd ended
-write_bytes log r moved.Stuck ended spare = absurd ended
+module _ (log last : Log) (r : Request) (how : Moved) (entries : 3 ≤ spare_entries log) (bytes : 512 * r.count ≤ spare_bytes log) where
+  takes : (facts : List Fact) → last ≡ record log { facts = facts } → (WasAnswered how → HasRoomAfter log r.count facts) → TakesRoom r.count log last how
+  takes facts is room = record {
+    rooms = is ∙ ap (λ (l : Log). record log { facts = l.facts }) (sym is);
+    entries = λ ended. subst (λ (l : Log). spare_entries l + 3 ≡ spare_entries log) (sym is) (room ended).0;
+    bytes = λ ended. subst (λ (l : Log). spare_bytes l + 512 * r.count ≡ spare_bytes log) (sym is) (room ended).1;
+  }
 
-pub read_bytes : (log : Log) (r : Request) (how : Moved) → WasAnswered how → 512 * r.count ≤ spare_bytes log → spare_bytes (record log { facts = read_ends (log.facts ++ Begun r ∷ []) r how }) + 512 * r.count ≡ spare_bytes log
-read_bytes log r (moved.Done back) ended spare = bytes_after log r outcome.Got (take r.count back.sectors) spare
-read_bytes log r (moved.Failed back) ended spare = bytes_after log r outcome.ReadFailed [] spare
-read_bytes log r (moved.Dark started) ended spare = absurd ended
-read_bytes log r moved.Stuck ended spare = absurd ended
+-- a write that ended so has taken the room of a piece
+write_room : (log : Log) (r : Request) (how : Moved) → 3 ≤ spare_entries log → 512 * r.count ≤ spare_bytes log → WasAnswered how
+    → HasRoomAfter log r.count (write_ends (log.facts ++ Begun r ∷ []) r how)
+write_room log r (moved.Done back) entries bytes ended = (entries_after log r outcome.Done [] entries, bytes_after log r outcome.Done [] bytes)
+write_room log r (moved.Failed back) entries bytes ended = (entries_after log r outcome.Lost [] entries, bytes_after log r outcome.Lost [] bytes)
+write_room log r (moved.Dark started) entries bytes ended = absurd ended
+write_room log r moved.Stuck entries bytes ended = absurd ended
+
+pub write_takes : (log last : Log) (r : Request) (how : Moved) → 3 ≤ spare_entries log → 512 * r.count ≤ spare_bytes log → last ≡ record log { facts = write_ends (log.facts ++ Begun r ∷ []) r how } → TakesRoom r.count log last how
+write_takes log last r how entries bytes is = takes log last r how entries bytes (write_ends (log.facts ++ Begun r ∷ []) r how) is (write_room log r how entries bytes)
+
+-- and a read
+read_room : (log : Log) (r : Request) (how : Moved) → 3 ≤ spare_entries log → 512 * r.count ≤ spare_bytes log → WasAnswered how
+    → HasRoomAfter log r.count (read_ends (log.facts ++ Begun r ∷ []) r how)
+read_room log r (moved.Done back) entries bytes ended = (entries_after log r outcome.Got (take r.count back.sectors) entries, bytes_after log r outcome.Got (take r.count back.sectors) bytes)
+read_room log r (moved.Failed back) entries bytes ended = (entries_after log r outcome.ReadFailed [] entries, bytes_after log r outcome.ReadFailed [] bytes)
+read_room log r (moved.Dark started) entries bytes ended = absurd ended
+read_room log r moved.Stuck entries bytes ended = absurd ended
+
+pub read_takes : (log last : Log) (r : Request) (how : Moved) → 3 ≤ spare_entries log → 512 * r.count ≤ spare_bytes log → last ≡ record log { facts = read_ends (log.facts ++ Begun r ∷ []) r how } → TakesRoom r.count log last how
+read_takes log last r how entries bytes is = takes log last r how entries bytes (read_ends (log.facts ++ Begun r ∷ []) r how) is (read_room log r how entries bytes)
 
 -- ---- a request from its beginning to its end
 

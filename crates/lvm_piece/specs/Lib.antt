@@ -1,3 +1,4 @@
 pub mod Requests
+pub mod Asking
 pub mod Pieces
 pub mod Keeping

@@ -1,19 +1,18 @@
 //! One request on blocks of a disk that is in no group.
-ghost use Rattle.std.specs.Prelude.{◌≡◌, ◌+◌, ◌*◌, ◌%◌, ◌^◌, ◌<◌, ◌≤◌, [], ◌∷◌, ℕ, IsSome, Some, length, true, vec_capacity};
+ghost use Rattle.std.specs.Prelude.{◌≡◌, ◌*◌, ◌≤◌, IsSome, Some, length, true, vec_capacity};
 ghost use Rattle.std.specs.Option.{ForSome};
 ghost use Rattle.std.specs.Simd.{first_chunks};
-ghost use Rattle.lvm_num.specs.Geometry.{data_start};
 ghost use Rattle.lvm_disk.specs.Device.{IsReady};
-ghost use Rattle.lvm_disk.specs.Steps.{IsRange};
 ghost use Rattle.lvm_disk.specs.Images.{LeavesNoMore};
 ghost use Rattle.lvm_disk.specs.Paths.{DeviceStep, Path};
 ghost use Rattle.lvm_vol.specs.Facts.{Landed};
-ghost use Rattle.lvm_vol.specs.Log.{request_of, is_open, is_uncut, awaited, got_without_bytes, spare_entries, spare_bytes};
-ghost use Rattle.lvm_steps.specs.Requests.{IsInNoGroup, at as moment_of};
+ghost use Rattle.lvm_vol.specs.Log.{request_of, is_open, is_uncut, awaited, got_without_bytes};
+ghost use Rattle.lvm_steps.specs.Requests.{at as moment_of};
 ghost use Rattle.lvm_transfer.specs.Transfer.{Rests};
+ghost use Rattle.lvm_piece.specs.Asking.{MayAskPiece, TakesRoom};
 ghost use Rattle.lvm_piece.specs.Keeping.{PieceKeeps};
 ghost use Rattle.lvm_piece.specs.Pieces.{WritesPiece, ReadsPiece};
-ghost use Rattle.lvm_piece.specs.Requests.{landing_ends, cut_ends, write_ends, read_ends, RelightsAfter, WasAnswered, HasFront};
+ghost use Rattle.lvm_piece.specs.Requests.{landing_ends, cut_ends, write_ends, read_ends, RelightsAfter, HasFront};
 
 use crate::blocks::{copy_front, fill_front};
 use lvm_disk::Shelf;
@@ -123,19 +122,11 @@ pub fn write_piece<S: Shelf>(
     patience: &mut Patience,
 ) -> Moved
     requires ready { IsReady (S.device shelf.old) }
-    requires none { IsInNoGroup (S.device shelf.old) disk }
-    requires range { IsRange (S.device shelf.old) disk from count }
-    requires area { data_start ≤ from }
-    requires last { from + count < 2 ^ 64 }
-    requires group { from % 256 + count ≤ 256 }
-    requires entries { 3 ≤ spare_entries history.old }
-    requires data { 512 * count ≤ spare_bytes history.old }
+    requires may { MayAskPiece (S.device shelf.old) history.old disk from count }
     requires room { 131072 ≤ vec_capacity bytes.old }
     ensures does { WritesPiece history.old.run disk word from count patience.old.left (moment_of (S.device shelf.old) history.old.facts) (moment_of (S.device shelf.new) history.new.facts) result }
     ensures keeps { PieceKeeps history.old.run disk patience.old.left patience.new.left (moment_of (S.device shelf.old) history.old.facts) (moment_of (S.device shelf.new) history.new.facts) result }
-    ensures rooms { history.new ≡ record history.old { facts = history.new.facts } }
-    ensures entries { WasAnswered result → spare_entries history.new + 3 ≡ spare_entries history.old }
-    ensures data { WasAnswered result → spare_bytes history.new + 512 * count ≡ spare_bytes history.old }
+    ensures takes { TakesRoom count history.old history.new result }
     ensures room { 131072 ≤ vec_capacity bytes.new }
 {
     let mut buf = buf;
@@ -160,19 +151,11 @@ pub fn read_piece<S: Shelf>(
     patience: &mut Patience,
 ) -> Moved
     requires ready { IsReady (S.device shelf.old) }
-    requires none { IsInNoGroup (S.device shelf.old) disk }
-    requires range { IsRange (S.device shelf.old) disk from count }
-    requires area { data_start ≤ from }
-    requires last { from + count < 2 ^ 64 }
-    requires group { from % 256 + count ≤ 256 }
-    requires entries { 3 ≤ spare_entries history.old }
-    requires data { 512 * count ≤ spare_bytes history.old }
+    requires may { MayAskPiece (S.device shelf.old) history.old disk from count }
     requires room { 131072 ≤ vec_capacity bytes.old }
     ensures does { ReadsPiece history.old.run disk from count patience.old.left (moment_of (S.device shelf.old) history.old.facts) (moment_of (S.device shelf.new) history.new.facts) result }
     ensures keeps { PieceKeeps history.old.run disk patience.old.left patience.new.left (moment_of (S.device shelf.old) history.old.facts) (moment_of (S.device shelf.new) history.new.facts) result }
-    ensures rooms { history.new ≡ record history.old { facts = history.new.facts } }
-    ensures entries { WasAnswered result → spare_entries history.new + 3 ≡ spare_entries history.old }
-    ensures data { WasAnswered result → spare_bytes history.new + 512 * count ≡ spare_bytes history.old }
+    ensures takes { TakesRoom count history.old history.new result }
     ensures room { 131072 ≤ vec_capacity bytes.new }
 {
     let id = history.begin(CLIENT, Vol::Disk(disk), from, count, None);

@@ -7,14 +7,16 @@ use Rattle.lvm_disk.specs.Device.{Device}
 use Rattle.lvm_disk.specs.Steps.{IsRange}
 use Rattle.lvm_vol.specs.Log.{Log, spare_entries, spare_bytes}
 use Rattle.lvm_kept.specs.Moments.{Moment}
+use Rattle.lvm_steps.specs.Requests.{IsInNoGroup}
 use Rattle.lvm_transfer.specs.declared.moves.Moved.{Moved}
 use Rattle.lvm_area.proofs.Joining.{got_within}
 use Rattle.lvm_raw.specs.Asking.{IsInData, HasRoomForPieces}
+use Rattle.lvm_piece.specs.Asking.{MayAskPiece}
 use Rattle.lvm_piece.specs.Pieces.{AreFilled, WritesPiece}
 use Rattle.lvm_raw.specs.Pieces.{piece_end, piece_count}
 
 -- a piece of a range within the data of a disk
-pub piece_range : (first now : Device) (disk at count from to : ℕ) → IsInData first disk at count → now.sizes ≡ first.sizes → from < to → to ≤ at + count → to ≤ from + 256 → IsRange now disk from (to - from)
+piece_range : (first now : Device) (disk at count from to : ℕ) → IsInData first disk at count → now.sizes ≡ first.sizes → from < to → to ≤ at + count → to ≤ from + 256 → IsRange now disk from (to - from)
 piece_range first now disk at count from to inside same some within most = record {
   there = subst (λ (l : List ℕ). disk < length l) (sym same) (got_within first.sizes disk inside.size inside.is);
   some = omega (arith, some);
@@ -25,12 +27,18 @@ piece_range first now disk at count from to inside same some within most = recor
       omega (arith, one, inside.high, within, some);
 }
 
--- the first piece needs no more than the range
-pub room_here : (log : Log) (from to end : ℕ) → HasRoomForPieces log from (end - from) → from < to → to ≤ end → 512 * (to - from) ≤ spare_bytes log
-room_here log from to end room some within = omega (arith, room.bytes, some, within)
-
-pub entries_here : (log : Log) (from n : ℕ) → HasRoomForPieces log from n → 3 ≤ spare_entries log
-entries_here log from n room = omega (arith, room.entries)
+-- the next piece of a range may be asked for
+pub piece_asked : (first now : Device) (log : Log) (disk at count from to : ℕ) → IsInData first disk at count → at + count < 2 ^ 64 → IsInNoGroup now disk → now.sizes ≡ first.sizes → at ≤ from → from < to → to ≤ at + count → to ≤ from + 256
+    → from % 256 + (to - from) ≤ 256 → HasRoomForPieces log from ((at + count) - from) → MayAskPiece now log disk from (to - from)
+piece_asked first now log disk at count from to inside last none same low some within most group room = record {
+  none = none;
+  range = piece_range first now disk at count from to inside same some within most;
+  area = omega (arith, inside.low, low);
+  last = omega (arith, last, some, within);
+  group = group;
+  entries = omega (arith, room.entries);
+  bytes = omega (arith, room.bytes, some, within);
+}
 
 -- what is behind it needs one piece less
 pub fewer_pieces : (from end : ℕ) → from < end → piece_end from end < end → piece_count from (end - from) ≡ piece_count (piece_end from end) (end - piece_end from end) + 1

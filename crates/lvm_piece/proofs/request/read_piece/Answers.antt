@@ -1,11 +1,11 @@
-use Rattle.std.proofs.Common.{◌≡◌, ◌+◌, ◌*◌, ◌∙◌, ap, subst, sym, List, false}
-use Rattle.lvm_vol.specs.Log.{Log, is_uncut, spare_bytes}
+use Rattle.std.proofs.Common.{◌∙◌, ap, subst, sym, List, false}
+use Rattle.lvm_vol.specs.Log.{Log, is_uncut}
 use Rattle.lvm_vol.specs.Facts.{Fact}
 use Rattle.lvm_kept.specs.Moments.{StaysCalm}
 use Rattle.lvm_steps.specs.Moments.{Keeps}
 use Rattle.lvm_steps.specs.Requests.{next_read, at as moment_of}
 use Rattle.lvm_piece.specs.Keeping.{HaveLanded, NoneComesOn}
-use Rattle.lvm_piece.proofs.Logs.{uncut_begun, read_ended, read_bytes, read_lands, read_later}
+use Rattle.lvm_piece.proofs.Logs.{uncut_begun, read_ended, read_takes, read_lands, read_later}
 use Rattle.lvm_piece.proofs.Moving.{power_after, ready_after, none_after, behind_after, shelf_after, cause_after}
 use Rattle.lvm_piece.proofs.Spanning.{read_keeps, read_closes}
 use Rattle.lvm_piece.proofs.request.read_piece.Goals as goal
@@ -36,13 +36,13 @@ returns-clause-keeps g c =
     let lit = c.relight_after.ensures.lit in
     let rests = c.transfer-how.ensures.rests in
     let ready = c.requires.ready in
-    let low = c.requires.area in
+    let low = c.requires.may.area in
     let gives = c.transfer-how.ensures.gives in
     let facts = sym (returns-clause-does g c).facts in
     record {
-      keeps = subst (λ (l : List Fact). Keeps h.run (moment_of old h.facts) (moment_of new l)) facts (read_keeps h.run c.args.disk c.args.from c.args.count buf old mid new h.facts ready.flights c.requires.none low fewer path gives.0 c.args.patience.now.left how gives.1 lit c.requires.range c.end_read.ensures.front);
-      calm = λ heard. subst (λ (l : List Fact). StaysCalm (moment_of old h.facts) (moment_of new l)) facts (read_closes h.run c.args.disk c.args.from c.args.count buf old mid new h.facts ready.flights c.requires.none low fewer path how heard);
-      none = none_after false c.args.disk c.args.from c.args.count buf old mid new how ready low rests lit path fewer c.requires.none;
+      keeps = subst (λ (l : List Fact). Keeps h.run (moment_of old h.facts) (moment_of new l)) facts (read_keeps h.run c.args.disk c.args.from c.args.count buf old mid new h.facts ready.flights c.requires.may.none low fewer path gives.0 c.args.patience.now.left how gives.1 lit c.requires.may.range c.end_read.ensures.front);
+      calm = λ heard. subst (λ (l : List Fact). StaysCalm (moment_of old h.facts) (moment_of new l)) facts (read_closes h.run c.args.disk c.args.from c.args.count buf old mid new h.facts ready.flights c.requires.may.none low fewer path how heard);
+      none = none_after false c.args.disk c.args.from c.args.count buf old mid new how ready low rests lit path fewer c.requires.may.none;
       behind = behind_after false c.args.disk c.args.from c.args.count buf old mid new how ready low rests lit path fewer;
       shelf = shelf_after false c.args.disk c.args.from c.args.count buf old mid new how ready low rests lit path fewer gives.0 c.args.patience.now.left c.transfer-how.new.patience.left gives.1 c.transfer-how.ensures.patience c.transfer-how.ensures.waited;
       power = power_after false c.args.disk c.args.from c.args.count buf gives.0 c.args.patience.now.left old mid new how ready gives.1 rests lit;
@@ -52,8 +52,8 @@ returns-clause-keeps g c =
       cause = cause_after false c.args.disk c.args.from c.args.count buf gives.0 c.args.patience.now.left old mid new how ready low lit gives.1;
     }
 
-pub returns-clause-data : goal.returns-clause-data
-returns-clause-data g c ended =
+pub returns-clause-takes : goal.returns-clause-takes
+returns-clause-takes g c =
     let h = c.args.history.now in
     let ends = read_ended h c.begin-id.new.self c.end_read.new.history c.begin-id.result c.args.disk c.args.from c.args.count c.transfer-how.result c.begin-id.ensures.entered c.begin-id.ensures.named c.end_read.ensures.ends in
-    subst (λ (l : Log). spare_bytes l + 512 * c.args.count ≡ spare_bytes h) (sym ends) (read_bytes h (next_read h.run h.facts c.args.disk c.args.from c.args.count) c.transfer-how.result ended c.requires.data)
+    read_takes h c.end_read.new.history (next_read h.run h.facts c.args.disk c.args.from c.args.count) c.transfer-how.result c.requires.may.entries c.requires.may.bytes ends

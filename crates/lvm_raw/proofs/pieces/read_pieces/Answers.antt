@@ -11,7 +11,7 @@ use Rattle.lvm_raw.specs.Keeping.{RangeKeeps}
 use Rattle.lvm_piece.specs.Pieces.{ReadsPiece}
 use Rattle.lvm_raw.specs.Pieces.{piece_end, answer_of, ReadsGo, with_front}
 use Rattle.lvm_raw.proofs.Going.{SoFar, at_first, one_more_to, all_went, was_broken_at, settled_ended, got_more, got_whole}
-use Rattle.lvm_raw.proofs.Rooms.{piece_range, room_next}
+use Rattle.lvm_raw.proofs.Rooms.{piece_asked, room_next}
 use Rattle.lvm_raw.proofs.pieces.read_pieces.Goals as goal
 
 pub loop-from-init : goal.loop-from-init
@@ -32,10 +32,13 @@ loop-from-init g c =
       blocks = c.requires.blocks;
     }
 
-pub read_piece-how-requires-clause-range : goal.read_piece-how-requires-clause-range
-read_piece-how-requires-clause-range g c =
+pub read_piece-how-requires-clause-may : goal.read_piece-how-requires-clause-may
+read_piece-how-requires-clause-may g c =
     let was = c.loop-from.invariant in
-    piece_range (g.S.Shelf.device c.args.shelf.now) (g.S.Shelf.device c.loop-from.shelf) c.args.disk c.args.at c.args.count c.loop-from.from c.piece_end-to.result c.requires.may.inside was.so_far.shelf.sizes c.piece_end-to.ensures.some (omega (arith, c.piece_end-to.ensures.within, c.from.ensures)) c.piece_end-to.ensures.few
+    let ends = c.piece_end-to.ensures in
+    let within : c.loop-from.from < c.args.at + c.args.count = omega (arith, c.loop-from-test.true, c.from.ensures) in
+    piece_asked (g.S.Shelf.device c.args.shelf.now) (g.S.Shelf.device c.loop-from.shelf) c.loop-from.history c.args.disk c.args.at c.args.count c.loop-from.from c.piece_end-to.result c.requires.may.inside c.requires.last was.so_far.none was.so_far.shelf.sizes was.so_far.low
+    ends.some (omega (arith, ends.within, c.from.ensures)) ends.few ends.group (was.room within)
 
 pub loop-from-preserved : goal.loop-from-preserved
 loop-from-preserved g c =
@@ -60,8 +63,8 @@ loop-from-preserved g c =
     let ended = settled_ended fault.ReadFailed how c.loop-from.fault c.settle.new.fault c.in_ok-back.back c.in_ok-back.ensures in
     record {
       so_far = subst (λ (l : List Sector). SoFar (λ from n. ReadsPiece h.run disk from n) fault.ReadFailed with_front h.run disk at end whole first [] to c.read_piece-how.new.patience.left new l c.settle.new.fault) (sym c.keep_got.ensures.items) (one_more_to (λ from n. ReadsPiece h.run disk from n) fault.ReadFailed with_front h.run disk at end whole first [] from left now c.loop-from.blocks.items c.loop-from.fault was.so_far to left c.read_piece-how.new.patience.left new how c.settle.new.fault (Ok c.in_ok-back.back) to_is within piece keeps ended c.in_ok-back.ensures);
-      rooms = c.read_piece-how.ensures.rooms ∙ ap (λ (l : Log). record l { facts = c.read_piece-how.new.history.facts }) was.rooms;
-      room = λ more. room_next c.loop-from.history c.read_piece-how.new.history from to end to_is within c.piece_end-to.ensures.some (was.room within) (c.read_piece-how.ensures.entries ended) (c.read_piece-how.ensures.data ended) more;
+      rooms = c.read_piece-how.ensures.takes.rooms ∙ ap (λ (l : Log). record l { facts = c.read_piece-how.new.history.facts }) was.rooms;
+      room = λ more. room_next c.loop-from.history c.read_piece-how.new.history from to end to_is within c.piece_end-to.ensures.some (was.room within) (c.read_piece-how.ensures.takes.entries ended) (c.read_piece-how.ensures.takes.bytes ended) more;
       bytes = c.read_piece-how.ensures.room;
       got = λ none.
           let more = got_more fault.ReadFailed (to - from) (from - at) how c.loop-from.fault c.settle.new.fault (Ok c.in_ok-back.back) c.loop-from.blocks.items ended c.keep_got.ensures.front c.in_ok-back.ensures was.got none in
@@ -92,7 +95,7 @@ returns-in_err-back g c =
     let piece = subst (λ (r : ℕ). ReadsPiece r disk from (to - from) left now new how) run_is c.read_piece-how.ensures.does in
     let p = err_from_is_err_and c.from_residual.result c.from_residual.ensures.1 in
     let both = was_broken_at (λ from n. ReadsPiece h.run disk from n) fault.ReadFailed with_front h.run disk at end whole first [] from left now c.loop-from.blocks.items c.loop-from.fault was.so_far (λ a b rose. rose) to left c.read_piece-how.new.patience.left new how c.settle.new.fault c.in_err-back.field-0.0 to_is within piece keeps c.in_err-back.ensures in
-    let rooms = c.read_piece-how.ensures.rooms ∙ ap (λ (l : Log). record l { facts = c.read_piece-how.new.history.facts }) was.rooms in
+    let rooms = c.read_piece-how.ensures.takes.rooms ∙ ap (λ (l : Log). record l { facts = c.read_piece-how.new.history.facts }) was.rooms in
     rw (p.1, p.2) (record { got = tt; goes = both.0; keeps = both.1; rooms = rooms })
 
 pub returns : goal.returns

@@ -10,7 +10,7 @@ use Rattle.lvm_raw.specs.Keeping.{RangeKeeps}
 use Rattle.lvm_piece.specs.Pieces.{WritesPiece}
 use Rattle.lvm_raw.specs.Pieces.{piece_end, WritesGo}
 use Rattle.lvm_raw.proofs.Going.{at_first, one_more_to, all_went, was_broken_at, settled_ended}
-use Rattle.lvm_raw.proofs.Rooms.{piece_range, room_next, written_by}
+use Rattle.lvm_raw.proofs.Rooms.{piece_asked, room_next, written_by}
 use Rattle.lvm_raw.proofs.pieces.write_pieces.Goals as goal
 
 pub loop-from-init : goal.loop-from-init
@@ -28,10 +28,13 @@ loop-from-init g c =
       bytes = c.requires.room;
     }
 
-pub write_piece-how-requires-clause-range : goal.write_piece-how-requires-clause-range
-write_piece-how-requires-clause-range g c =
+pub write_piece-how-requires-clause-may : goal.write_piece-how-requires-clause-may
+write_piece-how-requires-clause-may g c =
     let was = c.loop-from.invariant in
-    piece_range (g.S.Shelf.device c.args.shelf.now) (g.S.Shelf.device c.loop-from.shelf) c.args.disk c.args.at c.args.count c.loop-from.from c.piece_end-to.result c.requires.may.inside was.so_far.shelf.sizes c.piece_end-to.ensures.some (omega (arith, c.piece_end-to.ensures.within, c.from.ensures)) c.piece_end-to.ensures.few
+    let ends = c.piece_end-to.ensures in
+    let within : c.loop-from.from < c.args.at + c.args.count = omega (arith, c.loop-from-test.true, c.from.ensures) in
+    piece_asked (g.S.Shelf.device c.args.shelf.now) (g.S.Shelf.device c.loop-from.shelf) c.loop-from.history c.args.disk c.args.at c.args.count c.loop-from.from c.piece_end-to.result c.requires.may.inside c.requires.last was.so_far.none was.so_far.shelf.sizes was.so_far.low
+    ends.some (omega (arith, ends.within, c.from.ensures)) ends.few ends.group (was.room within)
 
 pub loop-from-preserved : goal.loop-from-preserved
 loop-from-preserved g c =
@@ -56,8 +59,8 @@ loop-from-preserved g c =
     let ended = settled_ended fault.Lost how c.loop-from.fault c.settle.new.fault c.in_ok-back.back c.in_ok-back.ensures in
     record {
       so_far = one_more_to {X = Unit {0}} (λ from n. WritesPiece h.run disk (c.args.word + (from - at)) from n) fault.Lost (λ n back done. done) h.run disk at end whole first tt from left now tt c.loop-from.fault was.so_far to left c.write_piece-how.new.patience.left new how c.settle.new.fault (Ok c.in_ok-back.back) to_is within piece keeps ended c.in_ok-back.ensures;
-      rooms = c.write_piece-how.ensures.rooms ∙ ap (λ (l : Log). record l { facts = c.write_piece-how.new.history.facts }) was.rooms;
-      room = λ more. room_next c.loop-from.history c.write_piece-how.new.history from to end to_is within c.piece_end-to.ensures.some (was.room within) (c.write_piece-how.ensures.entries ended) (c.write_piece-how.ensures.data ended) more;
+      rooms = c.write_piece-how.ensures.takes.rooms ∙ ap (λ (l : Log). record l { facts = c.write_piece-how.new.history.facts }) was.rooms;
+      room = λ more. room_next c.loop-from.history c.write_piece-how.new.history from to end to_is within c.piece_end-to.ensures.some (was.room within) (c.write_piece-how.ensures.takes.entries ended) (c.write_piece-how.ensures.takes.bytes ended) more;
       bytes = c.write_piece-how.ensures.room;
     }
 
@@ -83,7 +86,7 @@ returns-in_err-back g c =
     let piece = written_by h.run disk (c.args.word + (from - at)) ((c.args.word + (from - at)) % 2 ^ 64) from (to - from) left now new how refl (subst (λ (r : ℕ). WritesPiece r disk ((c.args.word + (from - at)) % 2 ^ 64) from (to - from) left now new how) run_is c.write_piece-how.ensures.does) in
     let p = err_from_is_err_and c.from_residual.result c.from_residual.ensures.1 in
     let both = was_broken_at {X = Unit {0}} (λ from n. WritesPiece h.run disk (c.args.word + (from - at)) from n) fault.Lost (λ n back done. done) h.run disk at end whole first tt from left now tt c.loop-from.fault was.so_far (λ a b rose. rose) to left c.write_piece-how.new.patience.left new how c.settle.new.fault c.in_err-back.field-0.0 to_is within piece keeps c.in_err-back.ensures in
-    let rooms = c.write_piece-how.ensures.rooms ∙ ap (λ (l : Log). record l { facts = c.write_piece-how.new.history.facts }) was.rooms in
+    let rooms = c.write_piece-how.ensures.takes.rooms ∙ ap (λ (l : Log). record l { facts = c.write_piece-how.new.history.facts }) was.rooms in
     rw (p.1, p.2) (record { goes = both.0; keeps = both.1; rooms = rooms })
 
 pub returns : goal.returns
