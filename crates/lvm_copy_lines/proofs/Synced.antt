@@ -23,8 +23,9 @@ use Rattle.lvm_resync.specs.Passing.{Copy, PassesCopy}
 use Rattle.lvm_resync.specs.Syncing.{NonePassed, OnePassed, Passes, SyncGives, fault_by, fault_on, group_fault, no_tally, numbers_fault, or_first, volume_fault}
 use Rattle.lvm_resync.specs.Turning.{GoesBeside, StopsFor}
 use Rattle.lvm_volume_lines.specs.passed.Driver.{state_of}
-use Rattle.lvm_volume_lines.specs.passed.RangeLines.{FailsIf, StageFailsIf, serving}
-use Rattle.lvm_volume_lines.specs.passed.Stage.{ArePosted, EndsUnasked, HaveRooms, IsBetweenStage, IsCarried, IsEnded, IsFitting, OfRequests, Reply, Stage, State, most_refusals, patience_of_line, state_in, without_facts}
+use Rattle.lvm_volume_lines.specs.passed.RangeLines.{FailsIf, serving}
+use Rattle.lvm_volume_lines.specs.passed.HolderVariants as holder
+use Rattle.lvm_volume_lines.specs.passed.Stage.{ArePosted, ComesTo, EndsUnasked, HaveRooms, IsBetweenStage, IsCarried, IsEnded, IsFitting, OfRequests, Reply, Stage, State, most_refusals, patience_of_line, state_in, without_facts}
 use Rattle.lvm_volume_lines.specs.passed.RefusalVariants as refusal
 use Rattle.lvm_volume_lines.specs.passed.ReplyVariants as reply
 use Rattle.lvm_volume_lines.proofs.passed.RangeLines.{RunsTo, carried_ends, carried_leaves, ended_is_over, over_ends, stuck_ends, table_posts, unstuck}
@@ -157,7 +158,7 @@ stuck_says core (Err (fault.Missing disk)) e = absurd (cc e)
 
 -- ---- the states
 
-pub fails_if : {S : Type 0} (device : S → Device) (end : S × Core) (posts : Vec Post) (bytes : Vec ℕ) (stage : Stage S) (last : ℕ) (b : Bool) → StageFailsIf b device end posts bytes stage
+pub fails_if : {S : Type 0} (device : S → Device) (end : S × Core) (posts : Vec Post) (bytes : Vec ℕ) (stage : Stage S) (last : ℕ) (b : Bool) → ComesTo device b (holder.Serving end) posts bytes stage
     → FailsIf b (state_of device end) posts.items last (state_in device stage last)
 fails_if device end posts bytes stage last false carried = carried_leaves device end posts bytes stage last carried
 fails_if device end posts bytes stage last true ended = ended_is_over device end posts.items stage last ended
@@ -192,9 +193,9 @@ module _ {S : Type 0} (device : S → Device) (first : S × Core) (posts : Vec P
       by power.Dark is = over_ends device first posts bytes fits between end to Does posts bytes fits.rooms stage answer few_then does ended rooms (ap is_over is) posted
       by power.Stuck is = absurd (unstuck device first posts bytes fits between end to is)
 
-  pub synced_ends : (result : Result ℕ SyncFault) → (is_unheard result ≡ false → end.1.power ≡ power.On → end.1.copy ≡ None) → answer ≡ sync_reply end.1 result → StageFailsIf (is_unheard result) device end posts bytes stage → Ends
+  pub synced_ends : (result : Result ℕ SyncFault) → (is_unheard result ≡ false → end.1.power ≡ power.On → end.1.copy ≡ None) → answer ≡ sync_reply end.1 result → ComesTo device (is_unheard result) (holder.Serving end) posts bytes stage → Ends
   synced_ends result shut says it = by (is_unheard result) refl it
     where
-      by : (b : Bool) → is_unheard result ≡ b → StageFailsIf b device end posts bytes stage → Ends
+      by : (b : Bool) → is_unheard result ≡ b → ComesTo device b (holder.Serving end) posts bytes stage → Ends
       by false heard carried = goes (shut heard) carried
       by true stuck ended = closes (says ∙ stuck_says end.1 result stuck) ended

@@ -3,8 +3,9 @@ ghost use Rattle.std.specs.Prelude.{◌≡◌, ℕ, IfErr};
 ghost use Rattle.lvm_session.specs.Sound.{IsSound};
 ghost use Rattle.lvm_core.specs.Looking.{IsNumberOf};
 ghost use Rattle.lvm_volume_lines.specs.passed.Driver.{state_of};
-ghost use Rattle.lvm_volume_lines.specs.passed.RangeLines.{StageFailsIf, serving};
-ghost use Rattle.lvm_volume_lines.specs.passed.Stage.{EndsUnasked, OfRequests, HaveRooms, IsBetweenStage, IsFitting};
+ghost use Rattle.lvm_volume_lines.specs.passed.RangeLines.{serving};
+ghost use Rattle.lvm_volume_lines.specs.passed.HolderVariants as holder;
+ghost use Rattle.lvm_volume_lines.specs.passed.Stage.{ComesTo, EndsUnasked, OfRequests, HaveRooms, IsBetweenStage, IsFitting};
 ghost use Rattle.lvm_copy_lines.specs.Resyncing.{MayCome, SyncGroupDoes, SyncVolumeDoes, is_unheard, numbers_reply, sync_refusal, sync_reply};
 
 use lvm_disk::Shelf;
@@ -77,7 +78,7 @@ fn after<S: Shelf>(
     bytes: Vec<u8>,
     synced: Result<u32, SyncFault>,
 ) -> Stage<S>
-    ensures stage { StageFailsIf (is_unheard synced) S.device driver posts bytes result }
+    ensures stage { ComesTo S.device (is_unheard synced) (holder.Serving driver) posts bytes result }
     ensures rooms { (entries : ℕ) → HaveRooms entries posts bytes → HaveRooms entries result.posts result.bytes }
 {
     if is_unheard(synced) {

@@ -1,5 +1,5 @@
 -- Passed on from `lvm_stage`.
-pub use Rattle.lvm_group_lines.specs.passed.Stage.{ArePosted, Aside, Asks, AtRestEach, CommandEnds, EndsUnasked, GoesOn, HasBegunHeld, HaveRooms}
+pub use Rattle.lvm_group_lines.specs.passed.Stage.{ArePosted, Aside, Asks, ComesTo, CommandEnds, EndsUnasked, GoesOn, HasBegunHeld, HaveRooms}
 pub use Rattle.lvm_group_lines.specs.passed.Stage.{Holder, InFull, IsAllowed, IsAlone, IsAsked, IsAtRest, IsBetween, IsBetweenStage, IsBrokenOff}
 pub use Rattle.lvm_group_lines.specs.passed.Stage.{IsCarried, IsClosed, IsEnded, IsFitting, IsLeftBy, IsNotOn, IsOfKind, IsOn, IsOnBetween, IsRefused}
 pub use Rattle.lvm_group_lines.specs.passed.Stage.{IsRelit, IsRequesting, IsStuck, IsTimely, OfGroup, OfGroupWhere, OfRequests, Refusal, Reply, Role}

@@ -1,5 +1,5 @@
 -- Passed on from `lvm_stage`.
-pub use Rattle.lvm_range_lines.specs.passed.Stage.{ArePosted, Aside, Asks, AtRestEach, CommandEnds, EndsUnasked, GoesOn, HasBegunHeld, HaveRooms}
+pub use Rattle.lvm_range_lines.specs.passed.Stage.{ArePosted, Aside, Asks, ComesTo, CommandEnds, EndsUnasked, GoesOn, HasBegunHeld, HaveRooms}
 pub use Rattle.lvm_range_lines.specs.passed.Stage.{Holder, InFull, IsAllowed, IsAlone, IsAsked, IsAtRest, IsBetween, IsBetweenStage, IsBrokenOff}
 pub use Rattle.lvm_range_lines.specs.passed.Stage.{IsCarried, IsClosed, IsEnded, IsFitting, IsLeftBy, IsNotOn, IsOfKind, IsRefused, IsRelit}
 pub use Rattle.lvm_range_lines.specs.passed.Stage.{IsRequesting, IsStuck, IsTimely, OfGroup, OfGroupWhere, OfRequests, Refusal, Reply, Role, Shows}

@@ -3,8 +3,8 @@ use Rattle.lvm_session.specs.declared.open.Power.TheVariants as power
 use Rattle.lvm_resync.specs.Syncing.{group_copies, group_fault}
 use Rattle.lvm_resync.specs.Turning.{GoesBeside}
 use Rattle.lvm_volume_lines.specs.passed.Driver.{state_of}
-use Rattle.lvm_volume_lines.specs.passed.RangeLines.{StageFailsIf}
-use Rattle.lvm_volume_lines.specs.passed.Stage.{HaveRooms, Reply, Stage, most_refusals}
+use Rattle.lvm_volume_lines.specs.passed.HolderVariants as holder
+use Rattle.lvm_volume_lines.specs.passed.Stage.{ComesTo, HaveRooms, Reply, Stage, most_refusals}
 use Rattle.lvm_copy_lines.specs.Resyncing.{SyncsGroup, SyncGroupDoes, is_unheard}
 use Rattle.lvm_copy_lines.proofs.Synced.{fails_if, may_come, sync_few, synced_ends, synced_shut, group_may}
 use Rattle.lvm_copy_lines.proofs.resync.sync_group_on.Goals as goal
@@ -31,7 +31,7 @@ returns g c =
     let answer = c.answered.result.reply in
     let says = c.answered.ensures.reply ∙ c.sync_reply-reply.ensures.reply in
     let beside = subst (λ (n : ℕ). GoesBeside (state_of device first) (state_of device end) n left) c.whole.ensures c.sync_group-synced.ensures.beside in
-    let left_by : StageFailsIf (is_unheard result) device end c.args.posts c.args.bytes stage = subst (StageFailsIf (is_unheard result) device end c.args.posts c.args.bytes) (sym c.answered.ensures.stage) c.after.ensures.stage in
+    let left_by : ComesTo device (is_unheard result) (holder.Serving end) c.args.posts c.args.bytes stage = subst (ComesTo device (is_unheard result) (holder.Serving end) c.args.posts c.args.bytes) (sym c.answered.ensures.stage) c.after.ensures.stage in
     let few : most_refusals answer ≤ 1 = subst (λ (a : Reply). most_refusals a ≤ 1) (sym says) (sync_few end.1 result) in
     let room = first.1.history.room in
     let rooms : HaveRooms room stage.posts stage.bytes = subst (λ (s : Stage g.row.S.Denot). HaveRooms room s.posts s.bytes) (sym c.answered.ensures.stage) (c.after.ensures.rooms room c.requires.fits.rooms) in
