@@ -1,3 +1,2 @@
 -- Passed on from `lvm_volumes`.
-pub use Rattle.lvm_disk_lines.specs.passed.Volumes.{HasEntered, IfOn, IsChosen, IsWith, MklvGives, RmlvGives, StillHeld, commanding, making, removing}
-pub use Rattle.lvm_disk_lines.specs.passed.Volumes.{to_make, to_remove}
+pub use Rattle.lvm_disk_lines.specs.passed.Volumes.{HasEntered, IfOn, IsWith, MklvGives, RmlvGives, StillHeld, making, removing, to_make, to_remove}

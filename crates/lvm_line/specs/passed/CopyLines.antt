@@ -2,5 +2,5 @@
 pub use Rattle.lvm_copy_lines.specs.Copies.{AddsCopies, BusyMklvcopy, BusyRmlvcopy, MklvcopyDoes, MklvcopyEnds, MklvcopyFails, NoGroupForMklvcopy}
 pub use Rattle.lvm_copy_lines.specs.Copies.{NoGroupForRmlvcopy, NoVolumeForMklvcopy, NoVolumeForRmlvcopy, RemovesCopies, RmlvcopyDoes, RmlvcopyEnds}
 pub use Rattle.lvm_copy_lines.specs.Copies.{RmlvcopyFails, UndrainedMklvcopy, UndrainedRmlvcopy}
-pub use Rattle.lvm_copy_lines.specs.Resyncing.{IsSynced, NoGroupForSync, NoVolumeForSync, NothingSyncs, OtherGroupForSync, SyncGroupDoes, SyncVolumeDoes}
-pub use Rattle.lvm_copy_lines.specs.Resyncing.{SyncsGroup, SyncsVolume, is_unheard}
+pub use Rattle.lvm_copy_lines.specs.Resyncing.{IsSynced, NoGroupForSync, NoVolumeForSync, NothingSyncs, OtherGroupForSync, SyncGroupDoes}
+pub use Rattle.lvm_copy_lines.specs.Resyncing.{SyncVolumeDoes, SyncsGroup, SyncsVolume, is_unheard}

@@ -1,4 +1,4 @@
 -- Passed on from `lvm_range_lines`.
-pub use Rattle.lvm_copy_lines.specs.passed.RangeLines.{EndsBy, EndsWell, Fails, Finishes, GoesOnWith, IsFinished, IsNotAsked, IsOverWith, LeavesBy}
-pub use Rattle.lvm_copy_lines.specs.passed.RangeLines.{NoStepWhileOff, NotBegun, NotPosted, NotThere, NothingMoves, OnVolume, Posted, Posts, StepDoes}
-pub use Rattle.lvm_copy_lines.specs.passed.RangeLines.{Steps, There, WhileOff, FailsIf}
+pub use Rattle.lvm_copy_lines.specs.passed.RangeLines.{EndsBy, EndsWell, Fails, FailsIf, Finishes, GoesOnWith, IsFinished, IsNotAsked, IsOverWith}
+pub use Rattle.lvm_copy_lines.specs.passed.RangeLines.{LeavesBy, NoStepWhileOff, NotBegun, NotPosted, NotThere, NothingMoves, OnVolume, Posted, Posts}
+pub use Rattle.lvm_copy_lines.specs.passed.RangeLines.{StepDoes, Steps, There, WhileOff}
