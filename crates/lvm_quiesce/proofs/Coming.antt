@@ -22,6 +22,7 @@ use Rattle.lvm_group.specs.NewGroup.{NewGroup, MayBegin, RefusesFirst}
 use Rattle.lvm_group.specs.Made.{Refuses as MkvgRefuses, MkvgGives}
 use Rattle.lvm_group.proofs.Entries.{keeps_cut, calm_cut}
 use Rattle.lvm_varyon.specs.Varied.{Refuses as VaryonRefuses, VaryonGives}
+use Rattle.lvm_varyon.proofs.Wrote.{failed_rose}
 use Rattle.lvm_quiesce.specs.Ends.{Quiesces}
 use Rattle.lvm_quiesce.specs.Groups.{StaysOut, GivesOnceQuiet, StayedOut, WentQuiet, MkvgOnceQuiet, VariesOnAt, VaryonOnceQuiet, BringsOnEach, IsStartedEach, CauseRose}
 use Rattle.lvm_quiesce.specs.declared.ends.Quiesced.TheVariants as quiesced
@@ -118,7 +119,8 @@ varyon_rose : (old new : Device) (name : List ℕ) (moment patience : ℕ) (log 
 varyon_rose old new name moment patience log cause.Dark refuses = refuses.1.how.cuts
 varyon_rose old new name moment patience log cause.Stuck refuses = refuses.1.how.waited
 varyon_rose old new name moment patience log (cause.DiskFailed disk) refuses =
-    inr (subst (λ (f : ℕ → ℕ). Rose (f disk) (new.counts.faults disk)) refuses.1.writes.unwritten.faults refuses.1.writes.how.first.rose)
+    inr (subst (λ (f : ℕ → ℕ). Rose (f disk) (new.counts.faults disk)) refuses.1.writes.unwritten.faults
+    (failed_rose _ refuses.1.copies refuses.1.writes.read new disk refuses.1.writes.how))
 varyon_rose old new name moment patience log _ refuses = tt
 
 module _ {S : Type 0} (device : S → Device) (was : Log) (old : Device) (patience : ℕ) where
