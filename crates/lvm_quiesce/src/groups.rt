@@ -3,7 +3,6 @@ ghost use Rattle.std.specs.Prelude.{◌≢◌, ◌≤◌, length, IfOk, IfErr, I
 ghost use Rattle.std.specs.Option.{ForSome};
 ghost use Rattle.lvm_num.specs.Descriptor.{is_size};
 ghost use Rattle.lvm_session.specs.Sound.{IsLit};
-ghost use Rattle.lvm_session_start.specs.Beginning.{AreFaults};
 ghost use Rattle.lvm_core.specs.Coming.{shelf_left, history_left};
 ghost use Rattle.lvm_core.specs.Sound.{HaveAllLanded};
 ghost use Rattle.lvm_core.specs.Starting.{IsRoom};
@@ -42,7 +41,6 @@ pub fn mkvg<S: Shelf>(
     requires room { IsRoom room }
     ensures gives { MkvgOnceQuiet S.device (record { name = name; mib = mib; disks = disks.now; force = force; moment = moment }) room patience.old.left history (S.device shelf) result }
     ensures starts { IfOk result (λ driver. IsStartedEach history.run moment (S.device shelf) history (state_of S.device driver)) }
-    ensures faults { IfOk result (λ driver. AreFaults (S.device driver.0) driver.1.origin.faults) }
     ensures causes { IfErr result (λ refused. CauseRose patience.old.left (S.device shelf).counts (S.device refused.shelf).counts refused.cause) }
     // whatever the answer
     ensures leaves { BringsOnEach history.run moment patience.old.left patience.new.left (S.device shelf) (S.device (shelf_left result)) history (history_left result) }
@@ -79,7 +77,6 @@ pub fn varyon<S: Shelf>(
     requires moment { moment ≢ 0 }
     ensures gives { VaryonOnceQuiet S.device history name moment room patience.old.left (S.device shelf) result }
     ensures starts { IfOk result (λ driver. IsStartedEach history.run moment (S.device shelf) history (state_of S.device driver)) }
-    ensures faults { IfOk result (λ driver. AreFaults (S.device driver.0) driver.1.origin.faults) }
     ensures causes { IfErr result (λ refused. CauseRose patience.old.left (S.device shelf).counts (S.device refused.shelf).counts refused.cause) }
     // whatever the answer
     ensures leaves { BringsOnEach history.run moment patience.old.left patience.new.left (S.device shelf) (S.device (shelf_left result)) history (history_left result) }

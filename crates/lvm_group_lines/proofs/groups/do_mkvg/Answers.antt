@@ -24,7 +24,7 @@ left-holder-requires-clause-may g c =
     let w = asked_for c.args.name c.args.mib c.args.disks.now c.args.force c.now-moment.result in
     may_hold g.S.Shelf.device log.run c.now-moment.result (g.S.Shelf.device shelf) log c.mkvg.result
     (serves g.S.Shelf.device shelf log w c.args.room _ c.mkvg.result c.mkvg.ensures.gives (record { ordered = c.run.ensures.ordered; few = (fits_as c.args.stage (held (holder.Off shelf log) c.args.stage.posts c.args.stage.bytes) (ap (λ (h : Holder g.row.S.Denot). held h c.args.stage.posts c.args.stage.bytes) c.in-Off.is) c.requires.fits).few }))
-    c.mkvg.ensures.starts c.mkvg.ensures.faults
+    c.mkvg.ensures.starts
 
 pub left-holder-requires-clause-still : goal.left-holder-requires-clause-still
 left-holder-requires-clause-still g c =
@@ -59,7 +59,7 @@ returns-in-Off-clause-ends g c =
       starts = c.mkvg.ensures.starts;
       brings = c.mkvg.ensures.leaves;
       came = came device shelf log w c.args.room _ outcome c.mkvg.ensures.gives;
-      serves = all_serve device log.run moment (device shelf) log outcome by answer may c.mkvg.ensures.starts c.mkvg.ensures.faults left;
+      serves = all_serve device log.run moment (device shelf) log outcome by answer may c.mkvg.ensures.starts left;
       stands = stands device shelf log w c.args.room _ outcome c.mkvg.ensures.gives;
       stayed = stayed device shelf log w c.args.room _ outcome c.mkvg.ensures.gives;
       left = left;
