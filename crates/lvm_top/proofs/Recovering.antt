@@ -25,8 +25,7 @@ use Rattle.lvm_line.proofs.Causing.{varyon_restates}
 use Rattle.lvm_line.proofs.passed.Quiesce.{still_ends}
 use Rattle.lvm_top.specs.declared.status.ExitStatus.{ExitStatus}
 use Rattle.lvm_top.specs.declared.status.ExitStatus.TheVariants as ended
-use Rattle.lvm_top.specs.Laws.{VaryonRecovers}
-use Rattle.lvm_top.specs.Run.{Run, IsRun}
+use Rattle.lvm_top.specs.Run.{Run, IsRun, LeavesRecovered}
 use Rattle.lvm_top.specs.Script.{Script, NoLine, NextLine, Ends, AtLine, InLine, MakeRequests, Says, empty_log, entry_state, facts_of, is_requesting, refusals_in}
 use Rattle.lvm_top.specs.Statuses.{IsAtEnd, at_end}
 use Rattle.lvm_top.proofs.Scripting.{begins_timely}
@@ -94,7 +93,7 @@ at_end_well (suc n) is = absurd (cc (is))
 no_fault : (s : ExitStatus) → s ≡ ended.Well → (s ≡ ended.SinkFault → ⊥) × (s ≡ ended.Stuck → ⊥)
 no_fault s well = (λ is. let e = sym well ∙ is in cc e, λ is. let e = sym well ∙ is in cc e)
 
-module _ (r : Run) (ran : IsRun r) (line name : List ℕ) (only : ran.lines.lines ≡ line ∷ []) (is : line_of line ≡ Ok (Some (command.Varyon name))) (well : r.status ≡ at_end 0) (behind : IsBehind r.named r.entry) where
+module _ (r : Run) (ran : IsRun r) (line name : List ℕ) (only : ran.lines.lines ≡ line ∷ []) (is : line_of line ≡ Ok (Some (command.Varyon name))) (well : r.status ≡ ended.Well) (behind : IsBehind r.named r.entry) where
   abbrev log : Log
   log = empty_log r.named r.room
 
@@ -141,8 +140,8 @@ module _ (r : Run) (ran : IsRun r) (line name : List ℕ) (only : ran.lines.line
       (λ soft. subst (λ (exit : Device). IsRecovered r.entry exit core.descriptor) exit_is
       (subst (λ (entry : Device). IsRecovered entry ran.lines.mid.moment.device core.descriptor) (still_ends ran.ready.flights quiesces.ends) (back.recovered soft)))
 
-pub recovers : VaryonRecovers
-recovers r ran line name only is well behind =
+pub leaves_recovered : (r : Run) (ran : IsRun r) → IsBehind r.named r.entry → LeavesRecovered ran
+leaves_recovered r ran behind line name only is well =
     let it = one r ran line name only is well behind in
     brought r ran line name only is well behind
     (varyon_restates (empty_log r.named r.room) r.room line name (entry_state r.entry r.named) ran.lines.mid is

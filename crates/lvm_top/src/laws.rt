@@ -1,5 +1,4 @@
 //! Laws of runs. Each call does nothing: its contract is the law.
-ghost use Rattle.lvm_top.specs.Laws.{VaryonRecovers};
 ghost use Rattle.lvm_top.specs.Runs.{NextMayBegin, TwoRunsUphold};
 
 /// What a run leaves, another one may begin with at a later moment; so two runs, the first over disks of zeros and the second over what
@@ -7,9 +6,4 @@ ghost use Rattle.lvm_top.specs.Runs.{NextMayBegin, TwoRunsUphold};
 pub fn runs_follow()
     ensures next { NextMayBegin }
     ensures two { TwoRunsUphold }
-{}
-
-/// A run whose only line varies a group on makes its copies equal, and writes nothing else but records.
-pub fn varyon_recovers()
-    ensures { VaryonRecovers }
 {}
