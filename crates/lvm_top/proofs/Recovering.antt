@@ -21,9 +21,10 @@ use Rattle.lvm_line.specs.passed.Stage.{State, Reply}
 use Rattle.lvm_line.specs.passed.Varyon.{IsRecovered}
 use Rattle.lvm_line.proofs.Causing.{nothing_written, varyon_restates}
 use Rattle.lvm_line.proofs.passed.Quiesce.{still_ends}
+use Rattle.lvm_top.specs.Laws.{VaryonsRecover}
 use Rattle.lvm_top.specs.Run.{DidOnly, IsRun, Run, VaryonRecovers}
 use Rattle.lvm_top.specs.Script.{AtLine, Ends, InLine, MakeRequests, NextLine, NoLine, Says, Script, empty_log, entry_state, is_requesting}
-use Rattle.lvm_top.proofs.Scripting.{begins_timely}
+use Rattle.lvm_top.proofs.Scripting.{begins_timely, script_went}
 
 -- ---- a run of one line
 
@@ -117,3 +118,8 @@ varyon_recovers r ran = record {
       ap (λ (d : Device). d.wrote) (sym (exit_is r ran line name told is did))
       ∙ nothing_written (empty_log r.named r.room) r.room (line_of line) have total (entry_state r.entry r.named) ran.end (its r ran line name told is did (λ e. cc e)).does;
 }
+
+-- ---- a line of a script
+
+pub varyons_recover : VaryonsRecover
+varyons_recover log room first lines replies last script timely line name new is it = varyon_restates log room line name last new is it ((script_went log room first script).timely timely)

@@ -10,7 +10,10 @@ use Rattle.lvm_steps.specs.Moments.{Begins, IsEarlier}
 use Rattle.lvm_stamps.specs.Behind.{IsBehind}
 use Rattle.lvm_core.specs.declared.parts.Room.{Room}
 use Rattle.lvm_core.specs.Leaves.{MayBeFound}
+use Rattle.lvm_session.specs.State.{Core}
+use Rattle.lvm_line.specs.Causes.{IsBroughtBack}
 use Rattle.lvm_line.specs.Lines.{IsLine, role_of}
+use Rattle.lvm_line.specs.passed.Quiesce.{Quiesces}
 use Rattle.lvm_line.specs.passed.Stage.{IsStuck, State, IsTimely, Reply}
 use Rattle.lvm_line.specs.passed.Tie.{LeavesDescriptors}
 use Rattle.lvm_line.specs.passed.ReplyVariants as reply
@@ -61,3 +64,10 @@ RunFindsWhatStands =
     (r : Run) (ran : IsRun r) (past : List Fact)
     → HasFewDisks r.entry → IsReady r.entry → IsBehind r.named r.entry → IsEarlier r.named r.entry past → RanAlone ran → (r.status ≡ ended.Stuck → ⊥)
     → (id : ℕ) (k : Descriptor) → MayBeFound r.exit id k → MayStandAtEnd ran.lines.ends (MayStand ran.lines.script) id k
+
+-- After any lines of a script a `varyonvg` that is answered `ok` brings its group back, from the shelf on which what was out has ended.
+abbrev pub VaryonsRecover : Type 0
+VaryonsRecover =
+    (log : Log) (room : Room) (first : State) (lines : List (List ℕ)) (replies : List Reply) (last : State) → Script log room first lines replies last → IsTimely log.run first
+    → (line name : List ℕ) (new : State) → line_of line ≡ Ok (Some (command.Varyon name)) → IsLine log room line reply.Ok last new
+    → (core : Core) × (new.session ≡ Some core) × ((quiet : Device) × Quiesces last.moment.device quiet × IsBroughtBack quiet new.moment.device core.descriptor)

@@ -1,4 +1,5 @@
 //! Laws of runs. Each call does nothing: its contract is the law.
+ghost use Rattle.lvm_top.specs.Laws.{VaryonsRecover};
 ghost use Rattle.lvm_top.specs.Runs.{NextMayBegin, TwoRunsUphold};
 
 /// What a run leaves, another one may begin with at a later moment; so two runs, the first over disks of zeros and the second over what
@@ -6,4 +7,10 @@ ghost use Rattle.lvm_top.specs.Runs.{NextMayBegin, TwoRunsUphold};
 pub fn runs_follow()
     ensures next { NextMayBegin }
     ensures two { TwoRunsUphold }
+{}
+
+/// Each `varyonvg` of a script that is answered `ok` leaves the group with its records again, and recovered where no volume of
+/// it is in mode passive.
+pub fn varyons_recover()
+    ensures { VaryonsRecover }
 {}
