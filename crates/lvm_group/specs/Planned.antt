@@ -23,7 +23,7 @@ pub record CanBeMade (sizes : List ℕ) (mib : ℕ) (disks : List ℕ) (moment :
   pub differ : AllPairs (λ a b. a ≢ b) disks
   pub size : IsTrue (is_size mib)
   pub fit : first_too_small sizes mib disks ≡ None
-  pub moment : moment ≢ 0
+  pub some_moment : moment ≢ 0
 
 -- The descriptor and the status of the new group, which are valid, and the disks named.
 pub record IsChoiceFor (sizes : List ℕ) (name : List ℕ) (mib : ℕ) (disks : List ℕ) (moment : ℕ) (choice : Choice) : Type 0 where

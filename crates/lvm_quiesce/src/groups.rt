@@ -1,12 +1,11 @@
 //! A group is made or varied on, once the transfers that are out have ended.
-ghost use Rattle.std.specs.Prelude.{◌≢◌, ◌≤◌, length, IfOk, IfErr, IsTrue, AllPairs};
-ghost use Rattle.std.specs.Option.{ForSome};
-ghost use Rattle.lvm_num.specs.Descriptor.{is_size};
+ghost use Rattle.std.specs.Prelude.{◌≢◌, IfOk, IfErr};
 ghost use Rattle.lvm_session.specs.Sound.{IsLit};
 ghost use Rattle.lvm_core.specs.Coming.{shelf_left, history_left};
 ghost use Rattle.lvm_core.specs.Sound.{HaveAllLanded};
 ghost use Rattle.lvm_core.specs.Starting.{IsRoom};
 ghost use Rattle.lvm_core.specs.State.{state_of};
+ghost use Rattle.lvm_group.specs.NewGroup.{IsWellFormed};
 ghost use Rattle.lvm_quiesce.specs.Groups.{BringsOnEach, CauseRose, IsStartedEach, MkvgOnceQuiet, RestGives, VaryonOnceQuiet};
 
 use crate::ends::{Quiesced, quiesce};
@@ -34,10 +33,7 @@ pub fn mkvg<S: Shelf>(
 ) -> Result<Driver<S>, Refused<S>>
     requires lit { IsLit (S.device shelf) }
     requires landed { HaveAllLanded history.facts }
-    requires a_disk { 1 ≤ length disks.now }
-    requires differ { AllPairs (λ a b. a ≢ b) disks.now }
-    requires size { ForSome mib (λ given. IsTrue (is_size given)) }
-    requires moment { moment ≢ 0 }
+    requires asked { IsWellFormed (record { name = name; mib = mib; disks = disks.now; force = force; moment = moment }) }
     requires room { IsRoom room }
     ensures gives { MkvgOnceQuiet S.device (record { name = name; mib = mib; disks = disks.now; force = force; moment = moment }) room patience.old.left history (S.device shelf) result }
     ensures starts { IfOk result (λ driver. IsStartedEach history.run moment (S.device shelf) history (state_of S.device driver)) }

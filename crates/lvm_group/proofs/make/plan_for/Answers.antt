@@ -23,7 +23,7 @@ new-requires-clause-can g c =
       differ = asked.differ;
       size = c.in_ok-size.ensures.is_size;
       fit = subst (λ n. first_too_small sizes n c.args.disks.now ≡ None) (sym c.in_ok-size.ensures.size) fit.fit;
-      moment = asked.moment;
+      some_moment = asked.moment;
     }
 
 some_size : (sizes disks : List ℕ) (given : Option ℕ) (size : ℕ) → size ≡ size_for sizes disks given → IsTrue (is_size size) → 1 ≤ size_for sizes disks given

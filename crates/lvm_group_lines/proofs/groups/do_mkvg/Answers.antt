@@ -1,4 +1,4 @@
-use Rattle.std.proofs.Common.{ℕ, IfErr, ap, sym, subst}
+use Rattle.std.proofs.Common.{ℕ, IfErr, ap, sym, subst, arith}
 use Rattle.lvm_disk_lines.specs.passed.Quiesce.{CauseRose, MkvgOnceQuiet}
 use Rattle.lvm_group_lines.specs.Groups.{MkvgDoes, NoMkvgWhileOn, Makes, asked_for, itself}
 use Rattle.lvm_disk_lines.specs.passed.Stage.{CommandEnds, Aside, Holder}
@@ -16,6 +16,11 @@ returns-in_default-clause-ends g c =
     let asked = asked_stays g.S.Shelf.device c.args.stage c.refused.result.stage (g.C.Clock.last c.args.clock.now) (g.C.Clock.last c.now-moment.new.self) c.now-moment.result c.now-moment.ensures.later c.now-moment.ensures.last c.refused.ensures.stage in
     asked_ends g.S.Shelf.device (λ log. MkvgDoes log c.args.room c.args.force c.args.name c.args.mib c.args.disks.now) ⊥ Aside c.args.stage c.refused.result.stage c.refused.result.reply c.requires.fits c.requires.between c.refused.ensures.stage
     (one_refused c.refused.result.reply refusal.GroupOn c.refused.ensures.reply) _ _ asked (NoMkvgWhileOn (on_unless c.args.stage.holder c.in_default.not-Off) c.refused.ensures.reply asked)
+
+pub mkvg-requires-clause-asked : goal.mkvg-requires-clause-asked
+mkvg-requires-clause-asked g c =
+    let some = c.now-moment.ensures.some in
+    record { some = c.requires.a_disk; differ = c.requires.differ; size = c.requires.size; moment = λ none. omega (arith, some, none) }
 
 pub left-holder-requires-clause-may : goal.left-holder-requires-clause-may
 left-holder-requires-clause-may g c =
