@@ -15,8 +15,6 @@ use Rattle.lvm_num.specs.Status.{calls_dirty, calls_missing, calls_stale}
 use Rattle.lvm_stale.specs.Table.{has_row, is_pp}
 use Rattle.lvm_disk.specs.Counts.{Counts, Rose}
 use Rattle.lvm_disk.specs.Device.{Device, Flight, Media}
-use Rattle.lvm_vol.specs.declared.entry.Outcome.{Outcome}
-use Rattle.lvm_vol.specs.declared.entry.Outcome.TheVariants as outcome
 use Rattle.lvm_mwc.specs.Cache.{has_disk}
 use Rattle.lvm_mwc.specs.declared.notes.DiskNotes.{DiskNotes}
 use Rattle.lvm_status.specs.Update.{Stored, Updates, seen}
@@ -29,7 +27,6 @@ use Rattle.lvm_session.specs.declared.bringing.CopyEnd.TheVariants as ending
 use Rattle.lvm_session.specs.declared.bringing.OpenCopy.{OpenCopy}
 use Rattle.lvm_session.specs.declared.bringing.Step.{Step}
 use Rattle.lvm_session.specs.declared.flown.Flown.{Flown}
-use Rattle.lvm_session.specs.declared.open.Open.{Open}
 use Rattle.lvm_session.specs.declared.open.Power.TheVariants as power
 use Rattle.lvm_session.specs.State.{Core, State, is_there, state}
 use Rattle.lvm_session.specs.Judging.{copies_in, is_missing, is_running, is_sure, is_usable, is_wanted_stale, is_stale}
@@ -45,6 +42,7 @@ use Rattle.lvm_session.specs.Sound.{IsCopy, IsFitting, IsGoing, IsOn, IsSound, I
 use Rattle.lvm_keeps.proofs.Lists.{all_on}
 use Rattle.lvm_keeps.proofs.Small.{both, is_false, not_so}
 use Rattle.lvm_keeps.proofs.Still.{if_on}
+use Rattle.lvm_keeps_events.proofs.Causes.{landed_when_on}
 use Rattle.lvm_keeps_events.proofs.CopyReadFail.{all_tried, by_place, by_sources, none_found, of_place, usable_of}
 use Rattle.lvm_keeps_events.proofs.Counts.{counts_keep, rose_since}
 use Rattle.lvm_keeps_events.proofs.Copies.{Brings, Fewer, runs_of}
@@ -217,15 +215,6 @@ module _ (old : State) (sound : IsSound old) (on : old.core.power ≡ power.On) 
 
     caused : AllByRecursion (AreCaused device last) first.requests
     caused = all_two (AreCounted old) (AreCaused between.device first) (AreCaused device last) (λ x counted why waiting. all_two (IsCounted old) (IsCaused between.device first) (IsCaused device last) target_caused x.request.targets.items counted (why waiting)) first.requests sound.counted (sound_between.on on).caused
-
-    landed_on : (o : Open) (how : Outcome) → IsLandedFor between o how → IsLandedFor done o how
-    landed_on o outcome.Done why = why
-    landed_on o outcome.Got why = why
-    landed_on o outcome.Lost why = why
-    landed_on o outcome.ReadFailed why = why
-    landed_on o outcome.NoFresh why = why
-    landed_on o outcome.Off why = not_so (sym (ap is_over on) ∙ why.0)
-    landed_on o outcome.Dark why = why
 
     origin : IsTrueToOrigin done
     origin = let was = sound_between.origin in record {
@@ -449,7 +438,7 @@ module _ (old : State) (sound : IsSound old) (on : old.core.power ≡ power.On) 
         over = λ i. not_so (sym (ap is_over on) ∙ i);
         stuck = λ i. absurd (let no : power.On ≡ power.Stuck = sym on ∙ i in cc);
         counted = all_on (AreCounted between) (AreCounted done) (λ x all. all_on (IsCounted between) (IsCounted done) (λ t count. record { began = count.began; since = count.since }) x.request.targets.items all) first.requests sound_between.counted;
-        answered = all_on (IsAnswered between) (IsAnswered done) (λ x why. if_on (IsLandedFor between x) (IsLandedFor done x) (landed_on x) x.landed why) first.requests sound_between.answered;
+        answered = all_on (IsAnswered between) (IsAnswered done) (λ x why. if_on (IsLandedFor between x) (IsLandedFor done x) (landed_when_on between done on refl x) x.landed why) first.requests sound_between.answered;
         copy = copy_caused;
         origin = origin;
       }

@@ -10,9 +10,12 @@ pub mod StatusStart
 pub mod CopyWriteFalls
 pub mod DataStartFalls
 pub mod StatusStartFalls
+pub mod Causes
 pub mod Counts
 pub mod Removal
+pub mod Rows
 pub mod NoteEnd
+pub mod CopyEnded
 pub mod CopyReadEnd
 pub mod Over
 pub mod CopyQuit

@@ -17,8 +17,6 @@ use Rattle.lvm_num.specs.Descriptor.{copies_of, is_member, volume_of}
 use Rattle.lvm_num.specs.Disks.{has}
 use Rattle.lvm_num.specs.Status.{calls_dirty, calls_stale}
 use Rattle.lvm_stale.specs.Table.{SameMissing, SameStale, has_row, is_pp}
-use Rattle.lvm_vol.specs.declared.entry.Outcome.{Outcome}
-use Rattle.lvm_vol.specs.declared.entry.Outcome.TheVariants as outcome
 use Rattle.lvm_path.specs.declared.ask.Ask.{Ask}
 use Rattle.lvm_path.specs.declared.request.Request.{Request}
 use Rattle.lvm_path.specs.declared.target.Target.{Target}
@@ -50,6 +48,7 @@ use Rattle.lvm_keeps.proofs.Lists.{all_on, count_cons}
 use Rattle.lvm_keeps.proofs.Rows.{rows_still}
 use Rattle.lvm_keeps.proofs.Small.{not_so}
 use Rattle.lvm_keeps.proofs.Still.{if_on}
+use Rattle.lvm_keeps_events.proofs.Causes.{landed_when_on}
 
 -- ---- tests that say the same of each
 
@@ -348,15 +347,6 @@ module _ (s : State) (sound : IsSound s) (on : s.core.power ≡ power.On) (lv : 
     chosen = was.chosen;
   }
 
-  landed_on : (o : Open) (how : Outcome) → IsLandedFor s o how → IsLandedFor now o how
-  landed_on o outcome.Done why = why
-  landed_on o outcome.Got why = why
-  landed_on o outcome.Lost why = why
-  landed_on o outcome.ReadFailed why = why
-  landed_on o outcome.NoFresh why = why
-  landed_on o outcome.Off why = not_so (sym (ap is_over on) ∙ why.0)
-  landed_on o outcome.Dark why = why
-
   copy_caused : (c : OpenCopy) → IsCopyCaused s (copies_in core.descriptor c.lv c.lp) c → IsCopyCaused now (copies_in core.descriptor c.lv c.lp) c
   copy_caused c its = record { began = its.began; since = its.since; tried = its.tried; failed = λ e. sources_on (its.failed e) }
     where
@@ -399,7 +389,7 @@ module _ (s : State) (sound : IsSound s) (on : s.core.power ≡ power.On) (lv : 
     over = λ e. not_so (sym (ap is_over on) ∙ e);
     stuck = λ e. absurd (let no : power.On ≡ power.Stuck = sym on ∙ e in cc);
     counted = all_on (AreCounted s) (AreCounted now) (λ x all. all_on (IsCounted s) (IsCounted now) (λ t count. record { began = count.began; since = count.since }) x.request.targets.items all) core.requests sound.counted;
-    answered = all_on (IsAnswered s) (IsAnswered now) (λ x why. if_on (IsLandedFor s x) (IsLandedFor now x) (landed_on x) x.landed why) core.requests sound.answered;
+    answered = all_on (IsAnswered s) (IsAnswered now) (λ x why. if_on (IsLandedFor s x) (IsLandedFor now x) (landed_when_on s now on refl x) x.landed why) core.requests sound.answered;
     copy = if_on (λ (c : OpenCopy). IsCopyCaused s (copies_in core.descriptor c.lv c.lp) c) (λ (c : OpenCopy). IsCopyCaused now (copies_in core.descriptor c.lv c.lp) c) copy_caused core.copy sound.copy;
     origin = origin;
   }
