@@ -37,19 +37,20 @@ use Rattle.lvm_session.specs.Calls.{copy_at}
 use Rattle.lvm_session.specs.Ends.{given_back}
 use Rattle.lvm_session.specs.Events.{IsDataTransfer}
 use Rattle.lvm_session.specs.Marks.{due_of, due_targets, hits_copy, is_among}
-use Rattle.lvm_session.specs.Causes.{AreCaused, AreCounted, FailedSince, FailedSinceOpening, fails_on, faults_at_first, faults_at_opening, HasFailed, HaveSourcesFailed, is_blamed, is_held_stale, is_over, IsAnswered, IsCaused, IsChosenSince, IsCopyCaused, IsCounted, IsLandedFor, IsTrueToOrigin}
+use Rattle.lvm_session.specs.Causes.{AreCaused, AreCounted, FailedSince, FailedSinceOpening, fails_on, faults_at_first, faults_at_opening, HasFailed, HaveSourcesFailed, is_blamed, is_held_stale, IsAnswered, IsCaused, IsChosenSince, IsCopyCaused, IsCounted, IsLandedFor, IsTrueToOrigin}
 use Rattle.lvm_session.specs.Left.{copy_updates, if_so, marks_later}
 use Rattle.lvm_session.specs.Owners.{AreOwned, flies, IsDataOf, IsTransferOf, same_owner}
 use Rattle.lvm_session.specs.Requests.{is_left_out, is_wanted_due, IsJudged, IsOpenOne, IsRequest, IsShaped, IsTarget, may_lack, wants_status, will_be_kept}
 use Rattle.lvm_session.specs.Sound.{count_if, has_number, is_clearing, is_dark, is_hand, IsAsked, IsCopy, IsFitting, IsGoing, IsOn, IsSound, IsTold, may_be_fresh, out_with, pins, stays_fresh, with_row}
+use Rattle.lvm_keeps.proofs.Causes.{answered_when_on}
 use Rattle.lvm_keeps.proofs.Ending.{back, back_long}
 use Rattle.lvm_keeps.proofs.Lists.{all_at, all_on, all_set, any_set, count_same, count_set, length_set, set_beside, set_here}
 use Rattle.lvm_keeps.proofs.Rows.{rows_by, status_still, step_still}
 use Rattle.lvm_keeps.proofs.Small.{and_on, both, is_false, left_on, not_so}
 use Rattle.lvm_keeps.proofs.Still.{bring_on, changed, if_on, no_cause, open_on, ready_on}
 use Rattle.lvm_keeps.proofs.Tables.{rows_set}
+use Rattle.lvm_keeps.proofs.Whole.{sound_when_on}
 use Rattle.lvm_keeps_events.proofs.Aims.{at_state, pps_set}
-use Rattle.lvm_keeps_events.proofs.Causes.{landed_when_on}
 use Rattle.lvm_keeps_events.proofs.OnePlace.{one_lp}
 use Rattle.lvm_keeps_events.proofs.CopyReadFail.{at_number, by_place, of_place}
 use Rattle.lvm_keeps_events.proofs.Counts.{counts_keep, rose_since}
@@ -844,20 +845,5 @@ module _ (old : State) (sound : IsSound old) (on : old.core.power ≡ power.On) 
                   of_one (inr unsure) = as_before p (unsure_before p (ap (is_sure core) one.it.pp_is ∙ unsure))
 
       pub keeps : IsSound now
-      keeps = record {
-        fitting = fitting;
-        told = told_so;
-        placed = sound.placed;
-        buffers = λ n. let same = out n in omega (arith, same);
-        none_lost = λ lit n. out n;
-        on = λ e. keeps_on;
-        lit = λ lit. let before = sound.lit lit in record { power = before.power; freed = before.freed };
-        dark = λ e. not_so (sym (ap is_dark on) ∙ e);
-        off = λ e. absurd (let none : power.On ≡ power.Off = sym on ∙ e in cc none);
-        over = λ e. not_so (sym (ap is_over on) ∙ e);
-        stuck = λ e. absurd (let none : power.On ≡ power.Stuck = sym on ∙ e in cc none);
-        counted = all_set (AreCounted s) (AreCounted now) counted_on core.requests place x its_counted sound_so.counted;
-        answered = all_set (IsAnswered s) (IsAnswered now) (λ y it. if_on (IsLandedFor s y) (IsLandedFor now y) (landed_when_on s now on refl y) y.landed it) core.requests place x (no_cause (IsLandedFor now x) o.landed waits_so) sound_so.answered;
-        copy = why;
-        origin = origin;
-      }
+      keeps = sound_when_on s now refl refl sound_so on fitting told_so keeps_on out (all_set (AreCounted s) (AreCounted now) counted_on core.requests place x its_counted sound_so.counted)
+          (all_set (IsAnswered s) (IsAnswered now) (answered_when_on s now refl on) core.requests place x (no_cause (IsLandedFor now x) o.landed waits_so) sound_so.answered) why origin

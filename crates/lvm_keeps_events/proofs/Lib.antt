@@ -10,7 +10,6 @@ pub mod StatusStart
 pub mod CopyWriteFalls
 pub mod DataStartFalls
 pub mod StatusStartFalls
-pub mod Causes
 pub mod Counts
 pub mod Removal
 pub mod Rows

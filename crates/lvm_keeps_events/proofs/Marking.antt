@@ -42,13 +42,14 @@ use Rattle.lvm_session.specs.Marks.{WantsDirty, can_replace, is_among, is_entail
 use Rattle.lvm_session.specs.Left.{clean_volumes, if_so}
 use Rattle.lvm_session.specs.Owners.{AreOwned}
 use Rattle.lvm_session.specs.Requests.{IsOpenOne, IsTarget, is_failed_and_sure, is_left_out, is_wanted_dirty, is_wanted_due, mode_for, will_be_kept}
-use Rattle.lvm_session.specs.Causes.{AreCaused, AreCounted, HaveSourcesFailed, IsAnswered, IsCaused, IsCopyCaused, IsCounted, IsLandedFor, IsTrueToOrigin, fails_on, is_blamed, is_held_stale, is_over, was_fresh}
-use Rattle.lvm_session.specs.Sound.{IsCopy, IsFitting, IsGoing, IsOn, IsSound, IsTold, count_if, may_be_fresh, stays_fresh}
+use Rattle.lvm_session.specs.Causes.{AreCaused, AreCounted, HaveSourcesFailed, IsAnswered, IsCaused, IsCopyCaused, IsTrueToOrigin, fails_on, is_blamed, is_held_stale, was_fresh}
+use Rattle.lvm_session.specs.Sound.{IsCopy, IsFitting, IsGoing, IsOn, IsSound, IsTold, count_if, is_dark, may_be_fresh, stays_fresh}
+use Rattle.lvm_keeps.proofs.Causes.{answered_when_on, counted_when_on}
 use Rattle.lvm_keeps.proofs.Lists.{all_on, count_cons}
 use Rattle.lvm_keeps.proofs.Rows.{rows_still}
 use Rattle.lvm_keeps.proofs.Small.{not_so}
 use Rattle.lvm_keeps.proofs.Still.{if_on}
-use Rattle.lvm_keeps_events.proofs.Causes.{landed_when_on}
+use Rattle.lvm_keeps.proofs.Whole.{sound_when_on}
 
 -- ---- tests that say the same of each
 
@@ -376,23 +377,9 @@ module _ (s : State) (sound : IsSound s) (on : s.core.power ≡ power.On) (lv : 
       at_missing p (inr (inr x)) = inr (inr x)
 
   pub keeps : IsSound now
-  keeps = record {
-    fitting = fitting;
-    told = told;
-    placed = sound.placed;
-    buffers = sound.buffers;
-    none_lost = sound.none_lost;
-    on = λ e. keeps_on;
-    lit = sound.lit;
-    dark = sound.dark;
-    off = λ e. absurd (let no : power.On ≡ power.Off = sym on ∙ e in cc);
-    over = λ e. not_so (sym (ap is_over on) ∙ e);
-    stuck = λ e. absurd (let no : power.On ≡ power.Stuck = sym on ∙ e in cc);
-    counted = all_on (AreCounted s) (AreCounted now) (λ x all. all_on (IsCounted s) (IsCounted now) (λ t count. record { began = count.began; since = count.since }) x.request.targets.items all) core.requests sound.counted;
-    answered = all_on (IsAnswered s) (IsAnswered now) (λ x why. if_on (IsLandedFor s x) (IsLandedFor now x) (landed_when_on s now on refl x) x.landed why) core.requests sound.answered;
-    copy = if_on (λ (c : OpenCopy). IsCopyCaused s (copies_in core.descriptor c.lv c.lp) c) (λ (c : OpenCopy). IsCopyCaused now (copies_in core.descriptor c.lv c.lp) c) copy_caused core.copy sound.copy;
-    origin = origin;
-  }
+  keeps = sound_when_on s now refl refl sound on fitting told keeps_on (λ n. sound.none_lost (ap is_dark on) n) (all_on (AreCounted s) (AreCounted now) (counted_when_on s now refl) core.requests sound.counted)
+      (all_on (IsAnswered s) (IsAnswered now) (answered_when_on s now refl on) core.requests sound.answered)
+      (if_on (λ (c : OpenCopy). IsCopyCaused s (copies_in core.descriptor c.lv c.lp) c) (λ (c : OpenCopy). IsCopyCaused now (copies_in core.descriptor c.lv c.lp) c) copy_caused core.copy sound.copy) origin
 
 -- ---- what is wanted so
 

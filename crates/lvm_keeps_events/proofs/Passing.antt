@@ -48,20 +48,21 @@ use Rattle.lvm_session.specs.declared.open.Power.TheVariants as power
 use Rattle.lvm_session.specs.Dark.{hand_of_copy}
 use Rattle.lvm_session.specs.Events.{is_passive}
 use Rattle.lvm_session.specs.Marks.{can_replace, is_among, is_entailed, is_entailed_in, is_left_behind}
-use Rattle.lvm_session.specs.Causes.{AreCaused, AreCounted, fails_on, is_blamed, is_held_stale, is_over, IsAnswered, IsCaused, IsChosenSince, IsCopyCaused, IsCounted, IsLandedFor, IsTrueToOrigin, was_fresh}
+use Rattle.lvm_session.specs.Causes.{AreCaused, AreCounted, fails_on, is_blamed, is_held_stale, IsAnswered, IsCaused, IsChosenSince, IsCopyCaused, IsTrueToOrigin, was_fresh}
 use Rattle.lvm_session.specs.Left.{copy_updates, if_so, updates_left}
 use Rattle.lvm_session.specs.Owners.{AreOwned, same_owner}
 use Rattle.lvm_session.specs.Requests.{is_failed_and_sure, is_left_out, is_past_held, is_wanted_dirty, is_wanted_due, IsJudged, IsOpenOne, IsPhase, IsRequest, IsTarget, may_lack, mode_for, wants_status, will_be_kept}
-use Rattle.lvm_session.specs.Sound.{count_if, is_clearing, is_dark, is_hand, IsCopy, IsFitting, IsGoing, IsOn, IsSound, IsTold, may_be_fresh, out_with, stays_fresh, waiting_rows, with_row}
+use Rattle.lvm_session.specs.Sound.{count_if, is_clearing, is_hand, IsCopy, IsFitting, IsGoing, IsOn, IsSound, IsTold, may_be_fresh, out_with, stays_fresh, waiting_rows, with_row}
 use Rattle.lvm_submit.proofs.Numbered.{below_next}
+use Rattle.lvm_keeps.proofs.Causes.{answered_when_on, counted_when_on}
 use Rattle.lvm_keeps.proofs.Ending.{back}
 use Rattle.lvm_keeps.proofs.Lists.{all_on, length_set}
 use Rattle.lvm_keeps.proofs.Rows.{rows_but_copy}
 use Rattle.lvm_keeps.proofs.Small.{both, is_false, not_so}
-use Rattle.lvm_keeps.proofs.Still.{changed, if_on}
+use Rattle.lvm_keeps.proofs.Still.{changed}
+use Rattle.lvm_keeps.proofs.Whole.{sound_when_on}
 use Rattle.lvm_keeps_events.proofs.Marking.{any_alike, count_alike, filter_alike}
 use Rattle.lvm_keeps_events.proofs.OnePlace.{one_lp}
-use Rattle.lvm_keeps_events.proofs.Causes.{landed_when_on}
 use Rattle.lvm_keeps_events.proofs.Tables.{none_filter}
 use Rattle.lvm_keeps_events.proofs.CopyReadFail.{by_place, by_sources, is_here}
 use Rattle.lvm_keeps_events.proofs.Over.{even_rows, without_step}
@@ -779,20 +780,5 @@ module _ (s : State) (sound : IsSound s) (on : s.core.power ≡ power.On) (c : O
         at_missing p (inr (inr x)) = inr (inr x)
 
     pub keeps : IsSound now
-    keeps = record {
-      fitting = fitting;
-      told = told;
-      placed = sound.placed;
-      buffers = λ n. let same = out n in omega (arith, same);
-      none_lost = λ lit n. out n;
-      on = λ e. keeps_on;
-      lit = λ lit. let was = sound.lit lit in record { power = was.power; freed = was.freed };
-      dark = λ e. not_so (sym (ap is_dark on) ∙ e);
-      off = λ e. absurd (let none : power.On ≡ power.Off = sym on ∙ e in cc none);
-      over = λ e. not_so (sym (ap is_over on) ∙ e);
-      stuck = λ e. absurd (let none : power.On ≡ power.Stuck = sym on ∙ e in cc none);
-      counted = all_on (AreCounted s) (AreCounted now) (λ x all. all_on (IsCounted s) (IsCounted now) (λ t count. record { began = count.began; since = count.since }) x.request.targets.items all) core.requests sound.counted;
-      answered = all_on (IsAnswered s) (IsAnswered now) (λ x why. if_on (IsLandedFor s x) (IsLandedFor now x) (landed_when_on s now on refl x) x.landed why) core.requests sound.answered;
-      copy = copy_caused;
-      origin = origin;
-    }
+    keeps = sound_when_on s now refl refl sound on fitting told keeps_on out (all_on (AreCounted s) (AreCounted now) (counted_when_on s now refl) core.requests sound.counted)
+        (all_on (IsAnswered s) (IsAnswered now) (answered_when_on s now refl on) core.requests sound.answered) copy_caused origin
