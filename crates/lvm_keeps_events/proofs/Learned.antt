@@ -47,7 +47,7 @@ use Rattle.lvm_keeps.proofs.Ending.{back, back_long}
 use Rattle.lvm_keeps.proofs.Lists.{all_at, all_on, all_set, any_set, count_same, count_set, length_set, set_beside, set_here}
 use Rattle.lvm_keeps.proofs.Rows.{rows_by, status_still, step_still}
 use Rattle.lvm_keeps.proofs.Small.{and_on, both, is_false, left_on, not_so}
-use Rattle.lvm_keeps.proofs.Still.{bring_on, changed, if_on, no_cause, open_on, ready_on}
+use Rattle.lvm_keeps.proofs.Still.{bring_on, changed, if_on, no_cause, open_on, ready_on, shape_still}
 use Rattle.lvm_keeps.proofs.Tables.{rows_set}
 use Rattle.lvm_keeps.proofs.Whole.{sound_when_on}
 use Rattle.lvm_keeps_events.proofs.Aims.{at_state, pps_set}
@@ -247,15 +247,7 @@ module _ (old : State) (sound : IsSound old) (on : old.core.power ≡ power.On) 
     its_one = record {
       laid = let l = laid core going place target o there aim aim_is at row row_there own ok buf long in record { within = l.within; blocks = l.blocks; most = l.most; id = l.id };
       waits = λ e. record {
-        shape = let a = its_shape in record {
-          targets = all_on (IsTarget core ask) (IsTarget after ask) (λ t i. record { copy = i.copy; sector = i.sector; there = i.there }) now_targets a.targets;
-          phase_is = a.phase_is;
-          hand = a.hand;
-          room = a.room;
-          differ = a.differ;
-          usable = a.usable;
-          one = a.one;
-        };
+        shape = shape_still core after refl x its_shape;
         ready = ready_on marked core.history requests queue copy pool_now (remove core.flying at) core.cache.entries core.last x (λ free. free) (λ p free. free)
             (ready_staler mid due wanted writes like x.request
             (ready_on core core.history core.requests queue copy pool core.flying core.cache.entries core.last x (left.free (place_of o.request.id) (held_of ask)) (left.caught (group_in core ask)) (ready core going place target o there aim aim_is at row row_there own ok buf long)));

@@ -41,14 +41,14 @@ use Rattle.lvm_session.specs.Events.{is_passive}
 use Rattle.lvm_session.specs.Marks.{WantsDirty, can_replace, is_among, is_entailed, is_entailed_in, is_left_behind}
 use Rattle.lvm_session.specs.Left.{clean_volumes, if_so}
 use Rattle.lvm_session.specs.Owners.{AreOwned}
-use Rattle.lvm_session.specs.Requests.{IsOpenOne, IsTarget, is_failed_and_sure, is_left_out, is_wanted_dirty, is_wanted_due, mode_for, will_be_kept}
+use Rattle.lvm_session.specs.Requests.{IsOpenOne, is_failed_and_sure, is_left_out, is_wanted_dirty, is_wanted_due, mode_for, will_be_kept}
 use Rattle.lvm_session.specs.Causes.{AreCaused, AreCounted, HaveSourcesFailed, IsAnswered, IsCaused, IsCopyCaused, IsTrueToOrigin, fails_on, is_blamed, is_held_stale, was_fresh}
 use Rattle.lvm_session.specs.Sound.{IsCopy, IsFitting, IsGoing, IsOn, IsSound, IsTold, count_if, is_dark, may_be_fresh, stays_fresh}
 use Rattle.lvm_keeps.proofs.Causes.{answered_when_on, counted_when_on}
 use Rattle.lvm_keeps.proofs.Lists.{all_on, count_cons}
 use Rattle.lvm_keeps.proofs.Rows.{rows_still}
 use Rattle.lvm_keeps.proofs.Small.{not_so}
-use Rattle.lvm_keeps.proofs.Still.{if_on}
+use Rattle.lvm_keeps.proofs.Still.{if_on, shape_still}
 use Rattle.lvm_keeps.proofs.Whole.{sound_when_on}
 
 -- ---- tests that say the same of each
@@ -142,16 +142,8 @@ module _ (s : State) (sound : IsSound s) (on : s.core.power ≡ power.On) (lv : 
   one : (x : Open) → IsOpenOne core x → IsOpenOne now.core x
   one x it = record {
     laid = let l = it.laid in record { within = l.within; blocks = l.blocks; most = l.most; id = l.id };
-    waits = λ w. let r = it.waits w in let a = r.shape in let b = r.ready in record {
-      shape = record {
-        targets = all_on (IsTarget core x.request.ask) (IsTarget now.core x.request.ask) (λ t i. record { copy = i.copy; sector = i.sector; there = i.there }) x.request.targets.items a.targets;
-        phase_is = a.phase_is;
-        hand = a.hand;
-        room = a.room;
-        differ = a.differ;
-        usable = a.usable;
-        one = a.one;
-      };
+    waits = λ w. let r = it.waits w in let b = r.ready in record {
+      shape = shape_still core now.core refl x r.shape;
       ready = record {
         free = b.free;
         recorded = b.recorded;

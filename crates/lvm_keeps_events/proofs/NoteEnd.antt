@@ -1,6 +1,6 @@
 -- The write of a note has ended well.
 use Rattle.std.proofs.Common.{◌≡◌, ◌≤◌, inl, inr, ◌==◌, ℕ, Bool, true, false, ◌&&◌, List, [], ◌∷◌, Option, Some, None, length, slice_get, refl, sym, ◌∙◌, ap, subst, arith}
-use Rattle.std.specs.Prelude.{count_by, find, is_some, option_and_then, slice_index_or, slice_set}
+use Rattle.std.specs.Prelude.{count_by, is_some, option_and_then, slice_index_or, slice_set}
 use Rattle.std.specs.List.{list_all, remove, AllByRecursion}
 use Rattle.std.specs.Option.{option_map, option_map_or}
 use Rattle.std.proofs.lemmas.Bool.{eq-eqb, eqb-true, eqb-false, ne_eqb}
@@ -32,7 +32,7 @@ use Rattle.lvm_session.specs.declared.open.Power.TheVariants as power
 use Rattle.lvm_session.specs.State.{Core, State, state}
 use Rattle.lvm_session.specs.Judging.{group_of, has_names}
 use Rattle.lvm_session.specs.Owners.{AreOwned, IsTransferOf, flies, same_owner}
-use Rattle.lvm_session.specs.Requests.{IsOpenOne, IsPinned, IsRecorded, IsShaped, IsTarget, has_record, mode_for}
+use Rattle.lvm_session.specs.Requests.{IsOpenOne, IsPinned, IsRecorded, has_record, mode_for}
 use Rattle.lvm_session.specs.Sound.{IsCopy, IsFitting, IsGoing, IsOn, IsSound, IsTold, count_if, out_with, pins}
 use Rattle.lvm_keeps.proofs.Causes.{copies_still, origin_still}
 use Rattle.lvm_keeps.proofs.Fitting.{still_fits}
@@ -40,7 +40,7 @@ use Rattle.lvm_keeps.proofs.Lists.{all_on, length_set}
 use Rattle.lvm_keeps.proofs.NoteStart.{each_counted}
 use Rattle.lvm_keeps.proofs.Rows.{data_still, rows_by, status_still, step_still}
 use Rattle.lvm_keeps.proofs.Small.{both, not_so}
-use Rattle.lvm_keeps.proofs.Still.{if_on}
+use Rattle.lvm_keeps.proofs.Still.{if_on, shape_still}
 use Rattle.lvm_keeps.proofs.Whole.{sound_still, told_still}
 use Rattle.lvm_keeps_events.specs.Ends.{NoteEndKeeps}
 use Rattle.lvm_keeps_events.proofs.Removal.{IsOut, as_many, given_back, none_left, others, rows_left, taken_out, tickets_left}
@@ -145,22 +145,11 @@ module _ (s : State) (sound : IsSound s) (on : s.core.power ≡ power.On) (disk 
   named_on x keep mode.Passive rec has two names = names
   named_on x keep mode.Off rec has two names = names
 
-  shape_on : (x : Open) → IsShaped core x → IsShaped now.core x
-  shape_on x a = record {
-    targets = all_on (IsTarget core x.request.ask) (IsTarget now.core x.request.ask) (λ t i. record { copy = i.copy; sector = i.sector; there = i.there }) x.request.targets.items a.targets;
-    phase_is = a.phase_is;
-    hand = a.hand;
-    room = a.room;
-    differ = a.differ;
-    usable = a.usable;
-    one = a.one;
-  }
-
   one : (x : Open) → IsKept x → IsOpenOne core x → IsOpenOne now.core x
   one x keep it = record {
     laid = let l = it.laid in record { within = l.within; blocks = l.blocks; most = l.most; id = l.id };
     waits = λ w. let r = it.waits w in let b = r.ready in record {
-      shape = shape_on x r.shape;
+      shape = shape_still core now.core refl x r.shape;
       ready = record { free = b.free; recorded = b.recorded; wanted = b.wanted; named = λ has two. named_on x keep (mode_for core x.request.ask) b.recorded has two (b.named has two); dirty = b.dirty };
       judged = λ write. let j = r.judged write in record { uncaught = j.uncaught; due = j.due; all = j.all };
     };

@@ -55,11 +55,10 @@ use Rattle.lvm_session.specs.Requests.{is_failed_and_sure, is_left_out, is_past_
 use Rattle.lvm_session.specs.Sound.{count_if, is_clearing, is_hand, IsCopy, IsFitting, IsGoing, IsOn, IsSound, IsTold, may_be_fresh, out_with, stays_fresh, waiting_rows, with_row}
 use Rattle.lvm_submit.proofs.Numbered.{below_next}
 use Rattle.lvm_keeps.proofs.Causes.{answered_when_on, counted_when_on}
-use Rattle.lvm_keeps.proofs.Ending.{back}
 use Rattle.lvm_keeps.proofs.Lists.{all_on, length_set}
 use Rattle.lvm_keeps.proofs.Rows.{rows_but_copy}
 use Rattle.lvm_keeps.proofs.Small.{both, is_false, not_so}
-use Rattle.lvm_keeps.proofs.Still.{changed}
+use Rattle.lvm_keeps.proofs.Still.{changed, shape_still}
 use Rattle.lvm_keeps.proofs.Whole.{sound_when_on}
 use Rattle.lvm_keeps_events.proofs.Marking.{any_alike, count_alike, filter_alike}
 use Rattle.lvm_keeps_events.proofs.OnePlace.{one_lp}
@@ -491,16 +490,8 @@ module _ (s : State) (sound : IsSound s) (on : s.core.power ≡ power.On) (c : O
     one : (k : ℕ) (o : Open) → slice_get core.requests k ≡ Some o → IsOpenOne core o → o.request.id < next_id core.history → IsOpenOne after o
     one k o o_there it low = record {
       laid = let l = it.laid in record { within = l.within; blocks = l.blocks; most = l.most; id = l.id };
-      waits = λ waits. let r = it.waits waits in let a = r.shape in let b = r.ready in record {
-        shape = record {
-          targets = all_on (IsTarget core o.request.ask) (IsTarget after o.request.ask) (λ t i. record { copy = i.copy; sector = i.sector; there = i.there }) o.request.targets.items a.targets;
-          phase_is = a.phase_is;
-          hand = a.hand;
-          room = a.room;
-          differ = a.differ;
-          usable = a.usable;
-          one = a.one;
-        };
+      waits = λ waits. let r = it.waits waits in let b = r.ready in record {
+        shape = shape_still core after refl o r.shape;
         ready = record {
           free = λ past. free_on o low (b.free past);
           recorded = b.recorded;

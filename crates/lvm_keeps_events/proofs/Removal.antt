@@ -1,18 +1,16 @@
 -- A transfer isn't out any more.
-use Rattle.std.proofs.Common.{◌≡◌, ◌⊎◌, inl, inr, ◌==◌, ◌≤◌, ◌+◌, ℕ, zero, suc, Bool, true, false, ◌&&◌, ◌||◌, List, [], ◌∷◌, ◌++◌, Option, Some, length, slice_get, refl, sym, ◌∙◌, ap, subst, arith}
-use Rattle.std.specs.Prelude.{count_by, drop, slice_index_or, slice_set}
+use Rattle.std.proofs.Common.{◌≡◌, ◌==◌, ◌+◌, ℕ, zero, suc, Bool, true, false, ◌&&◌, ◌||◌, List, [], ◌∷◌, ◌++◌, Option, Some, slice_get, refl, sym, ◌∙◌, ap, subst, arith}
+use Rattle.std.specs.Prelude.{count_by, slice_index_or, slice_set}
 use Rattle.std.specs.List.{list_any, remove, AllByRecursion}
 use Rattle.std.proofs.lemmas.Bool.{eq-eqb}
 use Rattle.lvm_num.specs.Buffer.{Buffer}
-use Rattle.lvm_disk.specs.Device.{Device, Flight, Media}
+use Rattle.lvm_disk.specs.Device.{Flight, Media}
 use Rattle.lvm_disk.specs.Steps.{Removes}
-use Rattle.lvm_vol.specs.declared.entry.Outcome.{Outcome}
 use Rattle.lvm_session.specs.declared.flown.Flown.{Flown}
 use Rattle.lvm_session.specs.declared.flown.Owner.{Owner}
 use Rattle.lvm_session.specs.declared.flown.Owner.TheVariants as owner
 use Rattle.lvm_session.specs.declared.open.Power.TheVariants as power
 use Rattle.lvm_session.specs.State.{Core, State}
-use Rattle.lvm_session.specs.Bringing.{with_back}
 use Rattle.lvm_session.specs.Owners.{AreOwned, AreRows, HaveTickets, IsRowOf, flies, same_owner}
 use Rattle.lvm_session.specs.Sound.{IsSound, count_if, hands_with, has_number, is_dark, is_hand, out_with}
 use Rattle.lvm_keeps.proofs.Ending.{back}

@@ -39,12 +39,12 @@ use Rattle.lvm_session.specs.Marks.{can_replace, is_among, is_entailed, is_entai
 use Rattle.lvm_session.specs.Causes.{fails_on, is_blamed, is_held_stale, was_fresh}
 use Rattle.lvm_session.specs.Left.{clean_volumes}
 use Rattle.lvm_session.specs.Owners.{AreRows, IsTransferOf}
-use Rattle.lvm_session.specs.Requests.{is_failed_and_sure, is_left_out, is_wanted_dirty, is_wanted_due, IsOpenOne, IsReady, IsShaped, IsTarget, mode_for, will_be_kept}
+use Rattle.lvm_session.specs.Requests.{is_failed_and_sure, is_left_out, is_wanted_dirty, is_wanted_due, IsOpenOne, IsReady, IsShaped, mode_for, will_be_kept}
 use Rattle.lvm_session.specs.Sound.{IsCopy, may_be_fresh, stays_fresh}
 use Rattle.lvm_keeps.proofs.Landing.{or_parts}
-use Rattle.lvm_keeps.proofs.Lists.{all_on}
 use Rattle.lvm_keeps.proofs.Rows.{data_still, status_still, step_still}
 use Rattle.lvm_keeps.proofs.Small.{both, is_false, not_so}
+use Rattle.lvm_keeps.proofs.Still.{shape_still}
 use Rattle.lvm_keeps.proofs.Tables.{apart}
 use Rattle.lvm_keeps_events.proofs.Marking.{count_alike, filter_alike}
 use Rattle.lvm_keeps_events.proofs.Lists.{all_and, any_on, count_on, or_false, or_true}
@@ -203,15 +203,7 @@ module _ (core : Core) (due : Pp → Bool) (wanted : Status) (writes : Writes) (
   }
 
   pub shape_on : (x : Open) → IsShaped core x → IsShaped staler x
-  shape_on x a = record {
-    targets = all_on (IsTarget core x.request.ask) (IsTarget staler x.request.ask) (λ t i. record { copy = i.copy; sector = i.sector; there = i.there }) x.request.targets.items a.targets;
-    phase_is = a.phase_is;
-    hand = a.hand;
-    room = a.room;
-    differ = a.differ;
-    usable = a.usable;
-    one = a.one;
-  }
+  shape_on x a = shape_still core staler refl x a
 
   pub left_on : (x : Open) (p : Pp) → is_among (pps_of x.request.targets.items) p || is_left_out core x.request.ask p ≡ true → is_among (pps_of x.request.targets.items) p || is_left_out staler x.request.ask p ≡ true
   left_on x p e = by (is_among (pps_of x.request.targets.items) p) (is_left_out core x.request.ask p) (is_left_out staler x.request.ask p) (λ f. out_on x.request.ask p f) e
