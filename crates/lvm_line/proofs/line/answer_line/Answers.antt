@@ -9,7 +9,7 @@ use Rattle.lvm_copy_lines.specs.passed.RefusalVariants as refusal
 use Rattle.lvm_copy_lines.specs.passed.ReplyVariants as reply
 use Rattle.lvm_line.specs.Lines.{CommandInPlace, IsLeftToDo}
 use Rattle.lvm_line.proofs.Answering.{mkvg_left}
-use Rattle.lvm_line.proofs.InPlace.{done_in_place, still_in_place}
+use Rattle.lvm_line.proofs.Staying.{done_in_place, still_in_place}
 use Rattle.lvm_line.proofs.line.answer_line.Goals as goal
 
 pub serve-requires-clause-within : goal.serve-requires-clause-within

@@ -3,7 +3,7 @@ use Rattle.lvm_parse.specs.declared.command.Command.{Command}
 use Rattle.lvm_parse.specs.declared.command.Command.TheVariants as command
 use Rattle.lvm_copy_lines.specs.passed.Stage.{CommandEnds, session_in}
 use Rattle.lvm_line.specs.Lines.{CommandDoes, IsOrder, role_of}
-use Rattle.lvm_line.proofs.InPlace.{lists_in_place}
+use Rattle.lvm_line.proofs.Staying.{lists_in_place}
 use Rattle.lvm_line.proofs.Lining.{heard_disk, heard_group, heard_volume, one_disk, one_group, one_volume}
 use Rattle.lvm_line.proofs.line.serve.Goals as goal
 
