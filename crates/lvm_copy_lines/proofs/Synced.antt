@@ -99,7 +99,7 @@ fault_may core further none may = by core.power
     by power.Stuck = on
 
 pub volume_may : (core : Core) (lv : ℕ) → core.copy ≡ None → MayBe (volume_fault core lv)
-volume_may core lv none = fault_may core _ none (by (volume_of core.descriptor lv))
+volume_may core lv none = fault_may core (option_map_or (λ (row : LvRow). numbers_fault core) (volume_of core.descriptor lv) (Some fault.NoVolume)) none (by (volume_of core.descriptor lv))
   where
     by : (m : Option LvRow) → MayBe (option_map_or (λ (row : LvRow). numbers_fault core) m (Some fault.NoVolume))
     by None = tt

@@ -19,7 +19,8 @@ use Rattle.lvm_disk_lines.specs.passed.Handover.{HasJustBegun, IsHistory, Serves
 use Rattle.lvm_disk_lines.proofs.passed.Handover.{varied_on_begins}
 use Rattle.lvm_disk_lines.specs.passed.TieCommands.{StandsAfter}
 use Rattle.lvm_disk_lines.proofs.passed.TieCommands.{varied_on_stands}
-use Rattle.lvm_disk_lines.specs.passed.Varyon.{ComesOn, Refuses, VaryonGives, log_after}
+use Rattle.lvm_disk_lines.specs.passed.Varyon.{ComesOn, Recopy, Refuses, VaryonGives, log_after}
+use Rattle.lvm_disk_lines.proofs.passed.Varyon.{HasWrote, wrote_broken, wrote_equalled, wrote_failed}
 use Rattle.lvm_disk_lines.specs.passed.Quiesce.{Quiesces, IsFullFor, VariesOnAt, VaryonOnceQuiet}
 use Rattle.lvm_group_lines.specs.Groups.{itself}
 use Rattle.lvm_disk_lines.specs.passed.Stage.{StandsAlone, without_facts}
@@ -29,6 +30,10 @@ use Rattle.lvm_group_lines.proofs.Quieting.{device_outcome, itself_once, on_once
 
 -- ---- a refusal
 
+-- no order is given by what a varyon writes
+same_orders : (b : _) (copies : List Recopy) (read new : Device) → HasWrote b copies read new → new.orders ≡ read.orders
+same_orders b copies read new it = it.forgets.orders ∙ it.made.orders ∙ it.records.orders
+
 -- what a refusal leaves of a shelf that was at rest
 module _ (before old left : Device) (name : List ℕ) (moment patience : ℕ) (log : Log) (ready : IsReady old) (same : old.orders ≡ before.orders) where
   pub leaves : (why : Cause) → Refuses old left name moment patience log why → Leaves why before left
@@ -37,9 +42,20 @@ module _ (before old left : Device) (name : List ℕ) (moment patience : ℕ) (l
   leaves cause.Ambiguous refuses = record { rests = inr refuses.1.rested.ready; orders = refuses.1.unwritten.orders ∙ same }
   leaves (cause.NoQuorum have total) refuses = record { rests = inr refuses.1.rested.ready; orders = refuses.1.unwritten.orders ∙ same }
   leaves (cause.ClockBack seen) refuses = record { rests = inr refuses.1.rested.ready; orders = refuses.1.unwritten.orders ∙ same }
-  leaves (cause.DiskFailed disk) refuses = let w = refuses.1.writes in record { rests = inr w.how.rested.ready; orders = w.how.stops.only.orders ∙ w.unwritten.orders ∙ same }
-  leaves cause.Dark refuses = record { rests = refuses.1.how.flights; orders = ⊎_elim (λ u. u.orders) (λ w. w.writes.how.only.orders ∙ w.writes.unwritten.orders) refuses.1.when ∙ same }
-  leaves cause.Stuck refuses = record { rests = refuses.1.how.power; orders = ⊎_elim (λ u. u.orders) (λ w. w.writes.how.only.orders ∙ w.writes.unwritten.orders) refuses.1.when ∙ same }
+  leaves (cause.DiskFailed disk) refuses =
+      let w = refuses.1.writes in
+      record {
+        rests = inr (⊎_elim (λ failed. failed.rested.ready) (λ s. ⊎_elim (λ at. at.1.rested.ready) (λ at. at.3.rested.ready) s.stops.when) w.how);
+        orders = same_orders _ refuses.1.copies w.read left (wrote_failed _ refuses.1.copies w.read left disk w.how) ∙ w.unwritten.orders ∙ same;
+      }
+  leaves cause.Dark refuses = record {
+    rests = refuses.1.how.flights;
+    orders = ⊎_elim (λ u. u.orders) (λ w. same_orders _ w.copies w.writes.read left (wrote_broken _ w.copies w.writes.read left w.writes.how) ∙ w.writes.unwritten.orders) refuses.1.when ∙ same;
+  }
+  leaves cause.Stuck refuses = record {
+    rests = refuses.1.how.power;
+    orders = ⊎_elim (λ u. u.orders) (λ w. same_orders _ w.copies w.writes.read left (wrote_broken _ w.copies w.writes.read left w.writes.how) ∙ w.writes.unwritten.orders) refuses.1.when ∙ same;
+  }
   leaves cause.Memory refuses = record { rests = inr refuses.1.1.ready; orders = refuses.1.0.orders ∙ same }
   leaves (cause.NoDisk disk) refuses = absurd refuses.1
   leaves (cause.TooMany limit) refuses = absurd refuses.1
@@ -120,9 +136,10 @@ module _ {S : Type 0} (device : S → Device) (shelf : S) (log : Log) (name : Li
     entered = log.facts;
     facts = ap (λ (c : Core). c.history.facts) it.on.first.is;
     stays = stays log.facts log.facts (λ P bears holds. holds);
-    ready = it.on.written.writes.how.rested.ready;
+    ready = it.on.written.writes.how.equal.rested.ready;
     epoch = ap (λ (c : Core). c.status.stamp.epoch) it.on.first.is;
-    orders = it.on.written.writes.how.keeps.orders ∙ it.on.written.writes.unwritten.orders ∙ quiet_orders (device shelf) it.mid it.quiesces;
+    orders = same_orders _ it.on.written.copies it.on.written.writes.read (device driver.0) (wrote_equalled _ it.on.written.copies it.on.written.writes.read (device driver.0) driver.1.homes it.on.written.writes.how)
+        ∙ it.on.written.writes.unwritten.orders ∙ quiet_orders (device shelf) it.mid it.quiesces;
     rooms = ap (λ (c : Core). without_facts c.history) it.on.first.is;
   }
 

@@ -1,7 +1,7 @@
 -- What a run of a single `varyonvg` leaves.
-use Rattle.std.proofs.Common.{◌≡◌, ◌⊎◌, inl, inr, ◌+◌, ◌++◌, ◌||◌, ◌∷◌, ◌==◌, ℕ, zero, suc, Bool, true, false, List, [], Option, Some, None, Result, Ok, Err, refl, sym, ap, subst, ◌∙◌, arith}
-use Rattle.std.specs.Prelude.{IsSomeAnd, if◌then◌else◌}
-use Rattle.std.proofs.lemmas.List.Sums.{sum_by-cons}
+use Rattle.std.proofs.Common.{◌≡◌, inl, inr, ◌++◌, ◌||◌, ◌∷◌, ℕ, false, List, [], Option, Some, Result, Ok, refl, sym, ap, subst, ◌∙◌}
+use Rattle.std.specs.Prelude.{IsSomeAnd}
+use Rattle.std.proofs.lemmas.List.{append-nil}
 use Rattle.lvm_disk.specs.Device.{Device}
 use Rattle.lvm_vol.specs.Log.{Log}
 use Rattle.lvm_parse.specs.declared.command.Command.{Command}
@@ -9,142 +9,117 @@ use Rattle.lvm_parse.specs.declared.command.Command.TheVariants as command
 use Rattle.lvm_operands.specs.declared.rest.Misfit.{Misfit}
 use Rattle.lvm_parse.specs.Grammar.{line_of}
 use Rattle.lvm_kept.specs.Moments.{Moment}
-use Rattle.lvm_stamps.specs.Behind.{IsBehind}
 use Rattle.lvm_core.specs.declared.parts.Room.{Room}
-use Rattle.lvm_core.specs.declared.refused.Cause.{Cause}
 use Rattle.lvm_session.specs.State.{Core}
 use Rattle.lvm_line.specs.Causes.{IsBroughtBack}
-use Rattle.lvm_line.specs.Lines.{IsLine, LineDoes, role_of}
-use Rattle.lvm_line.specs.passed.GroupLines.{IsLeft, NoVaryonWhileOn, Varies}
+use Rattle.lvm_line.specs.Lines.{IsLine, role_of}
 use Rattle.lvm_line.specs.passed.Quiesce.{Quiesces}
 use Rattle.lvm_line.specs.passed.Recover.{HasNoPassive}
-use Rattle.lvm_line.specs.passed.Stage.{refusals_of, State, Reply}
+use Rattle.lvm_line.specs.passed.RefusalVariants as refusal
 use Rattle.lvm_line.specs.passed.ReplyVariants as reply
+use Rattle.lvm_line.specs.passed.Stage.{State, Reply}
 use Rattle.lvm_line.specs.passed.Varyon.{IsRecovered}
-use Rattle.lvm_line.proofs.Causing.{varyon_restates}
+use Rattle.lvm_line.proofs.Causing.{nothing_written, varyon_restates}
 use Rattle.lvm_line.proofs.passed.Quiesce.{still_ends}
-use Rattle.lvm_top.specs.declared.status.ExitStatus.{ExitStatus}
-use Rattle.lvm_top.specs.declared.status.ExitStatus.TheVariants as ended
-use Rattle.lvm_top.specs.Laws.{VaryonRecovers}
-use Rattle.lvm_top.specs.Run.{Run, IsRun}
-use Rattle.lvm_top.specs.Script.{Script, NoLine, NextLine, Ends, AtLine, InLine, MakeRequests, Says, empty_log, entry_state, facts_of, is_requesting, refusals_in}
-use Rattle.lvm_top.specs.Statuses.{IsAtEnd, at_end}
-use Rattle.lvm_top.proofs.Scripting.{begins_timely}
+use Rattle.lvm_top.specs.Laws.{VaryonsRecover}
+use Rattle.lvm_top.specs.Run.{DidOnly, IsRun, Run, VaryonRecovers}
+use Rattle.lvm_top.specs.Script.{AtLine, Ends, InLine, MakeRequests, NextLine, NoLine, Says, Script, empty_log, entry_state, is_requesting}
+use Rattle.lvm_top.proofs.Scripting.{begins_timely, script_went}
 
--- ---- a script of one line
+-- ---- a run of one line
 
-none_behind : (lines : List (List ℕ)) (line : List ℕ) → lines ++ line ∷ [] ≡ [] → ⊥
-none_behind [] line e = cc e
-none_behind (x ∷ xs) line e = cc e
+none_behind : {A : Type 0} (xs : List A) (x : A) → xs ++ x ∷ [] ≡ [] → ⊥
+none_behind [] x e = cc e
+none_behind (first ∷ xs) x e = cc e
 
-is_only : (lines : List (List ℕ)) (line only : List ℕ) → lines ++ line ∷ [] ≡ only ∷ [] → (lines ≡ []) × (line ≡ only)
-is_only [] line only e = (refl, cc e)
-is_only (x ∷ xs) line only e = absurd (none_behind xs line (let rest : xs ++ line ∷ [] ≡ [] = cc e in rest))
+is_only : {A : Type 0} (xs : List A) (x only : A) → xs ++ x ∷ [] ≡ only ∷ [] → (xs ≡ []) × (x ≡ only)
+is_only [] x only e = (refl, cc e)
+is_only (first ∷ xs) x only e = absurd (none_behind xs x (let rest : xs ++ x ∷ [] ≡ [] = cc e in rest))
 
-no_line : {log : Log} {room : Room} {first last : State} {lines : List (List ℕ)} {replies : List Reply} → Script log room first lines replies last → lines ≡ [] → (replies ≡ []) × (last ≡ first)
-no_line NoLine e = (refl, refl)
-no_line (NextLine {lines = lines} line answer said heard says before it) e = absurd (none_behind lines line e)
+no_line : {log : Log} {room : Room} {first last : State} {lines : List (List ℕ)} {replies : List Reply} → Script log room first lines replies last → lines ≡ [] → last ≡ first
+no_line NoLine e = refl
+no_line (NextLine {lines = lines} line answer said heard says earlier it) e = absurd (none_behind lines line e)
 
--- the one line, and how it was answered
-record IsOneLine (log : Log) (room : Room) (first last : State) (replies : List Reply) (line : List ℕ) : Type 0 where
+-- the one line, by what was written for it
+record IsOneLine (log : Log) (room : Room) (first last : State) (line : List ℕ) (said : Reply) : Type 0 where
   answer : Reply
-  said : Reply
   says : Says answer said
-  only : replies ≡ said ∷ []
   it : IsLine log room line answer first last
 
-one_line : {log : Log} {room : Room} {first last : State} {lines : List (List ℕ)} {replies : List Reply} → Script log room first lines replies last → (only : List ℕ) → lines ≡ only ∷ [] → IsOneLine log room first last replies only
-one_line NoLine only e = absurd (cc (e))
-one_line {log = log} {room = room} {first = first} {last = last} (NextLine {lines = lines} {replies = replies} {mid = mid} line answer said heard says before it) only e =
-    let is = is_only lines line only e in
-    let none = no_line before is.0 in
+-- it is the last
+one_so : {log : Log} {room : Room} {first mid last : State} {lines : List (List ℕ)} {replies : List Reply} → Script log room first lines replies mid → (line only : List ℕ) (answer said one : Reply) → Says answer said → IsLine log room line answer mid last
+    → lines ++ line ∷ [] ≡ only ∷ [] → replies ++ said ∷ [] ≡ one ∷ [] → IsOneLine log room first last only one
+one_so {log = log} {room = room} {first = first} {mid = mid} {last = last} {lines = lines} {replies = replies} script line only answer said one says it is told =
+    let own = is_only lines line only is in
+    let its = is_only replies said one told in
     record {
       answer = answer;
-      said = said;
-      says = says;
-      only = ap (λ (l : List Reply). l ++ said ∷ []) none.0;
-      it = subst (λ (l : List ℕ). IsLine log room l answer first last) is.1 (subst (λ (m : State). IsLine log room line answer m last) none.1 it);
+      says = subst (Says answer) its.1 says;
+      it = subst (λ (l : List ℕ). IsLine log room l answer first last) own.1 (subst (λ (s : State). IsLine log room line answer s last) (no_line script own.0) it);
     }
 
-ends_at_line : {log : Log} {room : Room} {mid last : State} {done : List (List ℕ)} {said : List Reply} {front : List ℕ} → Ends log room mid last done said front → done ≡ [] → (last ≡ mid) × (said ≡ [])
-ends_at_line (AtLine same) e = (same, refl)
-ends_at_line (InLine line answer said front rest says split it) e = absurd (cc (e))
+-- it was answered whole
+one_whole : {log : Log} {room : Room} {first last : State} {lines : List (List ℕ)} {replies : List Reply} → Script log room first lines replies last → (only : List ℕ) (one : Reply)
+    → lines ++ [] ≡ only ∷ [] → replies ++ [] ≡ one ∷ [] → IsOneLine log room first last only one
+one_whole NoLine only one is told = absurd (cc is)
+one_whole (NextLine {lines = lines} {replies = replies} line answer said heard says earlier it) only one is told =
+    one_so earlier line only answer said one says it (sym (append-nil (lines ++ line ∷ [])) ∙ is) (sym (append-nil (replies ++ said ∷ [])) ∙ told)
 
--- ---- its answer
+-- or perhaps in part
+one_line : {log : Log} {room : Room} {first mid last : State} {lines done : List (List ℕ)} {replies said : List Reply} {front : List ℕ} → Script log room first lines replies mid → Ends log room mid last done said front
+    → (only : List ℕ) (one : Reply) → lines ++ done ≡ only ∷ [] → replies ++ said ≡ one ∷ [] → IsOneLine log room first last only one
+one_line {log = log} {room = room} {first = first} script (AtLine same) only one is told = subst (λ (s : State). IsOneLine log room first s only one) (sym same) (one_whole script only one is told)
+one_line script (InLine line answer said front rest says split it) only one is told = one_so script line only answer said one says it is told
 
-answered_well : (answer said : Reply) → Says answer said → refusals_of said ≡ 0 → refusals_of answer ≡ 0
-answered_well answer said (inl same) none = sym (ap refusals_of same) ∙ none
-answered_well answer said (inr late) none = absurd (let e = sym (ap refusals_of late.1) ∙ none in cc (e))
-
-module _ (log : Log) (room : Room) (name : List ℕ) (old new : State) (answer : Reply) (well : refusals_of answer ≡ 0) where
-  left_well : (shelf : Device) (history : Log) (given : Result Core Cause) → IsLeft shelf history old new answer given → answer ≡ reply.Ok
-  left_well shelf history (Ok core) left = left.2.answered
-  left_well shelf history (Err why) left = absurd (let e = sym (ap refusals_of left.answered) ∙ well in cc (e))
-
-  varied_on : LineDoes log room (Ok (Some (command.Varyon name))) old new answer → answer ≡ reply.Ok
-  varied_on (NoVaryonWhileOn on is asked) = absurd (let e = sym (ap refusals_of is) ∙ well in cc (e))
-  varied_on (Varies brings) = left_well brings.shelf brings.history brings.given brings.left
+-- what was written is its answer, if it doesn't say that no memory was found
+said_so : (answer said : Reply) → Says answer said → (said ≡ reply.Refused refusal.Memory → ⊥) → answer ≡ said
+said_so answer said (inl same) other = sym same
+said_so answer said (inr late) other = absurd (other late.1)
 
 -- ---- the run
 
-at_end_well : (refused : ℕ) → at_end refused ≡ ended.Well → refused ≡ 0
-at_end_well zero is = refl
-at_end_well (suc n) is = absurd (cc (is))
-
-no_fault : (s : ExitStatus) → s ≡ ended.Well → (s ≡ ended.SinkFault → ⊥) × (s ≡ ended.Stuck → ⊥)
-no_fault s well = (λ is. let e = sym well ∙ is in cc e, λ is. let e = sym well ∙ is in cc e)
-
-module _ (r : Run) (ran : IsRun r) (line name : List ℕ) (only : ran.lines.lines ≡ line ∷ []) (is : line_of line ≡ Ok (Some (command.Varyon name))) (well : r.status ≡ at_end 0) (behind : IsBehind r.named r.entry) where
+module _ (r : Run) (ran : IsRun r) (line name : List ℕ) (said : Reply) (is : line_of line ≡ Ok (Some (command.Varyon name))) (did : DidOnly ran line said) where
   abbrev log : Log
   log = empty_log r.named r.room
 
   abbrev first : State
   first = entry_state r.entry r.named
 
-  none_done : ran.lines.done ≡ []
-  none_done = ran.between (no_fault r.status well).0 (no_fault r.status well).1
+  one : IsOneLine log r.room first ran.end line said
+  one = one_line ran.lines.script ran.lines.ends line said did.0 did.1
 
-  at_last : (ran.end ≡ ran.lines.mid) × (ran.lines.said ≡ [])
-  at_last = ends_at_line ran.lines.ends none_done
-
-  one : IsOneLine log r.room first ran.lines.mid ran.lines.replies line
-  one = one_line ran.lines.script line only
-
-  none_refused : r.refused ≡ 0
-  none_refused = at_end_well r.refused (sym (ran.counted (subst IsAtEnd (sym well) tt)) ∙ well)
-
-  said_well : refusals_of one.said ≡ 0
-  said_well =
-      let sum : refusals_in (one.said ∷ []) ≡ refusals_of one.said + refusals_in [] = sum_by-cons refusals_of one.said [] in
-      let all : r.refused ≡ refusals_in (one.said ∷ []) = ran.lines.counted ∙ ap (λ (l : List Reply). refusals_in (ran.lines.replies ++ l)) at_last.1 ∙ ap (λ (l : List Reply). refusals_in (l ++ [])) one.only in
-      let none = none_refused in
-      omega (arith, sum, all, none)
-
-  is_ok : one.answer ≡ reply.Ok
-  is_ok = varied_on log r.room name first ran.lines.mid one.answer (answered_well one.answer one.said one.says said_well)
-      (subst (λ (read : Result (Option Command) Misfit). LineDoes log r.room read first ran.lines.mid one.answer) is one.it.does)
+  its : (said ≡ reply.Refused refusal.Memory → ⊥) → IsLine log r.room line said first ran.end
+  its other = subst (λ (answer : Reply). IsLine log r.room line answer first ran.end) (said_so one.answer said one.says other) one.it
 
   -- it makes no requests, so nothing happens behind it
   asks_none : MakeRequests (ran.lines.lines ++ ran.lines.done) → ⊥
   asks_none asks =
-      let of_line : MakeRequests (line ∷ []) = subst (λ (l : List (List ℕ)). MakeRequests (l ++ [])) only (subst (λ (l : List (List ℕ)). MakeRequests (ran.lines.lines ++ l)) none_done asks) in
+      let of_line : MakeRequests (line ∷ []) = subst MakeRequests did.0 asks in
       let quiet : is_requesting (role_of (line_of line)) || false ≡ false = ap (λ (read : Result (Option Command) Misfit). is_requesting (role_of read) || false) is in
       let e = sym quiet ∙ of_line in cc e
 
-  exit_is : ran.lines.mid.moment.device ≡ r.exit
-  exit_is = sym (ap (λ (m : Moment). m.device) (ran.concluded.still asks_none) ∙ ap (λ (s : State). s.moment.device) at_last.0)
+  exit_is : ran.end.moment.device ≡ r.exit
+  exit_is = sym (ap (λ (m : Moment). m.device) (ran.concluded.still asks_none))
 
-  brought : (core : Core) × (ran.lines.mid.session ≡ Some core) × ((quiet : Device) × Quiesces r.entry quiet × IsBroughtBack quiet ran.lines.mid.moment.device core.descriptor)
+  brought : (core : Core) × (ran.end.session ≡ Some core) × ((quiet : Device) × Quiesces r.entry quiet × IsBroughtBack quiet ran.end.moment.device core.descriptor)
       → IsSomeAnd ran.end.session (λ core. HasNoPassive core.descriptor → IsRecovered r.entry r.exit core.descriptor)
   brought (core, on, (quiet, quiesces, back)) =
-      subst (λ (o : Option Core). IsSomeAnd o (λ core. HasNoPassive core.descriptor → IsRecovered r.entry r.exit core.descriptor)) (sym (ap (λ (s : State). s.session) at_last.0 ∙ on))
+      subst (λ (o : Option Core). IsSomeAnd o (λ core. HasNoPassive core.descriptor → IsRecovered r.entry r.exit core.descriptor)) (sym on)
       (λ soft. subst (λ (exit : Device). IsRecovered r.entry exit core.descriptor) exit_is
-      (subst (λ (entry : Device). IsRecovered entry ran.lines.mid.moment.device core.descriptor) (still_ends ran.ready.flights quiesces.ends) (back.recovered soft)))
+      (subst (λ (entry : Device). IsRecovered entry ran.end.moment.device core.descriptor) (still_ends ran.ready.flights quiesces.ends) (back.recovered soft)))
 
-pub recovers : VaryonRecovers
-recovers r ran line name only is well behind =
-    let it = one r ran line name only is well behind in
-    brought r ran line name only is well behind
-    (varyon_restates (empty_log r.named r.room) r.room line name (entry_state r.entry r.named) ran.lines.mid is
-    (subst (λ (answer : Reply). IsLine (empty_log r.named r.room) r.room line answer (entry_state r.entry r.named) ran.lines.mid) (is_ok r ran line name only is well behind) it.it)
-    (begins_timely r.named r.entry ran.ready.flights behind))
+pub varyon_recovers : (r : Run) (ran : IsRun r) → VaryonRecovers ran
+varyon_recovers r ran = record {
+  recovered = λ line name is did behind.
+      brought r ran line name reply.Ok is did
+      (varyon_restates (empty_log r.named r.room) r.room line name (entry_state r.entry r.named) ran.end is (its r ran line name reply.Ok is did (λ e. cc e)) (begins_timely r.named r.entry ran.ready.flights behind));
+  unwritten = λ line name have total is did.
+      let told = reply.Refused (refusal.NoQuorum have total) in
+      ap (λ (d : Device). d.wrote) (sym (exit_is r ran line name told is did))
+      ∙ nothing_written (empty_log r.named r.room) r.room (line_of line) have total (entry_state r.entry r.named) ran.end (its r ran line name told is did (λ e. cc e)).does;
+}
+
+-- ---- a line of a script
+
+pub varyons_recover : VaryonsRecover
+varyons_recover log room first lines replies last script timely line name new is it = varyon_restates log room line name last new is it ((script_went log room first script).timely timely)

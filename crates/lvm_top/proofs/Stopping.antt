@@ -18,6 +18,7 @@ use Rattle.lvm_top.specs.Run.{Run, IsConcluded, IsRun, Promises, ran}
 use Rattle.lvm_top.specs.Script.{Stream, Passage, StaysAlone, EndsAlone, EndsHeard, MakeRequests, empty_log, entry_state}
 use Rattle.lvm_top.proofs.Firsts.{first_upheld}
 use Rattle.lvm_top.proofs.Concluding.{at_rest_still, concluded, entry_between, off_still, ran_ahead, run_upheld}
+use Rattle.lvm_top.proofs.Recovering.{varyon_recovers}
 use Rattle.lvm_top.proofs.Scripting.{Ended, told_same, nothing_done, nothing_broken, nothing_heard, lines_ended}
 use Rattle.lvm_top.specs.Statuses.{status_of, at_end, IsAtEnd, GoesUntil}
 use Rattle.lvm_top.specs.declared.status.ExitStatus.{ExitStatus}
@@ -244,6 +245,7 @@ module _ {S : Type 0} (device : S → Device) (entry : Device) (run begun last :
       upheld = run_upheld _;
       first = first_upheld _;
       ahead = ran_ahead _ (the_run status says) refl;
+      recovers = varyon_recovers _ (the_run status says);
     })
 
 -- and of one for which no memory was found
@@ -255,4 +257,5 @@ nothing_promised asked last room device input output ready = record {
   upheld = run_upheld _;
   first = first_upheld _;
   ahead = nothing_ahead 0 last device [] refl (omega arith);
+  recovers = varyon_recovers _ (nothing_ran last room device input output ready);
 }

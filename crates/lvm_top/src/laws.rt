@@ -1,5 +1,5 @@
 //! Laws of runs. Each call does nothing: its contract is the law.
-ghost use Rattle.lvm_top.specs.Laws.{VaryonRecovers};
+ghost use Rattle.lvm_top.specs.Laws.{VaryonsRecover};
 ghost use Rattle.lvm_top.specs.Runs.{NextMayBegin, TwoRunsUphold};
 
 /// What a run leaves, another one may begin with at a later moment; so two runs, the first over disks of zeros and the second over what
@@ -9,7 +9,8 @@ pub fn runs_follow()
     ensures two { TwoRunsUphold }
 {}
 
-/// A run whose only line varies a group on makes its copies equal, and writes nothing else but records.
-pub fn varyon_recovers()
-    ensures { VaryonRecovers }
+/// Each `varyonvg` of a script that is answered `ok` leaves the group with its records again, and recovered where no volume of
+/// it is in mode passive.
+pub fn varyons_recover()
+    ensures { VaryonsRecover }
 {}

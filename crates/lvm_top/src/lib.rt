@@ -11,7 +11,7 @@ mod status;
 
 pub use generate::run_gen;
 pub use image::run_image;
-pub use laws::runs_follow;
+pub use laws::{runs_follow, varyons_recover};
 pub use lvm_core::Room;
 pub use lvm_line::below::stage::{Refusal, Reply};
 pub use lvm_words::{Job, WordsFault, read_words};
