@@ -19,8 +19,8 @@ use Rattle.lvm_disk_lines.specs.passed.Handover.{HasJustBegun, IsHistory, Serves
 use Rattle.lvm_disk_lines.proofs.passed.Handover.{varied_on_begins}
 use Rattle.lvm_disk_lines.specs.passed.TieCommands.{StandsAfter}
 use Rattle.lvm_disk_lines.proofs.passed.TieCommands.{varied_on_stands}
-use Rattle.lvm_disk_lines.specs.passed.Varyon.{ComesOn, Recopy, Refuses, VaryonGives, log_after}
-use Rattle.lvm_disk_lines.proofs.passed.Varyon.{HasWrote, wrote_broken, wrote_equalled, wrote_failed}
+use Rattle.lvm_disk_lines.specs.passed.Varyon.{ComesOn, Refuses, VaryonGives, log_after}
+use Rattle.lvm_disk_lines.proofs.passed.Varyon.{same_orders, wrote_broken, wrote_equalled, wrote_failed}
 use Rattle.lvm_disk_lines.specs.passed.Quiesce.{Quiesces, IsFullFor, VariesOnAt, VaryonOnceQuiet}
 use Rattle.lvm_group_lines.specs.Groups.{itself}
 use Rattle.lvm_disk_lines.specs.passed.Stage.{StandsAlone, without_facts}
@@ -29,10 +29,6 @@ use Rattle.lvm_group_lines.proofs.Coming.{CameOn, StayedOff, stays}
 use Rattle.lvm_group_lines.proofs.Quieting.{device_outcome, itself_once, on_once, quiet_orders, stayed_once}
 
 -- ---- a refusal
-
--- no order is given by what a varyon writes
-same_orders : (b : _) (copies : List Recopy) (read new : Device) → HasWrote b copies read new → new.orders ≡ read.orders
-same_orders b copies read new it = it.forgets.orders ∙ it.made.orders ∙ it.records.orders
 
 -- what a refusal leaves of a shelf that was at rest
 module _ (before old left : Device) (name : List ℕ) (moment patience : ℕ) (log : Log) (ready : IsReady old) (same : old.orders ≡ before.orders) where

@@ -26,7 +26,8 @@ use Rattle.lvm_core.specs.declared.refused.Refused.{Refused}
 use Rattle.lvm_session.specs.State.{Core}
 use Rattle.lvm_copy_lines.specs.passed.Group.{NewGroup, RefusesFirst, Refuses as MkvgRefuses}
 use Rattle.lvm_copy_lines.specs.passed.Varyon.{Refuses as VaryonRefuses}
-use Rattle.lvm_copy_lines.proofs.passed.Quiesce.{failed_rose, quiet_is_ahead, ends_only}
+use Rattle.lvm_copy_lines.proofs.passed.Quiesce.{quiet_is_ahead, ends_only}
+use Rattle.lvm_copy_lines.proofs.passed.Varyon.{failed_rose}
 use Rattle.lvm_line.specs.Causes.{HasCause, HasFailed, IsBroughtBack, RoseOn, VaryonLaw, disk_of}
 use Rattle.lvm_copy_lines.specs.passed.Stage.{patience_of_line, IsRelit, refusal_of, Shows, InFull, WithoutMemory, State, log_with, Refusal}
 use Rattle.lvm_copy_lines.specs.passed.DiskLines.{refusal_by, NoWriteWhileOn, WriteGoes, NoReadWhileOn, ReadGoes, NotThere, NotPlanned, IsArranged}
@@ -121,7 +122,7 @@ module _ (old mid : Device) (quiet : Quiesces old mid) where
   }
   varyon_stopped name moment patience log left (cause.DiskFailed disk) refuses = record {
     failed = λ d is. (let e : disk ≡ d = cc (is) in subst (λ (n : ℕ). Rose (old.counts.faults n) (left.counts.faults n)) e (faults_since disk left.counts (subst (λ (f : ℕ → ℕ). Rose (f disk) (left.counts.faults disk)) refuses.1.writes.unwritten.faults
-        (failed_rose _ refuses.1.copies disk refuses.1.writes.read left refuses.1.writes.how))));
+        (failed_rose _ refuses.1.copies refuses.1.writes.read left disk refuses.1.writes.how))));
     back = λ s is. absurd (cc (is));
     unwritten = λ h t is. absurd (cc (is));
   }

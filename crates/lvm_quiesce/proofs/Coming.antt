@@ -1,5 +1,5 @@
 -- Groups that come on or don't, once the transfers of before have ended.
-use Rattle.std.proofs.Common.{◌≡◌, inl, inr, ⊎_elim, ◌+◌, ◌-◌, ◌<◌, ◌≤◌, ◌^◌, ℕ, List, Result, Ok, Err, IfOk, IfErr, refl, sym, subst, ◌∙◌, arith}
+use Rattle.std.proofs.Common.{◌≡◌, inl, inr, ⊎_elim, ◌+◌, ◌-◌, ◌<◌, ◌≤◌, ◌^◌, ℕ, List, Result, Ok, Err, IfOk, IfErr, refl, sym, subst, arith}
 use Rattle.lvm_disk.specs.Counts.{Rose, RoseBy, Counts}
 use Rattle.lvm_disk.specs.Device.{Device, HasSectors}
 use Rattle.lvm_disk.proofs.Rising.{rose_before}
@@ -21,8 +21,8 @@ use Rattle.lvm_core.specs.State.{state_of}
 use Rattle.lvm_group.specs.NewGroup.{NewGroup, MayBegin, RefusesFirst}
 use Rattle.lvm_group.specs.Made.{Refuses as MkvgRefuses, MkvgGives}
 use Rattle.lvm_group.proofs.Entries.{keeps_cut, calm_cut}
-use Rattle.lvm_varyon.specs.Equal.{OneFailed, Recopy}
 use Rattle.lvm_varyon.specs.Varied.{Refuses as VaryonRefuses, VaryonGives}
+use Rattle.lvm_varyon.proofs.Wrote.{failed_rose}
 use Rattle.lvm_quiesce.specs.Ends.{Quiesces}
 use Rattle.lvm_quiesce.specs.Groups.{StaysOut, GivesOnceQuiet, StayedOut, WentQuiet, MkvgOnceQuiet, VariesOnAt, VaryonOnceQuiet, BringsOnEach, IsStartedEach, CauseRose}
 use Rattle.lvm_quiesce.specs.declared.ends.Quiesced.TheVariants as quiesced
@@ -115,19 +115,12 @@ mkvg_rose w patience was is old new (cause.DiskFailed disk) (inl unread) = inl u
 mkvg_rose w patience was is old new (cause.DiskFailed disk) (inr unwritten) = inr unwritten.failed.rose
 mkvg_rose w patience was is old new _ refuses = tt
 
--- a varyon stopped for a transfer of this disk, which has failed since the shelf was read
-pub failed_rose : (b : _) (copies : List Recopy) (disk : ℕ) (read new : Device) → OneFailed b copies disk read new → Rose (read.counts.faults disk) (new.counts.faults disk)
-failed_rose b copies disk read new (inl failed) = failed.first.rose
-failed_rose b copies disk read new (inr s) = ⊎_elim
-    (λ at. subst (λ (n : ℕ). Rose n (new.counts.faults disk)) (s.written.well disk) at.1.rose)
-    (λ at. subst (λ (n : ℕ). Rose n (new.counts.faults disk)) (at.1.well disk ∙ s.written.well disk) at.3.first.rose)
-    s.stops.when
-
 varyon_rose : (old new : Device) (name : List ℕ) (moment patience : ℕ) (log : Log) (why : Cause) → VaryonRefuses old new name moment patience log why → CauseRose patience old.counts new.counts why
 varyon_rose old new name moment patience log cause.Dark refuses = refuses.1.how.cuts
 varyon_rose old new name moment patience log cause.Stuck refuses = refuses.1.how.waited
 varyon_rose old new name moment patience log (cause.DiskFailed disk) refuses =
-    inr (subst (λ (f : ℕ → ℕ). Rose (f disk) (new.counts.faults disk)) refuses.1.writes.unwritten.faults (failed_rose _ refuses.1.copies disk refuses.1.writes.read new refuses.1.writes.how))
+    inr (subst (λ (f : ℕ → ℕ). Rose (f disk) (new.counts.faults disk)) refuses.1.writes.unwritten.faults
+    (failed_rose _ refuses.1.copies refuses.1.writes.read new disk refuses.1.writes.how))
 varyon_rose old new name moment patience log _ refuses = tt
 
 module _ {S : Type 0} (device : S → Device) (was : Log) (old : Device) (patience : ℕ) where

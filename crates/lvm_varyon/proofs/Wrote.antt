@@ -1,9 +1,10 @@
 -- What a varyon has written, whatever became of it: records, then copies, then notes.
-use Rattle.std.proofs.Common.{◌≡◌, inl, inr, ⊎_elim, ℕ, ◌++◌, [], ◌∷◌, false, List, Option, Result, Ok, Err, ◌∙◌}
+use Rattle.std.proofs.Common.{◌≡◌, inl, inr, ⊎_elim, ℕ, ◌++◌, [], ◌∷◌, false, List, Option, Result, Ok, Err, subst, ◌∙◌}
 use Rattle.lvm_num.specs.declared.descriptor.Descriptor.{Descriptor}
 use Rattle.lvm_num.specs.declared.status.Status.{Status}
 use Rattle.lvm_num.specs.Disks.{Disks}
 use Rattle.lvm_num.specs.Record.{Stamped}
+use Rattle.lvm_disk.specs.Counts.{Rose}
 use Rattle.lvm_disk.specs.Device.{Device}
 use Rattle.lvm_kept.specs.Contents.{Contents}
 use Rattle.lvm_core.specs.Leaves.{MayBeFound}
@@ -77,6 +78,14 @@ module _ (b : Beginning) (copies : List Recopy) (read new : Device) where
   failed_rests disk (inl failed) = failed.rested.ready.flights
   failed_rests disk (inr s) = ⊎_elim (λ at. at.1.rested.ready.flights) (λ at. at.3.rested.ready.flights) s.stops.when
 
+  -- and more of its transfers have failed than when the shelf had been read
+  pub failed_rose : (disk : ℕ) → OneFailed b copies disk read new → Rose (read.counts.faults disk) (new.counts.faults disk)
+  failed_rose disk (inl failed) = failed.first.rose
+  failed_rose disk (inr s) = ⊎_elim
+      (λ at. subst (λ (n : ℕ). Rose n (new.counts.faults disk)) (s.written.well disk) at.1.rose)
+      (λ at. subst (λ (n : ℕ). Rose n (new.counts.faults disk)) (at.1.well disk ∙ s.written.well disk) at.3.first.rose)
+      s.stops.when
+
   pub wrote_equalled : (homes : Homes) → IsEqualled b homes copies read new → HasWrote b copies read new
   wrote_equalled homes e = record {
     parts = again_order false;
@@ -106,6 +115,9 @@ module _ (b : Beginning) (copies : List Recopy) (read new : Device) where
 
   pub same_misses : HasWrote b copies read new → new.counts.misses ≡ read.counts.misses
   same_misses it = it.forgets.misses ∙ it.made.misses ∙ it.records.misses
+
+  pub same_orders : HasWrote b copies read new → new.orders ≡ read.orders
+  same_orders it = it.forgets.orders ∙ it.made.orders ∙ it.records.orders
 
   pub same_sizes : HasWrote b copies read new → new.sizes ≡ read.sizes
   same_sizes it = it.forgets.sizes ∙ it.made.sizes ∙ it.records.sizes

@@ -1,4 +1,6 @@
-use Rattle.std.proofs.Common.{refl}
+use Rattle.std.proofs.Common.{refl, subst}
+use Rattle.lvm_num.specs.declared.descriptor.Descriptor.{Descriptor}
+use Rattle.lvm_core.specs.Looking.{HasNoVolume}
 use Rattle.lvm_volume_lines.specs.passed.RangeLines.{serving}
 use Rattle.lvm_volume_lines.specs.passed.Stage.{OfRequests}
 use Rattle.lvm_volume_lines.specs.passed.RefusalVariants as refusal
@@ -9,4 +11,5 @@ use Rattle.lvm_copy_lines.proofs.resync.sync_volume_on.Goals as goal
 pub returns-in-None : goal.returns-in-None
 returns-in-None g c =
     refused_ends g.S.Shelf.device (λ log. SyncVolumeDoes c.args.name) ⊥ OfRequests (serving c.args.driver c.args.posts c.args.bytes) c.refused.result.stage c.refused.result.reply
-    c.requires.fits c.requires.between c.refused.ensures.stage refusal.NoVolume c.refused.ensures.reply (λ last is. NoVolumeForSync c.args.driver.1 refl c.in-None.ensures.none is)
+    c.requires.fits c.requires.between c.refused.ensures.stage refusal.NoVolume c.refused.ensures.reply
+    (λ last is. NoVolumeForSync c.args.driver.1 refl (subst (λ (d : Descriptor). HasNoVolume d.lvs c.args.name) c.descriptor.ensures.same c.in-None.ensures.none) is)
