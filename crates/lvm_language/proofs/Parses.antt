@@ -1,5 +1,5 @@
 -- What `clap` makes of plain words.
-use Rattle.std.proofs.Common.{◌≡◌, ◌∙◌, ◌==◌, ℕ, Bool, true, false, cond, ◌&&◌, ◌||◌, List, [], ◌∷◌, Option, Some, None, refl, sym, ap, ap₂, codes, fold, is_some, option_and_then, option_map}
+use Rattle.std.proofs.Common.{◌≡◌, ◌∙◌, ◌-◌, ◌^◌, ◌==◌, ℕ, Bool, true, false, cond, ◌&&◌, ◌||◌, List, [], ◌∷◌, Option, Some, None, refl, sym, ap, ap₂, codes, fold, is_some, option_and_then, option_map}
 use Rattle.std.specs.Str.{bytes_eq}
 use Rattle.clap.specs.Lexer.{strip_byte, long_of, long_of_rest, short_of, short_of_rest}
 use Rattle.clap.specs.Walk.{settled, finished, Held, Names, Step, Walk, idle, value, trailing, nothing_held, walk_from, walked, after_step, to_positional, arg_by_index, long_or_other, short_or_plain, subcommand_met, subcommand_or_other}
@@ -15,7 +15,7 @@ use Rattle.clap.specs.declared.parser.matches.ValueSource.TheVariants.{CommandLi
 use Rattle.clap.proofs.OnLiterals.{clap_on_literals}
 use Rattle.clap.proofs.FaultLemmas.{stopped_fault}
 use Rattle.clap.proofs.WalkLemmas.{walk_stopped}
-use Rattle.lvm_language.specs.CommandLine.{is_signed, lvm_app, script_app, sim_app, image_app}
+use Rattle.lvm_language.specs.CommandLine.{is_signed, lvm_app, script_app, sim_app, gen_app, image_app}
 
 pub is_free : is_simple_and_free lvm_app ≡ true
 unfolding clap_on_literals
@@ -117,54 +117,69 @@ script_more word more is =
 
 pub data Numbered : Type 0 where
   sim : Numbered
+  gen : Numbered
   image : Numbered
 
 abbrev pub app_for : Numbered → App
 app_for sim = sim_app
+app_for gen = gen_app
 app_for image = image_app
 
 abbrev pub first_id : Numbered → Text
 first_id sim = codes "DISKS"
+first_id gen = codes "SEED"
 first_id image = codes "N"
+
+abbrev pub second_id : Numbered → Text
+second_id sim = codes "MIB"
+second_id gen = codes "COUNT"
+second_id image = codes "MIB"
 
 abbrev pub first_parser : Numbered → ValueParser
 first_parser sim = parser.Unsigned 1 32
+first_parser gen = parser.Unsigned 0 (2 ^ 64 - 1)
 first_parser image = parser.Unsigned 0 127
 
 abbrev pub second_parser : Numbered → ValueParser
 second_parser sim = parser.Unsigned 1 64
+second_parser gen = parser.Unsigned 0 100000
 second_parser image = parser.Unsigned 1 4096
 
 abbrev pub first_row : Numbered → Text → Row
 first_row j word = record { id = first_id j; values = word ∷ []; count = None; source = Some CommandLine; reading = AsWritten }
 
-abbrev pub second_row : Text → Row
-second_row word = record { id = codes "MIB"; values = word ∷ []; count = None; source = Some CommandLine; reading = AsWritten }
+abbrev pub second_row : Numbered → Text → Row
+second_row j word = record { id = second_id j; values = word ∷ []; count = None; source = Some CommandLine; reading = AsWritten }
 
 abbrev held_one : Numbered → Text → Held
 held_one j word = record { rows = []; pending = Some (first_id j, word ∷ []); skip = 0 }
 
 abbrev held_two : Numbered → Text → Text → Held
-held_two j first second = record { rows = first_row j first ∷ []; pending = Some (codes "MIB", second ∷ []); skip = 0 }
+held_two j first second = record { rows = first_row j first ∷ []; pending = Some (second_id j, second ∷ []); skip = 0 }
 
 walked_one : (j : Numbered) (a : Text) → is_signed a ≡ false → walked (leaf (app_for j)).rules [] (walk_from nothing_held) a ≡ between (held_one j a) 2
 walked_one sim a is = next_walk (leaf sim_app).rules nothing_held 1 a is
+walked_one gen a is = next_walk (leaf gen_app).rules nothing_held 1 a is
 walked_one image a is = next_walk (leaf image_app).rules nothing_held 1 a is
 
 walked_two : (j : Numbered) (a b : Text) → is_signed b ≡ false → walked (leaf (app_for j)).rules [] (between (held_one j a) 2) b ≡ between (held_two j a b) 3
 walked_two sim a b is = next_walk (leaf sim_app).rules (held_one sim a) 2 b is
+walked_two gen a b is = next_walk (leaf gen_app).rules (held_one gen a) 2 b is
 walked_two image a b is = next_walk (leaf image_app).rules (held_one image a) 2 b is
 
 turn_one : (j : Numbered) (a : Text) → is_signed a ≡ false → turn_fault (leaf (app_for j)) [] (walk_from nothing_held) a ≡ []
 turn_one sim a is = next_fault (leaf sim_app) nothing_held 1 a is
+turn_one gen a is = next_fault (leaf gen_app) nothing_held 1 a is
 turn_one image a is = next_fault (leaf image_app) nothing_held 1 a is
 
 turn_two : (j : Numbered) (a b : Text) → is_signed b ≡ false → turn_fault (leaf (app_for j)) [] (between (held_one j a) 2) b ≡ or_else (value_kinds false (first_parser j) a) []
 turn_two sim a b is = next_fault (leaf sim_app) (held_one sim a) 2 b is
+turn_two gen a b is = next_fault (leaf gen_app) (held_one gen a) 2 b is
 turn_two image a b is = next_fault (leaf image_app) (held_one image a) 2 b is
 
 turn_three : (j : Numbered) (a b c : Text) → is_signed c ≡ false → turn_fault (leaf (app_for j)) [] (between (held_two j a b) 3) c ≡ kind.UnknownArgument ∷ []
 turn_three sim a b c is = next_fault (leaf sim_app) (held_two sim a b) 3 c is
+turn_three gen a b c is = next_fault (leaf gen_app) (held_two gen a b) 3 c is
 turn_three image a b c is = next_fault (leaf image_app) (held_two image a b) 3 c is
 
 -- how the two numbers stand at the end
@@ -174,16 +189,19 @@ two_kinds first second = or_else (or_else [] (or_else (or_else first []) [])) (o
 ends_two : (j : Numbered) (a b : Text) → ends (leaf (app_for j)) (held_two j a b) ≡ or_else (or_else (value_kinds false (second_parser j) b) []) []
 unfolding clap_on_literals
 ends_two sim a b = refl
+ends_two gen a b = refl
 ends_two image a b = refl
 
 ends_one : (j : Numbered) (a : Text) → ends (leaf (app_for j)) (held_one j a) ≡ or_else (or_else (value_kinds false (first_parser j) a) []) (kind.MissingRequiredArgument ∷ [])
 unfolding clap_on_literals
 ends_one sim a = refl
+ends_one gen a = refl
 ends_one image a = refl
 
 pub level_none : (j : Numbered) → fails (level (app_for j) []) ≡ true
 unfolding clap_on_literals
 level_none sim = refl
+level_none gen = refl
 level_none image = refl
 
 pub level_one : (j : Numbered) (a : Text) → is_signed a ≡ false → fails (level (app_for j) (a ∷ [])) ≡ true
@@ -246,17 +264,21 @@ script_fault rest = ap₂ named_kinds (after_name (codes "script") rest) (after_
 pub numbered_fault : (j : Numbered) (rest : List Text) → fault_of lvm_app ((app_for j).top.name ∷ rest) ≡ or_else (level (app_for j) rest) []
 unfolding clap_on_literals
 numbered_fault sim rest = ap₂ named_kinds (after_name (codes "sim") rest) (after_name_fault (codes "sim") rest)
+numbered_fault gen rest = ap₂ named_kinds (after_name (codes "gen") rest) (after_name_fault (codes "gen") rest)
 numbered_fault image rest = ap₂ named_kinds (after_name (codes "image") rest) (after_name_fault (codes "image") rest)
 
 pub script_entered : (rest : List Text) → option_map (λ p. p.0) (subcommand_of lvm_app (codes "script" ∷ rest)) ≡ Some (codes "script")
 unfolding clap_on_literals
 script_entered rest = ap (λ (w : Walk). option_map (λ p. p.0) (entered (built lvm_app) w.stopped)) (after_name (codes "script") rest)
 
-pub numbered_entered : (j : Numbered) (a b : Text) → is_signed a ≡ false → is_signed b ≡ false → subcommand_of lvm_app ((app_for j).top.name ∷ a ∷ b ∷ []) ≡ Some ((app_for j).top.name, first_row j a ∷ second_row b ∷ [])
+pub numbered_entered : (j : Numbered) (a b : Text) → is_signed a ≡ false → is_signed b ≡ false → subcommand_of lvm_app ((app_for j).top.name ∷ a ∷ b ∷ []) ≡ Some ((app_for j).top.name, first_row j a ∷ second_row j b ∷ [])
 unfolding clap_on_literals
 numbered_entered sim a b is_a is_b =
     ap (λ (w : Walk). Some (codes "sim", finished (leaf sim_app).rules (walked (leaf sim_app).rules [] w b).held)) (walked_one sim a is_a)
     ∙ ap (λ (w : Walk). Some (codes "sim", finished (leaf sim_app).rules w.held)) (walked_two sim a b is_b)
+numbered_entered gen a b is_a is_b =
+    ap (λ (w : Walk). Some (codes "gen", finished (leaf gen_app).rules (walked (leaf gen_app).rules [] w b).held)) (walked_one gen a is_a)
+    ∙ ap (λ (w : Walk). Some (codes "gen", finished (leaf gen_app).rules w.held)) (walked_two gen a b is_b)
 numbered_entered image a b is_a is_b =
     ap (λ (w : Walk). Some (codes "image", finished (leaf image_app).rules (walked (leaf image_app).rules [] w b).held)) (walked_one image a is_a)
     ∙ ap (λ (w : Walk). Some (codes "image", finished (leaf image_app).rules w.held)) (walked_two image a b is_b)
@@ -265,23 +287,26 @@ pub none_fault : fault_of lvm_app [] ≡ kind.MissingSubcommand ∷ []
 unfolding clap_on_literals
 none_fault = refl
 
-unmet : (word : Text) → bytes_eq (codes "script") word ≡ false → bytes_eq (codes "sim") word ≡ false → bytes_eq (codes "image") word ≡ false → subcommand_met names idle word ≡ None
-unmet word no_script no_sim no_image = go (bytes_eq (codes "script") word) (bytes_eq (codes "sim") word) (bytes_eq (codes "image") word) no_script no_sim no_image
+unmet : (word : Text) → bytes_eq (codes "script") word ≡ false → bytes_eq (codes "sim") word ≡ false → bytes_eq (codes "gen") word ≡ false → bytes_eq (codes "image") word ≡ false
+    → subcommand_met names idle word ≡ None
+unmet word no_script no_sim no_gen no_image =
+    go (bytes_eq (codes "script") word) (bytes_eq (codes "sim") word) (bytes_eq (codes "gen") word) (bytes_eq (codes "image") word) no_script no_sim no_gen no_image
   where
-    go : (p q r : Bool) → p ≡ false → q ≡ false → r ≡ false
-        → option_map (λ (s : Text × List Text). s.0) (cond (p || false) (Some (codes "script", [])) (cond (q || false) (Some (codes "sim", [])) (cond (r || false) (Some (codes "image", [])) None))) ≡ None
-    go false false false a b c = refl
-    go true q r a b c = absurd (cc)
-    go false true r a b c = absurd (cc)
-    go false false true a b c = absurd (cc)
+    go : (p q r s : Bool) → p ≡ false → q ≡ false → r ≡ false → s ≡ false → option_map (λ (t : Text × List Text). t.0)
+        (cond (p || false) (Some (codes "script", [])) (cond (q || false) (Some (codes "sim", [])) (cond (r || false) (Some (codes "gen", [])) (cond (s || false) (Some (codes "image", [])) None)))) ≡ None
+    go false false false false a b c d = refl
+    go true q r s a b c d = absurd (cc)
+    go false true r s a b c d = absurd (cc)
+    go false false true s a b c d = absurd (cc)
+    go false false false true a b c d = absurd (cc)
 
 -- a word that names no job is refused
-pub unknown_fault : (word : Text) (rest : List Text) → is_signed word ≡ false → bytes_eq (codes "script") word ≡ false → bytes_eq (codes "sim") word ≡ false → bytes_eq (codes "image") word ≡ false
-    → fails (fault_of lvm_app (word ∷ rest)) ≡ true
+pub unknown_fault : (word : Text) (rest : List Text) → is_signed word ≡ false → bytes_eq (codes "script") word ≡ false → bytes_eq (codes "sim") word ≡ false
+    → bytes_eq (codes "gen") word ≡ false → bytes_eq (codes "image") word ≡ false → fails (fault_of lvm_app (word ∷ rest)) ≡ true
 unfolding clap_on_literals
-unknown_fault word rest is no_script no_sim no_image =
+unknown_fault word rest is no_script no_sim no_gen no_image =
     let turn : turn_fault top names (walk_from nothing_held) word ≡ kind.UnknownArgument ∷ kind.InvalidSubcommand ∷ [] =
-    ap (λ (name : Option Text). or_else (other_fault top name word nothing_held) (step_fault top 1 (subcommand_or_other top.rules name idle 1 word nothing_held).0 (subcommand_or_other top.rules name idle 1 word nothing_held).1)) (unmet word no_script no_sim no_image)
+    ap (λ (name : Option Text). or_else (other_fault top name word nothing_held) (step_fault top 1 (subcommand_or_other top.rules name idle 1 word nothing_held).0 (subcommand_or_other top.rules name idle 1 word nothing_held).1)) (unmet word no_script no_sim no_gen no_image)
     ∙ ap (λ (kinds : Kinds). or_else kinds (step_fault top 1 (subcommand_or_other top.rules None idle 1 word nothing_held).0 (subcommand_or_other top.rules None idle 1 word nothing_held).1)) (other_faultless top word nothing_held is)
     ∙ ap (λ (at : Held × Step). step_fault top 1 at.0 at.1) (other_is_value top.rules 1 word nothing_held is) in
     let later : Kinds = walk_fault top names (walked top.rules names (walk_from nothing_held) word) rest in

@@ -1,5 +1,5 @@
 -- The command line as `clap` is told it, and what is kept from it.
-use Rattle.std.specs.Prelude.{ℕ, ◌==◌, nat_le, ◌&&◌, ◌||◌, not, Bool, true, false, List, [], ◌∷◌, length, Some, codes}
+use Rattle.std.specs.Prelude.{ℕ, ◌-◌, ◌^◌, ◌==◌, nat_le, ◌&&◌, ◌||◌, not, Bool, true, false, List, [], ◌∷◌, length, Some, codes}
 use Rattle.clap.specs.Words.{App, Rule, Shape, new_app, new_rule, with_rule, with_subcommand}
 use Rattle.clap.specs.Simple.{on_top}
 use Rattle.clap.specs.declared.builder.value_parser.ValueParser.TheVariants as parser
@@ -27,6 +27,9 @@ script_app = new_app (codes "script")
 abbrev pub sim_app : App
 sim_app = with_numbers (codes "sim") (number_rule (codes "DISKS") 1 32) (number_rule (codes "MIB") 1 64)
 
+abbrev pub gen_app : App
+gen_app = with_numbers (codes "gen") (number_rule (codes "SEED") 0 (2 ^ 64 - 1)) (number_rule (codes "COUNT") 0 100000)
+
 abbrev pub image_app : App
 image_app = with_numbers (codes "image") (number_rule (codes "N") 0 127) (number_rule (codes "MIB") 1 4096)
 
@@ -35,4 +38,5 @@ abbrev pub lvm_settings : Shape → Shape
 lvm_settings s = record s { no_binary_name = true; disable_help_flag = true; disable_help_subcommand = true; subcommand_required = true }
 
 abbrev pub lvm_app : App
-lvm_app = with_subcommand (with_subcommand (with_subcommand (on_top lvm_settings (new_app (codes "lvm"))) script_app.top) sim_app.top) image_app.top
+lvm_app = with_subcommand (with_subcommand (with_subcommand
+    (with_subcommand (on_top lvm_settings (new_app (codes "lvm"))) script_app.top) sim_app.top) gen_app.top) image_app.top

@@ -17,9 +17,16 @@ fn read(rt: &(impl Abort + AllocGlobal), words: &[&str]) -> Result<Job, WordsFau
     read_words(rt.alloc(), texts.as_slice())
 }
 
-static JOBS: [(&[&str], Job); 3] = [
+static JOBS: [(&[&str], Job); 4] = [
     (&["script"], Job::Script),
     (&["sim", "32", "064"], Job::Sim { disks: 32, mib: 64 }),
+    (
+        &["gen", "18446744073709551615", "100000"],
+        Job::Gen {
+            seed: u64::MAX,
+            count: 100_000,
+        },
+    ),
     (
         &["image", "00000000000000000127", "4096"],
         Job::Image {
@@ -37,12 +44,13 @@ fn each_job_is_read(rt: HostRuntime) {
 }
 
 // What clap takes beyond the language.
-static REFUSED: [&[&str]; 9] = [
+static REFUSED: [&[&str]; 10] = [
     &["--", "script"],
     &["script", "--"],
     &["sim", "--", "3", "8"],
     &["sim", "+3", "8"],
     &["sim", "3", "000000000000000000008"],
+    &["gen", "18446744073709551616", "1"],
     &["image", "18446744073709551743", "8"],
     &["help", "sim"],
     &["sim", "--help"],

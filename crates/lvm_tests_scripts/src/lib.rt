@@ -1,7 +1,9 @@
 //! Tests of the top calls of which the stored run of `lvm_rows` can't tell: what is given back beside the replies, new
-//! images, and files.
+//! images, scripts that are drawn, and files.
 #![tactic(auto)]
 
+#[cfg(test)]
+mod drawn;
 #[cfg(test)]
 mod files;
 #[cfg(test)]

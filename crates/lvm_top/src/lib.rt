@@ -1,6 +1,7 @@
 //! The top calls: a script read line by line, done on a shelf of disks, and answered.
 #![tactic(auto)]
 
+mod generate;
 mod image;
 mod laws;
 mod program;
@@ -8,6 +9,7 @@ mod run;
 mod script;
 mod status;
 
+pub use generate::run_gen;
 pub use image::run_image;
 pub use laws::{runs_follow, varyons_recover};
 pub use lvm_core::Room;

@@ -1,8 +1,8 @@
 -- What words ask for, by what `clap` makes of them.
-use Rattle.std.proofs.Common.{◌≡◌, ◌∙◌, ◌≤◌, ◌&&◌, ℕ, Bool, true, false, cond, nat_le, List, [], ◌∷◌, Option, Some, None, Result, Ok, Err, IsErrAnd, refl, sym, ap, ap₂, subst, arith, codes}
+use Rattle.std.proofs.Common.{◌≡◌, ◌∙◌, ◌-◌, ◌^◌, ◌<◌, ◌≤◌, ◌&&◌, ℕ, Bool, true, false, cond, nat_le, List, [], ◌∷◌, Option, Some, None, Result, Ok, Err, IsErrAnd, refl, sym, ap, ap₂, subst, arith, codes}
 use Rattle.std.specs.List.{list_all}
 use Rattle.std.specs.Str.{bytes_eq}
-use Rattle.std.proofs.lemmas.Bool.{le-leb}
+use Rattle.std.proofs.lemmas.Bool.{le-leb, leb-true}
 use Rattle.std.proofs.lemmas.Bool.Decides.{nat_tests}
 use Rattle.std.proofs.lemmas.Slice.Eq.{bytes_eq-Decides}
 use Rattle.clap.specs.Kinds.{or_else}
@@ -13,13 +13,13 @@ use Rattle.clap.proofs.OnLiterals.{clap_on_literals}
 use Rattle.lvm_literals.specs.Words.{number_in}
 use Rattle.lvm_language.specs.CommandLine.{is_plain, is_signed, lvm_app, script_app}
 use Rattle.lvm_words.specs.Matched.{job_matched, with_both}
-use Rattle.lvm_words.specs.Words.{IsWithin, image_of, work_of, sim_of, with_two}
+use Rattle.lvm_words.specs.Words.{IsWithin, gen_of, image_of, work_of, sim_of, with_two}
 use Rattle.lvm_words.specs.declared.job.Job.{Job}
 use Rattle.lvm_words.specs.declared.job.Job.TheVariants as job
 use Rattle.lvm_language.specs.declared.fault.WordsFault.{WordsFault}
 use Rattle.lvm_language.specs.declared.fault.WordsFault.TheVariants.{Usage}
-use Rattle.lvm_words.proofs.Digits.{accepted_number, both_true, number_accepted, number_is_plain, number_read, plain_parts}
-use Rattle.lvm_language.proofs.Parses.{Numbered, app_for, fails, fails_first, first_parser, image, level, level_more, level_none, level_one, level_two, none_fault, numbered_entered, numbered_fault, script_alone, script_fault, script_more, second_parser, sim, two_kinds, unknown_fault}
+use Rattle.lvm_words.proofs.Digits.{accepted_number, both_true, number_accepted, number_is_plain, number_parts, number_read, plain_parts}
+use Rattle.lvm_language.proofs.Parses.{Numbered, app_for, fails, fails_first, first_parser, gen, image, level, level_more, level_none, level_one, level_two, none_fault, numbered_entered, numbered_fault, script_alone, script_fault, script_more, second_parser, sim, two_kinds, unknown_fault}
 
 pub data Outcome (words : List Text) : Type 0 where
   asks : (j : Job) → work_of words ≡ Ok j → IsWithin j → fault_of lvm_app words ≡ [] → job_matched (subcommand_of lvm_app words) ≡ Some j → Outcome words
@@ -46,36 +46,49 @@ script_outcome (a ∷ b ∷ c ∷ more) plain = refused refl (behind a (b ∷ c 
 
 abbrev job_by : Numbered → Option ℕ → Option ℕ → Result Job WordsFault
 job_by sim = sim_of
+job_by gen = gen_of
 job_by image = image_of
 
 abbrev job_with : Numbered → ℕ → ℕ → Job
 job_with sim = job.Sim
+job_with gen = job.Gen
 job_with image = job.Image
 
 abbrev first_low : Numbered → ℕ
 first_low sim = 1
+first_low gen = 0
 first_low image = 0
 
 abbrev first_high : Numbered → ℕ
 first_high sim = 32
+first_high gen = 2 ^ 64 - 1
 first_high image = 127
+
+abbrev second_low : Numbered → ℕ
+second_low sim = 1
+second_low gen = 0
+second_low image = 1
 
 abbrev second_high : Numbered → ℕ
 second_high sim = 64
+second_high gen = 100000
 second_high image = 4096
 
 abbrev first_ok : Numbered → Text → Bool
 first_ok sim word = accepts false (first_parser sim) word
+first_ok gen word = accepts false (first_parser gen) word
 first_ok image word = accepts false (first_parser image) word
 
 abbrev second_ok : Numbered → Text → Bool
 second_ok sim word = accepts false (second_parser sim) word
+second_ok gen word = accepts false (second_parser gen) word
 second_ok image word = accepts false (second_parser image) word
 
 -- two numbers within their bounds
-both_within : (j : Numbered) (first second : ℕ) → first_low j ≤ first → first ≤ first_high j → 1 ≤ second → second ≤ second_high j
+both_within : (j : Numbered) (first second : ℕ) → first_low j ≤ first → first ≤ first_high j → second_low j ≤ second → second ≤ second_high j
     → (job_by j (Some first) (Some second) ≡ Ok (job_with j first second)) × IsWithin (job_with j first second)
 both_within sim first second a b c d = (rw (le-leb 1 first a, le-leb first 32 b, le-leb 1 second c, le-leb second 64 d) refl, (a, b, c, d))
+both_within gen first second a b c d = (rw (le-leb second 100000 d) refl, d)
 both_within image first second a b c d = (rw (le-leb first 127 b, le-leb 1 second c, le-leb second 4096 d) refl, (b, c, d))
 
 fails_test : {T : Type 0} (t : Bool) (x y : T) → (t ≡ true → ⊥) → cond t x y ≡ y
@@ -83,26 +96,32 @@ fails_test true x y never = absurd (never refl)
 fails_test false x y never = refl
 
 -- else there is no job
-not_within : (j : Numbered) (first second : ℕ) → (first_low j ≤ first → first ≤ first_high j → 1 ≤ second → second ≤ second_high j → ⊥) → job_by j (Some first) (Some second) ≡ Err Usage
-not_within sim first second never = fails_test (nat_le 1 first && nat_le first 32 && nat_le 1 second && nat_le second 64) (Ok (job.Sim first second)) (Err Usage)
+not_within : (j : Numbered) (first second : ℕ) → first < 2 ^ 64 → (first_low j ≤ first → first ≤ first_high j → second_low j ≤ second → second ≤ second_high j → ⊥) → job_by j (Some first) (Some second) ≡ Err Usage
+not_within sim first second small never = fails_test (nat_le 1 first && nat_le first 32 && nat_le 1 second && nat_le second 64) (Ok (job.Sim first second)) (Err Usage)
     (λ test. never (grind (arith, nat_tests)) (grind (arith, nat_tests)) (grind (arith, nat_tests)) (grind (arith, nat_tests)))
-not_within image first second never = fails_test (nat_le first 127 && nat_le 1 second && nat_le second 4096) (Ok (job.Image first second)) (Err Usage)
+not_within gen first second small never = fails_test (nat_le second 100000) (Ok (job.Gen first second)) (Err Usage)
+    (λ test. never (omega arith) (omega (arith, small)) (omega arith) (leb-true second 100000 test))
+not_within image first second small never = fails_test (nat_le first 127 && nat_le 1 second && nat_le second 4096) (Ok (job.Image first second)) (Err Usage)
     (λ test. never (omega arith) (grind (arith, nat_tests)) (grind (arith, nat_tests)) (grind (arith, nat_tests)))
 
 accepted_first : (j : Numbered) (word : Text) → is_plain word ≡ true → first_ok j word ≡ true → (n : ℕ) × (number_in word ≡ Some n) × (first_low j ≤ n) × (n ≤ first_high j)
 accepted_first sim word plain ok = accepted_number word 1 32 plain ok
+accepted_first gen word plain ok = accepted_number word 0 (2 ^ 64 - 1) plain ok
 accepted_first image word plain ok = accepted_number word 0 127 plain ok
 
-accepted_second : (j : Numbered) (word : Text) → is_plain word ≡ true → second_ok j word ≡ true → (n : ℕ) × (number_in word ≡ Some n) × (1 ≤ n) × (n ≤ second_high j)
+accepted_second : (j : Numbered) (word : Text) → is_plain word ≡ true → second_ok j word ≡ true → (n : ℕ) × (number_in word ≡ Some n) × (second_low j ≤ n) × (n ≤ second_high j)
 accepted_second sim word plain ok = accepted_number word 1 64 plain ok
+accepted_second gen word plain ok = accepted_number word 0 100000 plain ok
 accepted_second image word plain ok = accepted_number word 1 4096 plain ok
 
 first_accepted : (j : Numbered) (word : Text) (n : ℕ) → is_plain word ≡ true → number_in word ≡ Some n → first_low j ≤ n → n ≤ first_high j → first_ok j word ≡ true
 first_accepted sim word n plain is above below = number_accepted word 1 32 n plain is above below
+first_accepted gen word n plain is above below = number_accepted word 0 (2 ^ 64 - 1) n plain is above below
 first_accepted image word n plain is above below = number_accepted word 0 127 n plain is above below
 
-second_accepted : (j : Numbered) (word : Text) (n : ℕ) → is_plain word ≡ true → number_in word ≡ Some n → 1 ≤ n → n ≤ second_high j → second_ok j word ≡ true
+second_accepted : (j : Numbered) (word : Text) (n : ℕ) → is_plain word ≡ true → number_in word ≡ Some n → second_low j ≤ n → n ≤ second_high j → second_ok j word ≡ true
 second_accepted sim word n plain is above below = number_accepted word 1 64 n plain is above below
+second_accepted gen word n plain is above below = number_accepted word 0 100000 n plain is above below
 second_accepted image word n plain is above below = number_accepted word 1 4096 n plain is above below
 
 abbrev kinds_of : Bool → Kinds
@@ -110,6 +129,7 @@ kinds_of ok = cond ok [] (kind.ValueValidation ∷ [])
 
 level_pair : (j : Numbered) (a b : Text) → is_signed a ≡ false → is_signed b ≡ false → level (app_for j) (a ∷ b ∷ []) ≡ two_kinds (kinds_of (first_ok j a)) (kinds_of (second_ok j b))
 level_pair sim a b is_a is_b = level_two sim a b is_a is_b
+level_pair gen a b is_a is_b = level_two gen a b is_a is_b
 level_pair image a b is_a is_b = level_two image a b is_a is_b
 
 -- a word that is refused makes no job
@@ -118,41 +138,48 @@ no_first j a b plain never = go (number_in a) (number_in b) refl
   where
     none : (j : Numbered) (y : Option ℕ) → job_by j None y ≡ Err Usage
     none sim y = refl
+    none gen y = refl
     none image y = refl
 
     one : (j : Numbered) (n : ℕ) → job_by j (Some n) None ≡ Err Usage
     one sim n = refl
+    one gen n = refl
     one image n = refl
 
     go : (x y : Option ℕ) → number_in a ≡ x → job_by j x y ≡ Err Usage
     go None y is = none j y
     go (Some n) None is = one j n
-    go (Some n) (Some m) is = not_within j n m (λ above below _ _. let yes = first_accepted j a n plain is above below in absurd (cc))
+    go (Some n) (Some m) is = not_within j n m (number_parts a n is).small (λ above below _ _. let yes = first_accepted j a n plain is above below in absurd (cc))
 
 no_second : (j : Numbered) (a b : Text) → is_plain b ≡ true → second_ok j b ≡ false → job_by j (number_in a) (number_in b) ≡ Err Usage
-no_second j a b plain never = go (number_in a) (number_in b) refl
+no_second j a b plain never = go (number_in a) (number_in b) refl refl
   where
     none : (j : Numbered) (x : Option ℕ) → job_by j x None ≡ Err Usage
     none sim None = refl
     none sim (Some n) = refl
+    none gen None = refl
+    none gen (Some n) = refl
     none image None = refl
     none image (Some n) = refl
 
     first : (j : Numbered) (y : Option ℕ) → job_by j None y ≡ Err Usage
     first sim y = refl
+    first gen y = refl
     first image y = refl
 
-    go : (x y : Option ℕ) → number_in b ≡ y → job_by j x y ≡ Err Usage
-    go x None is = none j x
-    go None (Some m) is = first j (Some m)
-    go (Some n) (Some m) is = not_within j n m (λ _ _ above below. let yes = second_accepted j b m plain is above below in absurd (cc))
+    go : (x y : Option ℕ) → number_in a ≡ x → number_in b ≡ y → job_by j x y ≡ Err Usage
+    go x None at is = none j x
+    go None (Some m) at is = first j (Some m)
+    go (Some n) (Some m) at is = not_within j n m (number_parts a n at).small (λ _ _ above below. let yes = second_accepted j b m plain is above below in absurd (cc))
 
 work_of_pair : (j : Numbered) (a b : Text) → work_of ((app_for j).top.name ∷ a ∷ b ∷ []) ≡ job_by j (number_in a) (number_in b)
 work_of_pair sim a b = refl
+work_of_pair gen a b = refl
 work_of_pair image a b = refl
 
 work_of_none : (j : Numbered) → work_of ((app_for j).top.name ∷ []) ≡ Err Usage
 work_of_none sim = refl
+work_of_none gen = refl
 work_of_none image = refl
 
 matched_pair : (j : Numbered) (a b : Text) (n m : ℕ) → is_plain a ≡ true → is_plain b ≡ true → number_in a ≡ Some n → number_in b ≡ Some m → n ≤ first_high j → m ≤ second_high j
@@ -160,6 +187,9 @@ matched_pair : (j : Numbered) (a b : Text) (n m : ℕ) → is_plain a ≡ true �
 matched_pair sim a b n m plain_a plain_b is_a is_b below_a below_b =
     ap job_matched (numbered_entered sim a b (plain_parts a plain_a).0 (plain_parts b plain_b).0)
     ∙ ap₂ (with_both job.Sim) (number_read a 16 n plain_a is_a (omega (arith, below_a))) (number_read b 32 m plain_b is_b (omega (arith, below_b)))
+matched_pair gen a b n m plain_a plain_b is_a is_b below_a below_b =
+    ap job_matched (numbered_entered gen a b (plain_parts a plain_a).0 (plain_parts b plain_b).0)
+    ∙ ap₂ (with_both job.Gen) (number_read a 64 n plain_a is_a (omega (arith, below_a))) (number_read b 32 m plain_b is_b (omega (arith, below_b)))
 matched_pair image a b n m plain_a plain_b is_a is_b below_a below_b =
     ap job_matched (numbered_entered image a b (plain_parts a plain_a).0 (plain_parts b plain_b).0)
     ∙ ap₂ (with_both job.Image) (number_read a 16 n plain_a is_a (omega (arith, below_a))) (number_read b 32 m plain_b is_b (omega (arith, below_b)))
@@ -199,11 +229,12 @@ numbered_outcome j (a ∷ b ∷ c ∷ more) plain =
 
 -- ---- any words
 
-unknown_job : (name : Text) (rest : List Text) → bytes_eq name (codes "script") ≡ false → bytes_eq name (codes "sim") ≡ false → bytes_eq name (codes "image") ≡ false → work_of (name ∷ rest) ≡ Err Usage
-unknown_job name [] a b c = rw a refl
-unknown_job name (x ∷ []) a b c = refl
-unknown_job name (x ∷ y ∷ []) a b c = rw (b, c) refl
-unknown_job name (x ∷ y ∷ z ∷ more) a b c = refl
+unknown_job : (name : Text) (rest : List Text) → bytes_eq name (codes "script") ≡ false → bytes_eq name (codes "sim") ≡ false → bytes_eq name (codes "gen") ≡ false → bytes_eq name (codes "image") ≡ false
+    → work_of (name ∷ rest) ≡ Err Usage
+unknown_job name [] a b c d = rw a refl
+unknown_job name (x ∷ []) a b c d = refl
+unknown_job name (x ∷ y ∷ []) a b c d = rw (b, c, d) refl
+unknown_job name (x ∷ y ∷ z ∷ more) a b c d = refl
 
 turned : (a b : Text) → bytes_eq a b ≡ false → bytes_eq b a ≡ false
 turned a b differ = go (bytes_eq b a) refl
@@ -214,16 +245,18 @@ turned a b differ = go (bytes_eq b a) refl
 
 pub outcome : (words : List Text) → list_all is_plain words ≡ true → Outcome words
 outcome [] plain = refused refl (ap fails none_fault)
-outcome (name ∷ rest) plain = go (bytes_eq name (codes "script")) (bytes_eq name (codes "sim")) (bytes_eq name (codes "image")) refl refl refl
+outcome (name ∷ rest) plain = go (bytes_eq name (codes "script")) (bytes_eq name (codes "sim")) (bytes_eq name (codes "gen")) (bytes_eq name (codes "image")) refl refl refl refl
   where
     parts : (is_plain name ≡ true) × (list_all is_plain rest ≡ true)
     parts = both_true (is_plain name) (list_all is_plain rest) plain
 
-    go : (p q r : Bool) → bytes_eq name (codes "script") ≡ p → bytes_eq name (codes "sim") ≡ q → bytes_eq name (codes "image") ≡ r → Outcome (name ∷ rest)
-    go true q r a b c = subst (λ (n : Text). Outcome (n ∷ rest)) (sym ((bytes_eq-Decides name (codes "script")).0 a)) (script_outcome rest parts.1)
-    go false true r a b c = subst (λ (n : Text). Outcome (n ∷ rest)) (sym ((bytes_eq-Decides name (codes "sim")).0 b)) (numbered_outcome sim rest parts.1)
-    go false false true a b c = subst (λ (n : Text). Outcome (n ∷ rest)) (sym ((bytes_eq-Decides name (codes "image")).0 c)) (numbered_outcome image rest parts.1)
-    go false false false a b c = refused (unknown_job name rest a b c) (unknown_fault name rest (plain_parts name parts.0).0 (turned name (codes "script") a) (turned name (codes "sim") b) (turned name (codes "image") c))
+    go : (p q r s : Bool) → bytes_eq name (codes "script") ≡ p → bytes_eq name (codes "sim") ≡ q → bytes_eq name (codes "gen") ≡ r → bytes_eq name (codes "image") ≡ s → Outcome (name ∷ rest)
+    go true q r s a b c d = subst (λ (n : Text). Outcome (n ∷ rest)) (sym ((bytes_eq-Decides name (codes "script")).0 a)) (script_outcome rest parts.1)
+    go false true r s a b c d = subst (λ (n : Text). Outcome (n ∷ rest)) (sym ((bytes_eq-Decides name (codes "sim")).0 b)) (numbered_outcome sim rest parts.1)
+    go false false true s a b c d = subst (λ (n : Text). Outcome (n ∷ rest)) (sym ((bytes_eq-Decides name (codes "gen")).0 c)) (numbered_outcome gen rest parts.1)
+    go false false false true a b c d = subst (λ (n : Text). Outcome (n ∷ rest)) (sym ((bytes_eq-Decides name (codes "image")).0 d)) (numbered_outcome image rest parts.1)
+    go false false false false a b c d = refused (unknown_job name rest a b c d)
+        (unknown_fault name rest (plain_parts name parts.0).0 (turned name (codes "script") a) (turned name (codes "sim") b) (turned name (codes "gen") c) (turned name (codes "image") d))
 
 -- ---- words of which some are not plain
 
@@ -232,8 +265,10 @@ numbers_plain j a b mixed = go j (number_in a) (number_in b) refl refl
   where
     go : (j : Numbered) (x y : Option ℕ) → number_in a ≡ x → number_in b ≡ y → job_by j x y ≡ Err Usage
     go sim None y is_a is_b = refl
+    go gen None y is_a is_b = refl
     go image None y is_a is_b = refl
     go sim (Some n) None is_a is_b = refl
+    go gen (Some n) None is_a is_b = refl
     go image (Some n) None is_a is_b = refl
     go j (Some n) (Some m) is_a is_b = let plain_a = number_is_plain a n is_a in let plain_b = number_is_plain b m is_b in absurd (cc)
 
@@ -242,18 +277,20 @@ not_plain [] mixed = absurd (cc)
 not_plain (name ∷ []) mixed = fails_test (bytes_eq name (codes "script")) (Ok job.Script) (Err Usage)
     (λ is. let plain : is_plain name ≡ true = ap is_plain ((bytes_eq-Decides name (codes "script")).0 is) in absurd (cc))
 not_plain (name ∷ a ∷ []) mixed = refl
-not_plain (name ∷ a ∷ b ∷ []) mixed = go (bytes_eq name (codes "sim")) (bytes_eq name (codes "image")) refl refl
+not_plain (name ∷ a ∷ b ∷ []) mixed = go (bytes_eq name (codes "sim")) (bytes_eq name (codes "gen")) (bytes_eq name (codes "image")) refl refl refl
   where
-    go : (p q : Bool) → bytes_eq name (codes "sim") ≡ p → bytes_eq name (codes "image") ≡ q → with_two name a b ≡ Err Usage
-    go true q is_sim is_image =
-        let plain : is_plain name ≡ true = ap is_plain ((bytes_eq-Decides name (codes "sim")).0 is_sim) in
+    -- the name is that of a job with two numbers
+    named : (j : Numbered) → name ≡ (app_for j).top.name → is_plain (app_for j).top.name ≡ true → job_by j (number_in a) (number_in b) ≡ Err Usage
+    named j is plain =
+        let here : is_plain name ≡ true = ap is_plain is ∙ plain in
         let rest : (is_plain a && (is_plain b && true)) ≡ false = cc in
-        rw is_sim (numbers_plain sim a b rest)
-    go false true is_sim is_image =
-        let plain : is_plain name ≡ true = ap is_plain ((bytes_eq-Decides name (codes "image")).0 is_image) in
-        let rest : (is_plain a && (is_plain b && true)) ≡ false = cc in
-        rw (is_sim, is_image) (numbers_plain image a b rest)
-    go false false is_sim is_image = rw (is_sim, is_image) refl
+        numbers_plain j a b rest
+
+    go : (p q r : Bool) → bytes_eq name (codes "sim") ≡ p → bytes_eq name (codes "gen") ≡ q → bytes_eq name (codes "image") ≡ r → with_two name a b ≡ Err Usage
+    go true q r is_sim is_gen is_image = rw is_sim (named sim ((bytes_eq-Decides name (codes "sim")).0 is_sim) refl)
+    go false true r is_sim is_gen is_image = rw (is_sim, is_gen) (named gen ((bytes_eq-Decides name (codes "gen")).0 is_gen) refl)
+    go false false true is_sim is_gen is_image = rw (is_sim, is_gen, is_image) (named image ((bytes_eq-Decides name (codes "image")).0 is_image) refl)
+    go false false false is_sim is_gen is_image = rw (is_sim, is_gen, is_image) refl
 not_plain (name ∷ a ∷ b ∷ c ∷ more) mixed = refl
 
 -- where `clap` finds no fault the job is found, and is what the words ask for

@@ -6,7 +6,7 @@ use Rattle.clap.specs.ValueTests.{accepts}
 use Rattle.clap.specs.Words.{Row, Text, one_of}
 use Rattle.clap.specs.declared.builder.value_parser.ValueParser.TheVariants as parser
 use Rattle.lvm_words.specs.declared.job.Job.{Job}
-use Rattle.lvm_words.specs.declared.job.Job.TheVariants.{Script, Sim, Image}
+use Rattle.lvm_words.specs.declared.job.Job.TheVariants.{Script, Sim, Gen, Image}
 
 -- a number of so many bits, which may have a plus in front
 abbrev pub unsigned_in : ℕ → Text → Option ℕ
@@ -24,7 +24,8 @@ with_both job first second = None
 abbrev pub job_named : Text → List Row → Option Job
 job_named name rows = if bytes_eq name (codes "script") then Some Script
     else (if bytes_eq name (codes "sim") then with_both Sim (number_at 16 (codes "DISKS") rows) (number_at 32 (codes "MIB") rows)
-    else (if bytes_eq name (codes "image") then with_both Image (number_at 16 (codes "N") rows) (number_at 32 (codes "MIB") rows) else None))
+    else (if bytes_eq name (codes "gen") then with_both Gen (number_at 64 (codes "SEED") rows) (number_at 32 (codes "COUNT") rows)
+    else (if bytes_eq name (codes "image") then with_both Image (number_at 16 (codes "N") rows) (number_at 32 (codes "MIB") rows) else None)))
 
 abbrev pub job_matched : Option (Text × List Row) → Option Job
 job_matched = option_and_then (λ found. job_named found.0 found.1)

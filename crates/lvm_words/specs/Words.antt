@@ -2,7 +2,7 @@
 use Rattle.std.specs.Prelude.{ℕ, ◌≤◌, nat_le, ◌&&◌, if◌then◌else◌, List, [], ◌∷◌, Option, Some, None, Result, Ok, Err, codes, bytes_eq}
 use Rattle.lvm_literals.specs.Words.{number_in}
 use Rattle.lvm_words.specs.declared.job.Job.{Job}
-use Rattle.lvm_words.specs.declared.job.Job.TheVariants.{Script, Sim, Image, Help, Version}
+use Rattle.lvm_words.specs.declared.job.Job.TheVariants.{Script, Sim, Gen, Image, Help, Version}
 use Rattle.lvm_language.specs.declared.fault.WordsFault.{WordsFault}
 use Rattle.lvm_language.specs.declared.fault.WordsFault.TheVariants.{Usage}
 
@@ -10,6 +10,11 @@ use Rattle.lvm_language.specs.declared.fault.WordsFault.TheVariants.{Usage}
 abbrev pub sim_of : Option ℕ → Option ℕ → Result Job WordsFault
 sim_of (Some disks) (Some mib) = if nat_le 1 disks && nat_le disks 32 && nat_le 1 mib && nat_le mib 64 then Ok (Sim disks mib) else Err Usage
 sim_of disks mib = Err Usage
+
+-- a seed, and at most 100,000 requests
+abbrev pub gen_of : Option ℕ → Option ℕ → Result Job WordsFault
+gen_of (Some seed) (Some count) = if nat_le count 100000 then Ok (Gen seed count) else Err Usage
+gen_of seed count = Err Usage
 
 -- a disk from 0 to 127, of 1 to 4,096 MiB
 abbrev pub image_of : Option ℕ → Option ℕ → Result Job WordsFault
@@ -20,9 +25,11 @@ image_of disk mib = Err Usage
 abbrev pub alone : List ℕ → Result Job WordsFault
 alone name = if bytes_eq name (codes "script") then Ok Script else Err Usage
 
--- `sim DISKS MIB` or `image N MIB`
+-- `sim DISKS MIB`, `gen SEED COUNT` or `image N MIB`
 abbrev pub with_two : List ℕ → List ℕ → List ℕ → Result Job WordsFault
-with_two name first second = if bytes_eq name (codes "sim") then sim_of (number_in first) (number_in second) else (if bytes_eq name (codes "image") then image_of (number_in first) (number_in second) else Err Usage)
+with_two name first second = if bytes_eq name (codes "sim") then sim_of (number_in first) (number_in second)
+    else (if bytes_eq name (codes "gen") then gen_of (number_in first) (number_in second)
+    else (if bytes_eq name (codes "image") then image_of (number_in first) (number_in second) else Err Usage))
 
 -- what the words ask to be done
 abbrev pub work_of : List (List ℕ) → Result Job WordsFault
@@ -51,6 +58,7 @@ job_of words = told_or (told_of words) (work_of words)
 abbrev pub IsWithin : Job → Type 0
 IsWithin Script = Unit {0}
 IsWithin (Sim disks mib) = (1 ≤ disks) × (disks ≤ 32) × (1 ≤ mib) × (mib ≤ 64)
+IsWithin (Gen seed count) = count ≤ 100000
 IsWithin (Image disk mib) = (disk ≤ 127) × (1 ≤ mib) × (mib ≤ 4096)
 IsWithin Help = Unit {0}
 IsWithin Version = Unit {0}

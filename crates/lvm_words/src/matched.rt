@@ -20,6 +20,20 @@ fn size(found: &ArgMatches<'_>) -> Option<u32>
     found.get_one::<u32>("MIB")
 }
 
+// The seed that was given.
+fn seed(found: &ArgMatches<'_>) -> Option<u64>
+    ensures { result ≡ number_at 64 (codes "SEED") (rows_of (found_of found.now)) }
+{
+    found.get_one::<u64>("SEED")
+}
+
+// How many requests are asked for.
+fn requests(found: &ArgMatches<'_>) -> Option<u32>
+    ensures { result ≡ number_at 32 (codes "COUNT") (rows_of (found_of found.now)) }
+{
+    found.get_one::<u32>("COUNT")
+}
+
 // The job of this name, with the numbers that were given.
 fn job_named(name: &str, found: &ArgMatches<'_>) -> Option<Job>
     ensures { result ≡ job_named name.now (rows_of (found_of found.now)) }
@@ -30,6 +44,11 @@ fn job_named(name: &str, found: &ArgMatches<'_>) -> Option<Job>
         Some(Job::Sim {
             disks: count(found, "DISKS")?,
             mib: size(found)?,
+        })
+    } else if name == "gen" {
+        Some(Job::Gen {
+            seed: seed(found)?,
+            count: requests(found)?,
         })
     } else if name == "image" {
         Some(Job::Image {

@@ -3,7 +3,7 @@ use Rattle.lvm_top.specs.Sim.{full_room}
 use Rattle.lvm_words.specs.declared.job.Job.{Job}
 use Rattle.lvm_words.specs.declared.job.Job.TheVariants.{Sim}
 use Rattle.lvm_words.specs.Words.{job_of}
-use Rattle.lvm_top.proofs.Commanding.{on_sim_at, unread_promises}
+use Rattle.lvm_top.proofs.Commanding.{on_sim_at, unread_generates, unread_promises}
 use Rattle.lvm_top.proofs.Firsts.{sim_promises}
 use Rattle.lvm_top.proofs.program.run_words.Goals as goal
 
@@ -12,6 +12,10 @@ returns-in-Err-Memory-clause-script g c =
     unread_promises (job_of c.args.words.now) (g.C.Clock.last c.args.clock.now) (g.S.Shelf.device c.args.files) (g.S.Shelf.device c.unrun-in-Err-Memory.result.shelf) (ap g.S.Shelf.device c.unrun-in-Err-Memory.ensures.files) c.requires.ready full_room
     (record { content = g.I.Source.left c.args.input.now; faults = g.I.Source.faults c.args.input.now }) (record { content = g.O.Sink.held c.args.out.now; faults = g.O.Sink.faults c.args.out.now })
     c.unrun-in-Err-Memory.result c.unrun-in-Err-Memory.ensures.unrun
+
+pub returns-in-Err-Memory-clause-gen : goal.returns-in-Err-Memory-clause-gen
+returns-in-Err-Memory-clause-gen g c =
+    unread_generates (job_of c.args.words.now) (record { content = g.O.Sink.held c.args.out.now; faults = g.O.Sink.faults c.args.out.now }) c.unrun-in-Err-Memory.result c.unrun-in-Err-Memory.ensures.unrun
 
 pub returns-in-Ok-clause-sim : goal.returns-in-Ok-clause-sim
 returns-in-Ok-clause-sim g c =
