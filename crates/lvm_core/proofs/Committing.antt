@@ -41,7 +41,13 @@ still_begun core = record { group = refl; stamp = refl; committed = refl; rows =
 
 -- the next descriptor may be committed where the session's group may
 pub may_next : (records : ℕ) (d next : Descriptor) (u : Stored) (device : Device) → MayCommit records d u device → IsValid next → IsAlike next d → MayCommit records next u device
-may_next records d next u device may valid alike = record may { settle = record may.settle { valid = valid; own = alike ∙ may.settle.own } }
+may_next records d next u device may valid alike =
+    let was = may.settle in
+    record {
+      ready = may.ready;
+      settle = record { valid = valid; own = alike ∙ was.own; idle = was.idle; id = was.id; rows = was.rows; epoch = was.epoch; room = was.room; votes = was.votes };
+      numbers = may.numbers;
+    }
 
 module _ (next : Descriptor) (before after : ℕ) (old new : State) (answer : Result (Unit {0}) CommitFault) (w : CommitsDescriptor next before after old new answer) (settled_is : IsSettled old.core) (sound : IsSound old) (alike : IsAlike next old.core.descriptor) where
   abbrev plan : Plan
