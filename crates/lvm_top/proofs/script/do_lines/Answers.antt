@@ -75,6 +75,15 @@ loop-preserved g c =
 pub returns-then-is_some-clause-off : goal.returns-then-is_some-clause-off
 returns-then-is_some-clause-off g c is = absurd ((subst (λ (it : InPlace). DoesInPlace g.S.Shelf.device c.as_slice-text.result.now c.loop.stage c.answer_line.new.stage it) c.in-Done.is c.answer_line.ensures).1 (c.write_reply-count.ensures.stuck.0 is))
 
+pub returns-then-is_some-clause-between : goal.returns-then-is_some-clause-between
+returns-then-is_some-clause-between g c goes = let done = (subst (λ (it : InPlace). DoesInPlace g.S.Shelf.device c.as_slice-text.result.now c.loop.stage c.answer_line.new.stage it) c.in-Done.is c.answer_line.ensures) in (done.0 c.args.room (g.C.Clock.last c.loop.clock)).is_line.goes.between done.1
+
+pub returns-then-is_some-clause-fits : goal.returns-then-is_some-clause-fits
+returns-then-is_some-clause-fits g c = ((subst (λ (it : InPlace). DoesInPlace g.S.Shelf.device c.as_slice-text.result.now c.loop.stage c.answer_line.new.stage it) c.in-Done.is c.answer_line.ensures).0 c.args.room (g.C.Clock.last c.loop.clock)).fits
+
+pub returns-then-is_some-clause-rooms : goal.returns-then-is_some-clause-rooms
+returns-then-is_some-clause-rooms g c = ((subst (λ (it : InPlace). DoesInPlace g.S.Shelf.device c.as_slice-text.result.now c.loop.stage c.answer_line.new.stage it) c.in-Done.is c.answer_line.ensures).0 c.args.room (g.C.Clock.last c.loop.clock)).rooms ∙ c.loop.invariant.rooms
+
 pub returns-then-is_some-2-clause-off : goal.returns-then-is_some-2-clause-off
 returns-then-is_some-2-clause-off g c is =
     stuck_is_off (without_facts (history_in c.loop.stage)) c.args.room c.as_slice-text.result.now (state_in g.S.Shelf.device c.loop.stage (g.C.Clock.last c.loop.clock)) (state_in g.S.Shelf.device c.finish_line-answered.result.stage (g.C.Clock.last c.finish_line-answered.new.clock)) c.finish_line-answered.result.reply (c.finish_line-answered.ensures c.loop.stage c.answer_line.ensures).is_line (c.write_reply-count-in-loop.ensures.stuck.0 is)
