@@ -1,6 +1,7 @@
 //! Stale copies that are brought up while disks fail, the power is cut, or nothing is heard of a transfer.
 use crate::fixtures::{
-    FRESH, STALE, Setup, begin, check, close, drain, goes_on, is_stale, order, sync, written,
+    FRESH, STALE, Setup, begin, check, close, close_copy, drain, goes_on, is_stale, order, sync,
+    written,
 };
 use lvm_disk::{Arrange, Shelf};
 use lvm_driver::Driver;
@@ -149,8 +150,7 @@ fn is_stuck<S: Shelf + Drop>(rt: &impl Abort, driver: Driver<S>) {
     check(rt, sync_briefly(rt, &mut driver) == stuck, "stuck");
     check(rt, sync(rt, &mut driver) == Err(SyncFault::Busy), "open");
     check(rt, drain(rt, &mut driver) == Ok(()), "all is done");
-    check(rt, driver.copy_state() == CopyState::Done, "brought up");
-    driver.close_copy();
+    check(rt, close_copy(&mut driver) == CopyState::Done, "brought up");
     check(rt, sync(rt, &mut driver) == Ok(0), "it is fresh");
     close(rt, driver);
 }

@@ -26,7 +26,7 @@ use lvm_num::{
 };
 use lvm_path::Ask;
 use lvm_resync::{SyncFault, sync_volume};
-use lvm_session::{AskFault, CopyFault, Power, Taken, Turned};
+use lvm_session::{AskFault, CopyFault, CopyState, Power, Taken, Turned};
 use lvm_session_start::{Room, take_parts};
 use lvm_transfer::Patience;
 use std::process::Abort;
@@ -206,6 +206,15 @@ fn history(rt: &(impl Abort + AllocGlobal)) -> History
     History::new(rt.alloc(), 50, 1000, 100_000).expect(rt, "memory")
 }
 
+// The last stamp before the session, behind which there are numbers for its updates.
+fn last_stamp(rt: &impl Abort, seq: u32) -> Stamp
+    ensures is { result ≡ record { epoch = 50; seq = seq } }
+    ensures few { seq < 4294965000 }
+{
+    assert!(rt; seq < 4_294_965_000);
+    Stamp { epoch: 50, seq }
+}
+
 /// The session of a group, on whose disks this happens.
 pub fn begin(rt: &(impl Abort + AllocGlobal), setup: &Setup, plan: &[Planned]) -> Driver<MemShelf> {
     let group = group(rt, setup);
@@ -216,10 +225,13 @@ pub fn begin(rt: &(impl Abort + AllocGlobal), setup: &Setup, plan: &[Planned]) -
         descriptor: DiskSet::empty(),
         status: DiskSet::empty(),
     };
-    let seq = setup.seq;
-    assert!(rt; seq < 4_294_967_290);
-    let stamp = Stamp { epoch: 50, seq };
-    Driver::start(parts, shelf(rt, plan), history(rt), stamp, homes)
+    Driver::start(
+        parts,
+        shelf(rt, plan),
+        history(rt),
+        last_stamp(rt, setup.seq),
+        homes,
+    )
 }
 
 // ---- what is asked of it
@@ -296,6 +308,15 @@ pub fn open_copy<S: Shelf>(
 ) -> Result<(), CopyFault> {
     goes_on(rt, driver);
     driver.open_copy(lv, lp, number)
+}
+
+/// How far the copy is that is open, which is closed where it has ended.
+pub fn close_copy<S: Shelf>(driver: &mut Driver<S>) -> CopyState {
+    let state = driver.copy_state();
+    if !matches!(state, CopyState::Running { .. }) {
+        driver.close_copy();
+    }
+    state
 }
 
 /// The answer of a request: the word of a block that was read, or another one.

@@ -1,6 +1,7 @@
 //! Writes that go to a copy which is being brought up, and what they do where its disk fails.
 use crate::fixtures::{
-    MODES, STALE, Setup, begin, check, close, drain, got, is_stale, open_copy, order, turn, write,
+    MODES, STALE, Setup, begin, check, close, close_copy, drain, got, is_stale, open_copy, order,
+    turn, write,
 };
 use lvm_disk::{Arrange, Shelf};
 use lvm_driver::{DrainFault, Driver};
@@ -31,8 +32,7 @@ fn stands_on_both<S: Shelf + Drop>(rt: &impl Abort, driver: Driver<S>, before: u
     write_after(rt, &mut driver, before);
     check(rt, drain(rt, &mut driver) == Ok(()), "all is done");
     check(rt, driver.take(1, 1) == Taken::Done, "the write too");
-    check(rt, driver.copy_state() == CopyState::Done, "brought up");
-    driver.close_copy();
+    check(rt, close_copy(&mut driver) == CopyState::Done, "brought up");
     order(rt, &mut driver, Arrange::Fail(0));
     check(rt, got(rt, &mut driver, 3) == Ok(9), "it stands on it");
     close(rt, driver);
@@ -64,22 +64,20 @@ fn goes_on_alone<S: Shelf + Drop>(
     check(rt, drain(rt, &mut driver) == Ok(()), "nothing stands still");
     check(rt, driver.take(1, 1) == Taken::Done, "the write is done");
     check(rt, got(rt, &mut driver, 3) == Ok(9), "it is read");
-    driver.close_copy();
+    close_copy(&mut driver);
     close(rt, driver);
     done
 }
 
 #[test]
 fn a_write_waits_for_no_note_of_a_missing_disk(rt: HostRuntime) {
-    let mut done = 0;
+    let mut done = false;
     for before in 30..TURNS {
         for between in 0..12 {
-            if goes_on_alone(&rt, begin(&rt, &STALE, &[]), before, between) {
-                done += 1;
-            }
+            done = goes_on_alone(&rt, begin(&rt, &STALE, &[]), before, between) || done;
         }
     }
-    check(&rt, done > 0, "also once the copying was done");
+    check(&rt, done, "also once the copying was done");
 }
 
 // The first track group is copied by four calls. Both transfers of the write are passed over while the others are, and
