@@ -42,7 +42,7 @@ module _ (s : State) (sound : IsSound s) (id : ℕ) (its : is_answered s.core.hi
       epoch = λ lit. record { epoch = refl; stamped = λ stamped. stamped };
       later = λ moment later. later_joins moment s.core.history.facts (fact ∷ []) later tt;
       causes = λ first was. goes_on s after (none_falls_at_once s.device.counts) refl refl first (fact ∷ []) refl (tt, tt) was.failed was;
-      keeps = record { sizes = refl; counts = none_falls_at_once s.device.counts; log = refl; room = record { most = refl; long = refl }; descriptor = refl; origin = refl; power = inl refl };
+      keeps = record { sizes = refl; counts = none_falls_at_once s.device.counts; cut = λ lit dark. absurd (let e : true ≡ false = sym lit ∙ dark in cc e); log = refl; room = record { most = refl; long = refl }; descriptor = refl; origin = refl; power = inl refl };
     };
     orders = refl;
     copy = λ none. none;
