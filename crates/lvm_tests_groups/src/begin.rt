@@ -1,7 +1,7 @@
 //! Groups that are made, and that come on again.
 use crate::fixtures::{
-    Begin, begin_first, begin_next, blank_shelf, check, first_three, group, image_shelf, images_of,
-    name_of, row, stamp, status, survey,
+    Begin, begin_first, begin_next, blank_shelf, change, check, first_three, group, image_shelf,
+    images_of, name_of, row, stamp, status, survey,
 };
 use lvm_disk::Shelf;
 use lvm_faults::{Act, Planned};
@@ -213,13 +213,6 @@ fn group_images(rt: &(impl Abort + AllocGlobal), id: u64) -> Vec<Vec<u8>> {
     let made = make(rt, &mut shelf, id);
     check(rt, made == (Begin::Ended, 18), "made");
     images_of(rt, &shelf)
-}
-
-fn change(rt: &impl Abort, images: &mut Vec<Vec<u8>>, changes: &[(usize, usize, u8)]) {
-    for (disk, place, byte) in changes {
-        let image = images.get_mut(*disk).expect(rt, "a disk");
-        *image.get_mut(*place).expect(rt, "a byte") = *byte;
-    }
 }
 
 fn chosen_of(rt: &(impl Abort + AllocGlobal), images: &[Vec<u8>]) -> Chosen {

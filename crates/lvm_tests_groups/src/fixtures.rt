@@ -76,6 +76,14 @@ pub fn image_shelf(
     MemShelf::from_images(rt.alloc(), rows, plan_of(rt, plan), 0).expect(rt, "memory")
 }
 
+/// Changes bytes of the disks, each on a disk at a place.
+pub fn change(rt: &impl Abort, images: &mut Vec<Vec<u8>>, changes: &[(usize, usize, u8)]) {
+    for (disk, place, byte) in changes {
+        let image = images.get_mut(*disk).expect(rt, "a disk");
+        *image.get_mut(*place).expect(rt, "a byte") = *byte;
+    }
+}
+
 fn are_whole(images: &[Rows<u8>]) -> bool
     ensures { IsTrue result → All (λ bytes. length bytes % 512 ≡ 0) images.now }
 {
@@ -143,14 +151,14 @@ pub fn group(rt: &(impl Abort + AllocGlobal), id: u64, count: u16) -> Descriptor
     }
 }
 
-/// The volume `lv00` of one logical partition, of which these are the copies.
-pub fn volume(rt: &(impl Abort + AllocGlobal), copies: [Pp; 2]) -> Rows<LvRow> {
+/// The volume `lv00` of one logical partition in this mode, of which these are the copies.
+pub fn volume(rt: &(impl Abort + AllocGlobal), mode: Mode, copies: [Pp; 2]) -> Rows<LvRow> {
     let mut rows = Vec::new(rt.alloc());
     let map = Vec::from_slice(rt.alloc(), &copies).expect(rt, "memory");
     let row = LvRow {
         number: 1,
         name: name_of(rt, b"lv00"),
-        mode: Mode::Off,
+        mode,
         policy: Policy::Parallel,
         copies: 2,
         lps: 1,

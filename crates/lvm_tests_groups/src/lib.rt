@@ -1,4 +1,5 @@
-//! Tests of the making of groups, of their coming on and of the copies of their volumes, by public calls alone.
+//! Tests of the making of groups, of their coming on, of their recovery after a crash, and of the copies of their
+//! volumes, by public calls alone.
 #![tactic(auto)]
 
 #[cfg(test)]
@@ -7,5 +8,7 @@ mod begin;
 mod fixtures;
 #[cfg(test)]
 mod mirrors;
+#[cfg(test)]
+mod recovery;
 #[cfg(test)]
 mod varyon;

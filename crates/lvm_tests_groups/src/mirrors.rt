@@ -8,7 +8,7 @@ use lvm_faults::{Act, Planned};
 use lvm_history::History;
 use lvm_memory::MemShelf;
 use lvm_mirrors::{GroupFault, mklvcopy, rmlvcopy};
-use lvm_num::Pp;
+use lvm_num::{Mode, Pp};
 use lvm_stale::StaleTable;
 use lvm_transfer::{Patience, relight};
 use lvm_varyon::varyon;
@@ -92,7 +92,7 @@ fn made(rt: &(impl Abort + AllocGlobal), sizes: &[u64], plan: &[Planned]) -> Mem
     let count = shelf.disks();
     assert!(rt; count >= 2);
     let mut group = group(rt, 50, count);
-    group.lvs = volume(rt, [first_of(count - 2), first_of(count - 1)]);
+    group.lvs = volume(rt, Mode::Off, [first_of(count - 2), first_of(count - 1)]);
     let begin = begin_first(rt, &mut shelf, &group);
     check(rt, begin == Begin::Ended, "the making");
     shelf

@@ -5,7 +5,7 @@ use lvm_disk::{Arrange, Shelf};
 use lvm_faults::{Act, Planned};
 use lvm_history::History;
 use lvm_memory::MemShelf;
-use lvm_num::Pp;
+use lvm_num::{Mode, Pp};
 use lvm_transfer::{Patience, relight};
 use lvm_varyon::varyon;
 use std::process::Abort;
@@ -23,18 +23,19 @@ const ROOM: Room = Room {
     bytes: 0,
 };
 
+/// How a varyon ended.
 #[derive(Clone, Copy, PartialEq, Eq)]
-enum Answer {
+pub enum Answer {
     On(Session),
     Not(Cause),
 }
 
-// The votes, and of the two disks which are missing and whose copy of the volume is stale.
+/// The votes, and of the two disks which are missing and whose copy of the volume is stale.
 #[derive(Clone, Copy, PartialEq, Eq)]
-struct Session {
-    votes: (u32, u32),
-    missing: [bool; 2],
-    stale: [bool; 2],
+pub struct Session {
+    pub votes: (u32, u32),
+    pub missing: [bool; 2],
+    pub stale: [bool; 2],
 }
 
 struct Case {
@@ -46,7 +47,8 @@ struct Case {
     later: Answer,
 }
 
-const WHOLE: Answer = Answer::On(Session {
+/// All disks are there.
+pub const WHOLE: Answer = Answer::On(Session {
     votes: (3, 3),
     missing: [false, false],
     stale: [false, false],
@@ -112,11 +114,11 @@ static CASES: [Case; 6] = [
     },
 ];
 
-// Two disks on which a group was made that has a volume of one logical partition with a copy on each.
-fn made(rt: &(impl Abort + AllocGlobal), plan: &[Planned]) -> MemShelf {
+/// Two disks on which a group was made that has a volume of one logical partition with a copy on each.
+pub fn made(rt: &(impl Abort + AllocGlobal), mode: Mode, plan: &[Planned]) -> MemShelf {
     let mut shelf = blank_shelf(rt, &[6144, 6144], plan);
     let mut group = group(rt, GROUP, 2);
-    group.lvs = volume(rt, [FIRST, SECOND]);
+    group.lvs = volume(rt, mode, [FIRST, SECOND]);
     let begin = begin_first(rt, &mut shelf, &group);
     check(rt, begin == Begin::Ended, "the making");
     shelf
@@ -131,8 +133,12 @@ fn told<S: Shelf>(driver: &Driver<S>) -> Session {
     }
 }
 
-// Varies the group on and off again, and gives the shelf back.
-fn vary<S: Shelf + Drop>(rt: &(impl Abort + AllocGlobal), shelf: S, moment: u64) -> (S, Answer) {
+/// Varies the group on and off again, and gives the shelf back.
+pub fn vary<S: Shelf + Drop>(
+    rt: &(impl Abort + AllocGlobal),
+    shelf: S,
+    moment: u64,
+) -> (S, Answer) {
     let mut shelf = shelf;
     assert!(rt; shelf.flights() == 0 && moment != 0);
     relight(&mut shelf);
@@ -156,8 +162,8 @@ fn vary<S: Shelf + Drop>(rt: &(impl Abort + AllocGlobal), shelf: S, moment: u64)
     }
 }
 
-// The disk fails no more.
-fn heal<S: Shelf>(rt: &impl Abort, shelf: &mut S, disk: u16) {
+/// The disk fails no more.
+pub fn heal<S: Shelf>(rt: &impl Abort, shelf: &mut S, disk: u16) {
     assert!(rt; disk < shelf.disks());
     check(rt, shelf.arrange(Arrange::Heal(disk)), "it heals");
 }
@@ -165,7 +171,7 @@ fn heal<S: Shelf>(rt: &impl Abort, shelf: &mut S, disk: u16) {
 #[test]
 fn a_group_comes_on_by_its_votes_at_a_later_moment(rt: HostRuntime) {
     for case in &CASES {
-        let shelf = made(&rt, case.plan);
+        let shelf = made(&rt, Mode::Off, case.plan);
         let (left, answer) = vary(&rt, shelf, case.moment);
         let later = vary_later(&rt, left, case.moment.saturating_add(10));
         check(&rt, answer == case.answer && later == case.later, case.name);
@@ -186,7 +192,7 @@ fn nothing_is_written_where_a_group_does_not_come_on(rt: HostRuntime) {
         call: 13,
         act: Act::Fail(0),
     }];
-    let shelf = made(&rt, &plan);
+    let shelf = made(&rt, Mode::Off, &plan);
     let before = images_of(&rt, &shelf);
     let (unlit, _) = vary(&rt, shelf, 60);
     check(&rt, images_of(&rt, &unlit) == before, "without a disk");
