@@ -130,7 +130,7 @@ pub fn run_words<I: Source, O: Sink, E: Sink, C: Clock, S: Shelf, P: Images>(
         OnSim (job_of words.now) (λ disks mib.
         IfSome result.sim (λ shelf. PromisesBlank (C.last clock.old) (ran full_room (sim_device disks mib) (device_of shelf) read written (C.last clock.new) result.history result.status result.refused))
         × IfNone result.sim (IsUnrun result ExitStatus.Memory × (input.new ≡ input.old) × (out.new ≡ out.old) × (clock.new ≡ clock.old))) }
-    ensures gen { OnGen (job_of words.now) (λ seed count. IsUnrun result result.status × IsGenerated seed count result.status (passage O.held O.faults out.old out.new)) }
+    ensures drawn { OnGen (job_of words.now) (λ seed count. IsUnrun result result.status × IsGenerated seed count result.status (passage O.held O.faults out.old out.new)) }
     ensures text { OnText (job_of words.now) (λ text. IsUnrun result result.status × IsTold text result.status (passage O.held O.faults out.old out.new)) }
     ensures image { let zeros = passage P.held P.faults images.old images.new in
         OnImage (job_of words.now) (λ disk mib. IsUnrun result result.status × (result.status ≡ ExitStatus.Memory → images.new ≡ images.old)

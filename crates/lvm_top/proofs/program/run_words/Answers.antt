@@ -13,8 +13,8 @@ returns-in-Err-Memory-clause-script g c =
     (record { content = g.I.Source.left c.args.input.now; faults = g.I.Source.faults c.args.input.now }) (record { content = g.O.Sink.held c.args.out.now; faults = g.O.Sink.faults c.args.out.now })
     c.unrun-in-Err-Memory.result c.unrun-in-Err-Memory.ensures.unrun
 
-pub returns-in-Err-Memory-clause-gen : goal.returns-in-Err-Memory-clause-gen
-returns-in-Err-Memory-clause-gen g c =
+pub returns-in-Err-Memory-clause-drawn : goal.returns-in-Err-Memory-clause-drawn
+returns-in-Err-Memory-clause-drawn g c =
     unread_generates (job_of c.args.words.now) (record { content = g.O.Sink.held c.args.out.now; faults = g.O.Sink.faults c.args.out.now }) c.unrun-in-Err-Memory.result c.unrun-in-Err-Memory.ensures.unrun
 
 pub returns-in-Ok-clause-sim : goal.returns-in-Ok-clause-sim
