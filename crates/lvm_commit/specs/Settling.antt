@@ -1,5 +1,5 @@
 -- How a session commits its records: what a commit needs, what it writes, and what it leaves.
-use Rattle.std.specs.Prelude.{◌≡◌, ◌⊎◌, ◌≢◌, ℕ, ◌+◌, ◌^◌, ◌<◌, ◌≤◌, false, not, List, [], map, None, Ok, IsTrue, IsFalse, IfSome, count_by}
+use Rattle.std.specs.Prelude.{◌≡◌, ◌⊎◌, ◌≢◌, ℕ, ◌+◌, ◌^◌, ◌<◌, ◌≤◌, false, not, List, [], length, map, None, Ok, IsTrue, IsFalse, IfSome, count_by}
 use Rattle.lvm_num.specs.declared.record.Kind.{Kind}
 use Rattle.lvm_num.specs.declared.record.Kind.TheVariants as kind
 use Rattle.lvm_num.specs.declared.place.Pp.{Pp}
@@ -12,7 +12,7 @@ use Rattle.lvm_num.specs.Buffer.{Buffer, Sector}
 use Rattle.lvm_num.specs.Disks.{Disks, has}
 use Rattle.lvm_num.specs.Descriptor.{IsValid, copies_of}
 use Rattle.lvm_num.specs.DescriptorBytes.{descriptor_of}
-use Rattle.lvm_num.specs.Record.{Frames}
+use Rattle.lvm_num.specs.Record.{Frames, longest_content}
 use Rattle.lvm_num.specs.Status.{calls_stale, calls_missing}
 use Rattle.lvm_num.specs.StatusBytes.{status_bytes}
 use Rattle.lvm_num.specs.Votes.{votes_in, total_votes, is_enough_to_write, CanWrite}
@@ -84,6 +84,17 @@ pub record MaySettle (group : Descriptor) (u : Stored) (device : Device) : Type 
 -- so many numbers are left for stamps, and one more for each member that isn't missing
 abbrev pub HasNumbers : ℕ → Stored → Type 0
 HasNumbers more u = u.stamp.seq + more + many_there u < 2 ^ 32
+
+-- So many records may be committed: the shelf takes transfers, the session may settle, and numbers are left for the records' stamps.
+pub record MayCommit (records : ℕ) (group : Descriptor) (u : Stored) (device : Device) : Type 0 where
+  pub ready : IsReady device
+  pub settle : MaySettle group u device
+  pub numbers : HasNumbers records u
+
+-- These are the bytes of the descriptor, and one record has room for them.
+pub record IsContentOf (group : Descriptor) (content : List ℕ) : Type 0 where
+  pub fits : length content ≤ longest_content kind.Descriptor
+  pub describes : descriptor_of content ≡ Ok group
 
 -- ---- what is left
 

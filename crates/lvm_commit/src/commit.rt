@@ -1,10 +1,8 @@
 //! The records of a session are committed.
-ghost use Rattle.std.specs.Prelude.{Ok, ◌≡◌, ◌≤◌, length};
+ghost use Rattle.std.specs.Prelude.{◌≡◌, ◌≤◌, length};
 ghost use Rattle.lvm_num.specs.declared.record.Kind.TheVariants as kind;
-ghost use Rattle.lvm_num.specs.DescriptorBytes.{descriptor_of};
 ghost use Rattle.lvm_num.specs.Record.{longest_content};
-ghost use Rattle.lvm_disk.specs.Device.{IsReady};
-ghost use Rattle.lvm_commit.specs.Settling.{EndsAtOnce, MaySettle, HasNumbers, IsOfStatus, IsOfCommit, StatusStaysKept, DescriptorStaysKept, StatusFindsNothingNew, CommitFindsNoMore, CommitLeaves, StatusEnds, DescriptorEnds};
+ghost use Rattle.lvm_commit.specs.Settling.{EndsAtOnce, MayCommit, IsContentOf, IsOfStatus, IsOfCommit, StatusStaysKept, DescriptorStaysKept, StatusFindsNothingNew, CommitFindsNoMore, CommitLeaves, StatusEnds, DescriptorEnds};
 
 use crate::write::{is_committed, write_descriptor, write_wanted};
 use lvm_disk::Shelf;
@@ -38,9 +36,7 @@ pub fn commit_status<S: Shelf>(
     buf: Pbuf,
     patience: &mut Patience,
 ) -> CommitEnd
-    requires ready { IsReady (S.device shelf.old) }
-    requires may { MaySettle d.now updater.old (S.device shelf.old) }
-    requires numbers { HasNumbers 1 updater.old }
+    requires may { MayCommit 1 d.now updater.old (S.device shelf.old) }
     requires bytes { longest_content kind.Status ≤ length bytes.old }
     ensures ends { StatusEnds buf.number patience.old.left updater.old updater.new homes.old homes.new (S.device shelf.old) (S.device shelf.new) result }
     // nothing was wanted
@@ -74,12 +70,9 @@ pub fn commit_descriptor<S: Shelf>(
     buf: Pbuf,
     patience: &mut Patience,
 ) -> CommitEnd
-    requires ready { IsReady (S.device shelf.old) }
-    requires may { MaySettle d.now updater.old (S.device shelf.old) }
+    requires may { MayCommit 2 d.now updater.old (S.device shelf.old) }
     requires settled { updater.old.committed ≡ updater.old.wanted }
-    requires numbers { HasNumbers 2 updater.old }
-    requires content { length content.now ≤ longest_content kind.Descriptor }
-    requires describes { descriptor_of content.now ≡ Ok d.now }
+    requires content { IsContentOf d.now content.now }
     requires bytes { longest_content kind.Status ≤ length bytes.old }
     ensures ends { DescriptorEnds content.now buf.number patience.old.left updater.old updater.new homes.old homes.new (S.device shelf.old) (S.device shelf.new) result }
     // whatever the answer

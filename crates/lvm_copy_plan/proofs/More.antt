@@ -1,6 +1,6 @@
 -- A descriptor in which a volume has more copies, and what the further ones are.
 use Rattle.std.proofs.Common.{◌≡◌, ◌≢◌, ◌⊎◌, inl, inr, ⊎_elim, ℕ, zero, suc, ◌+◌, ◌*◌, ◌%◌, ◌<◌, ◌≤◌, true, ◌&&◌, List, [], ◌∷◌, length, get_or, take, drop, Some, sym, ap, subst, ◌∙◌, arith}
-use Rattle.std.specs.Prelude.{◌==◌, All, AllPairs, Contains, IsTrue, slice_get}
+use Rattle.std.specs.Prelude.{◌==◌, All, Contains, IsTrue, slice_get}
 use Rattle.std.proofs.lemmas.Bool.{false≢true, cases_lt}
 use Rattle.std.proofs.lemmas.List.{length-take-le, length-drop, get_or-take, get_or-drop, take-append-drop}
 use Rattle.std.proofs.lemmas.List.Folds.{list_any_at}
@@ -8,9 +8,8 @@ use Rattle.std.proofs.Math.Nat.{mul-le-mul_right}
 use Rattle.lvm_num.specs.declared.place.Pp.{Pp}
 use Rattle.lvm_num.specs.declared.descriptor.LvRow.{LvRow}
 use Rattle.lvm_num.specs.declared.descriptor.Descriptor.{Descriptor}
-use Rattle.lvm_num.specs.Descriptor.{IsPartitionOf, IsValid, copies_of, partitions_in, partitions_used, volume_of}
+use Rattle.lvm_num.specs.Descriptor.{IsPartitionOf, IsValid, copies_of, partitions_used, volume_of}
 use Rattle.lvm_num.specs.Disks.{Disks}
-use Rattle.lvm_num.proofs.Pairs.{AllPairs-left, AllPairs-right}
 use Rattle.lvm_map.specs.FirstFit.{is_among, IsAllocated, more_copies}
 use Rattle.lvm_map.specs.Laws.{IsNewPlace}
 use Rattle.lvm_map.proofs.FreeLists.{is_pp-same}
@@ -22,8 +21,8 @@ use Rattle.lvm_kept.specs.Group.{IsOneOf}
 use Rattle.lvm_commit.proofs.Copies.{contains}
 use Rattle.lvm_volume_plan.proofs.Sublists.{one_cases, one_left}
 use Rattle.lvm_copy_plan.specs.Copies.{with_map, with_copies, further_copies}
-use Rattle.lvm_copy_plan.proofs.Parts.{IsPart, all_of, pairs_of, one_part}
-use Rattle.lvm_copy_plan.proofs.Rows.{one_found, named, is_set}
+use Rattle.lvm_copy_plan.proofs.Parts.{IsPart, all_of, one_part}
+use Rattle.lvm_copy_plan.proofs.Rows.{is_set}
 
 among_is : (xs : List Pp) (pp : Pp) → Contains xs pp → is_among xs pp ≡ true
 among_is xs pp has = list_any_at (λ (p : Pp). p.disk == pp.disk && p.pp == pp.pp) xs has.0 pp has.1 (is_pp-same (get_or xs has.0 pp) pp has.2)
@@ -39,12 +38,6 @@ none_past row lp p whole past one =
     empty zero xs size one = one
     empty (suc n) [] size one = one
     empty (suc n) (x ∷ xs) size one = absurd (omega (arith, size))
-
--- a volume's map has no partition twice where the maps of all have none
-pub map_once : (R : Pp → Pp → Type 0) (rows : List LvRow) (row : LvRow) → AllPairs R (partitions_in rows) → IsOneOf rows row → AllPairs R row.map
-map_once R [] row pairs one = absurd one
-map_once R (x ∷ xs) row pairs (inl here) = subst (λ (r : LvRow). AllPairs R r.map) (sym here) (AllPairs-left R x.map (partitions_in xs) pairs)
-map_once R (x ∷ xs) row pairs (inr there) = map_once R xs row (AllPairs-right R x.map (partitions_in xs) pairs) there
 
 module _ (d : Descriptor) (usable : Disks) (lv copies : ℕ) (row : LvRow) (pps : List Pp) (valid : IsValid d) (volume : volume_of d lv ≡ Some row) (more : row.copies < copies) (all : IsAllocated d usable (more_copies row copies) pps) where
   abbrev new : LvRow
@@ -93,14 +86,10 @@ module _ (d : Descriptor) (usable : Disks) (lv copies : ℕ) (row : LvRow) (pps 
   pub usable_of : All (λ (p : Pp). IsTrue (usable p.disk)) (further_copies new row.copies)
   usable_of = all_of pps copies row.copies behind (λ (p : Pp). IsTrue (usable p.disk)) (λ k e lt past. (place k e lt past).is_usable) 0 row.lps (λ lp lt. part lp (omega (arith, lt)))
 
-  -- of no volume,
+  -- of no volume
   pub free_of : All (λ (p : Pp). Contains (partitions_used d) p → ⊥) (further_copies new row.copies)
   free_of = all_of pps copies row.copies behind (λ (p : Pp). Contains (partitions_used d) p → ⊥)
       (λ k e lt past has. false≢true (sym (place k e lt past).free ∙ among_is (partitions_used d) (get_or pps k e) has)) 0 row.lps (λ lp lt. part lp (omega (arith, lt)))
-
-  -- and each once
-  pub once_of : IsValid next → AllPairs (λ (a b : Pp). a ≢ b) (further_copies new row.copies)
-  once_of valid_next = pairs_of pps copies row.copies behind (λ (a b : Pp). a ≢ b) (map_once (λ (a b : Pp). a ≢ b) next.lvs new valid_next.maps.used_once (one_found lv next.lvs new (named lv copies pps d.lvs row volume))) 0 row.lps (λ lp lt. part lp (omega (arith, lt)))
 
   -- ---- the copies
 

@@ -30,11 +30,12 @@ use Rattle.lvm_commit.specs.Committed.{MayMark, HoldsCommitted}
 use Rattle.lvm_kept.specs.Contents.{Contents}
 use Rattle.lvm_left.specs.Marking.{is_served}
 use Rattle.lvm_commit.specs.LawsOfData.{IsFree}
-use Rattle.lvm_commit.specs.Settling.{NoneIsLeft, there, IsOf, MaySettle, SessionIsHeld}
+use Rattle.lvm_commit.specs.Settling.{NoneIsLeft, there, IsOf, MayCommit, MaySettle, SessionIsHeld}
+use Rattle.lvm_session.specs.Sound.{is_dark}
 use Rattle.lvm_session.specs.State.{Core, State, is_there}
 use Rattle.lvm_core.specs.Sound.{IsSound}
 use Rattle.lvm_core.specs.Held.{IsHeld}
-use Rattle.lvm_core.specs.Settled.{IsSettled}
+use Rattle.lvm_core.specs.Settled.{HasSpareNumbers, IsSettled}
 use Rattle.lvm_core.specs.Committing.{is_among, AreUnused, AreMarked}
 use Rattle.lvm_core.specs.Steps.{IsMarked}
 use Rattle.lvm_commit.proofs.Free.{none_stands}
@@ -67,8 +68,8 @@ member_has_room s sound disk there =
     let within = its.within (get_or s.device.sizes disk 0) (ap (slice_get s.device.sizes) row.2 ∙ at) in
     (get_or s.device.sizes disk 0, at, omega (arith, within))
 
-pub may_settle_now : (s : State) → IsSound s → IsSettled s.core → MaySettle s.core.descriptor s.core.status s.device
-may_settle_now s sound settled = record {
+may_settle : (s : State) → IsSound s → IsSettled s.core → MaySettle s.core.descriptor s.core.status s.device
+may_settle s sound settled = record {
   valid = sound.fitting.valid;
   own = sym sound.fitting.group;
   idle = settled.quiet.status;
@@ -77,6 +78,13 @@ may_settle_now s sound settled = record {
   epoch = settled.epoch;
   room = λ d is. member_has_room s sound d (subst (λ (set : Disks). IsTrue (set d)) (there_is s.core.descriptor s.core.status sound.fitting.group) is);
   votes = subst (λ (g : Descriptor). CanWrite g (members_there g s.core.status.wanted)) (sym sound.fitting.group) settled.votes;
+}
+
+pub may_commit_now : (s : State) → IsSound s → IsSettled s.core → HasSpareNumbers s.core → (records : ℕ) → records ≤ 8 → MayCommit records s.core.descriptor s.core.status s.device
+may_commit_now s sound settled spare records few = record {
+  ready = let lit = sound.lit (ap is_dark settled.power) in record { flights = sound.quiet settled.quiet; freed = lit.freed; power = lit.power };
+  settle = may_settle s sound settled;
+  numbers = omega (arith, spare, few);
 }
 
 -- ---- marks of partitions that no volume has

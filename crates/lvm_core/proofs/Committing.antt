@@ -19,7 +19,7 @@ use Rattle.lvm_vgda.proofs.Whole.{spelled_is_read}
 use Rattle.lvm_commit.specs.Committed.{IsAlike}
 use Rattle.lvm_commit.specs.LawsOfFinding.{FindsNoMoreOn}
 use Rattle.lvm_commit.specs.LawsOfVolumes.{VolumeServes}
-use Rattle.lvm_commit.specs.Settling.{MaySettle, IsOf, IsOfCommit, IsPlain, SessionIsHeld, ComesHeld}
+use Rattle.lvm_commit.specs.Settling.{MayCommit, IsOf, IsOfCommit, IsPlain, SessionIsHeld, ComesHeld}
 use Rattle.lvm_commit.proofs.Chaining.{keeps_wider}
 use Rattle.lvm_core.specs.declared.fault.CommitFault.{CommitFault}
 use Rattle.lvm_session.specs.State.{Core, State, is_there}
@@ -40,8 +40,14 @@ still_begun : (core : Core) → IsBegun core core.status
 still_begun core = record { group = refl; stamp = refl; committed = refl; rows = record { id = refl; big = refl; disks = refl }; missing = λ d. refl; forgotten = λ was. was }
 
 -- the next descriptor may be committed where the session's group may
-pub may_next : (d next : Descriptor) (u : Stored) (device : Device) → MaySettle d u device → IsValid next → IsAlike next d → MaySettle next u device
-may_next d next u device may valid alike = record { valid = valid; own = alike ∙ may.own; idle = may.idle; id = may.id; rows = may.rows; epoch = may.epoch; room = may.room; votes = may.votes }
+pub may_next : (records : ℕ) (d next : Descriptor) (u : Stored) (device : Device) → MayCommit records d u device → IsValid next → IsAlike next d → MayCommit records next u device
+may_next records d next u device may valid alike =
+    let was = may.settle in
+    record {
+      ready = may.ready;
+      settle = record { valid = valid; own = alike ∙ was.own; idle = was.idle; id = was.id; rows = was.rows; epoch = was.epoch; room = was.room; votes = was.votes };
+      numbers = may.numbers;
+    }
 
 module _ (next : Descriptor) (before after : ℕ) (old new : State) (answer : Result (Unit {0}) CommitFault) (w : CommitsDescriptor next before after old new answer) (settled_is : IsSettled old.core) (sound : IsSound old) (alike : IsAlike next old.core.descriptor) where
   abbrev plan : Plan

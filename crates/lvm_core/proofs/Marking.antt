@@ -1,10 +1,11 @@
 -- Marks that are wanted one after another.
 use Rattle.std.proofs.Common.{◌≡◌, ℕ, ◌+◌, ◌<◌, Bool, true, false, ◌&&◌, ◌||◌, not, List, [], length, take, get_or, None, refl, sym, ◌∙◌, ap, subst, arith}
-use Rattle.std.specs.Prelude.{◌==◌, All, if◌then◌else◌}
+use Rattle.std.specs.Prelude.{◌==◌, ◌^◌, All, count_by, if◌then◌else◌}
 use Rattle.std.proofs.lemmas.Bool.{eqb-true}
 use Rattle.std.proofs.lemmas.List.Folds.{list_any_more}
 use Rattle.lvm_num.specs.declared.place.Pp.{Pp}
 use Rattle.lvm_num.specs.declared.descriptor.Descriptor.{Descriptor}
+use Rattle.lvm_num.specs.declared.descriptor.PvRow.{PvRow}
 use Rattle.lvm_num.specs.declared.record.Stamp.{Stamp}
 use Rattle.lvm_num.specs.declared.status.Status.{Status}
 use Rattle.lvm_num.specs.Disks.{Disks}
@@ -17,7 +18,7 @@ use Rattle.lvm_status.specs.declared.change.Change.TheVariants as change
 use Rattle.lvm_status.specs.Update.{Updates, Stored, seen, is_held, is_owed, no_disks}
 use Rattle.lvm_status.specs.Calls.{BecomesStale, BecomesFresh, IsMarkable, closed, with_wanted, given_up}
 use Rattle.lvm_write.specs.Written.{HaveRoom}
-use Rattle.lvm_commit.specs.Settling.{HasSameRows, IsForgotten, MaySettle, there}
+use Rattle.lvm_commit.specs.Settling.{HasSameRows, IsForgotten, MayCommit, MaySettle, many_there, there}
 use Rattle.lvm_commit.proofs.Wanting.{row_stays}
 use Rattle.lvm_core.specs.Committing.{is_among, Marks}
 use Rattle.lvm_core.specs.Steps.{IsMarked}
@@ -256,7 +257,7 @@ marked_both to_stale to_fresh old mid new one two = record {
 pub there_same : (to_stale to_fresh : List Pp) (old new : Stored) → IsMarked to_stale to_fresh old new → there new ≡ there old
 there_same to_stale to_fresh old new marked = λ t d. is_member (marked.group t) d && not (marked.missing d t)
 
-pub may_settle : (d : Descriptor) (device : Device) (to_stale to_fresh : List Pp) (old new : Stored) → IsMarked to_stale to_fresh old new → MaySettle d old device → MaySettle d new device
+may_settle : (d : Descriptor) (device : Device) (to_stale to_fresh : List Pp) (old new : Stored) → IsMarked to_stale to_fresh old new → MaySettle d old device → MaySettle d new device
 may_settle d device to_stale to_fresh old new marked may = record {
   valid = may.valid;
   own = may.own ∙ sym marked.group;
@@ -267,3 +268,13 @@ may_settle d device to_stale to_fresh old new marked may = record {
   room = subst (λ (set : Disks). HaveRoom device set) (sym (there_same to_stale to_fresh old new marked)) may.room;
   votes = subst (λ (g : Descriptor). CanWrite g (there new)) (sym marked.group) (subst (λ (set : Disks). CanWrite old.group set) (sym (there_same to_stale to_fresh old new marked)) may.votes);
 }
+
+pub may_commit : (records : ℕ) (d : Descriptor) (device : Device) (to_stale to_fresh : List Pp) (old new : Stored) → IsMarked to_stale to_fresh old new → MayCommit records d old device → MayCommit records d new device
+may_commit records d device to_stale to_fresh old new marked may = record {
+  ready = may.ready;
+  settle = may_settle d device to_stale to_fresh old new marked may.settle;
+  numbers = subst (λ (n : ℕ). new.stamp.seq + records + n < 2 ^ 32) (sym many) (subst (λ (t : Stamp). t.seq + records + many_there old < 2 ^ 32) (sym marked.stamp) may.numbers);
+}
+  where
+    many : many_there new ≡ many_there old
+    many = λ t. count_by (λ (row : PvRow). not (marked.missing row.disk t)) (marked.group t).pvs

@@ -4,7 +4,7 @@ ghost use Rattle.lvm_disk.specs.Device.{IsReady};
 ghost use Rattle.lvm_pbuf.specs.Out.{IsOut};
 ghost use Rattle.lvm_status.specs.Calls.{IsMarkable};
 ghost use Rattle.lvm_commit.specs.Committed.{IsAlike};
-ghost use Rattle.lvm_commit.specs.Settling.{IfBack, MaySettle, HasNumbers};
+ghost use Rattle.lvm_commit.specs.Settling.{IfBack, MayCommit};
 ghost use Rattle.lvm_session.specs.Fields.{core_of};
 ghost use Rattle.lvm_session.specs.Rooms.{HasRooms, SameRooms};
 ghost use Rattle.lvm_session.specs.State.{state};
@@ -123,15 +123,13 @@ pub fn commit<S: Shelf>(
     next: Prepared,
     patience: &mut Patience,
 ) -> Result<(), CommitFault>
-    requires ready { IsReady (S.device shelf.old) }
     requires fitting { IsFitting (core_of session.old) }
     requires none { HasNoneOpen (core_of session.old) }
     requires buffers { session.old.pool ≡ replicate (length session.old.pool) false }
     requires rooms { HasRooms session.old }
-    requires may { MaySettle session.old.descriptor session.old.updater (S.device shelf.old) }
+    requires may { MayCommit 2 session.old.descriptor session.old.updater (S.device shelf.old) }
     requires settled { session.old.updater.committed ≡ session.old.updater.wanted }
     requires alike { IsAlike next session.old.descriptor }
-    requires numbers { HasNumbers 2 session.old.updater }
     ensures does { CommitsDescriptor next patience.old.left patience.new.left (state (S.device shelf.old) (core_of session.old)) (state (S.device shelf.new) (core_of session.new)) result }
     ensures rooms { SameRooms session.old session.new }
 {
@@ -158,13 +156,11 @@ pub fn set_status<S: Shelf>(
     fresh: &[Pp],
     patience: &mut Patience,
 ) -> Result<(), CommitFault>
-    requires ready { IsReady (S.device shelf.old) }
     requires fitting { IsFitting (core_of session.old) }
     requires none { HasNoneOpen (core_of session.old) }
     requires buffers { session.old.pool ≡ replicate (length session.old.pool) false }
     requires rooms { HasRooms session.old }
-    requires may { MaySettle session.old.descriptor session.old.updater (S.device shelf.old) }
-    requires numbers { HasNumbers 1 session.old.updater }
+    requires may { MayCommit 1 session.old.descriptor session.old.updater (S.device shelf.old) }
     requires markable { All (IsMarkable session.old.updater.wanted) (stale.now ++ fresh.now) }
     ensures does { CommitsMarks stale.now fresh.now patience.old.left patience.new.left (state (S.device shelf.old) (core_of session.old)) (state (S.device shelf.new) (core_of session.new)) result }
     ensures rooms { SameRooms session.old session.new }

@@ -1,5 +1,5 @@
 //! A session over its shelf.
-ghost use Rattle.std.specs.Prelude.{◌≡◌, ◌≢◌, ◌==◌, ◌≤◌, ◌<◌, ◌+◌, ◌-◌, ◌++◌, ◌^◌, [], length, slice_get, false, Some, IfSome, IfNone, IfOk, IsOk, IsTrue, All, AllPairs};
+ghost use Rattle.std.specs.Prelude.{◌≡◌, ◌==◌, ◌≤◌, ◌<◌, ◌+◌, ◌-◌, ◌++◌, ◌^◌, [], length, slice_get, false, Some, IfSome, IfNone, IfOk, IsOk, IsTrue, All};
 ghost use Rattle.lvm_num.specs.Descriptor.{IsValid, IsPartitionOf};
 ghost use Rattle.lvm_num.specs.Votes.{total_votes};
 ghost use Rattle.lvm_vol.specs.Log.{spare_entries, with_fact, plain_fact};
@@ -186,7 +186,6 @@ impl<S: Shelf> Driver<S> {
         requires settled { IsSettled self.old.1 }
         requires numbers { HasSpareNumbers self.old.1 }
         requires unused { AreUnused self.old.1.descriptor (stale.now ++ fresh.now) }
-        requires once { AllPairs (λ a b. a ≢ b) (stale.now ++ fresh.now) }
         ensures ends { MarkEnds patience.old.left (state_of S.device self.old) (state_of S.device self.new) result }
         ensures fails { FailsCommitted (state_of S.device self.old) (state_of S.device self.new) result }
         ensures nothing { AreMarked stale.now fresh.now self.old.1.status.committed → IsOk result × (S.device self.new.0 ≡ S.device self.old.0) × (self.new.1 ≡ self.old.1) }

@@ -1,5 +1,5 @@
 -- The room that a session has stays.
-use Rattle.std.proofs.Common.{◌≡◌, ◌≤◌, ℕ, length, sym, ◌∙◌, subst}
+use Rattle.std.proofs.Common.{◌≡◌, ◌≤◌, ℕ, length, subst}
 use Rattle.std.specs.Prelude.{vec_capacity}
 use Rattle.lvm_session.specs.declared.session.Session.{Session}
 use Rattle.lvm_session.specs.Fields.{core_of}
@@ -10,6 +10,5 @@ pub rooms_stay : (old new : Session) → SameRoom (core_of old) (core_of new) �
 rooms_stay old new it same rooms = record {
   requests = rw (it.most, same.requests) rooms.requests;
   flying = rw (it.long, same.flying) rooms.flying;
-  buffers = it.long ∙ rooms.buffers ∙ sym same.buffers;
   bytes = rw same.bytes rooms.bytes;
 }

@@ -1,6 +1,6 @@
 -- Groups without volumes in other modes than off, with a volume of zeros more, and with one less.
-use Rattle.std.proofs.Common.{◌≡◌, ⊎_elim, ℕ, ◌-◌, ◌%◌, ◌≤◌, ◌<◌, ◌&&◌, List, Option, Some, IfSome, refl, sym, ap, subst, ◌∙◌, arith, slice_index_or}
-use Rattle.std.specs.Prelude.{◌==◌, not, All, IsTrue}
+use Rattle.std.proofs.Common.{◌≡◌, ⊎_elim, ℕ, ◌-◌, ◌%◌, ◌≤◌, ◌<◌, ◌&&◌, List, Option, Some, IfSome, refl, sym, subst, ◌∙◌, arith, slice_index_or}
+use Rattle.std.specs.Prelude.{◌==◌, not, All}
 use Rattle.std.proofs.lemmas.List.Elements.{All-contains}
 use Rattle.lvm_num.specs.declared.place.Pp.{Pp}
 use Rattle.lvm_num.specs.declared.descriptor.LvRow.{LvRow}

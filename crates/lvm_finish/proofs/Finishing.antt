@@ -72,7 +72,7 @@ has_ended s device core at row ok buf sound on returns = record {
 pub dark_is : (old : State) (device : Device) (new : Core) → GoesDark old.device device → device.power ≡ false → new ≡ all_dark old.core → Darkens old (state device new)
 dark_is old device new goes off is =
     subst (λ (c : Core). Darkens old (state device c)) (sym is)
-    (record { device = goes; power = off; status = record { group = refl; committed = refl; wanted = refl; in_flight = inl refl }; entries = refl; notes = λ disk. refl; is = refl })
+    (record { device = goes; power = off; status = record { group = refl; committed = refl; wanted = refl; in_flight = inl refl; stamp = inl refl }; entries = refl; notes = λ disk. refl; is = refl })
 
 pub rests_so : (old : State) (new : Core) (answer : Turned) → old.device.flights ≡ [] → Rests old.core new answer → FinishMakes old (state old.device new) answer
 rests_so old new turned.Moved idle rests = absurd rests

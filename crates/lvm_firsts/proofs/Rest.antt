@@ -1,33 +1,34 @@
--- Votes of the members that are there, and buffers that are.
-use Rattle.std.proofs.Common.{◌≡◌, ◌≤◌, ◌+◌, ℕ, suc, Bool, true, false, cond, not, nat_lt, List, [], ◌∷◌, length, refl, ◌∙◌, ap, arith, zero-add}
+-- Where no row of a status calls its disk missing, the votes that are there are all.
+use Rattle.std.proofs.Common.{◌≡◌, ◌==◌, ◌&&◌, ◌||◌, ℕ, Bool, true, false, not, le_antisymm, List, [], ◌∷◌, refl, ◌∙◌, ap}
 use Rattle.std.specs.List.{list_any}
-use Rattle.std.proofs.lemmas.Bool.{lt-ltb}
-use Rattle.std.proofs.lemmas.List.Sums.{sum_by-cons}
 use Rattle.lvm_num.specs.declared.descriptor.Descriptor.{Descriptor}
-use Rattle.lvm_num.specs.Votes.{votes_in}
-use Rattle.lvm_pbuf.specs.Out.{out_count}
-use Rattle.lvm_status.specs.Update.{members_there, seen, votes_there as votes_of_update}
-use Rattle.lvm_session.specs.State.{Core, votes_there}
-use Rattle.lvm_session.specs.Sound.{IsFitting}
+use Rattle.lvm_num.specs.declared.status.StatusRow.{StatusRow}
+use Rattle.lvm_num.specs.declared.status.Status.{Status}
+use Rattle.lvm_num.specs.Descriptor.{is_member}
+use Rattle.lvm_num.specs.Status.{calls_missing}
+use Rattle.lvm_num.specs.Votes.{all_disks, total_votes, votes_in}
+use Rattle.lvm_num.proofs.VotesLemmas.{more_have_more}
+use Rattle.lvm_status.specs.Update.{members_there}
 
-pub votes_are : (core : Core) → IsFitting core → votes_of_update (seen core.status) ≡ votes_there core
-votes_are core fitting = ap (λ (g : Descriptor). votes_in g (members_there g core.status.wanted)) fitting.group
+neither : (a b : Bool) → (a || b) ≡ false → (a ≡ false) × (b ≡ false)
+neither false false is = (refl, refl)
+neither false true is = cc
+neither true b is = cc
 
-out_more : (pool : List Bool) → out_count (true ∷ pool) ≡ 1 + out_count pool
-out_more pool = sum_by-cons (λ (out : Bool). cond out 1 0) true pool
+not_both : (a b c : Bool) → b ≡ false → c ≡ false → (a && b || c) ≡ false
+not_both false b false is none = refl
+not_both true false false is none = refl
+not_both true true c is none = cc
+not_both a b true is none = cc
 
-out_same : (pool : List Bool) → out_count (false ∷ pool) ≡ out_count pool
-out_same pool = sum_by-cons (λ (out : Bool). cond out 1 0) false pool ∙ zero-add (out_count pool)
+none_missing : (rows : List StatusRow) (disk : ℕ) → list_any (λ (row : StatusRow). row.missing) rows ≡ false → list_any (λ (row : StatusRow). row.disk == disk && row.missing) rows ≡ false
+none_missing [] disk none = refl
+none_missing (row ∷ rows) disk none =
+    let parts = neither row.missing (list_any (λ (r : StatusRow). r.missing) rows) none in
+    not_both (row.disk == disk) row.missing (list_any (λ (r : StatusRow). r.disk == disk && r.missing) rows) parts.0 (none_missing rows disk parts.1)
 
-out_fits : (pool : List Bool) → out_count pool ≤ length pool
-out_fits [] = omega arith
-out_fits (true ∷ pool) = let rest = out_fits pool in let more = out_more pool in omega (arith, rest, more)
-out_fits (false ∷ pool) = let rest = out_fits pool in let same = out_same pool in omega (arith, rest, same)
-
-pub free_is : (pool : List Bool) → nat_lt (out_count pool) (length pool) ≡ list_any not pool
-free_is [] = refl
-free_is (true ∷ pool) = let more = out_more pool in shifted (out_count (true ∷ pool)) (out_count pool) (length pool) more ∙ free_is pool
+pub all_there : (d : Descriptor) (s : Status) → list_any (λ (row : StatusRow). row.missing) s.rows ≡ false → total_votes d ≡ votes_in d (members_there d s)
+all_there d s none = le_antisymm (more_have_more d all_disks (members_there d s) there) (more_have_more d (members_there d s) all_disks (λ disk member it. refl))
   where
-    shifted : (a b n : ℕ) → a ≡ 1 + b → nat_lt a (suc n) ≡ nat_lt b n
-    shifted a b n is = grind (arith, is)
-free_is (false ∷ pool) = let rest = out_fits pool in let same = out_same pool in lt-ltb (out_count (false ∷ pool)) (suc (length pool)) (omega (arith, rest, same))
+    there : (disk : ℕ) → is_member d disk ≡ true → all_disks disk ≡ true → members_there d s disk ≡ true
+    there disk member it = ap (λ b. b && not (calls_missing s disk)) member ∙ ap not (none_missing s.rows disk none)

@@ -1,29 +1,55 @@
 //! Whether the votes are lost, and whether a buffer is there.
 ghost use Rattle.std.specs.Prelude.{◌≡◌};
+ghost use Rattle.std.specs.List.{list_any};
 ghost use Rattle.std.specs.Option.{option_map_or};
+ghost use Rattle.lvm_num.specs.declared.status.StatusRow.{StatusRow};
 ghost use Rattle.lvm_session.specs.Fields.{core_of};
-ghost use Rattle.lvm_session.specs.Rooms.{HasRooms};
+ghost use Rattle.lvm_session.specs.State.{votes_there};
 ghost use Rattle.lvm_session.specs.Enabled.{copy_write, has_buffer, is_lost};
 ghost use Rattle.lvm_session.specs.Sound.{IsFitting};
 
 use lvm_copies::is_running;
 use lvm_session::{Event, Session, Step};
 
+// Whether some row of the wanted status calls its disk missing.
+fn is_any_missing(session: &Session) -> bool
+    ensures { result ≡ list_any (λ (row : StatusRow). row.missing) session.now.updater.wanted.rows }
+{
+    session
+        .updater
+        .wanted()
+        .as_status()
+        .rows
+        .as_slice()
+        .iter()
+        .any(|row| row.missing)
+}
+
+// The votes of the members that aren't missing: those of all where none is.
+fn votes_there(session: &Session) -> u32
+    requires { IsFitting (core_of session.now) }
+    ensures { result ≡ votes_there (core_of session.now) }
+{
+    if is_any_missing(session) {
+        session.updater.votes().0
+    } else {
+        session.descriptor.total_votes()
+    }
+}
+
 /// Whether the members that aren't missing have too few votes to write.
 pub fn is_lost(session: &Session) -> bool
     requires { IsFitting (core_of session.now) }
     ensures { result ≡ is_lost (core_of session.now) }
 {
-    let (have, _) = session.updater.votes();
-    !session.descriptor.enough_to_write(have)
+    !session.descriptor.enough_to_write(votes_there(session))
 }
 
 /// Whether some buffer isn't out.
 pub fn has_buffer(session: &Session) -> bool
-    requires { HasRooms session.now }
     ensures { result ≡ has_buffer (core_of session.now) }
 {
-    session.pool.out() < session.buffers
+    session.pool.has_inside()
 }
 
 /// The write of the copy that is open, where it has read a track group.

@@ -1,10 +1,12 @@
 -- What is asked of a new group, and the group and the status that are made of it.
-use Rattle.std.specs.Prelude.{◌≡◌, ℕ, ◌-◌, ◌/◌, ◌<◌, ◌≤◌, ◌+◌, Bool, true, false, ◌==◌, nat_le, List, [], ◌∷◌, ◌++◌, length, map, filter, find, fold, max, replicate, Option, Some, None, unwrap_or, slice_index_or}
+use Rattle.std.specs.Prelude.{◌≡◌, ◌≢◌, IsTrue, AllPairs, ℕ, ◌-◌, ◌/◌, ◌<◌, ◌≤◌, ◌+◌, Bool, true, false, ◌==◌, nat_le, List, [], ◌∷◌, ◌++◌, length, map, filter, find, fold, max, replicate, Option, Some, None, unwrap_or, slice_index_or}
 use Rattle.std.specs.List.{list_any, range_with_len}
+use Rattle.std.specs.Option.{ForSome}
 use Rattle.lvm_num.specs.declared.descriptor.PvRow.{PvRow}
 use Rattle.lvm_num.specs.declared.descriptor.Descriptor.{Descriptor}
 use Rattle.lvm_num.specs.declared.status.StatusRow.{StatusRow}
 use Rattle.lvm_num.specs.declared.status.Status.{Status}
+use Rattle.lvm_num.specs.Descriptor.{is_size}
 use Rattle.lvm_num.specs.Disks.{Disks}
 use Rattle.lvm_num.specs.Geometry.{data_start, partition_blocks, partition_count}
 use Rattle.lvm_vol.specs.declared.entry.Vol.TheVariants.{Disk}
@@ -20,6 +22,13 @@ pub record NewGroup : Type 0 where
   pub disks : List ℕ
   pub force : Bool
   pub moment : ℕ
+
+-- It can be asked for: some disks, none of them twice, a size that a descriptor may state, and a moment.
+pub record IsWellFormed (w : NewGroup) : Type 0 where
+  pub some : 1 ≤ length w.disks
+  pub differ : AllPairs (λ a b. a ≢ b) w.disks
+  pub size : ForSome w.mib (λ given. IsTrue (is_size given))
+  pub moment : w.moment ≢ 0
 
 -- the disks of a list, as a set
 abbrev pub among : List ℕ → Disks

@@ -1,6 +1,6 @@
 -- All that a new group takes memory for.
-use Rattle.std.specs.Prelude.{◌≡◌, ◌⊎◌, ◌≤◌, ℕ, List}
-use Rattle.lvm_num.specs.Descriptor.{IsValid}
+use Rattle.std.specs.Prelude.{◌≡◌, ◌≢◌, ◌⊎◌, ◌≤◌, ℕ, List, length, None, IsTrue, AllPairs}
+use Rattle.lvm_num.specs.Descriptor.{IsValid, is_size}
 use Rattle.lvm_num.specs.Status.{IsValidStatus}
 use Rattle.lvm_num.specs.DescriptorBytes.{descriptor_bytes}
 use Rattle.lvm_num.specs.StatusBytes.{status_bytes}
@@ -13,7 +13,17 @@ use Rattle.lvm_session_start.specs.Parts.{IsOneGroup}
 use Rattle.lvm_core.specs.Starting.{IsReservedFor}
 use Rattle.lvm_group.specs.declared.make.Asked.{Asked}
 use Rattle.lvm_group.specs.declared.plan.Plan.{Plan}
-use Rattle.lvm_group.specs.NewGroup.{NewGroup, among, size_for, descriptor_for, status_for, MayBegin, RefusesFirst}
+use Rattle.lvm_group.specs.NewGroup.{NewGroup, among, size_for, descriptor_for, status_for, first_absent, first_too_small, MayBegin, RefusesFirst}
+
+-- A group can be made of these disks with partitions of so many MiB: there are some, at most 32 and none twice, each is there, and a partition fits on each.
+pub record CanBeMade (sizes : List ℕ) (mib : ℕ) (disks : List ℕ) (moment : ℕ) : Type 0 where
+  pub there : first_absent sizes disks ≡ None
+  pub some : 1 ≤ length disks
+  pub few : length disks ≤ 32
+  pub differ : AllPairs (λ a b. a ≢ b) disks
+  pub size : IsTrue (is_size mib)
+  pub fit : first_too_small sizes mib disks ≡ None
+  pub some_moment : moment ≢ 0
 
 -- The descriptor and the status of the new group, which are valid, and the disks named.
 pub record IsChoiceFor (sizes : List ℕ) (name : List ℕ) (mib : ℕ) (disks : List ℕ) (moment : ℕ) (choice : Choice) : Type 0 where

@@ -1,7 +1,5 @@
 //! The steps by which a group is made, up to its being on.
-ghost use Rattle.std.specs.Prelude.{◌≡◌, ◌≢◌, ◌≤◌, ℕ, length, IfOk, IfErr, IsTrue, AllPairs, []};
-ghost use Rattle.std.specs.Option.{ForSome};
-ghost use Rattle.lvm_num.specs.Descriptor.{is_size};
+ghost use Rattle.std.specs.Prelude.{◌≡◌, ◌≢◌, ◌≤◌, length, IfOk, IfErr, []};
 ghost use Rattle.lvm_disk.specs.Device.{IsReady};
 ghost use Rattle.lvm_vol.specs.Log.{spare_entries};
 ghost use Rattle.lvm_stamps.specs.Behind.{ClockIsAhead};
@@ -10,7 +8,7 @@ ghost use Rattle.lvm_core.specs.Held.{StartsHeld};
 ghost use Rattle.lvm_core.specs.Sound.{HaveAllLanded};
 ghost use Rattle.lvm_core.specs.Starting.{IsRoom};
 ghost use Rattle.lvm_session_start.specs.Beginning.{first_core};
-ghost use Rattle.lvm_group.specs.NewGroup.{given_up};
+ghost use Rattle.lvm_group.specs.NewGroup.{IsWellFormed, given_up};
 ghost use Rattle.lvm_group.specs.Planned.{asked_group, IsPlannedFor, RefusesPlan};
 ghost use Rattle.lvm_group.specs.Made.{Refuses};
 ghost use Rattle.lvm_group.specs.Steps.{cut_at, standing_of, Stands};
@@ -56,10 +54,7 @@ pub fn make<S: Shelf>(
 ) -> Result<Standing, Cause>
     requires ready { IsReady (S.device shelf.old) }
     requires landed { HaveAllLanded history.old.facts }
-    requires a_disk { 1 ≤ length disks.now }
-    requires differ { AllPairs (λ a b. a ≢ b) disks.now }
-    requires size { ForSome asked.now.mib (λ given. IsTrue (is_size given)) }
-    requires moment { moment ≢ 0 }
+    requires asked { IsWellFormed (asked_group asked.now disks.now moment) }
     requires room { IsRoom asked.now.room }
     ensures made { IfOk result (Stands (asked_group asked.now disks.now moment) asked.now.room history.old history.new (S.device shelf.old) (S.device shelf.new)) }
     ensures refused { IfErr result (Refuses (asked_group asked.now disks.now moment) patience.old.left history.old history.new (S.device shelf.old) (S.device shelf.new)) }
@@ -95,10 +90,7 @@ fn plan_for<S: Shelf>(
     disks: &[u16],
     moment: u64,
 ) -> Result<Plan, Cause>
-    requires a_disk { 1 ≤ length disks.now }
-    requires differ { AllPairs (λ a b. a ≢ b) disks.now }
-    requires size { ForSome asked.now.mib (λ given. IsTrue (is_size given)) }
-    requires moment { moment ≢ 0 }
+    requires asked { IsWellFormed (asked_group asked.now disks.now moment) }
     requires room { IsRoom asked.now.room }
     ensures planned { IfOk result (IsPlannedFor (asked_group asked.now disks.now moment) asked.now.room spare (S.device shelf.now).sizes) }
     ensures refused { IfErr result (RefusesPlan (asked_group asked.now disks.now moment) spare (S.device shelf.now).sizes) }

@@ -1,7 +1,5 @@
 //! The making of a group.
-ghost use Rattle.std.specs.Prelude.{◌≢◌, ◌-◌, ◌≤◌, length, IfOk, IsTrue, AllPairs};
-ghost use Rattle.std.specs.Option.{ForSome};
-ghost use Rattle.lvm_num.specs.Descriptor.{is_size};
+ghost use Rattle.std.specs.Prelude.{IfOk};
 ghost use Rattle.lvm_disk.specs.Device.{IsReady};
 ghost use Rattle.lvm_steps.specs.Requests.{at};
 ghost use Rattle.lvm_session_start.specs.Beginning.{AreFaults};
@@ -10,6 +8,7 @@ ghost use Rattle.lvm_core.specs.Starting.{IsRoom};
 ghost use Rattle.lvm_core.specs.State.{state_of};
 ghost use Rattle.lvm_core.specs.Coming.{BringsOn, IsStarted, shelf_left, history_left};
 ghost use Rattle.lvm_group.specs.Made.{MkvgGives};
+ghost use Rattle.lvm_group.specs.NewGroup.{IsWellFormed};
 
 use crate::make::{Asked, make};
 use lvm_core::{Driver, Refused, Room};
@@ -43,10 +42,7 @@ pub fn mkvg<S: Shelf>(
 ) -> Result<Driver<S>, Refused<S>>
     requires ready { IsReady (S.device shelf) }
     requires landed { HaveAllLanded history.facts }
-    requires a_disk { 1 ≤ length disks.now }
-    requires differ { AllPairs (λ a b. a ≢ b) disks.now }
-    requires size { ForSome mib (λ given. IsTrue (is_size given)) }
-    requires moment { moment ≢ 0 }
+    requires asked { IsWellFormed (record { name = name; mib = mib; disks = disks.now; force = force; moment = moment }) }
     requires room { IsRoom room }
     ensures gives { MkvgGives S.device (record { name = name; mib = mib; disks = disks.now; force = force; moment = moment }) room patience.old.left history (S.device shelf) result }
     ensures starts { IfOk result (λ driver. IsStarted history.run moment (S.device shelf) history (state_of S.device driver)) }

@@ -1,5 +1,5 @@
 //! What is written of a new group, and the memory of its session.
-ghost use Rattle.std.specs.Prelude.{◌≡◌, ◌≢◌, ◌≤◌, ◌<◌, ℕ, [], false, None, length, map, filter, IfOk, IsTrue, All, AllPairs};
+ghost use Rattle.std.specs.Prelude.{◌≡◌, ◌<◌, ℕ, [], false, None, map, filter, IfOk, IsTrue, All};
 ghost use Rattle.lvm_num.specs.Name.{is_name};
 ghost use Rattle.lvm_num.specs.Descriptor.{IsValid, is_size};
 ghost use Rattle.lvm_num.specs.DescriptorBytes.{descriptor_bytes};
@@ -8,8 +8,8 @@ ghost use Rattle.lvm_num.specs.Status.{IsValidStatus};
 ghost use Rattle.lvm_num.specs.StatusBytes.{status_bytes};
 ghost use Rattle.lvm_core.specs.Starting.{IsRoom};
 ghost use Rattle.lvm_session_start.specs.Parts.{IsOneGroup};
-ghost use Rattle.lvm_group.specs.NewGroup.{among, member_for, clear_row, disks_in_order, descriptor_for, status_for, first_absent, first_too_small};
-ghost use Rattle.lvm_group.specs.Planned.{IsChoiceFor, IsPlanOf, IsPlanned};
+ghost use Rattle.lvm_group.specs.NewGroup.{among, member_for, clear_row, disks_in_order, descriptor_for, first_absent};
+ghost use Rattle.lvm_group.specs.Planned.{CanBeMade, IsChoiceFor, IsPlanOf, IsPlanned};
 
 use crate::checks::partitions_of;
 use lvm_core::{Parts, Room};
@@ -42,13 +42,7 @@ impl Plan {
         moment: u64,
         room: Room,
     ) -> Result<Plan, Memory>
-        requires there { first_absent (S.device shelf.now).sizes disks.now ≡ None }
-        requires some { 1 ≤ length disks.now }
-        requires few { length disks.now ≤ 32 }
-        requires differ { AllPairs (λ a b. a ≢ b) disks.now }
-        requires size { IsTrue (is_size mib) }
-        requires fit { first_too_small (S.device shelf.now).sizes mib disks.now ≡ None }
-        requires moment { moment ≢ 0 }
+        requires can { CanBeMade (S.device shelf.now).sizes mib disks.now moment }
         requires room { IsRoom room }
         ensures { IfOk result (IsPlanned (S.device shelf.now).sizes name mib disks.now moment room) }
     {
@@ -66,13 +60,7 @@ fn choice_of<S: Shelf>(
     disks: &[u16],
     moment: u64,
 ) -> Result<Choice, Memory>
-    requires there { first_absent (S.device shelf.now).sizes disks.now ≡ None }
-    requires some { 1 ≤ length disks.now }
-    requires few { length disks.now ≤ 32 }
-    requires differ { AllPairs (λ a b. a ≢ b) disks.now }
-    requires size { IsTrue (is_size mib) }
-    requires fit { first_too_small (S.device shelf.now).sizes mib disks.now ≡ None }
-    requires moment { moment ≢ 0 }
+    requires can { CanBeMade (S.device shelf.now).sizes mib disks.now moment }
     ensures { IfOk result (IsChoiceFor (S.device shelf.now).sizes name mib disks.now moment) }
 {
     // of which there are at most 128

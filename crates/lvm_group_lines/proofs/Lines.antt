@@ -10,7 +10,6 @@ use Rattle.lvm_core.specs.Sound.{IsSound as IsSoundBetween}
 use Rattle.lvm_core.specs.State.{state_of}
 use Rattle.lvm_session.specs.Sound.{IsSound}
 use Rattle.lvm_session.specs.State.{Core}
-use Rattle.lvm_session_start.specs.Beginning.{AreFaults}
 use Rattle.lvm_disk_lines.specs.passed.Handover.{HasJustBegun, Serves}
 use Rattle.lvm_posts.specs.declared.posts.Post.{Post}
 use Rattle.lvm_disk_lines.specs.passed.Quiesce.{CauseRose, IsStartedEach}
@@ -50,20 +49,17 @@ module _ {S : Type 0} (device : S → Device) (run moment : ℕ) (old : Device) 
   abbrev Starts : Result (S × Core) (Refused S) → Type 0
   Starts outcome = IfOk outcome (λ driver. IsStartedEach run moment old log (state_of device driver))
 
-  abbrev Faults : Result (S × Core) (Refused S) → Type 0
-  Faults outcome = IfOk outcome (λ driver. AreFaults (device driver.0) driver.1.origin.faults)
-
   abbrev MayServe : Result (S × Core) (Refused S) → Type 0
   MayServe outcome = IfOk outcome (λ driver. HasJustBegun (state_of device driver) → Serves (state_of device driver))
 
   -- it is sound with requests where it is between commands
-  pub may_hold : (outcome : Result (S × Core) (Refused S)) → MayServe outcome → Starts outcome → Faults outcome → IfOk outcome (λ driver. IsSoundBetween (state_of device driver) → IsSound (state_of device driver))
-  may_hold (Ok driver) serves starts faults = λ sound. (serves (record { sound = sound; settled = starts.settled; left = starts.left; faults = faults })).sound
-  may_hold (Err refused) serves starts faults = tt
+  pub may_hold : (outcome : Result (S × Core) (Refused S)) → MayServe outcome → Starts outcome → IfOk outcome (λ driver. IsSoundBetween (state_of device driver) → IsSound (state_of device driver))
+  may_hold (Ok driver) serves starts = λ sound. (serves (record { sound = sound; settled = starts.settled; left = starts.left; faults = starts.faults })).sound
+  may_hold (Err refused) serves starts = tt
 
-  pub all_serve : (outcome : Result (S × Core) (Refused S)) (by : Holder S) (answer : Reply) → MayServe outcome → Starts outcome → Faults outcome → Left device outcome by answer → IfOk outcome (λ driver. Serves (state_of device driver))
-  all_serve (Ok driver) by answer serves starts faults left = serves (record { sound = left.on.between; settled = starts.settled; left = starts.left; faults = faults })
-  all_serve (Err refused) by answer serves starts faults left = tt
+  pub all_serve : (outcome : Result (S × Core) (Refused S)) (by : Holder S) (answer : Reply) → MayServe outcome → Starts outcome → Left device outcome by answer → IfOk outcome (λ driver. Serves (state_of device driver))
+  all_serve (Ok driver) by answer serves starts left = serves (record { sound = left.on.between; settled = starts.settled; left = starts.left; faults = starts.faults })
+  all_serve (Err refused) by answer serves starts left = tt
 
   -- what stands after it, where its shelf has whole sectors and it serves
   pub all_stand : (outcome : Result (S × Core) (Refused S)) (P : S × Core → Type 0) → IfOk outcome (λ driver. HasSectors (device driver.0) → IsSettledCore driver.1 → Serves (state_of device driver) → P driver)

@@ -1,5 +1,5 @@
 -- What happened stays the cause of what came of it.
-use Rattle.std.proofs.Common.{◌≡◌, ◌⊎◌, inl, inr, ℕ, List, Option, refl, subst}
+use Rattle.std.proofs.Common.{◌≡◌, ◌⊎◌, inl, inr, ℕ, List, Option, refl, sym, ◌∙◌, ap, subst}
 use Rattle.std.specs.Prelude.{IfSome}
 use Rattle.lvm_num.specs.declared.descriptor.Descriptor.{Descriptor}
 use Rattle.lvm_num.specs.declared.place.Pp.{Pp}
@@ -13,11 +13,13 @@ use Rattle.lvm_session.specs.declared.bringing.OpenCopy.{OpenCopy}
 use Rattle.lvm_session.specs.declared.bringing.Step.{Step}
 use Rattle.lvm_session.specs.declared.open.Open.{Open}
 use Rattle.lvm_session.specs.declared.open.Power.{Power}
+use Rattle.lvm_session.specs.declared.open.Power.TheVariants as power
 use Rattle.lvm_session.specs.declared.origin.Origin.{Origin}
 use Rattle.lvm_session.specs.Judging.{copies_in}
 use Rattle.lvm_session.specs.State.{State, state}
-use Rattle.lvm_session.specs.Causes.{AreCounted, HaveSourcesFailed, IsAnswered, IsCopyCaused, IsCounted, IsLandedFor, IsTrueToOrigin}
+use Rattle.lvm_session.specs.Causes.{AreCounted, HaveSourcesFailed, IsAnswered, IsCopyCaused, IsCounted, IsLandedFor, IsTrueToOrigin, is_over}
 use Rattle.lvm_keeps.proofs.Lists.{all_on}
+use Rattle.lvm_keeps.proofs.Small.{not_so}
 use Rattle.lvm_keeps.proofs.Still.{if_on}
 
 -- what causes are read off: the counts of faults, the group, what the session began with, its power, and the statuses that are committed and wanted
@@ -79,3 +81,35 @@ module _ (s now : State) (same : grounds s ≡ grounds now) where
     where
       with_flight : Option Status → State
       with_flight m = state (on now (grounds s)).device (record (on now (grounds s)).core { status = record (on now (grounds s)).core.status { in_flight = m } })
+
+-- ---- whatever becomes of the statuses
+
+-- what causes are read off but for them
+abbrev pub Basis : Type 0
+Basis = (ℕ → ℕ) × Descriptor × Origin × Power
+
+abbrev pub basis_of : State → Basis
+basis_of s = (s.device.counts.faults, s.core.descriptor, s.core.origin, s.core.power)
+
+abbrev on_basis : State → Basis → State
+on_basis s b = state (record s.device { counts = record s.device.counts { faults = b.0 } }) (record s.core { descriptor = b.1; origin = b.2; power = b.3 })
+
+module _ (s now : State) (same : basis_of s ≡ basis_of now) where
+  -- a request that landed keeps its cause while the session is on
+  pub landed_when_on : s.core.power ≡ power.On → (o : Open) (how : Outcome) → IsLandedFor s o how → IsLandedFor now o how
+  landed_when_on on o how why = subst (λ (b : Basis). IsLandedFor (on_basis now b) o how) same (by how why)
+    where
+      by : (x : Outcome) → IsLandedFor s o x → IsLandedFor (on_basis now (basis_of s)) o x
+      by outcome.Done its = its
+      by outcome.Got its = its
+      by outcome.Lost its = its
+      by outcome.ReadFailed its = its
+      by outcome.NoFresh its = its
+      by outcome.Off its = not_so (sym (ap is_over on) ∙ its.0)
+      by outcome.Dark its = its
+
+  pub answered_when_on : s.core.power ≡ power.On → (o : Open) → IsAnswered s o → IsAnswered now o
+  answered_when_on on o why = if_on (IsLandedFor s o) (IsLandedFor now o) (landed_when_on on o) o.landed why
+
+  pub counted_when_on : (o : Open) → AreCounted s o → AreCounted now o
+  counted_when_on o all = subst (λ (b : Basis). AreCounted (on_basis now b) o) same (all_on (IsCounted s) (IsCounted (on_basis now (basis_of s))) (λ t its. record { began = its.began; since = its.since }) o.request.targets.items all)

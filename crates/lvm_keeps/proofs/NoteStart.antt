@@ -27,7 +27,7 @@ use Rattle.lvm_session.specs.Judging.{group_of, has_names, is_missing, is_waitin
 use Rattle.lvm_session.specs.Enabled.{is_unnamed, note_due, wants_record}
 use Rattle.lvm_session.specs.Events.{IsNoteWrite, flown}
 use Rattle.lvm_session.specs.Owners.{AreOwned, IsTransferOf, flies, same_owner}
-use Rattle.lvm_session.specs.Requests.{IsOpenOne, IsPinned, IsRecorded, IsShaped, IsTarget, has_record, mode_for}
+use Rattle.lvm_session.specs.Requests.{IsOpenOne, IsPinned, IsRecorded, IsTarget, has_record, mode_for}
 use Rattle.lvm_session.specs.Sound.{IsCopy, IsFitting, IsGoing, IsOn, IsSound, IsTold, count_if, has_number, is_dark, out_with, pins}
 use Rattle.lvm_keeps.specs.Keeps.{NoteStartKeeps}
 use Rattle.lvm_keeps.proofs.Causes.{copies_still, origin_still}
@@ -37,7 +37,7 @@ use Rattle.lvm_keeps.proofs.Lists.{all_at, all_on, count_cons, length_set}
 use Rattle.lvm_keeps.proofs.Noted.{copies_on_members, flight_beside, flight_here, found_all, named_still, same_disks}
 use Rattle.lvm_keeps.proofs.Rows.{all_fly, data_still, rows_by, status_still, step_still}
 use Rattle.lvm_keeps.proofs.Small.{both, not_so}
-use Rattle.lvm_keeps.proofs.Still.{if_on}
+use Rattle.lvm_keeps.proofs.Still.{if_on, shape_still}
 use Rattle.lvm_keeps.proofs.Whole.{sound_still, told_still}
 
 -- ---- what is pinned has a pin
@@ -158,22 +158,11 @@ module _ (s : State) (sound : IsSound s) (on : s.core.power ≡ power.On) (place
   named_on x keep mode.Passive rec has two names = names
   named_on x keep mode.Off rec has two names = names
 
-  shape_on : (x : Open) → IsShaped core x → IsShaped now.core x
-  shape_on x a = record {
-    targets = all_on (IsTarget core x.request.ask) (IsTarget now.core x.request.ask) (λ t i. record { copy = i.copy; sector = i.sector; there = i.there }) x.request.targets.items a.targets;
-    phase_is = a.phase_is;
-    hand = a.hand;
-    room = a.room;
-    differ = a.differ;
-    usable = a.usable;
-    one = a.one;
-  }
-
   one : (x : Open) → IsKept x → IsOpenOne core x → IsOpenOne now.core x
   one x keep it = record {
     laid = let l = it.laid in record { within = l.within; blocks = l.blocks; most = l.most; id = l.id };
     waits = λ w. let r = it.waits w in let b = r.ready in record {
-      shape = shape_on x r.shape;
+      shape = shape_still core now.core refl x r.shape;
       ready = record { free = b.free; recorded = b.recorded; wanted = b.wanted; named = λ has two. named_on x keep (mode_for core x.request.ask) b.recorded has two (b.named has two); dirty = b.dirty };
       judged = λ write. let j = r.judged write in record { uncaught = j.uncaught; due = j.due; all = j.all };
     };

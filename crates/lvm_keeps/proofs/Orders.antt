@@ -20,7 +20,7 @@ by_order s device what false sound gives = subst (λ (d : Device). IsSound (stat
 by_order s device (arrange.Fail disk) true sound gives = subst (λ (d : Device). IsSound (state d s.core)) (sym gives.1) (ordered s (arrange.Fail disk) sound)
 by_order s device (arrange.Heal disk) true sound gives = subst (λ (d : Device). IsSound (state d s.core)) (sym gives.1) (ordered s (arrange.Heal disk) sound)
 by_order s device (arrange.Cut word) true sound gives =
-    darkens (state (with_order s.device (arrange.Cut word)) s.core) (ordered s (arrange.Cut word) sound) s.core.status (record { group = refl; committed = refl; wanted = refl; in_flight = inl refl }) s.core.cache refl (λ disk. refl) device gives.1.1
+    darkens (state (with_order s.device (arrange.Cut word)) s.core) (ordered s (arrange.Cut word) sound) s.core.status (record { group = refl; committed = refl; wanted = refl; in_flight = inl refl; stamp = inl refl }) s.core.cache refl (λ disk. refl) device gives.1.1
 
 pub order_keeps : OrderKeeps
 order_keeps old new what done sound event = subst (λ (core : Core). IsSound (state new.device core)) (sym event.is) (by_order old new.device what done sound event.device)

@@ -1,7 +1,9 @@
 -- What one request is judged by stays where other parts of a session change.
-use Rattle.std.proofs.Common.{◌≡◌, ◌≤◌, ◌⊎◌, inl, inr, ℕ, Bool, true, false, ◌&&◌, List, Option, Some, None, arith}
+use Rattle.std.proofs.Common.{◌≡◌, ◌≤◌, ◌⊎◌, inl, inr, ℕ, Bool, true, false, ◌&&◌, List, Option, Some, None, refl, subst, arith}
 use Rattle.std.specs.Prelude.{IfSome, count_by, is_none}
+use Rattle.lvm_num.specs.declared.descriptor.Descriptor.{Descriptor}
 use Rattle.lvm_num.specs.declared.place.Pp.{Pp}
+use Rattle.lvm_num.specs.declared.status.Status.{Status}
 use Rattle.lvm_vol.specs.declared.entry.Outcome.{Outcome}
 use Rattle.lvm_vol.specs.declared.entry.Outcome.TheVariants as outcome
 use Rattle.lvm_vol.specs.Log.{Log, next_id}
@@ -23,24 +25,35 @@ use Rattle.lvm_session.specs.Sound.{IsCopy}
 use Rattle.lvm_keeps.proofs.Lists.{all_on}
 use Rattle.lvm_keeps.proofs.Small.{and_on, left_on, most_on, none_on}
 
+-- what the targets of a request are read off
+abbrev pub Placing : Type 0
+Placing = Descriptor × Status
+
+abbrev pub placing : Core → Placing
+placing core = (core.descriptor, core.origin.table)
+
+-- where that stays, so does the shape of each request
+pub shape_still : (core now : Core) → placing core ≡ placing now → (o : Open) → IsShaped core o → IsShaped now o
+shape_still core now same o s = record {
+  targets = all_on (IsTarget core o.request.ask) (IsTarget now o.request.ask) on o.request.targets.items s.targets;
+  phase_is = s.phase_is;
+  hand = s.hand;
+  room = s.room;
+  differ = s.differ;
+  usable = s.usable;
+  one = s.one;
+}
+  where
+    on : (t : Target) → IsTarget core o.request.ask t → IsTarget now o.request.ask t
+    on t its = subst (λ (p : Placing). IsTarget (record now { descriptor = p.0; origin = record now.origin { table = p.1 } }) o.request.ask t) same (record { copy = its.copy; sector = its.sector; there = its.there })
+
 -- A core in which these parts have changed: the statuses, the notes, the descriptor and the origin stay.
 module _ (core : Core) (history : Log) (requests : List Open) (queue : Waiting) (copy : Option OpenCopy) (pool : List Bool) (flying : List Flown) (entries : List CacheEntry) (last : List ℕ) where
   abbrev pub changed : Core
   changed = record core { history = history; requests = requests; queue = queue; copy = copy; pool = pool; flying = flying; cache = record core.cache { entries = entries }; last = last }
 
-  target_on : (o : Open) (t : Target) → IsTarget core o.request.ask t → IsTarget changed o.request.ask t
-  target_on o t its = record { copy = its.copy; sector = its.sector; there = its.there }
-
   pub shape_on : (o : Open) → IsShaped core o → IsShaped changed o
-  shape_on o s = record {
-    targets = all_on (IsTarget core o.request.ask) (IsTarget changed o.request.ask) (target_on o) o.request.targets.items s.targets;
-    phase_is = s.phase_is;
-    hand = s.hand;
-    room = s.room;
-    differ = s.differ;
-    usable = s.usable;
-    one = s.one;
-  }
+  shape_on o s = shape_still core changed refl o s
 
   pub laid_on : (r : Request) → IsLaid core r → IsLaid changed r
   laid_on r l = record { within = l.within; blocks = l.blocks; most = l.most; id = l.id }

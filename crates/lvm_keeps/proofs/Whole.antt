@@ -12,7 +12,7 @@ use Rattle.lvm_session.specs.State.{Core, State}
 use Rattle.lvm_session.specs.Causes.{AreCounted, IsAnswered, IsCopyCaused, IsTrueToOrigin, is_over}
 use Rattle.lvm_session.specs.Placed.{ArePlaced}
 use Rattle.lvm_session.specs.Sound.{IsFitting, IsOn, IsSound, IsTold, is_dark, count_if, out_with}
-use Rattle.lvm_keeps.proofs.Causes.{Grounds, answered_still, counted_still, grounds}
+use Rattle.lvm_keeps.proofs.Causes.{Basis, Grounds, answered_still, basis_of, counted_still, grounds}
 use Rattle.lvm_keeps.proofs.Lists.{all_on}
 use Rattle.lvm_keeps.proofs.Small.{not_so}
 
@@ -33,9 +33,9 @@ Shelf = List ℕ × Bool × List Buffer
 abbrev pub shelf_of : State → Shelf
 shelf_of s = (s.device.sizes, s.device.power, s.device.freed)
 
-module _ (s now : State) (same : grounds s ≡ grounds now) (shelf : shelf_of s ≡ shelf_of now) (sound : IsSound s) (on : s.core.power ≡ power.On) where
+module _ (s now : State) (same : basis_of s ≡ basis_of now) (shelf : shelf_of s ≡ shelf_of now) (sound : IsSound s) (on : s.core.power ≡ power.On) where
   now_on : now.core.power ≡ power.On
-  now_on = sym (ap (λ (g : Grounds). g.3) same) ∙ on
+  now_on = sym (ap (λ (b : Basis). b.3) same) ∙ on
 
   -- what is left to be shown is what has changed
   pub sound_when_on : IsFitting now.core → IsTold now.core → IsOn now → ((n : ℕ) → out_with now.device now.core n ≡ count_if (slice_index_or now.core.pool n false)) → AllByRecursion (AreCounted now) now.core.requests
@@ -43,7 +43,7 @@ module _ (s now : State) (same : grounds s ≡ grounds now) (shelf : shelf_of s 
   sound_when_on fitting told keeps_on out counted answered copy origin = record {
     fitting = fitting;
     told = told;
-    placed = subst (λ (g : Grounds). ArePlaced now.device.sizes g.1 g.2.table) same (subst (λ (d : Shelf). ArePlaced d.0 s.core.descriptor s.core.origin.table) shelf sound.placed);
+    placed = subst (λ (b : Basis). ArePlaced now.device.sizes b.1 b.2.table) same (subst (λ (d : Shelf). ArePlaced d.0 s.core.descriptor s.core.origin.table) shelf sound.placed);
     buffers = λ n. let same_out = out n in omega (arith, same_out);
     none_lost = λ lit n. out n;
     on = λ e. keeps_on;
@@ -58,9 +58,9 @@ module _ (s now : State) (same : grounds s ≡ grounds now) (shelf : shelf_of s 
     origin = origin;
   }
 
-  -- where its requests are the same
-  pub sound_still : s.core.requests ≡ now.core.requests → IsFitting now.core → IsTold now.core → IsOn now → ((n : ℕ) → out_with now.device now.core n ≡ count_if (slice_index_or now.core.pool n false))
-      → IfSome now.core.copy (λ (c : OpenCopy). IsCopyCaused now (copies_in now.core.descriptor c.lv c.lp) c) → IsTrueToOrigin now → IsSound now
-  sound_still requests fitting told keeps_on out copy origin = sound_when_on fitting told keeps_on out
-      (subst (λ (os : List Open). AllByRecursion (AreCounted now) os) requests (all_on (AreCounted s) (AreCounted now) (counted_still s now same) s.core.requests sound.counted))
-      (subst (λ (os : List Open). AllByRecursion (IsAnswered now) os) requests (all_on (IsAnswered s) (IsAnswered now) (answered_still s now same) s.core.requests sound.answered)) copy origin
+-- where its requests are the same, and the statuses
+pub sound_still : (s now : State) → grounds s ≡ grounds now → shelf_of s ≡ shelf_of now → IsSound s → s.core.power ≡ power.On → s.core.requests ≡ now.core.requests → IsFitting now.core → IsTold now.core → IsOn now
+    → ((n : ℕ) → out_with now.device now.core n ≡ count_if (slice_index_or now.core.pool n false)) → IfSome now.core.copy (λ (c : OpenCopy). IsCopyCaused now (copies_in now.core.descriptor c.lv c.lp) c) → IsTrueToOrigin now → IsSound now
+sound_still s now same shelf sound on requests fitting told keeps_on out copy origin = sound_when_on s now (ap (λ (g : Grounds). (g.0, g.1, g.2, g.3)) same) shelf sound on fitting told keeps_on out
+    (subst (λ (os : List Open). AllByRecursion (AreCounted now) os) requests (all_on (AreCounted s) (AreCounted now) (counted_still s now same) s.core.requests sound.counted))
+    (subst (λ (os : List Open). AllByRecursion (IsAnswered now) os) requests (all_on (IsAnswered s) (IsAnswered now) (answered_still s now same) s.core.requests sound.answered)) copy origin

@@ -1,47 +1,32 @@
 -- A transfer of the copy has ended in vain, and the copy goes on with the same track group.
-use Rattle.std.proofs.Common.{◌≡◌, ◌≤◌, ◌⊎◌, inl, inr, ◌==◌, ◌+◌, ℕ, Bool, true, false, ◌&&◌, ◌||◌, not, if◌then◌else◌, List, [], ◌∷◌, Option, Some, None, length, slice_get, refl, sym, ◌∙◌, ap, subst, arith}
-use Rattle.std.specs.Prelude.{IfSome, count_by, filter, is_none, nat_lt, slice_index_or, slice_set}
-use Rattle.std.specs.List.{list_any, remove, AllByRecursion}
-use Rattle.std.proofs.lemmas.Bool.{eq-eqb, eqb-true, eqb-false, ne_eqb}
-use Rattle.lvm_hold.specs.Conflicts.{conflicts}
-use Rattle.lvm_hold.specs.declared.queue.Held.{Held}
-use Rattle.lvm_hold.specs.declared.queue.Row.{Row}
-use Rattle.lvm_hold.specs.Waiting.{Waiting, is_blocked, without}
+use Rattle.std.proofs.Common.{◌≡◌, ◌==◌, ℕ, Bool, true, false, ◌&&◌, ◌||◌, not, if◌then◌else◌, List, Some, None, slice_get, refl, sym, ◌∙◌, ap, subst, arith}
+use Rattle.std.specs.Prelude.{IfSome, nat_lt, slice_set}
+use Rattle.std.specs.List.{list_any, remove}
 use Rattle.std.specs.Option.{option_map_or}
 use Rattle.lvm_num.specs.Buffer.{Buffer}
 use Rattle.lvm_num.specs.declared.place.Pp.{Pp}
 use Rattle.lvm_num.specs.Disks.{has}
 use Rattle.lvm_stale.specs.Table.{is_pp}
-use Rattle.lvm_disk.specs.Device.{Device, Flight, Media}
-use Rattle.lvm_disk.specs.Counts.{Counts}
-use Rattle.lvm_disk.specs.Steps.{CountsFailure, EndsDone, Removes}
-use Rattle.lvm_vol.specs.declared.entry.Outcome.{Outcome}
-use Rattle.lvm_vol.specs.declared.entry.Outcome.TheVariants as outcome
+use Rattle.lvm_disk.specs.Device.{Device, Flight}
 use Rattle.lvm_session.specs.declared.bringing.OpenCopy.{OpenCopy}
-use Rattle.lvm_session.specs.declared.bringing.Step.{Step}
 use Rattle.lvm_session.specs.declared.bringing.Step.TheVariants as step
 use Rattle.lvm_session.specs.declared.flown.Flown.{Flown}
-use Rattle.lvm_session.specs.declared.flown.Owner.{Owner}
 use Rattle.lvm_session.specs.declared.flown.Owner.TheVariants as owner
 use Rattle.lvm_session.specs.declared.open.Open.{Open}
 use Rattle.lvm_session.specs.declared.open.Power.TheVariants as power
 use Rattle.lvm_session.specs.State.{Core, State, state}
-use Rattle.lvm_session.specs.Judging.{copies_in, group_in, held_of, is_missing, is_running, is_waiting, place_of}
-use Rattle.lvm_session.specs.declared.bringing.CopyEnd.TheVariants as ending
-use Rattle.lvm_session.specs.declared.bringing.CopyEnd.{CopyEnd}
-use Rattle.lvm_session.specs.Bringing.{copy_ends, hand_of, end_by_sources, end_of, ends_if, is_cleared, has_row, is_idle, is_out, is_whole, step_row}
+use Rattle.lvm_session.specs.Judging.{copies_in, group_in, is_running}
+use Rattle.lvm_session.specs.Bringing.{hand_of, end_of, has_row, is_idle, is_out, is_whole, step_row}
 use Rattle.lvm_session.specs.Dark.{hand_of_copy}
-use Rattle.lvm_session.specs.Ends.{EndsAs, after_quit}
 use Rattle.lvm_session.specs.Left.{copy_updates}
-use Rattle.lvm_session.specs.Owners.{AreOwned, AreRows, IsTransferOf, flies, same_owner}
 use Rattle.lvm_session.specs.Requests.{IsOpenOne}
-use Rattle.lvm_session.specs.Causes.{AreCaused, AreCounted, HaveSourcesFailed, IsAnswered, IsCaused, IsChosenSince, IsCopyCaused, IsCounted, IsLandedFor, IsTrueToOrigin, is_over}
-use Rattle.lvm_session.specs.Sound.{IsCopy, IsFitting, IsGoing, IsOn, IsSound, IsTold, count_if, has_number, is_clearing, is_dark, is_hand, out_with, waiting_rows, with_row}
-use Rattle.lvm_keeps.proofs.Ending.{back}
-use Rattle.lvm_keeps.proofs.Lists.{all_on, length_set}
+use Rattle.lvm_session.specs.Causes.{IsCopyCaused}
+use Rattle.lvm_session.specs.Sound.{IsCopy, IsGoing, IsSound, count_if, is_hand, waiting_rows, with_row}
+use Rattle.lvm_keeps.proofs.Lists.{length_set}
 use Rattle.lvm_keeps.proofs.Small.{not_so}
-use Rattle.lvm_keeps.proofs.Still.{changed, if_on, open_on}
-use Rattle.lvm_keeps_events.proofs.Removal.{IsOut, as_many, count_taken, none_left, others, rows_left, taken_out, tickets_left, was_out}
+use Rattle.lvm_keeps.proofs.Still.{changed, open_on}
+use Rattle.lvm_keeps_events.proofs.CopyEnded.{session_still}
+use Rattle.lvm_keeps_events.proofs.Removal.{given_back}
 
 -- These are tried for its track group now, which doesn't end it.
 module _ (s : State) (sound : IsSound s) (on : s.core.power ≡ power.On) (c : OpenCopy) (is : s.core.copy ≡ Some c) (runs : is_running c ≡ true) (busy : is_idle c.step ≡ false) (none_in_hand : hand_of c.step ≡ None) (tried : ℕ)
@@ -76,12 +61,6 @@ module _ (s : State) (sound : IsSound s) (on : s.core.power ≡ power.On) (c : O
   short : is_whole core c ≡ false
   short = its.under_way runs busy
 
-  fitting : IsFitting now.core
-  fitting = let f = sound.fitting in record { valid = f.valid; id = f.id; rows = f.rows; group = f.group; entries = f.entries; notes = f.notes; table = f.table; most = f.most; queue = f.queue; a_buffer = subst (λ n. 1 ≤ n) (sym (length_set core.pool buf.number false)) f.a_buffer; buffers = subst (λ n. n ≤ 1024) (sym (length_set core.pool buf.number false)) f.buffers; last = f.last; room = f.room }
-
-  told : IsTold now.core
-  told = let t = sound.told in record { ordered = t.ordered; table = t.table; each = t.each; requests = t.requests }
-
   one : (o : Open) → IsOpenOne core o → IsOpenOne now.core o
   one o it = open_on core core.history core.requests core.queue (Some resting) pool (remove core.flying at) core.cache.entries core.last o (λ e. e)
       (λ p e. sym (of_copy (λ (k : OpenCopy). is_running k && is_pp p k.pp && nat_lt (group_in core o.request.ask) k.cursor) false) ∙ e) it
@@ -105,29 +84,6 @@ module _ (s : State) (sound : IsSound s) (on : s.core.power ≡ power.On) (c : O
     clearing = its.clearing;
   }
 
-  -- ---- whose the others are
-
-  other_own : (who : Owner) → same_owner who owner.Copy ≡ false → same_owner who row.owner ≡ false
-  other_own who other = ap (same_owner who) own ∙ other
-
-  owned : AreOwned now.core
-  owned (owner.Data id target) = as_many core going.owned at row there (owner.Data id target) (other_own (owner.Data id target) refl) ∙ going.owned (owner.Data id target)
-  owned (owner.Status disk) = as_many core going.owned at row there (owner.Status disk) (other_own (owner.Status disk) refl) ∙ going.owned (owner.Status disk)
-  owned (owner.Note disk) = as_many core going.owned at row there (owner.Note disk) (other_own (owner.Note disk) refl) ∙ going.owned (owner.Note disk)
-  owned owner.Copy = ap (λ who. count_by (λ (g : Flown). same_owner who g.owner) (remove core.flying at)) (sym own) ∙ none_left core going.owned at row there
-
-  transfer_on : (who : Owner) (g : Flight) → same_owner row.owner who ≡ false → IsTransferOf core who g → IsTransferOf now.core who g
-  transfer_on (owner.Data id target) g other of = let m = of.moves in record { place = of.place; request = of.request; there = of.there; own = of.own; aim = of.aim; aim_is = of.aim_is; moves = record { disk_is = m.disk_is; first = m.first; count = m.count; write = m.write; carries = m.carries } }
-  transfer_on (owner.Status disk) g other of = let w = of.writes in record { status = of.status; flies = of.flies; writes = record { disk_is = w.disk_is; first = w.first; count = w.count; write = w.write; carries = w.carries } }
-  transfer_on (owner.Note disk) g other of = record { note = of.note; flies = of.flies; disk_is = of.disk_is; first = of.first; count = of.count; write = of.write; carries = of.carries }
-  transfer_on owner.Copy g other of = not_so (sym other ∙ ap (λ who. same_owner who owner.Copy) own)
-
-  rows_on : (rows : List Flown) (flights : List Flight) → AllByRecursion (λ (r : Flown). same_owner row.owner r.owner ≡ false) rows → AreRows core rows flights → AreRows now.core rows flights
-  rows_on [] [] apart all = all
-  rows_on [] (g ∷ flights) apart all = all
-  rows_on (r ∷ rows) [] apart all = all
-  rows_on (r ∷ rows) (g ∷ flights) apart all = let first = all.0 in (record { ticket = first.ticket; long = first.long; disk = first.disk; own = transfer_on r.owner g apart.0 first.own }, rows_on rows flights apart.1 all.1)
-
   -- ---- its place and its end
 
   or_not : (a w : Bool) → a ≡ true → w ≡ false → (b : Bool) → b || (a && not w) ≡ true
@@ -140,81 +96,11 @@ module _ (s : State) (sound : IsSound s) (on : s.core.power ≡ power.On) (c : O
   queue_is = going.queue ∙ of_copy (λ (k : OpenCopy). if has_row core k then with_row (step_row core k) (waiting_rows core.requests) else waiting_rows core.requests) (waiting_rows core.requests)
       ∙ ap (λ (b : Bool). if b then with_row (step_row core c) (waiting_rows core.requests) else waiting_rows core.requests) (or_not (is_running c) (is_whole core c) runs short (is_out c.step) ∙ sym (or_not (is_running c) (is_whole core c) runs short false))
 
-  -- ---- its buffer comes back
-
   was_hand : (n : ℕ) → count_if (is_hand n (hand_of_copy core.copy)) ≡ 0
   was_hand n = ap (λ m. count_if (is_hand n (hand_of_copy m))) is ∙ ap (λ h. count_if (is_hand n h)) none_in_hand
 
-  is_its : (n : ℕ) → count_if (is_hand n (Some buf)) ≡ count_if (has_number n f.buf)
-  is_its n = ap (λ k. count_if (k == n)) number
-
-  out : (n : ℕ) → out_with device now.core n ≡ count_if (slice_index_or pool n false)
-  out n =
-      let was = sound.none_lost (ap is_dark on) n in
-      let none = was_hand n in
-      let hand = is_its n in
-      let less = count_taken (λ (g : Flight). has_number n g.buf) s.device.flights at f f_there in
-      let given = back core.pool (Some buf) n (omega (arith, was, hand, less)) in
-      omega (arith, was, none, hand, less, given)
-
-  keeps_going : IsGoing now.core
-  keeps_going = record {
-    fitting = fitting;
-    told = told;
-    status = going.status;
-    owned = owned;
-    tickets = tickets_left core.flying at going.tickets;
-    queue = queue_is;
-    pinned = going.pinned;
-    requests = all_on (IsOpenOne core) (IsOpenOne now.core) one core.requests going.requests;
-    copy = bring;
-    hands = λ n. let all = out n in omega (arith, all);
-    behind = going.behind;
-    reviewed = still;
-    fresh = going.fresh;
-    clearings = λ p held clear. sym (of_copy (λ (k : OpenCopy). is_running k && is_whole core k && is_pp p k.pp) false) ∙ going.clearings p held clear;
-    numbers = let was = going.numbers in let same = of_copy (copy_updates core) 0 in omega (arith, was, same);
-  }
-
-  keeps_on : IsOn now
-  keeps_on = let was = sound.on on in record {
-    going = keeps_going;
-    rows = rows_on (remove core.flying at) (remove s.device.flights at) (others core going.owned at row there) (rows_left core core.flying s.device.flights at was.rows);
-    caused = all_on (AreCaused s.device core) (AreCaused device now.core) (λ x all waiting. all_on (IsCaused s.device core) (IsCaused device now.core) (λ t why. why) x.request.targets.items (all waiting)) core.requests was.caused;
-    chosen = all_on (IsChosenSince core c) (IsChosenSince now.core resting) (λ x all. all) core.requests (subst (λ m. IfSome m (λ (k : OpenCopy). AllByRecursion (IsChosenSince core k) core.requests)) is was.chosen);
-  }
-
-  landed_on : (o : Open) (how : Outcome) → IsLandedFor s o how → IsLandedFor now o how
-  landed_on o outcome.Done why = why
-  landed_on o outcome.Got why = why
-  landed_on o outcome.Lost why = why
-  landed_on o outcome.ReadFailed why = why
-  landed_on o outcome.NoFresh why = why
-  landed_on o outcome.Off why = why
-  landed_on o outcome.Dark why = why
-
-  copy_caused : IsCopyCaused now (copies_in core.descriptor c.lv c.lp) resting
-  copy_caused = record { began = why.began; since = why.since; tried = why.tried; failed = λ e. sources_on (why.failed e) }
-    where
-      sources_on : {x : Type 0} → x ⊎ HaveSourcesFailed s (copies_in core.descriptor c.lv c.lp) resting → x ⊎ HaveSourcesFailed now (copies_in core.descriptor c.lv c.lp) resting
-      sources_on (inl x) = inl x
-      sources_on (inr all) = inr (record { each = all.each; number = all.number; source = all.source; source_is = all.source_is; other = all.other; one = all.one })
-
   pub keeps : IsSound now
-  keeps = record {
-    fitting = fitting;
-    told = told;
-    placed = sound.placed;
-    buffers = λ n. let same = out n in omega (arith, same);
-    none_lost = λ lit n. out n;
-    on = λ e. keeps_on;
-    lit = λ lit. let was = sound.lit lit in record { power = was.power; freed = was.freed };
-    dark = λ e. not_so (sym (ap is_dark on) ∙ e);
-    off = sound.off;
-    over = λ e. not_so (sym (ap is_over on) ∙ e);
-    stuck = λ e. absurd (let none : power.On ≡ power.Stuck = sym on ∙ e in cc);
-    counted = all_on (AreCounted s) (AreCounted now) (λ x all. all_on (IsCounted s) (IsCounted now) (λ t count. record { began = count.began; since = count.since }) x.request.targets.items all) core.requests sound.counted;
-    answered = all_on (IsAnswered s) (IsAnswered now) (λ x why. if_on (IsLandedFor s x) (IsLandedFor now x) (landed_on x) x.landed why) core.requests sound.answered;
-    copy = copy_caused;
-    origin = let was = sound.origin in record { since = was.since; votes = was.votes; still_missing = was.still_missing; missing = was.missing; stale = was.stale };
-  }
+  keeps = session_still s sound on c is at row there own step.Idle tried c.end core.queue.rows pool s.device.media refl (length_set core.pool buf.number false) one bring queue_is still
+      (λ p held clear. sym (of_copy (λ (k : OpenCopy). is_running k && is_whole core k && is_pp p k.pp) false) ∙ going.clearings p held clear)
+      (let was = going.numbers in let same = of_copy (copy_updates core) 0 in omega (arith, was, same))
+      (given_back s sound on at f f_there buf number s.device.media now.core (λ n. let none = was_hand n in omega (arith, none))) why

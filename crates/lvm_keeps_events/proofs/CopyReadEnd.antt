@@ -1,20 +1,17 @@
 -- The read of the copy that is open has ended well.
-use Rattle.std.proofs.Common.{◌≡◌, ◌≤◌, ◌⊎◌, inl, inr, ◌==◌, ◌+◌, ℕ, Bool, true, false, ◌&&◌, ◌||◌, not, if◌then◌else◌, List, [], ◌∷◌, Option, Some, None, length, slice_get, refl, sym, ◌∙◌, ap, subst, arith}
-use Rattle.std.specs.Prelude.{IfSome, count_by, nat_lt, slice_index_or}
-use Rattle.std.specs.List.{remove, AllByRecursion}
+use Rattle.std.proofs.Common.{◌≡◌, ◌==◌, ℕ, Bool, true, false, ◌&&◌, ◌||◌, not, if◌then◌else◌, List, Option, Some, None, length, slice_get, refl, sym, ◌∙◌, ap, subst, arith}
+use Rattle.std.specs.Prelude.{IfSome, nat_lt, slice_index_or}
+use Rattle.std.specs.List.{remove}
 use Rattle.std.specs.Option.{option_map_or}
 use Rattle.lvm_num.specs.Buffer.{Buffer}
 use Rattle.lvm_num.specs.declared.place.Pp.{Pp}
 use Rattle.lvm_stale.specs.Table.{is_pp}
 use Rattle.lvm_disk.specs.Device.{Device, Flight, Media}
 use Rattle.lvm_disk.specs.Steps.{EndsDone}
-use Rattle.lvm_vol.specs.declared.entry.Outcome.{Outcome}
-use Rattle.lvm_vol.specs.declared.entry.Outcome.TheVariants as outcome
 use Rattle.lvm_session.specs.declared.bringing.OpenCopy.{OpenCopy}
 use Rattle.lvm_session.specs.declared.bringing.Step.{Step}
 use Rattle.lvm_session.specs.declared.bringing.Step.TheVariants as step
 use Rattle.lvm_session.specs.declared.flown.Flown.{Flown}
-use Rattle.lvm_session.specs.declared.flown.Owner.{Owner}
 use Rattle.lvm_session.specs.declared.flown.Owner.TheVariants as owner
 use Rattle.lvm_session.specs.declared.open.Open.{Open}
 use Rattle.lvm_session.specs.declared.open.Power.TheVariants as power
@@ -23,15 +20,15 @@ use Rattle.lvm_session.specs.Judging.{copies_in, group_in, is_running}
 use Rattle.lvm_session.specs.Bringing.{copy_ends, end_of, has_row, is_idle, is_out, is_whole, step_row}
 use Rattle.lvm_session.specs.Dark.{hand_of_copy}
 use Rattle.lvm_session.specs.Left.{copy_updates}
-use Rattle.lvm_session.specs.Owners.{AreOwned, AreRows, IsTransferOf, flies, same_owner}
 use Rattle.lvm_session.specs.Requests.{IsOpenOne}
-use Rattle.lvm_session.specs.Causes.{AreCaused, AreCounted, HaveSourcesFailed, IsAnswered, IsCaused, IsChosenSince, IsCopyCaused, IsCounted, IsLandedFor, IsTrueToOrigin, is_over}
-use Rattle.lvm_session.specs.Sound.{IsCopy, IsFitting, IsGoing, IsOn, IsSound, IsTold, count_if, has_number, is_dark, is_hand, out_with, waiting_rows, with_row}
-use Rattle.lvm_keeps.proofs.Lists.{all_on}
+use Rattle.lvm_session.specs.Causes.{IsCopyCaused}
+use Rattle.lvm_session.specs.Sound.{IsCopy, IsGoing, IsSound, count_if, has_number, is_dark, is_hand, out_with, waiting_rows, with_row}
+use Rattle.lvm_keeps.proofs.Causes.{copy_still}
 use Rattle.lvm_keeps.proofs.Small.{not_so}
-use Rattle.lvm_keeps.proofs.Still.{changed, if_on, open_on}
+use Rattle.lvm_keeps.proofs.Still.{changed, open_on}
 use Rattle.lvm_keeps_events.specs.Ends.{CopyReadEndKeeps}
-use Rattle.lvm_keeps_events.proofs.Removal.{IsOut, as_many, count_taken, none_left, others, rows_left, taken_out, tickets_left}
+use Rattle.lvm_keeps_events.proofs.CopyEnded.{session_still}
+use Rattle.lvm_keeps_events.proofs.Removal.{IsOut, count_taken, taken_out}
 
 module _ (s : State) (sound : IsSound s) (on : s.core.power ≡ power.On) (c : OpenCopy) (is : s.core.copy ≡ Some c) (runs : is_running c ≡ true) (source : Pp) (reads : c.step ≡ step.Reading source)
     (at : ℕ) (row : Flown) (there : slice_get s.core.flying at ≡ Some row) (own : row.owner ≡ owner.Copy) (f : Flight) (f_there : slice_get s.device.flights at ≡ Some f) (buf : Buffer) (number : buf.number ≡ f.buf.number) (long : length buf.sectors ≡ 256) (media : Option Media) where
@@ -59,12 +56,6 @@ module _ (s : State) (sound : IsSound s) (on : s.core.power ≡ power.On) (c : O
   short : is_whole core c ≡ false
   short = its.under_way runs (ap is_idle reads)
 
-  fitting : IsFitting now.core
-  fitting = let f = sound.fitting in record { valid = f.valid; id = f.id; rows = f.rows; group = f.group; entries = f.entries; notes = f.notes; table = f.table; most = f.most; queue = f.queue; a_buffer = f.a_buffer; buffers = f.buffers; last = f.last; room = f.room }
-
-  told : IsTold now.core
-  told = let t = sound.told in record { ordered = t.ordered; table = t.table; each = t.each; requests = t.requests }
-
   one : (o : Open) → IsOpenOne core o → IsOpenOne now.core o
   one o it = open_on core core.history core.requests core.queue (Some holding) core.pool (remove core.flying at) core.cache.entries core.last o (λ e. e)
       (λ p e. sym (of_copy (λ (k : OpenCopy). is_running k && is_pp p k.pp && nat_lt (group_in core o.request.ask) k.cursor) false) ∙ e) it
@@ -87,29 +78,6 @@ module _ (s : State) (sound : IsSound s) (on : s.core.power ≡ power.On) (c : O
     stale = its.stale;
     clearing = its.clearing;
   }
-
-  -- ---- whose the others are
-
-  other_own : (who : Owner) → same_owner who owner.Copy ≡ false → same_owner who row.owner ≡ false
-  other_own who other = ap (same_owner who) own ∙ other
-
-  owned : AreOwned now.core
-  owned (owner.Data id target) = as_many core going.owned at row there (owner.Data id target) (other_own (owner.Data id target) refl) ∙ going.owned (owner.Data id target)
-  owned (owner.Status disk) = as_many core going.owned at row there (owner.Status disk) (other_own (owner.Status disk) refl) ∙ going.owned (owner.Status disk)
-  owned (owner.Note disk) = as_many core going.owned at row there (owner.Note disk) (other_own (owner.Note disk) refl) ∙ going.owned (owner.Note disk)
-  owned owner.Copy = ap (λ who. count_by (λ (g : Flown). same_owner who g.owner) (remove core.flying at)) (sym own) ∙ none_left core going.owned at row there
-
-  transfer_on : (who : Owner) (g : Flight) → same_owner row.owner who ≡ false → IsTransferOf core who g → IsTransferOf now.core who g
-  transfer_on (owner.Data id target) g other of = let m = of.moves in record { place = of.place; request = of.request; there = of.there; own = of.own; aim = of.aim; aim_is = of.aim_is; moves = record { disk_is = m.disk_is; first = m.first; count = m.count; write = m.write; carries = m.carries } }
-  transfer_on (owner.Status disk) g other of = let w = of.writes in record { status = of.status; flies = of.flies; writes = record { disk_is = w.disk_is; first = w.first; count = w.count; write = w.write; carries = w.carries } }
-  transfer_on (owner.Note disk) g other of = record { note = of.note; flies = of.flies; disk_is = of.disk_is; first = of.first; count = of.count; write = of.write; carries = of.carries }
-  transfer_on owner.Copy g other of = not_so (sym other ∙ ap (λ who. same_owner who owner.Copy) own)
-
-  rows_on : (rows : List Flown) (flights : List Flight) → AllByRecursion (λ (r : Flown). same_owner row.owner r.owner ≡ false) rows → AreRows core rows flights → AreRows now.core rows flights
-  rows_on [] [] apart all = all
-  rows_on [] (g ∷ flights) apart all = all
-  rows_on (r ∷ rows) [] apart all = all
-  rows_on (r ∷ rows) (g ∷ flights) apart all = let first = all.0 in (record { ticket = first.ticket; long = first.long; disk = first.disk; own = transfer_on r.owner g apart.0 first.own }, rows_on rows flights apart.1 all.1)
 
   -- ---- its place and its end
 
@@ -142,68 +110,14 @@ module _ (s : State) (sound : IsSound s) (on : s.core.power ≡ power.On) (c : O
       let less = count_taken (λ (g : Flight). has_number n g.buf) s.device.flights at f f_there in
       omega (arith, was, none, hand, less)
 
-  keeps_going : IsGoing now.core
-  keeps_going = record {
-    fitting = fitting;
-    told = told;
-    status = going.status;
-    owned = owned;
-    tickets = tickets_left core.flying at going.tickets;
-    queue = queue;
-    pinned = going.pinned;
-    requests = all_on (IsOpenOne core) (IsOpenOne now.core) one core.requests going.requests;
-    copy = bring;
-    hands = λ n. let all = out n in omega (arith, all);
-    behind = going.behind;
-    reviewed = reviewed;
-    fresh = going.fresh;
-    clearings = λ p held clear. sym (of_copy (λ (k : OpenCopy). is_running k && is_whole core k && is_pp p k.pp) false) ∙ going.clearings p held clear;
-    numbers = let was = going.numbers in let same = of_copy (copy_updates core) 0 in omega (arith, was, same);
-  }
-
-  keeps_on : IsOn now
-  keeps_on = let was = sound.on on in record {
-    going = keeps_going;
-    rows = rows_on (remove core.flying at) (remove s.device.flights at) (others core going.owned at row there) (rows_left core core.flying s.device.flights at was.rows);
-    caused = all_on (AreCaused s.device core) (AreCaused device now.core) (λ x all waiting. all_on (IsCaused s.device core) (IsCaused device now.core) (λ t why. why) x.request.targets.items (all waiting)) core.requests was.caused;
-    chosen = all_on (IsChosenSince core c) (IsChosenSince now.core holding) (λ x all. all) core.requests (subst (λ m. IfSome m (λ (k : OpenCopy). AllByRecursion (IsChosenSince core k) core.requests)) is was.chosen);
-  }
-
-  landed_on : (o : Open) (how : Outcome) → IsLandedFor s o how → IsLandedFor now o how
-  landed_on o outcome.Done why = why
-  landed_on o outcome.Got why = why
-  landed_on o outcome.Lost why = why
-  landed_on o outcome.ReadFailed why = why
-  landed_on o outcome.NoFresh why = why
-  landed_on o outcome.Off why = why
-  landed_on o outcome.Dark why = why
-
-  copy_caused : IsCopyCaused now (copies_in core.descriptor c.lv c.lp) holding
-  copy_caused = let was = subst (λ m. IfSome m (λ (k : OpenCopy). IsCopyCaused s (copies_in core.descriptor k.lv k.lp) k)) is sound.copy in
-      record { began = was.began; since = was.since; tried = was.tried; failed = λ e. sources_on (was.failed e) }
-    where
-      sources_on : {x : Type 0} → x ⊎ HaveSourcesFailed s (copies_in core.descriptor c.lv c.lp) c → x ⊎ HaveSourcesFailed now (copies_in core.descriptor c.lv c.lp) holding
-      sources_on (inl x) = inl x
-      sources_on (inr all) = inr (record { each = all.each; number = all.number; source = all.source; source_is = all.source_is; other = all.other; one = all.one })
+  caused : IsCopyCaused s (copies_in core.descriptor c.lv c.lp) c
+  caused = subst (λ m. IfSome m (λ (k : OpenCopy). IsCopyCaused s (copies_in core.descriptor k.lv k.lp) k)) is sound.copy
 
   pub keeps : IsSound now
-  keeps = record {
-    fitting = fitting;
-    told = told;
-    placed = sound.placed;
-    buffers = λ n. let same = out n in omega (arith, same);
-    none_lost = λ lit n. out n;
-    on = λ e. keeps_on;
-    lit = λ lit. let was = sound.lit lit in record { power = was.power; freed = was.freed };
-    dark = λ e. not_so (sym (ap is_dark on) ∙ e);
-    off = sound.off;
-    over = λ e. not_so (sym (ap is_over on) ∙ e);
-    stuck = λ e. absurd (let none : power.On ≡ power.Stuck = sym on ∙ e in cc);
-    counted = all_on (AreCounted s) (AreCounted now) (λ x all. all_on (IsCounted s) (IsCounted now) (λ t count. record { began = count.began; since = count.since }) x.request.targets.items all) core.requests sound.counted;
-    answered = all_on (IsAnswered s) (IsAnswered now) (λ x why. if_on (IsLandedFor s x) (IsLandedFor now x) (landed_on x) x.landed why) core.requests sound.answered;
-    copy = copy_caused;
-    origin = let was = sound.origin in record { since = was.since; votes = was.votes; still_missing = was.still_missing; missing = was.missing; stale = was.stale };
-  }
+  keeps = session_still s sound on c is at row there own (step.Read buf) c.tried c.end core.queue.rows core.pool media refl refl one bring queue reviewed
+      (λ p held clear. sym (of_copy (λ (k : OpenCopy). is_running k && is_whole core k && is_pp p k.pp) false) ∙ going.clearings p held clear)
+      (let was = going.numbers in let same = of_copy (copy_updates core) 0 in omega (arith, was, same))
+      out (copy_still s s refl (copies_in core.descriptor c.lv c.lp) c (step.Read buf) caused)
 
 pub copy_read_end_keeps : CopyReadEndKeeps
 copy_read_end_keeps at old new sound on event =

@@ -27,8 +27,10 @@ use Rattle.lvm_session.specs.Owners.{AreRows, IsCopyOf, IsStepOf, IsTransferOf}
 use Rattle.lvm_session.specs.Requests.{IsOpenOne}
 use Rattle.lvm_session.specs.Sound.{count_if, is_hand, IsCopy, IsGoing, IsReadFrom, rows_of, waiting_rows, with_row}
 use Rattle.lvm_keeps.proofs.Ending.{back, back_long}
+use Rattle.lvm_keeps.proofs.Rows.{data_still, status_still}
 use Rattle.lvm_keeps.proofs.Small.{is_false, not_so}
 use Rattle.lvm_keeps.proofs.Still.{changed, open_on}
+use Rattle.lvm_keeps_events.proofs.Rows.{rows_each}
 use Rattle.lvm_keeps_events.proofs.Tables.{none_filter}
 use Rattle.lvm_keeps_events.proofs.Over.{even_rows, without_step}
 use Rattle.lvm_keeps_events.proofs.Lists.{or_false}
@@ -204,13 +206,10 @@ one_on core queue copy pool left x it = open_on core core.history core.requests 
 -- the rows of others stay
 module _ (core : Core) (queue : Waiting) (copy : Option OpenCopy) (pool : List Bool) (left : Leaves core queue copy pool) where
   transfer_on : (who : Owner) (g : Flight) → IsTransferOf core who g → IsTransferOf (parted core queue copy pool) who g
-  transfer_on (owner.Data id target) g of = let m = of.moves in record { place = of.place; request = of.request; there = of.there; own = of.own; aim = of.aim; aim_is = of.aim_is; moves = record { disk_is = m.disk_is; first = m.first; count = m.count; write = m.write; carries = m.carries } }
-  transfer_on (owner.Status d) g of = let w = of.writes in record { status = of.status; flies = of.flies; writes = record { disk_is = w.disk_is; first = w.first; count = w.count; write = w.write; carries = w.carries } }
+  transfer_on (owner.Data id target) g of = data_still core (parted core queue copy pool) refl id target g of
+  transfer_on (owner.Status d) g of = status_still core (parted core queue copy pool) refl d g of
   transfer_on (owner.Note d) g of = record { note = of.note; flies = of.flies; disk_is = of.disk_is; first = of.first; count = of.count; write = of.write; carries = of.carries }
   transfer_on owner.Copy g of = left.steps g of
 
   pub rows_on : (rows : List Flown) (flights : List Flight) → AreRows core rows flights → AreRows (parted core queue copy pool) rows flights
-  rows_on [] [] all = all
-  rows_on [] (g ∷ flights) all = all
-  rows_on (r ∷ rows) [] all = all
-  rows_on (r ∷ rows) (g ∷ flights) all = let first = all.0 in (record { ticket = first.ticket; long = first.long; disk = first.disk; own = transfer_on r.owner g first.own }, rows_on rows flights all.1)
+  rows_on rows flights all = rows_each core (parted core queue copy pool) transfer_on rows flights all

@@ -15,8 +15,6 @@ use Rattle.lvm_num.specs.Status.{calls_dirty, calls_missing, calls_stale}
 use Rattle.lvm_stale.specs.Table.{has_row, is_pp}
 use Rattle.lvm_disk.specs.Counts.{Counts, Rose}
 use Rattle.lvm_disk.specs.Device.{Device, Flight, Media}
-use Rattle.lvm_vol.specs.declared.entry.Outcome.{Outcome}
-use Rattle.lvm_vol.specs.declared.entry.Outcome.TheVariants as outcome
 use Rattle.lvm_mwc.specs.Cache.{has_disk}
 use Rattle.lvm_mwc.specs.declared.notes.DiskNotes.{DiskNotes}
 use Rattle.lvm_status.specs.Update.{Stored, Updates, seen}
@@ -29,7 +27,6 @@ use Rattle.lvm_session.specs.declared.bringing.CopyEnd.TheVariants as ending
 use Rattle.lvm_session.specs.declared.bringing.OpenCopy.{OpenCopy}
 use Rattle.lvm_session.specs.declared.bringing.Step.{Step}
 use Rattle.lvm_session.specs.declared.flown.Flown.{Flown}
-use Rattle.lvm_session.specs.declared.open.Open.{Open}
 use Rattle.lvm_session.specs.declared.open.Power.TheVariants as power
 use Rattle.lvm_session.specs.State.{Core, State, is_there, state}
 use Rattle.lvm_session.specs.Judging.{copies_in, is_missing, is_running, is_sure, is_usable, is_wanted_stale, is_stale}
@@ -38,13 +35,14 @@ use Rattle.lvm_session.specs.Enabled.{same_status}
 use Rattle.lvm_session.specs.Calls.{copy_at}
 use Rattle.lvm_session.specs.Events.{is_passive}
 use Rattle.lvm_session.specs.Marks.{is_entailed}
-use Rattle.lvm_session.specs.Causes.{AreCaused, AreCounted, FailedSince, FailedSinceOpening, HasFailed, HaveSourcesFailed, IsAnswered, IsCaused, IsCopyCaused, IsCounted, IsLandedFor, IsTrueToOrigin, fails_on, faults_at_first, faults_at_opening, is_blamed, is_held_stale, is_over}
+use Rattle.lvm_session.specs.Causes.{AreCaused, AreCounted, FailedSince, FailedSinceOpening, HasFailed, HaveSourcesFailed, IsAnswered, IsCaused, IsCopyCaused, IsCounted, IsTrueToOrigin, fails_on, faults_at_first, faults_at_opening, is_blamed, is_held_stale}
 use Rattle.lvm_session.specs.Left.{clean_volumes, if_so, updates_left}
 use Rattle.lvm_session.specs.Owners.{AreOwned, AreRows, HaveTickets}
 use Rattle.lvm_session.specs.Sound.{IsCopy, IsFitting, IsGoing, IsOn, IsSound, IsTold, count_if, has_number, is_dark, out_with}
+use Rattle.lvm_keeps.proofs.Causes.{answered_when_on, counted_when_on}
 use Rattle.lvm_keeps.proofs.Lists.{all_on}
 use Rattle.lvm_keeps.proofs.Small.{both, is_false, not_so}
-use Rattle.lvm_keeps.proofs.Still.{if_on}
+use Rattle.lvm_keeps.proofs.Whole.{sound_when_on}
 use Rattle.lvm_keeps_events.proofs.CopyReadFail.{all_tried, by_place, by_sources, none_found, of_place, usable_of}
 use Rattle.lvm_keeps_events.proofs.Counts.{counts_keep, rose_since}
 use Rattle.lvm_keeps_events.proofs.Copies.{Brings, Fewer, runs_of}
@@ -217,15 +215,6 @@ module _ (old : State) (sound : IsSound old) (on : old.core.power ≡ power.On) 
 
     caused : AllByRecursion (AreCaused device last) first.requests
     caused = all_two (AreCounted old) (AreCaused between.device first) (AreCaused device last) (λ x counted why waiting. all_two (IsCounted old) (IsCaused between.device first) (IsCaused device last) target_caused x.request.targets.items counted (why waiting)) first.requests sound.counted (sound_between.on on).caused
-
-    landed_on : (o : Open) (how : Outcome) → IsLandedFor between o how → IsLandedFor done o how
-    landed_on o outcome.Done why = why
-    landed_on o outcome.Got why = why
-    landed_on o outcome.Lost why = why
-    landed_on o outcome.ReadFailed why = why
-    landed_on o outcome.NoFresh why = why
-    landed_on o outcome.Off why = not_so (sym (ap is_over on) ∙ why.0)
-    landed_on o outcome.Dark why = why
 
     origin : IsTrueToOrigin done
     origin = let was = sound_between.origin in record {
@@ -436,20 +425,5 @@ module _ (old : State) (sound : IsSound old) (on : old.core.power ≡ power.On) 
       keeps_on = record { going = keeps_going; rows = rows; caused = caused; chosen = brings.chosen (sound.on on).chosen }
 
       pub keeps : IsSound done
-      keeps = record {
-        fitting = fitting;
-        told = told;
-        placed = sound.placed;
-        buffers = λ n. let same = out n in omega (arith, same);
-        none_lost = λ lit n. out n;
-        on = λ i. keeps_on;
-        lit = λ lit. let was = sound.lit lit in record { power = was.power; freed = was.freed };
-        dark = λ i. not_so (sym (ap is_dark on) ∙ i);
-        off = λ i. absurd (let no : power.On ≡ power.Off = sym on ∙ i in cc);
-        over = λ i. not_so (sym (ap is_over on) ∙ i);
-        stuck = λ i. absurd (let no : power.On ≡ power.Stuck = sym on ∙ i in cc);
-        counted = all_on (AreCounted between) (AreCounted done) (λ x all. all_on (IsCounted between) (IsCounted done) (λ t count. record { began = count.began; since = count.since }) x.request.targets.items all) first.requests sound_between.counted;
-        answered = all_on (IsAnswered between) (IsAnswered done) (λ x why. if_on (IsLandedFor between x) (IsLandedFor done x) (landed_on x) x.landed why) first.requests sound_between.answered;
-        copy = copy_caused;
-        origin = origin;
-      }
+      keeps = sound_when_on between done refl refl sound_between on fitting told keeps_on out (all_on (AreCounted between) (AreCounted done) (counted_when_on between done refl) first.requests sound_between.counted)
+          (all_on (IsAnswered between) (IsAnswered done) (answered_when_on between done refl on) first.requests sound_between.answered) copy_caused origin

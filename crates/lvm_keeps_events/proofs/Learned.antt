@@ -11,8 +11,6 @@ use Rattle.lvm_num.specs.declared.place.Pp.{Pp}
 use Rattle.lvm_num.specs.declared.status.Status.{Status}
 use Rattle.lvm_disk.specs.Counts.{Counts, Rose}
 use Rattle.lvm_disk.specs.Device.{Device, Flight, Media}
-use Rattle.lvm_vol.specs.declared.entry.Outcome.{Outcome}
-use Rattle.lvm_vol.specs.declared.entry.Outcome.TheVariants as outcome
 use Rattle.lvm_hold.specs.Waiting.{Waiting}
 use Rattle.lvm_sched.specs.declared.writes.TargetState.TheVariants as stage
 use Rattle.lvm_stale.specs.Table.{is_pp}
@@ -30,8 +28,6 @@ use Rattle.lvm_session.specs.Judging.{copies_for, copies_in, group_in, held_of, 
 use Rattle.lvm_session.specs.State.{Core, state, State}
 use Rattle.lvm_session.specs.declared.bringing.CopyEnd.TheVariants as ending
 use Rattle.lvm_session.specs.declared.bringing.OpenCopy.{OpenCopy}
-use Rattle.lvm_session.specs.declared.bringing.Step.{Step}
-use Rattle.lvm_session.specs.declared.bringing.Step.TheVariants as step
 use Rattle.lvm_session.specs.declared.flown.Flown.{Flown}
 use Rattle.lvm_session.specs.declared.flown.Owner.{Owner}
 use Rattle.lvm_session.specs.declared.flown.Owner.TheVariants as owner
@@ -41,16 +37,19 @@ use Rattle.lvm_session.specs.Calls.{copy_at}
 use Rattle.lvm_session.specs.Ends.{given_back}
 use Rattle.lvm_session.specs.Events.{IsDataTransfer}
 use Rattle.lvm_session.specs.Marks.{due_of, due_targets, hits_copy, is_among}
-use Rattle.lvm_session.specs.Causes.{AreCaused, AreCounted, FailedSince, FailedSinceOpening, fails_on, faults_at_first, faults_at_opening, HasFailed, HaveSourcesFailed, is_blamed, is_held_stale, is_over, IsAnswered, IsCaused, IsChosenSince, IsCopyCaused, IsCounted, IsLandedFor, IsTrueToOrigin}
+use Rattle.lvm_session.specs.Causes.{AreCaused, AreCounted, FailedSince, FailedSinceOpening, fails_on, faults_at_first, faults_at_opening, HasFailed, HaveSourcesFailed, is_blamed, is_held_stale, IsAnswered, IsCaused, IsChosenSince, IsCopyCaused, IsCounted, IsLandedFor, IsTrueToOrigin}
 use Rattle.lvm_session.specs.Left.{copy_updates, if_so, marks_later}
-use Rattle.lvm_session.specs.Owners.{AreOwned, AreRows, flies, IsDataOf, IsStepOf, IsTransferOf, same_owner}
+use Rattle.lvm_session.specs.Owners.{AreOwned, flies, IsDataOf, IsTransferOf, same_owner}
 use Rattle.lvm_session.specs.Requests.{is_left_out, is_wanted_due, IsJudged, IsOpenOne, IsRequest, IsShaped, IsTarget, may_lack, wants_status, will_be_kept}
 use Rattle.lvm_session.specs.Sound.{count_if, has_number, is_clearing, is_dark, is_hand, IsAsked, IsCopy, IsFitting, IsGoing, IsOn, IsSound, IsTold, may_be_fresh, out_with, pins, stays_fresh, with_row}
+use Rattle.lvm_keeps.proofs.Causes.{answered_when_on}
 use Rattle.lvm_keeps.proofs.Ending.{back, back_long}
 use Rattle.lvm_keeps.proofs.Lists.{all_at, all_on, all_set, any_set, count_same, count_set, length_set, set_beside, set_here}
+use Rattle.lvm_keeps.proofs.Rows.{rows_by, status_still, step_still}
 use Rattle.lvm_keeps.proofs.Small.{and_on, both, is_false, left_on, not_so}
-use Rattle.lvm_keeps.proofs.Still.{bring_on, changed, if_on, no_cause, open_on, ready_on}
-use Rattle.lvm_keeps.proofs.Tables.{apart, rows_set}
+use Rattle.lvm_keeps.proofs.Still.{bring_on, changed, if_on, no_cause, open_on, ready_on, shape_still}
+use Rattle.lvm_keeps.proofs.Tables.{rows_set}
+use Rattle.lvm_keeps.proofs.Whole.{sound_when_on}
 use Rattle.lvm_keeps_events.proofs.Aims.{at_state, pps_set}
 use Rattle.lvm_keeps_events.proofs.OnePlace.{one_lp}
 use Rattle.lvm_keeps_events.proofs.CopyReadFail.{at_number, by_place, of_place}
@@ -248,15 +247,7 @@ module _ (old : State) (sound : IsSound old) (on : old.core.power ≡ power.On) 
     its_one = record {
       laid = let l = laid core going place target o there aim aim_is at row row_there own ok buf long in record { within = l.within; blocks = l.blocks; most = l.most; id = l.id };
       waits = λ e. record {
-        shape = let a = its_shape in record {
-          targets = all_on (IsTarget core ask) (IsTarget after ask) (λ t i. record { copy = i.copy; sector = i.sector; there = i.there }) now_targets a.targets;
-          phase_is = a.phase_is;
-          hand = a.hand;
-          room = a.room;
-          differ = a.differ;
-          usable = a.usable;
-          one = a.one;
-        };
+        shape = shape_still core after refl x its_shape;
         ready = ready_on marked core.history requests queue copy pool_now (remove core.flying at) core.cache.entries core.last x (λ free. free) (λ p free. free)
             (ready_staler mid due wanted writes like x.request
             (ready_on core core.history core.requests queue copy pool core.flying core.cache.entries core.last x (left.free (place_of o.request.id) (held_of ask)) (left.caught (group_in core ask)) (ready core going place target o there aim aim_is at row row_there own ok buf long)));
@@ -353,26 +344,11 @@ module _ (old : State) (sound : IsSound old) (on : old.core.power ≡ power.On) 
           moves = let m = subst (λ (y : Open). IsDataTransfer marked y.request of.aim g) (sym (same is)) of.moves in record { disk_is = m.disk_is; first = m.first; count = m.count; write = m.write; carries = m.carries };
         }
 
-    step_on : (where_at : Step) (c : OpenCopy) (g : Flight) → IsStepOf where_at marked c g → IsStepOf where_at after c g
-    step_on step.Idle c g of = of
-    step_on (step.Reading source) c g of = record { disk_is = of.disk_is; first = of.first; count = of.count; write_is = of.write_is }
-    step_on (step.Read hand) c g of = of
-    step_on step.Writing c g of = record { disk_is = of.disk_is; first = of.first; count = of.count; write_is = of.write_is }
-
     transfer_on : (who : Owner) (g : Flight) → same_owner (owner.Data o.request.id target) who ≡ false → IsTransferOf marked who g → IsTransferOf after who g
     transfer_on (owner.Data id t) g other of = data_on id t g other of
-    transfer_on (owner.Status d) g other of = let w = of.writes in record { status = of.status; flies = of.flies; writes = record { disk_is = w.disk_is; first = w.first; count = w.count; write = w.write; carries = w.carries } }
+    transfer_on (owner.Status d) g other of = status_still marked after refl d g of
     transfer_on (owner.Note d) g other of = record { note = of.note; flies = of.flies; disk_is = of.disk_is; first = of.first; count = of.count; write = of.write; carries = of.carries }
-    transfer_on owner.Copy g other of = (of.0, of.1, step_on of.0.step of.0 g of.2)
-
-    rows_on : (rows : List Flown) (flights : List Flight) → AllByRecursion (λ (r : Flown). same_owner row.owner r.owner ≡ false) rows → AreRows marked rows flights → AreRows after rows flights
-    rows_on [] [] apart all = all
-    rows_on [] (g ∷ flights) apart all = all
-    rows_on (r ∷ rows) [] apart all = all
-    rows_on (r ∷ rows) (g ∷ flights) apart all = let first = all.0 in (
-      record { ticket = first.ticket; long = first.long; disk = first.disk; own = transfer_on r.owner g (sym (ap (λ who. same_owner who r.owner) own) ∙ apart.0) first.own },
-      rows_on rows flights apart.1 all.1,
-    )
+    transfer_on owner.Copy g other of = (of.0, of.1, step_still marked after refl of.0.step of.0 g of.2)
 
     -- ---- buffers
 
@@ -804,21 +780,12 @@ module _ (old : State) (sound : IsSound old) (on : old.core.power ≡ power.On) 
       keeps_on : IsOn now
       keeps_on = let old_on = sound_so.on on in record {
         going = keeps_going;
-        rows = rows_on (remove core.flying at) (remove old.device.flights at) (others core going.owned at row row_there)
+        rows = rows_by marked after (λ who. same_owner row.owner who ≡ false) (λ who g other of. transfer_on who g (sym (ap (λ x. same_owner x who) own) ∙ other) of) (remove core.flying at) (remove old.device.flights at) (others core going.owned at row row_there)
             (rows_left marked core.flying old.device.flights at (rows_staler mid due wanted writes like core.flying old.device.flights (rows_beside core queue copy pool left core.flying old.device.flights old_on.rows)));
         caused = all_set (λ (y : Open). AreCaused s.device core y × AreCounted old y) (AreCaused device after) caused_on core.requests place x (λ waiting. its_caused) pairs;
         chosen = if_on (λ (c : OpenCopy). AllByRecursion (IsChosenSince core c) core.requests) (λ (c : OpenCopy). AllByRecursion (IsChosenSince after c) requests)
             (λ c all. all_set (IsChosenSince core c) (IsChosenSince after c) (λ y is. is) core.requests place x (its_chosen c (all_at (IsChosenSince core c) core.requests place o all there)) all) copy entailed.chosen;
       }
-
-      landed_on : (y : Open) (how : Outcome) → IsLandedFor s y how → IsLandedFor now y how
-      landed_on y outcome.Done it = it
-      landed_on y outcome.Got it = it
-      landed_on y outcome.Lost it = it
-      landed_on y outcome.ReadFailed it = it
-      landed_on y outcome.NoFresh it = it
-      landed_on y outcome.Off it = not_so (sym (ap is_over on) ∙ it.0)
-      landed_on y outcome.Dark it = it
 
       origin : IsTrueToOrigin now
       origin = let before = sound_so.origin in record {
@@ -870,20 +837,5 @@ module _ (old : State) (sound : IsSound old) (on : old.core.power ≡ power.On) 
                   of_one (inr unsure) = as_before p (unsure_before p (ap (is_sure core) one.it.pp_is ∙ unsure))
 
       pub keeps : IsSound now
-      keeps = record {
-        fitting = fitting;
-        told = told_so;
-        placed = sound.placed;
-        buffers = λ n. let same = out n in omega (arith, same);
-        none_lost = λ lit n. out n;
-        on = λ e. keeps_on;
-        lit = λ lit. let before = sound.lit lit in record { power = before.power; freed = before.freed };
-        dark = λ e. not_so (sym (ap is_dark on) ∙ e);
-        off = λ e. absurd (let none : power.On ≡ power.Off = sym on ∙ e in cc none);
-        over = λ e. not_so (sym (ap is_over on) ∙ e);
-        stuck = λ e. absurd (let none : power.On ≡ power.Stuck = sym on ∙ e in cc none);
-        counted = all_set (AreCounted s) (AreCounted now) counted_on core.requests place x its_counted sound_so.counted;
-        answered = all_set (IsAnswered s) (IsAnswered now) (λ y it. if_on (IsLandedFor s y) (IsLandedFor now y) (landed_on y) y.landed it) core.requests place x (no_cause (IsLandedFor now x) o.landed waits_so) sound_so.answered;
-        copy = why;
-        origin = origin;
-      }
+      keeps = sound_when_on s now refl refl sound_so on fitting told_so keeps_on out (all_set (AreCounted s) (AreCounted now) counted_on core.requests place x its_counted sound_so.counted)
+          (all_set (IsAnswered s) (IsAnswered now) (answered_when_on s now refl on) core.requests place x (no_cause (IsLandedFor now x) o.landed waits_so) sound_so.answered) why origin

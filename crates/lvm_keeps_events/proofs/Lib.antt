@@ -12,7 +12,9 @@ pub mod DataStartFalls
 pub mod StatusStartFalls
 pub mod Counts
 pub mod Removal
+pub mod Rows
 pub mod NoteEnd
+pub mod CopyEnded
 pub mod CopyReadEnd
 pub mod Over
 pub mod CopyQuit

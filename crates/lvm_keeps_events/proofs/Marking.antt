@@ -17,8 +17,6 @@ use Rattle.lvm_num.specs.Descriptor.{copies_of, is_member, volume_of}
 use Rattle.lvm_num.specs.Disks.{has}
 use Rattle.lvm_num.specs.Status.{calls_dirty, calls_stale}
 use Rattle.lvm_stale.specs.Table.{SameMissing, SameStale, has_row, is_pp}
-use Rattle.lvm_vol.specs.declared.entry.Outcome.{Outcome}
-use Rattle.lvm_vol.specs.declared.entry.Outcome.TheVariants as outcome
 use Rattle.lvm_path.specs.declared.ask.Ask.{Ask}
 use Rattle.lvm_path.specs.declared.request.Request.{Request}
 use Rattle.lvm_path.specs.declared.target.Target.{Target}
@@ -43,13 +41,15 @@ use Rattle.lvm_session.specs.Events.{is_passive}
 use Rattle.lvm_session.specs.Marks.{WantsDirty, can_replace, is_among, is_entailed, is_entailed_in, is_left_behind}
 use Rattle.lvm_session.specs.Left.{clean_volumes, if_so}
 use Rattle.lvm_session.specs.Owners.{AreOwned}
-use Rattle.lvm_session.specs.Requests.{IsOpenOne, IsTarget, is_failed_and_sure, is_left_out, is_wanted_dirty, is_wanted_due, mode_for, will_be_kept}
-use Rattle.lvm_session.specs.Causes.{AreCaused, AreCounted, HaveSourcesFailed, IsAnswered, IsCaused, IsCopyCaused, IsCounted, IsLandedFor, IsTrueToOrigin, fails_on, is_blamed, is_held_stale, is_over, was_fresh}
-use Rattle.lvm_session.specs.Sound.{IsCopy, IsFitting, IsGoing, IsOn, IsSound, IsTold, count_if, may_be_fresh, stays_fresh}
+use Rattle.lvm_session.specs.Requests.{IsOpenOne, is_failed_and_sure, is_left_out, is_wanted_dirty, is_wanted_due, mode_for, will_be_kept}
+use Rattle.lvm_session.specs.Causes.{AreCaused, AreCounted, HaveSourcesFailed, IsAnswered, IsCaused, IsCopyCaused, IsTrueToOrigin, fails_on, is_blamed, is_held_stale, was_fresh}
+use Rattle.lvm_session.specs.Sound.{IsCopy, IsFitting, IsGoing, IsOn, IsSound, IsTold, count_if, is_dark, may_be_fresh, stays_fresh}
+use Rattle.lvm_keeps.proofs.Causes.{answered_when_on, counted_when_on}
 use Rattle.lvm_keeps.proofs.Lists.{all_on, count_cons}
 use Rattle.lvm_keeps.proofs.Rows.{rows_still}
 use Rattle.lvm_keeps.proofs.Small.{not_so}
-use Rattle.lvm_keeps.proofs.Still.{if_on}
+use Rattle.lvm_keeps.proofs.Still.{if_on, shape_still}
+use Rattle.lvm_keeps.proofs.Whole.{sound_when_on}
 
 -- ---- tests that say the same of each
 
@@ -142,16 +142,8 @@ module _ (s : State) (sound : IsSound s) (on : s.core.power ≡ power.On) (lv : 
   one : (x : Open) → IsOpenOne core x → IsOpenOne now.core x
   one x it = record {
     laid = let l = it.laid in record { within = l.within; blocks = l.blocks; most = l.most; id = l.id };
-    waits = λ w. let r = it.waits w in let a = r.shape in let b = r.ready in record {
-      shape = record {
-        targets = all_on (IsTarget core x.request.ask) (IsTarget now.core x.request.ask) (λ t i. record { copy = i.copy; sector = i.sector; there = i.there }) x.request.targets.items a.targets;
-        phase_is = a.phase_is;
-        hand = a.hand;
-        room = a.room;
-        differ = a.differ;
-        usable = a.usable;
-        one = a.one;
-      };
+    waits = λ w. let r = it.waits w in let b = r.ready in record {
+      shape = shape_still core now.core refl x r.shape;
       ready = record {
         free = b.free;
         recorded = b.recorded;
@@ -348,15 +340,6 @@ module _ (s : State) (sound : IsSound s) (on : s.core.power ≡ power.On) (lv : 
     chosen = was.chosen;
   }
 
-  landed_on : (o : Open) (how : Outcome) → IsLandedFor s o how → IsLandedFor now o how
-  landed_on o outcome.Done why = why
-  landed_on o outcome.Got why = why
-  landed_on o outcome.Lost why = why
-  landed_on o outcome.ReadFailed why = why
-  landed_on o outcome.NoFresh why = why
-  landed_on o outcome.Off why = not_so (sym (ap is_over on) ∙ why.0)
-  landed_on o outcome.Dark why = why
-
   copy_caused : (c : OpenCopy) → IsCopyCaused s (copies_in core.descriptor c.lv c.lp) c → IsCopyCaused now (copies_in core.descriptor c.lv c.lp) c
   copy_caused c its = record { began = its.began; since = its.since; tried = its.tried; failed = λ e. sources_on (its.failed e) }
     where
@@ -386,23 +369,9 @@ module _ (s : State) (sound : IsSound s) (on : s.core.power ≡ power.On) (lv : 
       at_missing p (inr (inr x)) = inr (inr x)
 
   pub keeps : IsSound now
-  keeps = record {
-    fitting = fitting;
-    told = told;
-    placed = sound.placed;
-    buffers = sound.buffers;
-    none_lost = sound.none_lost;
-    on = λ e. keeps_on;
-    lit = sound.lit;
-    dark = sound.dark;
-    off = λ e. absurd (let no : power.On ≡ power.Off = sym on ∙ e in cc);
-    over = λ e. not_so (sym (ap is_over on) ∙ e);
-    stuck = λ e. absurd (let no : power.On ≡ power.Stuck = sym on ∙ e in cc);
-    counted = all_on (AreCounted s) (AreCounted now) (λ x all. all_on (IsCounted s) (IsCounted now) (λ t count. record { began = count.began; since = count.since }) x.request.targets.items all) core.requests sound.counted;
-    answered = all_on (IsAnswered s) (IsAnswered now) (λ x why. if_on (IsLandedFor s x) (IsLandedFor now x) (landed_on x) x.landed why) core.requests sound.answered;
-    copy = if_on (λ (c : OpenCopy). IsCopyCaused s (copies_in core.descriptor c.lv c.lp) c) (λ (c : OpenCopy). IsCopyCaused now (copies_in core.descriptor c.lv c.lp) c) copy_caused core.copy sound.copy;
-    origin = origin;
-  }
+  keeps = sound_when_on s now refl refl sound on fitting told keeps_on (λ n. sound.none_lost (ap is_dark on) n) (all_on (AreCounted s) (AreCounted now) (counted_when_on s now refl) core.requests sound.counted)
+      (all_on (IsAnswered s) (IsAnswered now) (answered_when_on s now refl on) core.requests sound.answered)
+      (if_on (λ (c : OpenCopy). IsCopyCaused s (copies_in core.descriptor c.lv c.lp) c) (λ (c : OpenCopy). IsCopyCaused now (copies_in core.descriptor c.lv c.lp) c) copy_caused core.copy sound.copy) origin
 
 -- ---- what is wanted so
 

@@ -1,6 +1,6 @@
 -- The write of a note has ended well.
-use Rattle.std.proofs.Common.{◌≡◌, ◌≤◌, ◌⊎◌, inl, inr, ◌==◌, ◌+◌, ℕ, Bool, true, false, ◌&&◌, ◌||◌, not, if◌then◌else◌, List, [], ◌∷◌, Option, Some, None, length, slice_get, refl, sym, ◌∙◌, ap, subst, arith}
-use Rattle.std.specs.Prelude.{IfSome, count_by, find, is_some, option_and_then, slice_index_or, slice_set}
+use Rattle.std.proofs.Common.{◌≡◌, ◌≤◌, inl, inr, ◌==◌, ℕ, Bool, true, false, ◌&&◌, List, [], ◌∷◌, Option, Some, None, length, slice_get, refl, sym, ◌∙◌, ap, subst, arith}
+use Rattle.std.specs.Prelude.{count_by, is_some, option_and_then, slice_index_or, slice_set}
 use Rattle.std.specs.List.{list_all, remove, AllByRecursion}
 use Rattle.std.specs.Option.{option_map, option_map_or}
 use Rattle.std.proofs.lemmas.Bool.{eq-eqb, eqb-true, eqb-false, ne_eqb}
@@ -21,33 +21,29 @@ use Rattle.lvm_path.specs.declared.request.Request.{Request}
 use Rattle.lvm_path.specs.declared.target.Target.{Target}
 use Rattle.lvm_path.specs.Asks.{lv_of}
 use Rattle.lvm_num.specs.Buffer.{Buffer}
-use Rattle.lvm_num.specs.declared.place.Pp.{Pp}
-use Rattle.lvm_stale.specs.Table.{is_pp}
 use Rattle.lvm_disk.specs.Device.{Device, Flight, Media}
 use Rattle.lvm_disk.specs.Steps.{EndsDone}
-use Rattle.lvm_vol.specs.declared.entry.Outcome.{Outcome}
-use Rattle.lvm_vol.specs.declared.entry.Outcome.TheVariants as outcome
 use Rattle.lvm_session.specs.declared.bringing.OpenCopy.{OpenCopy}
-use Rattle.lvm_session.specs.declared.bringing.Step.{Step}
-use Rattle.lvm_session.specs.declared.bringing.Step.TheVariants as step
 use Rattle.lvm_session.specs.declared.flown.Flown.{Flown}
 use Rattle.lvm_session.specs.declared.flown.Owner.{Owner}
 use Rattle.lvm_session.specs.declared.flown.Owner.TheVariants as owner
 use Rattle.lvm_session.specs.declared.open.Open.{Open}
 use Rattle.lvm_session.specs.declared.open.Power.TheVariants as power
 use Rattle.lvm_session.specs.State.{Core, State, state}
-use Rattle.lvm_session.specs.Judging.{copies_in, group_of, has_names}
-use Rattle.lvm_session.specs.Owners.{AreOwned, AreRows, IsStepOf, IsTransferOf, flies, same_owner}
-use Rattle.lvm_session.specs.Requests.{IsOpenOne, IsPinned, IsRecorded, IsShaped, IsTarget, has_record, mode_for}
-use Rattle.lvm_session.specs.Causes.{AreCaused, AreCounted, HaveSourcesFailed, IsAnswered, IsCaused, IsChosenSince, IsCopyCaused, IsCounted, IsLandedFor, IsTrueToOrigin, is_over}
-use Rattle.lvm_session.specs.Sound.{IsCopy, IsFitting, IsGoing, IsOn, IsSound, IsTold, count_if, has_number, is_dark, is_hand, out_with, pins}
-use Rattle.lvm_keeps.proofs.Ending.{back}
-use Rattle.lvm_keeps.proofs.Lists.{all_on, count_cons, length_set}
+use Rattle.lvm_session.specs.Judging.{group_of, has_names}
+use Rattle.lvm_session.specs.Owners.{AreOwned, IsTransferOf, flies, same_owner}
+use Rattle.lvm_session.specs.Requests.{IsOpenOne, IsPinned, IsRecorded, has_record, mode_for}
+use Rattle.lvm_session.specs.Sound.{IsCopy, IsFitting, IsGoing, IsOn, IsSound, IsTold, count_if, out_with, pins}
+use Rattle.lvm_keeps.proofs.Causes.{copies_still, origin_still}
+use Rattle.lvm_keeps.proofs.Fitting.{still_fits}
+use Rattle.lvm_keeps.proofs.Lists.{all_on, length_set}
 use Rattle.lvm_keeps.proofs.NoteStart.{each_counted}
+use Rattle.lvm_keeps.proofs.Rows.{data_still, rows_by, status_still, step_still}
 use Rattle.lvm_keeps.proofs.Small.{both, not_so}
-use Rattle.lvm_keeps.proofs.Still.{if_on}
+use Rattle.lvm_keeps.proofs.Still.{if_on, shape_still}
+use Rattle.lvm_keeps.proofs.Whole.{sound_still, told_still}
 use Rattle.lvm_keeps_events.specs.Ends.{NoteEndKeeps}
-use Rattle.lvm_keeps_events.proofs.Removal.{IsOut, as_many, count_taken, none_left, others, rows_left, taken_out, tickets_left}
+use Rattle.lvm_keeps_events.proofs.Removal.{IsOut, as_many, given_back, none_left, others, rows_left, taken_out, tickets_left}
 
 -- one that has its record with two targets or more holds its pin
 pub pinned_by : (p : Phase) (r : Request) → has_record p ≡ true → IsPinned p r → 2 ≤ length r.targets.items → r.pinned ≡ true
@@ -149,22 +145,11 @@ module _ (s : State) (sound : IsSound s) (on : s.core.power ≡ power.On) (disk 
   named_on x keep mode.Passive rec has two names = names
   named_on x keep mode.Off rec has two names = names
 
-  shape_on : (x : Open) → IsShaped core x → IsShaped now.core x
-  shape_on x a = record {
-    targets = all_on (IsTarget core x.request.ask) (IsTarget now.core x.request.ask) (λ t i. record { copy = i.copy; sector = i.sector; there = i.there }) x.request.targets.items a.targets;
-    phase_is = a.phase_is;
-    hand = a.hand;
-    room = a.room;
-    differ = a.differ;
-    usable = a.usable;
-    one = a.one;
-  }
-
   one : (x : Open) → IsKept x → IsOpenOne core x → IsOpenOne now.core x
   one x keep it = record {
     laid = let l = it.laid in record { within = l.within; blocks = l.blocks; most = l.most; id = l.id };
     waits = λ w. let r = it.waits w in let b = r.ready in record {
-      shape = shape_on x r.shape;
+      shape = shape_still core now.core refl x r.shape;
       ready = record { free = b.free; recorded = b.recorded; wanted = b.wanted; named = λ has two. named_on x keep (mode_for core x.request.ask) b.recorded has two (b.named has two); dirty = b.dirty };
       judged = λ write. let j = r.judged write in record { uncaught = j.uncaught; due = j.due; all = j.all };
     };
@@ -179,27 +164,10 @@ module _ (s : State) (sound : IsSound s) (on : s.core.power ≡ power.On) (disk 
   -- ---- the rest
 
   fitting : IsFitting now.core
-  fitting = let f = sound.fitting in record {
-    valid = f.valid;
-    id = f.id;
-    rows = f.rows;
-    group = f.group;
-    entries = f.entries;
-    notes = λ d. same_disks core.cache disk true d ∙ f.notes d;
-    table = f.table;
-    most = f.most;
-    queue = f.queue;
-    a_buffer = subst (λ n. 1 ≤ n) (sym same_long) f.a_buffer;
-    buffers = subst (λ n. n ≤ 1024) (sym same_long) f.buffers;
-    last = f.last;
-    room = f.room;
-  }
-    where
-      same_long : length pool ≡ length core.pool
-      same_long = length_set core.pool buf.number false
+  fitting = let was = sound.fitting in still_fits core now.core was refl was.entries (same_disks core.cache disk true) was.table (length_set core.pool buf.number false) was.room
 
   told : IsTold now.core
-  told = let t = sound.told in record { ordered = t.ordered; table = t.table; each = t.each; requests = t.requests }
+  told = told_still core now.core refl sound.told
 
   bring : (c : OpenCopy) → IsCopy core c → IsCopy now.core c
   bring c k = record { row = k.row; volume = k.volume; lp = k.lp; its = k.its; cursor = k.cursor; faults = k.faults; place = k.place; room = k.room; free = k.free; hand = k.hand; tried = k.tried; source = k.source; under_way = k.under_way; stale = k.stale; clearing = k.clearing }
@@ -221,40 +189,18 @@ module _ (s : State) (sound : IsSound s) (on : s.core.power ≡ power.On) (disk 
           ap (λ n. count_by (λ (g : Flown). same_owner (owner.Note n) g.owner) (remove core.flying at)) (eqb-true d disk is) ∙ ap (λ who. count_by (λ (g : Flown). same_owner who g.owner) (remove core.flying at)) (sym own) ∙ none_left core going.owned at row there
           ∙ sym (ap (λ n. count_if (is_some (flight_on now.core.cache n))) (eqb-true d disk is) ∙ ap (λ m. count_if (is_some m)) (none_here core.cache disk true))
 
-  step_on : (x : Step) (c : OpenCopy) (g : Flight) → IsStepOf x core c g → IsStepOf x now.core c g
-  step_on step.Idle c g of = of
-  step_on (step.Reading source) c g of = record { disk_is = of.disk_is; first = of.first; count = of.count; write_is = of.write_is }
-  step_on (step.Read buf) c g of = of
-  step_on step.Writing c g of = record { disk_is = of.disk_is; first = of.first; count = of.count; write_is = of.write_is }
-
   transfer_on : (who : Owner) (g : Flight) → same_owner row.owner who ≡ false → IsTransferOf core who g → IsTransferOf now.core who g
-  transfer_on (owner.Data id target) g other of = let m = of.moves in record { place = of.place; request = of.request; there = of.there; own = of.own; aim = of.aim; aim_is = of.aim_is; moves = record { disk_is = m.disk_is; first = m.first; count = m.count; write = m.write; carries = m.carries } }
-  transfer_on (owner.Status d) g other of = let w = of.writes in record { status = of.status; flies = of.flies; writes = record { disk_is = w.disk_is; first = w.first; count = w.count; write = w.write; carries = w.carries } }
+  transfer_on (owner.Data id target) g other of = data_still core now.core refl id target g of
+  transfer_on (owner.Status d) g other of = status_still core now.core refl d g of
   transfer_on (owner.Note d) g other of = record { note = of.note; flies = flight_beside core.cache disk true d (apart (d == disk) refl) ∙ of.flies; disk_is = of.disk_is; first = of.first; count = of.count; write = of.write; carries = of.carries }
     where
       apart : (b : Bool) → (d == disk) ≡ b → b ≡ false
       apart false e = refl
       apart true e = not_so (sym (sym (ap (λ who. same_owner who (owner.Note d)) own) ∙ other) ∙ eq-eqb disk d (sym (eqb-true d disk e)))
-  transfer_on owner.Copy g other of = (of.0, of.1, step_on of.0.step of.0 g of.2)
-
-  rows_on : (rows : List Flown) (flights : List Flight) → AllByRecursion (λ (r : Flown). same_owner row.owner r.owner ≡ false) rows → AreRows core rows flights → AreRows now.core rows flights
-  rows_on [] [] apart all = all
-  rows_on [] (g ∷ flights) apart all = all
-  rows_on (r ∷ rows) [] apart all = all
-  rows_on (r ∷ rows) (g ∷ flights) apart all = let first = all.0 in (record { ticket = first.ticket; long = first.long; disk = first.disk; own = transfer_on r.owner g apart.0 first.own }, rows_on rows flights apart.1 all.1)
-
-  -- ---- its buffer comes back
-
-  is_its : (n : ℕ) → count_if (is_hand n (Some buf)) ≡ count_if (has_number n f.buf)
-  is_its n = ap (λ k. count_if (k == n)) number
+  transfer_on owner.Copy g other of = (of.0, of.1, step_still core now.core refl of.0.step of.0 g of.2)
 
   out : (n : ℕ) → out_with device now.core n ≡ count_if (slice_index_or pool n false)
-  out n =
-      let was = sound.none_lost (ap is_dark on) n in
-      let hand = is_its n in
-      let less = count_taken (λ (g : Flight). has_number n g.buf) s.device.flights at f f_there in
-      let given = back core.pool (Some buf) n (omega (arith, was, hand, less)) in
-      omega (arith, was, hand, less, given)
+  out = given_back s sound on at f f_there buf number media now.core (λ n. refl)
 
   keeps_going : IsGoing now.core
   keeps_going = record {
@@ -278,48 +224,13 @@ module _ (s : State) (sound : IsSound s) (on : s.core.power ≡ power.On) (disk 
   keeps_on : IsOn now
   keeps_on = let was = sound.on on in record {
     going = keeps_going;
-    rows = rows_on (remove core.flying at) (remove s.device.flights at) (others core going.owned at row there) (rows_left core core.flying s.device.flights at was.rows);
+    rows = rows_by core now.core (λ who. same_owner row.owner who ≡ false) transfer_on (remove core.flying at) (remove s.device.flights at) (others core going.owned at row there) (rows_left core core.flying s.device.flights at was.rows);
     caused = was.caused;
     chosen = was.chosen;
   }
 
-  landed_on : (o : Open) (how : Outcome) → IsLandedFor s o how → IsLandedFor now o how
-  landed_on o outcome.Done why = why
-  landed_on o outcome.Got why = why
-  landed_on o outcome.Lost why = why
-  landed_on o outcome.ReadFailed why = why
-  landed_on o outcome.NoFresh why = why
-  landed_on o outcome.Off why = why
-  landed_on o outcome.Dark why = why
-
-  copy_caused : (c : OpenCopy) → IsCopyCaused s (copies_in core.descriptor c.lv c.lp) c → IsCopyCaused now (copies_in core.descriptor c.lv c.lp) c
-  copy_caused c was = record { began = was.began; since = was.since; tried = was.tried; failed = λ e. sources_on (was.failed e) }
-    where
-      sources_on : {own : Type 0} → own ⊎ HaveSourcesFailed s (copies_in core.descriptor c.lv c.lp) c → own ⊎ HaveSourcesFailed now (copies_in core.descriptor c.lv c.lp) c
-      sources_on (inl own) = inl own
-      sources_on (inr all) = inr (record { each = all.each; number = all.number; source = all.source; source_is = all.source_is; other = all.other; one = all.one })
-
-  origin : IsTrueToOrigin now
-  origin = let was = sound.origin in record { since = was.since; votes = was.votes; still_missing = was.still_missing; missing = was.missing; stale = was.stale }
-
   pub keeps : IsSound now
-  keeps = record {
-    fitting = fitting;
-    told = told;
-    placed = sound.placed;
-    buffers = λ n. let same = out n in omega (arith, same);
-    none_lost = λ lit n. out n;
-    on = λ e. keeps_on;
-    lit = λ lit. let was = sound.lit lit in record { power = was.power; freed = was.freed };
-    dark = λ e. not_so (sym (ap is_dark on) ∙ e);
-    off = sound.off;
-    over = λ e. not_so (sym (ap is_over on) ∙ e);
-    stuck = λ e. absurd (let none : power.On ≡ power.Stuck = sym on ∙ e in cc);
-    counted = all_on (AreCounted s) (AreCounted now) (λ x all. all_on (IsCounted s) (IsCounted now) (λ t count. record { began = count.began; since = count.since }) x.request.targets.items all) core.requests sound.counted;
-    answered = all_on (IsAnswered s) (IsAnswered now) (λ x why. if_on (IsLandedFor s x) (IsLandedFor now x) (landed_on x) x.landed why) core.requests sound.answered;
-    copy = if_on (λ (c : OpenCopy). IsCopyCaused s (copies_in core.descriptor c.lv c.lp) c) (λ (c : OpenCopy). IsCopyCaused now (copies_in core.descriptor c.lv c.lp) c) copy_caused core.copy sound.copy;
-    origin = origin;
-  }
+  keeps = sound_still s now refl refl sound on refl fitting told keeps_on out (copies_still s now refl core.copy sound.copy) (origin_still s now refl refl sound.origin)
 
 pub note_end_keeps : NoteEndKeeps
 note_end_keeps at disk old new sound on event =

@@ -18,8 +18,6 @@ use Rattle.lvm_num.specs.declared.place.Pp.{Pp}
 use Rattle.lvm_num.specs.declared.status.Status.{Status}
 use Rattle.lvm_disk.specs.Device.{Device, Flight, Media}
 use Rattle.lvm_vol.specs.Log.{next_id}
-use Rattle.lvm_vol.specs.declared.entry.Outcome.{Outcome}
-use Rattle.lvm_vol.specs.declared.entry.Outcome.TheVariants as outcome
 use Rattle.lvm_hold.specs.Conflicts.{conflicts, have_common_block}
 use Rattle.lvm_hold.specs.Waiting.{is_blocked, Waiting, without}
 use Rattle.lvm_hold.specs.declared.queue.Row.{Row}
@@ -50,22 +48,24 @@ use Rattle.lvm_session.specs.declared.open.Power.TheVariants as power
 use Rattle.lvm_session.specs.Dark.{hand_of_copy}
 use Rattle.lvm_session.specs.Events.{is_passive}
 use Rattle.lvm_session.specs.Marks.{can_replace, is_among, is_entailed, is_entailed_in, is_left_behind}
-use Rattle.lvm_session.specs.Causes.{AreCaused, AreCounted, fails_on, is_blamed, is_held_stale, is_over, IsAnswered, IsCaused, IsChosenSince, IsCopyCaused, IsCounted, IsLandedFor, IsTrueToOrigin, was_fresh}
+use Rattle.lvm_session.specs.Causes.{AreCaused, AreCounted, fails_on, is_blamed, is_held_stale, IsAnswered, IsCaused, IsChosenSince, IsCopyCaused, IsTrueToOrigin, was_fresh}
 use Rattle.lvm_session.specs.Left.{copy_updates, if_so, updates_left}
-use Rattle.lvm_session.specs.Owners.{AreOwned, AreRows, IsTransferOf, same_owner}
+use Rattle.lvm_session.specs.Owners.{AreOwned, same_owner}
 use Rattle.lvm_session.specs.Requests.{is_failed_and_sure, is_left_out, is_past_held, is_wanted_dirty, is_wanted_due, IsJudged, IsOpenOne, IsPhase, IsRequest, IsTarget, may_lack, mode_for, wants_status, will_be_kept}
-use Rattle.lvm_session.specs.Sound.{count_if, has_number, is_clearing, is_dark, is_hand, IsCopy, IsFitting, IsGoing, IsOn, IsSound, IsTold, may_be_fresh, out_with, stays_fresh, waiting_rows, with_row}
+use Rattle.lvm_session.specs.Sound.{count_if, is_clearing, is_hand, IsCopy, IsFitting, IsGoing, IsOn, IsSound, IsTold, may_be_fresh, out_with, stays_fresh, waiting_rows, with_row}
 use Rattle.lvm_submit.proofs.Numbered.{below_next}
-use Rattle.lvm_keeps.proofs.Ending.{back}
+use Rattle.lvm_keeps.proofs.Causes.{answered_when_on, counted_when_on}
 use Rattle.lvm_keeps.proofs.Lists.{all_on, length_set}
+use Rattle.lvm_keeps.proofs.Rows.{rows_but_copy}
 use Rattle.lvm_keeps.proofs.Small.{both, is_false, not_so}
-use Rattle.lvm_keeps.proofs.Still.{changed, if_on}
+use Rattle.lvm_keeps.proofs.Still.{changed, shape_still}
+use Rattle.lvm_keeps.proofs.Whole.{sound_when_on}
 use Rattle.lvm_keeps_events.proofs.Marking.{any_alike, count_alike, filter_alike}
 use Rattle.lvm_keeps_events.proofs.OnePlace.{one_lp}
 use Rattle.lvm_keeps_events.proofs.Tables.{none_filter}
 use Rattle.lvm_keeps_events.proofs.CopyReadFail.{by_place, by_sources, is_here}
 use Rattle.lvm_keeps_events.proofs.Over.{even_rows, without_step}
-use Rattle.lvm_keeps_events.proofs.Removal.{as_many, count_taken, none_left, others as others_of, rows_left, tickets_left}
+use Rattle.lvm_keeps_events.proofs.Removal.{as_many, given_back, none_left, others as others_of, rows_left, tickets_left}
 use Rattle.lvm_keeps_events.proofs.DuesMarks.{among_get, own_pp, pp_same}
 use Rattle.lvm_keeps_events.proofs.Groups.{group_low, some_size, whole_passes}
 use Rattle.lvm_keeps_events.proofs.Lists.{all_and, all_pair, all_there, any_at, any_on, found_at, or_true}
@@ -490,16 +490,8 @@ module _ (s : State) (sound : IsSound s) (on : s.core.power ≡ power.On) (c : O
     one : (k : ℕ) (o : Open) → slice_get core.requests k ≡ Some o → IsOpenOne core o → o.request.id < next_id core.history → IsOpenOne after o
     one k o o_there it low = record {
       laid = let l = it.laid in record { within = l.within; blocks = l.blocks; most = l.most; id = l.id };
-      waits = λ waits. let r = it.waits waits in let a = r.shape in let b = r.ready in record {
-        shape = record {
-          targets = all_on (IsTarget core o.request.ask) (IsTarget after o.request.ask) (λ t i. record { copy = i.copy; sector = i.sector; there = i.there }) o.request.targets.items a.targets;
-          phase_is = a.phase_is;
-          hand = a.hand;
-          room = a.room;
-          differ = a.differ;
-          usable = a.usable;
-          one = a.one;
-        };
+      waits = λ waits. let r = it.waits waits in let b = r.ready in record {
+        shape = shape_still core after refl o r.shape;
         ready = record {
           free = λ past. free_on o low (b.free past);
           recorded = b.recorded;
@@ -708,34 +700,13 @@ module _ (s : State) (sound : IsSound s) (on : s.core.power ≡ power.On) (c : O
     owned (owner.Note disk) = as_many core going.owned at row there (owner.Note disk) (other_own (owner.Note disk) refl) ∙ going.owned (owner.Note disk)
     owned owner.Copy = ap (λ who. count_by (λ (g : Flown). same_owner who g.owner) (remove core.flying at)) (sym own) ∙ none_left core going.owned at row there
 
-    transfer_on : (who : Owner) (g : Flight) → same_owner row.owner who ≡ false → IsTransferOf core who g → IsTransferOf after who g
-    transfer_on (owner.Data id target) g other of = let m = of.moves in record { place = of.place; request = of.request; there = of.there; own = of.own; aim = of.aim; aim_is = of.aim_is; moves = record { disk_is = m.disk_is; first = m.first; count = m.count; write = m.write; carries = m.carries } }
-    transfer_on (owner.Status disk) g other of = let v = of.writes in record { status = of.status; flies = of.flies; writes = record { disk_is = v.disk_is; first = v.first; count = v.count; write = v.write; carries = v.carries } }
-    transfer_on (owner.Note disk) g other of = record { note = of.note; flies = of.flies; disk_is = of.disk_is; first = of.first; count = of.count; write = of.write; carries = of.carries }
-    transfer_on owner.Copy g other of = not_so (sym other ∙ ap (λ who. same_owner who owner.Copy) own)
-
-    rows_on : (rows : List Flown) (flights : List Flight) → AllByRecursion (λ (r : Flown). same_owner row.owner r.owner ≡ false) rows → AreRows core rows flights → AreRows after rows flights
-    rows_on [] [] apart all = all
-    rows_on [] (g ∷ flights) apart all = all
-    rows_on (r ∷ rows) [] apart all = all
-    rows_on (r ∷ rows) (g ∷ flights) apart all = let first = all.0 in (record { ticket = first.ticket; long = first.long; disk = first.disk; own = transfer_on r.owner g apart.0 first.own }, rows_on rows flights apart.1 all.1)
-
     -- ---- its buffer comes back
 
     was_hand : (n : ℕ) → count_if (is_hand n (hand_of_copy core.copy)) ≡ 0
     was_hand n = ap (λ m. count_if (is_hand n (hand_of_copy m))) is ∙ ap (λ x. count_if (is_hand n (hand_of x))) writing
 
-    is_its : (n : ℕ) → count_if (is_hand n (Some buf)) ≡ count_if (has_number n f.buf)
-    is_its n = ap (λ k. count_if (k == n)) number
-
     out : (n : ℕ) → out_with device after n ≡ count_if (slice_index_or pool n false)
-    out n =
-        let was = sound.none_lost (ap is_dark on) n in
-        let none = was_hand n in
-        let hand = is_its n in
-        let less = count_taken (λ (g : Flight). has_number n g.buf) s.device.flights at f f_there in
-        let given = back core.pool (Some buf) n (omega (arith, was, hand, less)) in
-        omega (arith, was, none, hand, less, given)
+    out = given_back s sound on at f f_there buf number device.media after (λ n. let none = was_hand n in omega (arith, none))
 
     -- ---- all of it
 
@@ -775,19 +746,11 @@ module _ (s : State) (sound : IsSound s) (on : s.core.power ≡ power.On) (c : O
     keeps_on : IsOn now
     keeps_on = let was = sound.on on in record {
       going = keeps_going;
-      rows = rows_on (remove core.flying at) (remove s.device.flights at) (others_of core going.owned at row there) (rows_left core core.flying s.device.flights at was.rows);
+      rows = rows_but_copy core after refl (λ who. same_owner row.owner who ≡ false) (λ other. not_so (sym other ∙ ap (λ who. same_owner who owner.Copy) own)) (remove core.flying at) (remove s.device.flights at) (others_of core going.owned at row there)
+          (rows_left core core.flying s.device.flights at was.rows);
       caused = all_on (AreCaused s.device core) (AreCaused device after) (λ x all waiting. all_on (IsCaused s.device core) (IsCaused device after) (λ t why e. why (sym (ap (λ b. is_failed t.state || (t.usable && b)) (blamed_same t.pp)) ∙ e)) x.request.targets.items (all waiting)) core.requests was.caused;
       chosen = all_on (IsChosenSince core c) (IsChosenSince after next) (λ x all. all) core.requests (subst (λ m. IfSome m (λ (k : OpenCopy). AllByRecursion (IsChosenSince core k) core.requests)) is was.chosen);
     }
-
-    landed_on : (o : Open) (how : Outcome) → IsLandedFor s o how → IsLandedFor now o how
-    landed_on o outcome.Done why = why
-    landed_on o outcome.Got why = why
-    landed_on o outcome.Lost why = why
-    landed_on o outcome.ReadFailed why = why
-    landed_on o outcome.NoFresh why = why
-    landed_on o outcome.Off why = not_so (sym (ap is_over on) ∙ why.0)
-    landed_on o outcome.Dark why = why
 
     copy_caused : IsCopyCaused now (copies_in core.descriptor c.lv c.lp) next
     copy_caused = let was = subst (λ m. IfSome m (λ (k : OpenCopy). IsCopyCaused s (copies_in core.descriptor k.lv k.lp) k)) is sound.copy in
@@ -808,20 +771,5 @@ module _ (s : State) (sound : IsSound s) (on : s.core.power ≡ power.On) (c : O
         at_missing p (inr (inr x)) = inr (inr x)
 
     pub keeps : IsSound now
-    keeps = record {
-      fitting = fitting;
-      told = told;
-      placed = sound.placed;
-      buffers = λ n. let same = out n in omega (arith, same);
-      none_lost = λ lit n. out n;
-      on = λ e. keeps_on;
-      lit = λ lit. let was = sound.lit lit in record { power = was.power; freed = was.freed };
-      dark = λ e. not_so (sym (ap is_dark on) ∙ e);
-      off = λ e. absurd (let none : power.On ≡ power.Off = sym on ∙ e in cc none);
-      over = λ e. not_so (sym (ap is_over on) ∙ e);
-      stuck = λ e. absurd (let none : power.On ≡ power.Stuck = sym on ∙ e in cc none);
-      counted = all_on (AreCounted s) (AreCounted now) (λ x all. all_on (IsCounted s) (IsCounted now) (λ t count. record { began = count.began; since = count.since }) x.request.targets.items all) core.requests sound.counted;
-      answered = all_on (IsAnswered s) (IsAnswered now) (λ x why. if_on (IsLandedFor s x) (IsLandedFor now x) (landed_on x) x.landed why) core.requests sound.answered;
-      copy = copy_caused;
-      origin = origin;
-    }
+    keeps = sound_when_on s now refl refl sound on fitting told keeps_on out (all_on (AreCounted s) (AreCounted now) (counted_when_on s now refl) core.requests sound.counted)
+        (all_on (IsAnswered s) (IsAnswered now) (answered_when_on s now refl on) core.requests sound.answered) copy_caused origin

@@ -1,19 +1,18 @@
 -- A transfer isn't out any more.
-use Rattle.std.proofs.Common.{◌≡◌, ◌⊎◌, inl, inr, ◌==◌, ◌≤◌, ◌+◌, ℕ, zero, suc, Bool, true, false, ◌&&◌, ◌||◌, List, [], ◌∷◌, ◌++◌, Option, Some, length, slice_get, refl, sym, ◌∙◌, ap, subst, arith}
-use Rattle.std.specs.Prelude.{count_by, drop, slice_index_or}
+use Rattle.std.proofs.Common.{◌≡◌, ◌==◌, ◌+◌, ℕ, zero, suc, Bool, true, false, ◌&&◌, ◌||◌, List, [], ◌∷◌, ◌++◌, Option, Some, slice_get, refl, sym, ◌∙◌, ap, subst, arith}
+use Rattle.std.specs.Prelude.{count_by, slice_index_or, slice_set}
 use Rattle.std.specs.List.{list_any, remove, AllByRecursion}
 use Rattle.std.proofs.lemmas.Bool.{eq-eqb}
 use Rattle.lvm_num.specs.Buffer.{Buffer}
-use Rattle.lvm_disk.specs.Device.{Device, Flight, Media}
+use Rattle.lvm_disk.specs.Device.{Flight, Media}
 use Rattle.lvm_disk.specs.Steps.{Removes}
-use Rattle.lvm_vol.specs.declared.entry.Outcome.{Outcome}
 use Rattle.lvm_session.specs.declared.flown.Flown.{Flown}
 use Rattle.lvm_session.specs.declared.flown.Owner.{Owner}
 use Rattle.lvm_session.specs.declared.flown.Owner.TheVariants as owner
+use Rattle.lvm_session.specs.declared.open.Power.TheVariants as power
 use Rattle.lvm_session.specs.State.{Core, State}
-use Rattle.lvm_session.specs.Bringing.{with_back}
 use Rattle.lvm_session.specs.Owners.{AreOwned, AreRows, HaveTickets, IsRowOf, flies, same_owner}
-use Rattle.lvm_session.specs.Sound.{count_if, has_number, is_hand}
+use Rattle.lvm_session.specs.Sound.{IsSound, count_if, hands_with, has_number, is_dark, is_hand, out_with}
 use Rattle.lvm_keeps.proofs.Ending.{back}
 use Rattle.lvm_keeps.proofs.Lists.{count_cons}
 use Rattle.lvm_keeps.proofs.Small.{not_so}
@@ -156,3 +155,16 @@ module _ (core : Core) (owned : AreOwned core) (at : ℕ) (row : Flown) (there :
       let all = count_taken (λ (g : Flown). same_owner who g.owner) core.flying at row there in
       let none : count_if (same_owner who row.owner) ≡ 0 = ap count_if other in
       omega (arith, all, none)
+
+-- ---- its buffer comes back
+
+-- to the pool, where as much is in hand as before
+pub given_back : (s : State) (sound : IsSound s) (on : s.core.power ≡ power.On) (at : ℕ) (f : Flight) (there : slice_get s.device.flights at ≡ Some f) (buf : Buffer) (number : buf.number ≡ f.buf.number) (media : Option Media) (now : Core)
+    → ((n : ℕ) → hands_with now n ≡ hands_with s.core n) → (n : ℕ) → out_with (record s.device { media = media; flights = remove s.device.flights at }) now n ≡ count_if (slice_index_or (slice_set s.core.pool buf.number false) n false)
+given_back s sound on at f there buf number media now hands n =
+    let was = sound.none_lost (ap is_dark on) n in
+    let same = hands n in
+    let hand : count_if (is_hand n (Some buf)) ≡ count_if (has_number n f.buf) = ap (λ k. count_if (k == n)) number in
+    let less = count_taken (λ (g : Flight). has_number n g.buf) s.device.flights at f there in
+    let given = back s.core.pool (Some buf) n (omega (arith, was, hand, less)) in
+    omega (arith, was, same, hand, less, given)

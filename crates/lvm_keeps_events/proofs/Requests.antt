@@ -28,11 +28,12 @@ use Rattle.lvm_session.specs.State.{Core}
 use Rattle.lvm_session.specs.Judging.{group_in, group_of, has_dirty_mark, has_names, held_of, is_caught, is_kept, is_running, is_settled, is_sure, is_wanted_stale, place_of, pps_of}
 use Rattle.lvm_session.specs.Bringing.{groups_of}
 use Rattle.lvm_session.specs.Marks.{is_among}
-use Rattle.lvm_session.specs.Requests.{IsJudged, IsLaid, IsOpenOne, IsReady, IsRecorded, IsShaped, IsTarget, has_record, is_failed_and_sure, is_wanted_dirty, may_lack, mode_for, will_be_kept}
+use Rattle.lvm_session.specs.Requests.{IsJudged, IsLaid, IsOpenOne, IsReady, IsRecorded, IsShaped, has_record, is_failed_and_sure, is_wanted_dirty, may_lack, mode_for, will_be_kept}
 use Rattle.lvm_session.specs.Sound.{pins}
 use Rattle.lvm_keeps.proofs.Lists.{all_on}
 use Rattle.lvm_keeps.proofs.NoteStart.{each_counted}
 use Rattle.lvm_keeps.proofs.Small.{and_on, both, is_false, not_so}
+use Rattle.lvm_keeps.proofs.Still.{shape_still}
 use Rattle.lvm_keeps_events.proofs.NoteEnd.{all_true, pinned_by}
 use Rattle.lvm_keeps_events.proofs.Finding.{any_on, count_with, found, some_there}
 use Rattle.lvm_keeps_events.proofs.Follows.{in_flight_of}
@@ -185,15 +186,7 @@ module _ (e : Ending) (r : Reviewed e) (names : NamesStay e) (caught : (group : 
   -- ---- all of it
 
   shape_on : (x : Open) → IsShaped core x → IsShaped after x
-  shape_on x a = record {
-    targets = all_on (IsTarget core x.request.ask) (IsTarget after x.request.ask) (λ t i. record { copy = i.copy; sector = i.sector; there = i.there }) x.request.targets.items a.targets;
-    phase_is = a.phase_is;
-    hand = a.hand;
-    room = a.room;
-    differ = a.differ;
-    usable = a.usable;
-    one = a.one;
-  }
+  shape_on x a = shape_still core after refl x a
 
   ready_on : (x : Open) → IsKept x → IsReady core x.request → IsReady after x.request
   ready_on x keep b = record {

@@ -30,8 +30,6 @@ use Rattle.lvm_session.specs.Judging.{copies_in, group_in, has_dirty_mark, has_n
 use Rattle.lvm_session.specs.State.{Core, is_there}
 use Rattle.lvm_session.specs.declared.bringing.CopyEnd.TheVariants as ending
 use Rattle.lvm_session.specs.declared.bringing.OpenCopy.{OpenCopy}
-use Rattle.lvm_session.specs.declared.bringing.Step.{Step}
-use Rattle.lvm_session.specs.declared.bringing.Step.TheVariants as step
 use Rattle.lvm_session.specs.declared.flown.Flown.{Flown}
 use Rattle.lvm_session.specs.declared.flown.Owner.{Owner}
 use Rattle.lvm_session.specs.declared.flown.Owner.TheVariants as owner
@@ -40,15 +38,17 @@ use Rattle.lvm_session.specs.Events.{is_passive}
 use Rattle.lvm_session.specs.Marks.{can_replace, is_among, is_entailed, is_entailed_in, is_left_behind, WantsStale}
 use Rattle.lvm_session.specs.Causes.{fails_on, is_blamed, is_held_stale, was_fresh}
 use Rattle.lvm_session.specs.Left.{clean_volumes}
-use Rattle.lvm_session.specs.Owners.{AreRows, IsStepOf, IsTransferOf}
-use Rattle.lvm_session.specs.Requests.{is_failed_and_sure, is_left_out, is_wanted_dirty, is_wanted_due, IsOpenOne, IsReady, IsShaped, IsTarget, mode_for, will_be_kept}
+use Rattle.lvm_session.specs.Owners.{AreRows, IsTransferOf}
+use Rattle.lvm_session.specs.Requests.{is_failed_and_sure, is_left_out, is_wanted_dirty, is_wanted_due, IsOpenOne, IsReady, IsShaped, mode_for, will_be_kept}
 use Rattle.lvm_session.specs.Sound.{IsCopy, may_be_fresh, stays_fresh}
 use Rattle.lvm_keeps.proofs.Landing.{or_parts}
-use Rattle.lvm_keeps.proofs.Lists.{all_on}
+use Rattle.lvm_keeps.proofs.Rows.{data_still, status_still, step_still}
 use Rattle.lvm_keeps.proofs.Small.{both, is_false, not_so}
+use Rattle.lvm_keeps.proofs.Still.{shape_still}
 use Rattle.lvm_keeps.proofs.Tables.{apart}
 use Rattle.lvm_keeps_events.proofs.Marking.{count_alike, filter_alike}
 use Rattle.lvm_keeps_events.proofs.Lists.{all_and, any_on, count_on, or_false, or_true}
+use Rattle.lvm_keeps_events.proofs.Rows.{rows_each}
 
 -- ---- the status
 
@@ -203,15 +203,7 @@ module _ (core : Core) (due : Pp → Bool) (wanted : Status) (writes : Writes) (
   }
 
   pub shape_on : (x : Open) → IsShaped core x → IsShaped staler x
-  shape_on x a = record {
-    targets = all_on (IsTarget core x.request.ask) (IsTarget staler x.request.ask) (λ t i. record { copy = i.copy; sector = i.sector; there = i.there }) x.request.targets.items a.targets;
-    phase_is = a.phase_is;
-    hand = a.hand;
-    room = a.room;
-    differ = a.differ;
-    usable = a.usable;
-    one = a.one;
-  }
+  shape_on x a = shape_still core staler refl x a
 
   pub left_on : (x : Open) (p : Pp) → is_among (pps_of x.request.targets.items) p || is_left_out core x.request.ask p ≡ true → is_among (pps_of x.request.targets.items) p || is_left_out staler x.request.ask p ≡ true
   left_on x p e = by (is_among (pps_of x.request.targets.items) p) (is_left_out core x.request.ask p) (is_left_out staler x.request.ask p) (λ f. out_on x.request.ask p f) e
@@ -334,23 +326,14 @@ module _ (core : Core) (due : Pp → Bool) (wanted : Status) (writes : Writes) (
 
   -- ---- the transfers that are out, and the numbers
 
-  step_on : (at : Step) (c : OpenCopy) (g : Flight) → IsStepOf at core c g → IsStepOf at staler c g
-  step_on step.Idle c g of = of
-  step_on (step.Reading source) c g of = record { disk_is = of.disk_is; first = of.first; count = of.count; write_is = of.write_is }
-  step_on (step.Read buf) c g of = of
-  step_on step.Writing c g of = record { disk_is = of.disk_is; first = of.first; count = of.count; write_is = of.write_is }
-
   transfer_on : (who : Owner) (g : Flight) → IsTransferOf core who g → IsTransferOf staler who g
-  transfer_on (owner.Data id target) g of = let m = of.moves in record { place = of.place; request = of.request; there = of.there; own = of.own; aim = of.aim; aim_is = of.aim_is; moves = record { disk_is = m.disk_is; first = m.first; count = m.count; write = m.write; carries = m.carries } }
-  transfer_on (owner.Status d) g of = let w = of.writes in record { status = of.status; flies = of.flies; writes = record { disk_is = w.disk_is; first = w.first; count = w.count; write = w.write; carries = w.carries } }
+  transfer_on (owner.Data id target) g of = data_still core staler refl id target g of
+  transfer_on (owner.Status d) g of = status_still core staler refl d g of
   transfer_on (owner.Note d) g of = record { note = of.note; flies = of.flies; disk_is = of.disk_is; first = of.first; count = of.count; write = of.write; carries = of.carries }
-  transfer_on owner.Copy g of = (of.0, of.1, step_on of.0.step of.0 g of.2)
+  transfer_on owner.Copy g of = (of.0, of.1, step_still core staler refl of.0.step of.0 g of.2)
 
   pub rows_on : (rows : List Flown) (flights : List Flight) → AreRows core rows flights → AreRows staler rows flights
-  rows_on [] [] all = all
-  rows_on [] (g ∷ flights) all = all
-  rows_on (r ∷ rows) [] all = all
-  rows_on (r ∷ rows) (g ∷ flights) all = let first = all.0 in (record { ticket = first.ticket; long = first.long; disk = first.disk; own = transfer_on r.owner g first.own }, rows_on rows flights all.1)
+  rows_on rows flights all = rows_each core staler transfer_on rows flights all
 
   pub clean_same : clean_volumes staler ≡ clean_volumes core
   clean_same = count_alike (λ (r : LvRow). is_passive r.mode && not (calls_dirty wanted r.number)) (λ (r : LvRow). is_passive r.mode && not (calls_dirty core.status.wanted r.number)) (λ r. ap (λ b. is_passive r.mode && not b) (dirty_same r.number)) core.descriptor.lvs

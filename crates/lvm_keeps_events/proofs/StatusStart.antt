@@ -36,7 +36,6 @@ use Rattle.lvm_status.specs.Runs.{NextWrite, Start, IsSound as IsSoundStatus}
 use Rattle.lvm_status.proofs.Sound.{steps_stay_sound}
 use Rattle.lvm_session.specs.declared.bringing.CopyEnd.TheVariants as ending
 use Rattle.lvm_session.specs.declared.bringing.OpenCopy.{OpenCopy}
-use Rattle.lvm_session.specs.declared.bringing.Step.TheVariants as step
 use Rattle.lvm_session.specs.declared.flown.Flown.{Flown}
 use Rattle.lvm_session.specs.declared.flown.Owner.{Owner}
 use Rattle.lvm_session.specs.declared.flown.Owner.TheVariants as owner
@@ -50,7 +49,7 @@ use Rattle.lvm_session.specs.Events.{Begins, IsStatusWrite, flown}
 use Rattle.lvm_session.specs.Marks.{is_among}
 use Rattle.lvm_session.specs.Left.{if_so, updates_left}
 use Rattle.lvm_session.specs.Owners.{AreOwned, IsStatusOf, IsTransferOf, flies, same_owner}
-use Rattle.lvm_session.specs.Requests.{IsJudged, IsOpenOne, IsReady, IsShaped, IsTarget, has_record, is_past_held, is_wanted_dirty, mode_for}
+use Rattle.lvm_session.specs.Requests.{IsJudged, IsOpenOne, IsReady, IsShaped, has_record, is_past_held, is_wanted_dirty, mode_for}
 use Rattle.lvm_session.specs.Causes.{AreCaused, IsCaused, IsTrueToOrigin, fails_on, is_blamed, is_held_stale, was_fresh}
 use Rattle.lvm_session.specs.Sound.{IsCopy, IsFitting, IsGoing, IsOn, IsSound, IsTold, count_if, has_number, is_dark, may_be_fresh, out_with, stays_fresh}
 use Rattle.lvm_keeps.specs.Keeps.{StatusStartKeeps}
@@ -60,7 +59,7 @@ use Rattle.lvm_keeps.proofs.Launching.{flights_push, none_more, owners_push, row
 use Rattle.lvm_keeps.proofs.Lists.{all_on, length_set}
 use Rattle.lvm_keeps.proofs.Rows.{all_fly, data_still, rows_by, step_still}
 use Rattle.lvm_keeps.proofs.Small.{both, not_so}
-use Rattle.lvm_keeps.proofs.Still.{if_on}
+use Rattle.lvm_keeps.proofs.Still.{if_on, shape_still}
 use Rattle.lvm_keeps.proofs.Whole.{sound_still, told_still}
 use Rattle.lvm_keeps_events.proofs.Frame.{launched}
 
@@ -222,15 +221,7 @@ module _ (s : State) (sound : IsSound s) (on : s.core.power ≡ power.On) (disk 
   }
 
   shape_on : (x : Open) → IsShaped core x → IsShaped now.core x
-  shape_on x a = record {
-    targets = all_on (IsTarget core x.request.ask) (IsTarget now.core x.request.ask) (λ t i. record { copy = i.copy; sector = i.sector; there = i.there }) x.request.targets.items a.targets;
-    phase_is = a.phase_is;
-    hand = a.hand;
-    room = a.room;
-    differ = a.differ;
-    usable = a.usable;
-    one = a.one;
-  }
+  shape_on x a = shape_still core now.core refl x a
 
   judged_on : (x : Open) → IsJudged core x → IsJudged now.core x
   judged_on x j = record {

@@ -21,7 +21,7 @@ module _ (old new : State) (sound : IsSound old) where
   finish_keeps turned.Moved on made = ends_keep made.0 old new sound on made.1
   finish_keeps turned.Idle on (inl finds) = wait_keeps old new sound on finds
   finish_keeps turned.Idle on (inr nothing) = subst IsSound (sym nothing.is) sound
-  finish_keeps turned.Dark on made = cut_keeps old new sound on made
+  finish_keeps turned.Dark on made = cut_keeps old new sound on made.1
   finish_keeps turned.Off on made = off_keeps old new sound on made
 
   on_keeps : (answer : Turned) → old.core.power ≡ power.On → OnMakes old new answer → IsSound new
@@ -66,7 +66,7 @@ module _ (old new : State) (sound : IsSound old) where
   on_ends answer on (NoStart it first start dark is) last = is_dark on dark
   on_ends turned.Moved on (Finishes none made) last = absurd (cc last)
   on_ends turned.Idle on (Finishes none made) last = absurd (cc last)
-  on_ends turned.Dark on (Finishes none made) last = is_dark on made
+  on_ends turned.Dark on (Finishes none made) last = is_dark on made.1
   on_ends turned.Off on (Finishes none made) last = is_off on made
 
   was_over : is_over old.core.power ≡ true → new ≡ old → Ended

@@ -37,7 +37,7 @@ use Rattle.lvm_launch.proofs.Hands.{may_end, pool_same}
 pub dark_is : (old : State) (device : Device) (new : Core) → GoesDark old.device device → device.power ≡ false → new ≡ all_dark old.core → Darkens old (state device new)
 dark_is old device new goes off is =
     subst (λ (c : Core). Darkens old (state device c)) (sym is)
-    (record { device = goes; power = off; status = record { group = refl; committed = refl; wanted = refl; in_flight = inl refl }; entries = refl; notes = λ disk. refl; is = refl })
+    (record { device = goes; power = off; status = record { group = refl; committed = refl; wanted = refl; in_flight = inl refl; stamp = inl refl }; entries = refl; notes = λ disk. refl; is = refl })
 
 -- so it is where a buffer was taken and comes back
 pub dark_after : (old : State) (device : Device) (new : Core) (pool : List Bool) (n : ℕ) → TakesLowest old.core.pool pool n → GoesDark old.device device → device.power ≡ false
@@ -106,7 +106,7 @@ pub dark_note : (old : State) (device : Device) (new : Core) (disk : ℕ) (pool 
 dark_note old device new disk pool n takes goes off is =
     let back : new ≡ all_dark (record old.core { cache = after_start old.core.cache disk }) = is ∙ ap (λ (p : List Bool). all_dark (record old.core { pool = p; cache = after_start old.core.cache disk })) (pool_same old.core.pool pool n takes) in
     subst (λ (c : Core). Darkens old (state device c)) (sym back)
-    (record { device = goes; power = off; status = record { group = refl; committed = refl; wanted = refl; in_flight = inl refl }; entries = refl; notes = λ d. notes_stay disk old.core.cache.entries d old.core.cache.notes; is = refl })
+    (record { device = goes; power = off; status = record { group = refl; committed = refl; wanted = refl; in_flight = inl refl; stamp = inl refl }; entries = refl; notes = λ d. notes_stay disk old.core.cache.entries d old.core.cache.notes; is = refl })
 
 pub note_starts : (old : State) (device : Device) (place disk ticket : ℕ) (o : Open) (buf : Buffer) (pool : List Bool) (new : Core)
     → slice_get old.core.requests place ≡ Some o → note_due old.core o ≡ Some disk

@@ -5,4 +5,4 @@ pub mod Knowing
 pub mod Faulting
 pub mod Causing
 pub mod Requesting
-pub mod InPlace
+pub mod Staying

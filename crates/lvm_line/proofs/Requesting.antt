@@ -49,9 +49,9 @@ told_of answers why new (TellsAll is) = absurd (cc (is))
 told_of answers why new (TellsNone is) = told_by why refusal.Memory new is (told_easy refusal.Memory new (λ e. cc) (λ h t e. cc))
 
 volume_told : (name : List ℕ) (Happens : Core → ℕ → Type 0) (why : Refusal) (old new : State) → ((core : Core) (lv : ℕ) → Happens core lv → Told why new) → OnVolume name Happens old new (reply.Refused why) → Told why new
-volume_told name Happens why old new then (WhileOff off is) = told_by why refusal.NoGroup new is.0 (told_easy refusal.NoGroup new (λ e. cc) (λ h t e. cc))
-volume_told name Happens why old new then (NotThere core some none is) = told_by why refusal.NoVolume new is.0 (told_easy refusal.NoVolume new (λ e. cc) (λ h t e. cc))
-volume_told name Happens why old new then (There core lv some its happens) = then core lv happens
+volume_told name Happens why old new told (WhileOff off is) = told_by why refusal.NoGroup new is.0 (told_easy refusal.NoGroup new (λ e. cc) (λ h t e. cc))
+volume_told name Happens why old new told (NotThere core some none is) = told_by why refusal.NoVolume new is.0 (told_easy refusal.NoVolume new (λ e. cc) (λ h t e. cc))
+volume_told name Happens why old new told (There core lv some its happens) = told core lv happens
 
 module _ (write : Option ℕ) (Says : Session → Asked → Reply → Type 0) (lv at count : ℕ) (core : Core) (old new : State) (why : Refusal) (says : (end : Session) (asked : Asked) → Says end asked (reply.Refused why) → Told why new) where
   finish_told : Finishes write Says lv at count core old new (reply.Refused why) → Told why new

@@ -245,7 +245,7 @@ pub fn finish_line<S: Shelf, C: Clock>(
     requires between { did ≡ InPlace.Left → IsBetweenStage S.device stage }
     requires fits { did ≡ InPlace.Left → IsFitting stage }
     requires room { IsRoom room }
-    ensures { (old : Stage S.Denot) → DoesInPlace S.device line.now old stage did → IsFinished S.device room line.now old result.stage result.reply (C.last clock.old) (C.last clock.new) }
+    ensures { (old : Stage S) → DoesInPlace S.device line.now old stage did → IsFinished S.device room line.now old result.stage result.reply (C.last clock.old) (C.last clock.new) }
 {
     match did {
         InPlace::Done(reply) => stage.answered(reply),

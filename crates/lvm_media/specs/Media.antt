@@ -1,10 +1,12 @@
 -- Disks in memory, and which sectors a broken write leaves there.
-use Rattle.std.specs.Prelude.{◌≡◌, ℕ, ◌+◌, ◌-◌, ◌/◌, ◌%◌, ◌<◌, ◌&&◌, ◌==◌, Bool, List, [], ◌∷◌, length, map, replicate, drop, Option, Some, None, if◌then◌else◌, nat_le, nat_lt, slice_get, slice_index_or, unwrap_or}
+use Rattle.std.specs.Prelude.{◌≡◌, ℕ, ◌+◌, ◌-◌, ◌/◌, ◌%◌, ◌<◌, ◌≤◌, ◌&&◌, ◌==◌, Bool, List, [], ◌∷◌, ◌++◌, length, map, replicate, drop, Option, Some, None, if◌then◌else◌, nat_le, nat_lt, slice_get, slice_index_or, unwrap_or, vec_capacity}
+use Rattle.std.specs.Global.{Vec}
 use Rattle.std.specs.Int.{bit_at}
 use Rattle.std.specs.Simd.{first_chunks}
 use Rattle.lvm_num.specs.Buffer.{Buffer, Sector, zero_sector, IsSector}
-use Rattle.lvm_disk.specs.Device.{Media, Flight, written}
-use Rattle.lvm_flights.specs.Flights.{writes}
+use Rattle.lvm_disk.specs.Device.{AreSectors, Media, Flight, written}
+use Rattle.lvm_flights.specs.Flights.{flights_of, writes}
+use Rattle.lvm_flights.specs.declared.flying.Flying.{Flying}
 
 -- what stands at each sector of disks that are lists of sectors
 abbrev pub media_of : List (List Sector) → Media
@@ -13,6 +15,11 @@ media_of disks d s = slice_index_or (slice_index_or disks d []) s []
 -- how many sectors each has
 abbrev pub sizes_of : List (List Sector) → List ℕ
 sizes_of disks = map length disks
+
+-- the disks have as many sectors as before, each of 512 bytes
+pub record KeepsDisks (old new : List (List Sector)) : Type 0 where
+  pub sizes : sizes_of new ≡ sizes_of old
+  pub sectors : AreSectors (sizes_of new) (media_of new)
 
 -- disks of zeros, of these numbers of sectors
 abbrev pub blank_disks_of : List ℕ → List (List Sector)
@@ -53,3 +60,10 @@ written_by word k f media d s = if picks word (k + (s - f.first)) then unwrap_or
 abbrev pub cut_by : ℕ → ℕ → List Flight → Media → Media
 cut_by word k [] media = media
 cut_by word k (f ∷ flights) media = cut_by word (k + writes f) flights (written_by word k f media)
+
+-- no transfer is under way any more, their buffers stand behind those that were given back before, and neither list has lost room
+pub record GiveBack (flights flights1 : Vec Flying) (freed freed1 : Vec Buffer) : Type 0 where
+  pub none : flights1.items ≡ []
+  pub buffers : freed1.items ≡ freed.items ++ map (λ f. f.buf) (flights_of flights.items)
+  pub room : vec_capacity freed ≤ vec_capacity freed1
+  pub flights_room : vec_capacity flights ≤ vec_capacity flights1

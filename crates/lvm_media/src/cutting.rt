@@ -1,7 +1,7 @@
 //! A power cut over transfers that are under way in memory.
-ghost use Rattle.std.specs.Prelude.{◌≡◌, ◌+◌, ◌≤◌, ◌++◌, [], ℕ, length, map, vec_capacity};
+ghost use Rattle.std.specs.Prelude.{◌≡◌, ◌+◌, ◌≤◌, ℕ, length, vec_capacity};
 ghost use Rattle.lvm_disk.specs.Device.{AreSectors};
-ghost use Rattle.lvm_media.specs.Media.{media_of, sizes_of, cut_by};
+ghost use Rattle.lvm_media.specs.Media.{GiveBack, KeepsDisks, media_of, sizes_of, cut_by};
 ghost use Rattle.lvm_flights.specs.Flights.{AllLie, flights_of};
 
 use crate::disk::Disk;
@@ -21,13 +21,9 @@ pub fn cut_flights(
     requires few { length flights.old.items ≤ 1024 }
     requires room { length freed.old.items + length flights.old.items ≤ vec_capacity freed.old }
     requires sectors { AreSectors (sizes_of disks.old.items) (media_of disks.old.items) }
-    ensures sizes { sizes_of disks.new.items ≡ sizes_of disks.old.items }
+    ensures disks { KeepsDisks disks.old.items disks.new.items }
     ensures cut { (d s : ℕ) → media_of disks.new.items d s ≡ cut_by word 0 (flights_of flights.old.items) (media_of disks.old.items) d s }
-    ensures sectors { AreSectors (sizes_of disks.new.items) (media_of disks.new.items) }
-    ensures flights { flights.new.items ≡ [] }
-    ensures freed { freed.new.items ≡ freed.old.items ++ map (λ f. f.buf) (flights_of flights.old.items) }
-    ensures room_freed { vec_capacity freed.old ≤ vec_capacity freed.new }
-    ensures room_flights { vec_capacity flights.old ≤ vec_capacity flights.new }
+    ensures buffers { GiveBack flights.old flights.new freed.old freed.new }
 {
     let mut counted = 0;
     while !flights.is_empty() {

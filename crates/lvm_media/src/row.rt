@@ -2,7 +2,7 @@
 ghost use Rattle.std.specs.Prelude.{◌≡◌, ◌+◌, ◌≤◌, [], ℕ, true, false, length};
 ghost use Rattle.lvm_disk.specs.Device.{AreSectors};
 ghost use Rattle.lvm_disk.specs.Steps.{Puts, ChangedAtMost, Reads};
-ghost use Rattle.lvm_media.specs.Media.{media_of, sizes_of, written_by};
+ghost use Rattle.lvm_media.specs.Media.{KeepsDisks, media_of, sizes_of, written_by};
 ghost use Rattle.lvm_flights.specs.Flights.{Lies, flight_of};
 
 use crate::disk::Disk;
@@ -13,9 +13,8 @@ fn land_flight(disks: &mut Vec<Disk>, flying: &Flying)
     requires lies { Lies (sizes_of disks.old.items) (flight_of flying.now) }
     requires write { flying.now.write ≡ true }
     requires sectors { AreSectors (sizes_of disks.old.items) (media_of disks.old.items) }
-    ensures sizes { sizes_of disks.new.items ≡ sizes_of disks.old.items }
+    ensures disks { KeepsDisks disks.old.items disks.new.items }
     ensures puts { Puts (flight_of flying.now) (media_of disks.old.items) (media_of disks.new.items) }
-    ensures sectors { AreSectors (sizes_of disks.new.items) (media_of disks.new.items) }
 {
     disks[flying.disk as usize].put(flying.first, flying.count, &flying.buf);
 }
@@ -26,9 +25,8 @@ pub fn tear_flight(disks: &mut Vec<Disk>, flying: &Flying, word: u64, from: u32)
     requires lies { Lies (sizes_of disks.old.items) (flight_of flying.now) }
     requires few { from ≤ 262144 }
     requires sectors { AreSectors (sizes_of disks.old.items) (media_of disks.old.items) }
-    ensures sizes { sizes_of disks.new.items ≡ sizes_of disks.old.items }
+    ensures disks { KeepsDisks disks.old.items disks.new.items }
     ensures torn { (d s : ℕ) → media_of disks.new.items d s ≡ written_by word from (flight_of flying.now) (media_of disks.old.items) d s }
-    ensures sectors { AreSectors (sizes_of disks.new.items) (media_of disks.new.items) }
 {
     if flying.write {
         disks[flying.disk as usize].put_some(flying.first, flying.count, &flying.buf, word, from);
@@ -49,9 +47,8 @@ fn fill_flight(disks: &Vec<Disk>, flying: &mut Flying)
 pub fn finish_flight(disks: &mut Vec<Disk>, flying: &mut Flying)
     requires lies { Lies (sizes_of disks.old.items) (flight_of flying.old) }
     requires sectors { AreSectors (sizes_of disks.old.items) (media_of disks.old.items) }
-    ensures sizes { sizes_of disks.new.items ≡ sizes_of disks.old.items }
+    ensures disks { KeepsDisks disks.old.items disks.new.items }
     ensures puts { Puts (flight_of flying.old) (media_of disks.old.items) (media_of disks.new.items) }
-    ensures sectors { AreSectors (sizes_of disks.new.items) (media_of disks.new.items) }
     ensures same { flying.new ≡ record flying.old { buf = flying.new.buf } }
     ensures kept { flying.old.write ≡ true → flying.new.buf ≡ flying.old.buf }
     ensures read { flying.old.write ≡ false → Reads (media_of disks.old.items) (flight_of flying.old) flying.new.buf }

@@ -1,6 +1,6 @@
 -- Copies are added: the further ones become stale, and the descriptor with them is committed.
 use Rattle.std.proofs.Common.{◌≡◌, ◌≢◌, ◌⊎◌, inl, inr, ⊎_elim, ℕ, ◌≤◌, Bool, true, false, ◌&&◌, ◌||◌, List, [], ◌++◌, Some, Result, Ok, Err, get_or, refl, sym, ap, subst, ◌∙◌, arith}
-use Rattle.std.specs.Prelude.{not, IsTrue, All, AllPairs, Contains}
+use Rattle.std.specs.Prelude.{not, IsTrue, All, Contains}
 use Rattle.std.proofs.lemmas.Bool.{false≢true}
 use Rattle.std.proofs.lemmas.List.{append-nil}
 use Rattle.std.proofs.lemmas.List.Elements.{All-contains}
@@ -9,7 +9,7 @@ use Rattle.lvm_num.specs.declared.place.Pp.{Pp}
 use Rattle.lvm_num.specs.declared.descriptor.LvRow.{LvRow}
 use Rattle.lvm_num.specs.declared.descriptor.Descriptor.{Descriptor}
 use Rattle.lvm_num.specs.declared.status.Status.{Status}
-use Rattle.lvm_num.specs.Descriptor.{IsValid, copies_of, is_member, volume_of}
+use Rattle.lvm_num.specs.Descriptor.{copies_of, is_member, volume_of}
 use Rattle.lvm_num.specs.Status.{calls_stale}
 use Rattle.lvm_num.specs.Votes.{CanWrite}
 use Rattle.lvm_vol.specs.Facts.{Fact}
@@ -80,11 +80,6 @@ module _ (lv copies : ℕ) (added : List Pp) (next : Descriptor) (a : State) (se
 
   pub added_unused : AreUnused d (added ++ [])
   added_unused = subst (AreUnused d) (sym planned.added_is ∙ sym (append-nil added)) unused
-
-  pub added_once : AllPairs (λ (x y : Pp). x ≢ y) (added ++ [])
-  added_once = subst (AllPairs (λ (x y : Pp). x ≢ y)) (sym planned.added_is ∙ sym (append-nil added))
-      (more.once_of d (is_there a.core) lv copies planned.row planned.pps planned.group.valid planned.may.places.grows.found.volume planned.may.places.grows.are.more planned.may.places.placed
-      (subst IsValid planned.is planned.valid))
 
   -- none of them is a copy
   not_copy : (row : LvRow) (lp : ℕ) (p : Pp) → IsOneOf d.lvs row → IsOneOf (copies_of row lp) p → IsTrue (is_among added p) → ⊥

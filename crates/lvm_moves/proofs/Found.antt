@@ -159,7 +159,7 @@ module _ (core : Core) (found : Option Event) (result : Option ℕ) (is : found 
           absurd (let e : ◌≡◌ {A = Option ℕ} (Some l.place) None = sym (some l.place (at ∙ ap Some l.is)) ∙ got in cc e)
 
 pub rooms_on : (a b c : Session) → SameRooms a b → SameRooms b c → SameRooms a c
-rooms_on a b c one two = record { requests = two.requests ∙ one.requests; flying = two.flying ∙ one.flying; bytes = two.bytes ∙ one.bytes; buffers = two.buffers ∙ one.buffers }
+rooms_on a b c one two = record { requests = two.requests ∙ one.requests; flying = two.flying ∙ one.flying; bytes = two.bytes ∙ one.bytes }
 
 -- the last two parts of three, where nothing came of the first
 pub record HasStayed (part : Part) (old now : Core) : Type 0 where

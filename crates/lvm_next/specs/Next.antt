@@ -24,10 +24,6 @@ is_active Active = true
 is_active Passive = false
 is_active Off = false
 
--- a volume of the group is in mode active
-abbrev pub has_active : Descriptor → Bool
-has_active group = list_any (λ (row : LvRow). is_active row.mode) group.lvs
-
 -- the group has a volume of this number in mode passive
 abbrev pub has_passive : Descriptor → ℕ → Bool
 has_passive group number = list_any (λ (row : LvRow). row.number == number && is_passive row.mode) group.lvs

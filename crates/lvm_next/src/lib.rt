@@ -3,4 +3,4 @@
 
 mod next;
 
-pub use next::{has_active, next_status};
+pub use next::next_status;

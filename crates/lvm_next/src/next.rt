@@ -9,7 +9,7 @@ ghost use Rattle.lvm_num.specs.Bits.{has_bit};
 ghost use Rattle.lvm_num.specs.Descriptor.{IsValid};
 ghost use Rattle.lvm_num.specs.Disks.{has};
 ghost use Rattle.lvm_num.specs.Status.{IsValidStatus, calls_stale};
-ghost use Rattle.lvm_next.specs.Next.{IsNextStatus, is_passive, has_active};
+ghost use Rattle.lvm_next.specs.Next.{IsNextStatus, is_passive};
 ghost use Rattle.lvm_next.specs.Rows.{AreMemberRows};
 
 use lvm_left::mark_volumes;
@@ -130,15 +130,4 @@ fn is_passive(volumes: &[LvRow], number: u16) -> bool
     volumes
         .iter()
         .any(|row| row.number == number && row.mode == Mode::Passive)
-}
-
-/// Whether a volume of the group is in mode active.
-pub fn has_active(group: &Descriptor) -> bool
-    ensures { result ≡ has_active group.now }
-{
-    group
-        .lvs
-        .as_slice()
-        .iter()
-        .any(|row| row.mode == Mode::Active)
 }

@@ -1,6 +1,6 @@
 -- Buffers at the places of their numbers.
-use Rattle.std.proofs.Common.{◌≡◌, ◌<◌, ◌≤◌, ◌+◌, ◌⊎◌, ℕ, zero, suc, List, [], ◌∷◌, ◌++◌, Option, Some, None, Bool, true, false, cond, nat_lt, is_some, is_none, option_map, IfSome, map, length, get_or, set, replicate, refl, sym, ◌∙◌, ap, inl, inr, arith}
-use Rattle.std.specs.List.{position, position_or_len, slice_get}
+use Rattle.std.proofs.Common.{◌≡◌, ◌<◌, ◌≤◌, ◌+◌, ◌⊎◌, ℕ, zero, suc, List, [], ◌∷◌, ◌++◌, Option, Some, None, Bool, true, false, not, cond, nat_lt, is_some, is_none, option_map, IfSome, map, length, get_or, set, replicate, refl, sym, ◌∙◌, ap, inl, inr, arith}
+use Rattle.std.specs.List.{list_any, position, position_or_len, slice_get}
 use Rattle.std.proofs.lemmas.Option.{same_Some, none-some, get_or_from_slice_get, slice_get-map, slice_get-get_or, slice_get_within}
 use Rattle.std.proofs.lemmas.List.{length-append, map-append, replicate-append-replicate}
 use Rattle.std.proofs.lemmas.List.Elements.{All-map}
@@ -36,6 +36,11 @@ in_of None is = cc
 none_passes : (test : Bool) (n : ℕ) → cond test (Some n) None ≡ None → test ≡ false
 none_passes false n is = refl
 none_passes true n is = cc
+
+pub any_inside : (places : List (Option Buffer)) → list_any is_some places ≡ list_any not (map is_none places)
+any_inside [] = refl
+any_inside (Some buf ∷ places) = refl
+any_inside (None ∷ places) = any_inside places
 
 pub all_out : (places : List (Option Buffer)) → position is_some places ≡ None → AreAllOut (map is_none places)
 all_out places is =

@@ -1,13 +1,9 @@
 -- Which buffers of a pool are out: for each number, from 0, whether it is.
-use Rattle.std.specs.Prelude.{◌≡◌, ◌<◌, ℕ, List, Bool, true, false, Some, All, count_by, slice_get, slice_set}
+use Rattle.std.specs.Prelude.{◌≡◌, ◌<◌, ℕ, List, Bool, true, false, Some, All, slice_get, slice_set}
 
 -- the buffer of this number is out
 abbrev pub IsOut : List Bool → ℕ → Type 0
 IsOut pool number = slice_get pool number ≡ Some true
-
--- how many are out
-abbrev pub out_count : List Bool → ℕ
-out_count pool = count_by (λ out. out) pool
 
 -- the lowest number that wasn't out is out now, and nothing else has changed
 pub record TakesLowest (old new : List Bool) (number : ℕ) : Type 0 where

@@ -1,6 +1,7 @@
 //! A pool of numbered buffers.
-ghost use Rattle.std.specs.Prelude.{◌≡◌, ◌≤◌, ◌↔◌, false, replicate, slice_set, IfOk, IfSome, IsNone, IfNone, is_some, position};
-ghost use Rattle.lvm_pbuf.specs.Out.{IsOut, out_count, TakesLowest, AreAllOut};
+ghost use Rattle.std.specs.Prelude.{◌≡◌, ◌≤◌, ◌↔◌, false, not, replicate, slice_set, IfOk, IfSome, IsNone, IfNone, is_some, position};
+ghost use Rattle.std.specs.List.{list_any};
+ghost use Rattle.lvm_pbuf.specs.Out.{IsOut, TakesLowest, AreAllOut};
 
 use lvm_num::{Memory, Pbuf};
 use std::alloc::Global;
@@ -60,12 +61,20 @@ impl Pool {
         self.places[number] = Some(buf);
     }
 
-    /// How many buffers are out.
-    pub fn out(&self) -> u32
-        ensures { result ≡ out_count self.now }
+    /// Whether some buffer isn't out.
+    #[tactic(auto, using(crate::proofs::Homes::any_inside))]
+    pub fn has_inside(&self) -> bool
+        ensures { result ≡ list_any not self.now }
     {
-        self.places.iter().filter(|place| place.is_none()).count() as u32
+        is_any_inside(&self.places)
     }
+}
+
+// Whether some place has a buffer.
+fn is_any_inside(places: &[Option<Pbuf>]) -> bool
+    ensures { result ≡ list_any is_some places.now }
+{
+    places.iter().any(|place| place.is_some())
 }
 
 // The lowest place with a buffer.

@@ -108,4 +108,4 @@ module _ (first core new : Core) (place : ℕ) (same : core ≡ first) (search :
       (at.0, sym (first_later (pinning_at first) first.requests place it.0 None it.1 (sym (ap (made_by place) (at.1 it.0 it.1))) refl) ∙ search)
 
 pub rooms_on : (a b c : Session) → SameRooms a b → SameRooms b c → SameRooms a c
-rooms_on a b c one two = record { requests = two.requests ∙ one.requests; flying = two.flying ∙ one.flying; bytes = two.bytes ∙ one.bytes; buffers = two.buffers ∙ one.buffers }
+rooms_on a b c one two = record { requests = two.requests ∙ one.requests; flying = two.flying ∙ one.flying; bytes = two.bytes ∙ one.bytes }

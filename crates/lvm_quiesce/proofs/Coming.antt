@@ -12,6 +12,7 @@ use Rattle.lvm_stamps.proofs.Clock.{all_is_behind_next}
 use Rattle.lvm_write.specs.Parts.{Spends}
 use Rattle.lvm_write.proofs.Transfers.{rose_then, spends_none, spends_then}
 use Rattle.lvm_session.specs.State.{Core, State}
+use Rattle.lvm_session_start.specs.Beginning.{AreFaults}
 use Rattle.lvm_core.specs.declared.parts.Room.{Room}
 use Rattle.lvm_core.specs.declared.refused.Cause.{Cause}
 use Rattle.lvm_core.specs.declared.refused.Cause.TheVariants as cause
@@ -21,10 +22,10 @@ use Rattle.lvm_core.specs.State.{state_of}
 use Rattle.lvm_group.specs.NewGroup.{NewGroup, MayBegin, RefusesFirst}
 use Rattle.lvm_group.specs.Made.{Refuses as MkvgRefuses, MkvgGives}
 use Rattle.lvm_group.proofs.Entries.{keeps_cut, calm_cut}
-use Rattle.lvm_varyon.specs.Varied.{Refuses as VaryonRefuses, VaryonGives}
+use Rattle.lvm_varyon.specs.Varied.{Refuses as VaryonRefuses, VariesOnAt, VaryonGives}
 use Rattle.lvm_varyon.proofs.Wrote.{failed_rose}
 use Rattle.lvm_quiesce.specs.Ends.{Quiesces}
-use Rattle.lvm_quiesce.specs.Groups.{StaysOut, GivesOnceQuiet, StayedOut, WentQuiet, MkvgOnceQuiet, VariesOnAt, VaryonOnceQuiet, BringsOnEach, IsStartedEach, CauseRose}
+use Rattle.lvm_quiesce.specs.Groups.{StaysOut, GivesOnceQuiet, StayedOut, WentQuiet, MkvgOnceQuiet, VaryonOnceQuiet, BringsOnEach, IsStartedEach, CauseRose}
 use Rattle.lvm_quiesce.specs.declared.ends.Quiesced.TheVariants as quiesced
 use Rattle.lvm_quiesce.proofs.Behind.{fewer_is_ahead, quiet_is_ahead}
 use Rattle.lvm_quiesce.proofs.Ending.{ends_leave_no_more, ends_path, ends_only, gives_path}
@@ -71,11 +72,12 @@ module _ (old mid : Device) (quiet : Quiesces old mid) (run moment before left :
     spends = spends_then before left after old mid new spends brings.spends;
   }
 
-  pub quiet_starts : (new : State) → IsStarted run moment mid was new → IsStartedEach run moment old was new
-  quiet_starts new starts = record {
+  pub quiet_starts : (new : State) → AreFaults new.device new.core.origin.faults → IsStarted run moment mid was new → IsStartedEach run moment old was new
+  quiet_starts new faults starts = record {
     settled = starts.settled;
     numbers = starts.numbers;
     left = starts.left;
+    faults = faults;
     held = λ clock. starts.held (quiet_is_ahead run moment old mid was.facts quiet clock);
   }
 
@@ -141,10 +143,14 @@ pub causes_since : {S : Type 0} (device : S → Device) (old mid : Device) (quie
 causes_since device old mid quiet before left spends was (Ok driver) rose = tt
 causes_since device old mid quiet before left spends was (Err refused) rose = rose_since old mid quiet 0 0 before left spends was (device refused.shelf).counts refused.cause rose
 
+-- the session that begins counts faults from those that there are
+abbrev pub HasItsFaults : {S : Type 0} → (S → Device) → Result (S × Core) (Refused S) → Type 0
+HasItsFaults device outcome = IfOk outcome (λ driver. AreFaults (device driver.0) driver.1.origin.faults)
+
 pub starts_since : {S : Type 0} (device : S → Device) (old mid : Device) (quiet : Quiesces old mid) (run moment before left : ℕ) (spends : Spends before left old mid) (was : Log) (outcome : Result (S × Core) (Refused S))
-    → IfOk outcome (λ driver. IsStarted run moment mid was (state_of device driver)) → IfOk outcome (λ driver. IsStartedEach run moment old was (state_of device driver))
-starts_since device old mid quiet run moment before left spends was (Ok driver) starts = quiet_starts old mid quiet run moment before left spends was (state_of device driver) starts
-starts_since device old mid quiet run moment before left spends was (Err refused) starts = tt
+    → HasItsFaults device outcome → IfOk outcome (λ driver. IsStarted run moment mid was (state_of device driver)) → IfOk outcome (λ driver. IsStartedEach run moment old was (state_of device driver))
+starts_since device old mid quiet run moment before left spends was (Ok driver) faults starts = quiet_starts old mid quiet run moment before left spends was (state_of device driver) faults starts
+starts_since device old mid quiet run moment before left spends was (Err refused) faults starts = tt
 
 -- ---- what a call promises
 
@@ -166,29 +172,29 @@ module _ {S : Type 0} (device : S → Device) (shelf : S) (was : Log) (moment be
   }
 
   -- it has, and the group is varied on from there
-  pub varied : (name : List ℕ) (room : Room) (left : ℕ) (at_rest : S) (next : Log) (outcome : Result (S × Core) (Refused S)) → 1 ≤ spare_entries was → Quiesces (device shelf) (device at_rest) → Spends before left (device shelf) (device at_rest) → next ≡ was
+  pub varied : (name : List ℕ) (room : Room) (left : ℕ) (at_rest : S) (next : Log) (outcome : Result (S × Core) (Refused S)) → HasItsFaults device outcome → 1 ≤ spare_entries was → Quiesces (device shelf) (device at_rest) → Spends before left (device shelf) (device at_rest) → next ≡ was
       → VariesOnAt device next name moment room left (device at_rest) outcome → IfOk outcome (λ driver. IsStarted next.run moment (device at_rest) next (state_of device driver))
       → BringsOn next.run moment left after (device at_rest) (device (shelf_left outcome)) next (history_left outcome) → Promised (VaryonOnceQuiet device was name moment room before (device shelf) outcome) outcome
-  varied name room left at_rest next outcome may quiet spends same =
+  varied name room left at_rest next outcome faults may quiet spends same =
       subst (λ (l : Log). VariesOnAt device l name moment room left (device at_rest) outcome → IfOk outcome (λ driver. IsStarted l.run moment (device at_rest) l (state_of device driver))
       → BringsOn l.run moment left after (device at_rest) (device (shelf_left outcome)) l (history_left outcome) → Promised (VaryonOnceQuiet device was name moment room before (device shelf) outcome) outcome) (sym same)
       (λ varies starts brings. record {
         gives = WentQuiet may (record { left = left; mid = device at_rest; quiesces = quiet; spends = spends; goes = varies });
-        starts = starts_since device (device shelf) (device at_rest) quiet was.run moment before left spends was outcome starts;
+        starts = starts_since device (device shelf) (device at_rest) quiet was.run moment before left spends was outcome faults starts;
         causes = causes_since device (device shelf) (device at_rest) quiet before left spends was outcome (varyon_causes device was (device at_rest) left name moment room outcome varies.gives);
         leaves = quiet_brings (device shelf) (device at_rest) quiet was.run moment before left spends was after (device (shelf_left outcome)) (history_left outcome) brings;
       })
 
   -- it has, and the group is made from there
-  pub made : (w : NewGroup) (room : Room) (left : ℕ) (at_rest : S) (next : Log) (outcome : Result (S × Core) (Refused S)) → MayBegin (device shelf).sizes (spare_entries was) w.disks w.mib → Quiesces (device shelf) (device at_rest) → Spends before left (device shelf) (device at_rest) → next ≡ was
+  pub made : (w : NewGroup) (room : Room) (left : ℕ) (at_rest : S) (next : Log) (outcome : Result (S × Core) (Refused S)) → HasItsFaults device outcome → MayBegin (device shelf).sizes (spare_entries was) w.disks w.mib → Quiesces (device shelf) (device at_rest) → Spends before left (device shelf) (device at_rest) → next ≡ was
       → MkvgGives device w room left next (device at_rest) outcome → IfOk outcome (λ driver. IsStarted next.run moment (device at_rest) next (state_of device driver))
       → BringsOn next.run moment left after (device at_rest) (device (shelf_left outcome)) next (history_left outcome) → Promised (MkvgOnceQuiet device w room before was (device shelf) outcome) outcome
-  made w room left at_rest next outcome may quiet spends same =
+  made w room left at_rest next outcome faults may quiet spends same =
       subst (λ (l : Log). MkvgGives device w room left l (device at_rest) outcome → IfOk outcome (λ driver. IsStarted l.run moment (device at_rest) l (state_of device driver))
       → BringsOn l.run moment left after (device at_rest) (device (shelf_left outcome)) l (history_left outcome) → Promised (MkvgOnceQuiet device w room before was (device shelf) outcome) outcome) (sym same)
       (λ gives starts brings. record {
         gives = WentQuiet may (record { left = left; mid = device at_rest; quiesces = quiet; spends = spends; goes = gives });
-        starts = starts_since device (device shelf) (device at_rest) quiet was.run moment before left spends was outcome starts;
+        starts = starts_since device (device shelf) (device at_rest) quiet was.run moment before left spends was outcome faults starts;
         causes = causes_since device (device shelf) (device at_rest) quiet before left spends was outcome (mkvg_causes device was (device at_rest) left w room outcome gives);
         leaves = quiet_brings (device shelf) (device at_rest) quiet was.run moment before left spends was after (device (shelf_left outcome)) (history_left outcome) brings;
       })

@@ -1,15 +1,16 @@
 -- What the making and the varying on of a group do where transfers of before may be out.
-use Rattle.std.specs.Prelude.{◌≡◌, ◌⊎◌, ◌+◌, ◌≤◌, ℕ, List, Result, Ok, Err, IfOk}
+use Rattle.std.specs.Prelude.{◌≡◌, ◌⊎◌, ◌+◌, ◌≤◌, ℕ, List, Result, Ok, Err}
 use Rattle.lvm_disk.specs.Counts.{Rose, RoseBy, Counts}
 use Rattle.lvm_disk.specs.Device.{Device}
 use Rattle.lvm_vol.specs.Log.{Log, spare_entries, cut_log}
 use Rattle.lvm_kept.specs.Moments.{StaysCalm}
 use Rattle.lvm_steps.specs.Moments.{Keeps}
 use Rattle.lvm_steps.specs.Requests.{at}
-use Rattle.lvm_stamps.specs.Behind.{IsBehind, ClockIsAhead}
+use Rattle.lvm_stamps.specs.Behind.{IsBehind}
 use Rattle.lvm_write.specs.Parts.{Spends}
 use Rattle.lvm_commit.specs.Settling.{NoneIsLeft}
 use Rattle.lvm_session.specs.State.{Core, State}
+use Rattle.lvm_session_start.specs.Beginning.{AreFaults}
 use Rattle.lvm_core.specs.declared.parts.Room.{Room}
 use Rattle.lvm_core.specs.declared.refused.Cause.{Cause}
 use Rattle.lvm_core.specs.declared.refused.Cause.TheVariants as cause
@@ -18,8 +19,7 @@ use Rattle.lvm_core.specs.Held.{StartsHeld}
 use Rattle.lvm_core.specs.Settled.{IsSettled, HasSpareNumbers}
 use Rattle.lvm_group.specs.NewGroup.{NewGroup, MayBegin, RefusesFirst}
 use Rattle.lvm_group.specs.Made.{MkvgGives}
-use Rattle.lvm_recover.specs.Recovered.{HasNoPassive}
-use Rattle.lvm_varyon.specs.Varied.{VaryonGives, IsRestated, IsRecovered}
+pub use Rattle.lvm_varyon.specs.Varied.{VariesOnAt}
 use Rattle.lvm_quiesce.specs.Behind.{ClockIsAheadEach}
 use Rattle.lvm_quiesce.specs.Ends.{Quiesces, IsCutEnding, IsStuckEnding}
 use Rattle.lvm_quiesce.specs.Quiet.{OnceQuiet}
@@ -56,12 +56,6 @@ MkvgOnceQuiet device w room patience was old outcome =
 abbrev pub IsFullFor : Log → Cause → Type 0
 IsFullFor log why = (why ≡ cause.HistoryFull) × (spare_entries log ≡ 0)
 
--- a varyon on a shelf at rest, with what stands on its disks where the clock is ahead
-pub record VariesOnAt {S : Type 0} (device : S → Device) (log : Log) (name : List ℕ) (moment : ℕ) (room : Room) (patience : ℕ) (old : Device) (outcome : Result (S × Core) (Refused S)) : Type 0 where
-  pub gives : VaryonGives device old log name moment room patience outcome
-  pub restated : IfOk outcome (λ driver. ClockIsAhead log.run moment old log.facts → IsRestated old (device driver.0) driver.1.descriptor)
-  pub recovered : IfOk outcome (λ driver. ClockIsAhead log.run moment old log.facts → HasNoPassive driver.1.descriptor → IsRecovered old (device driver.0) driver.1.descriptor)
-
 -- `varyonvg`, of which want of an entry is judged first
 abbrev pub VaryonOnceQuiet : {S : Type 0} → (S → Device) → Log → List ℕ → ℕ → Room → ℕ → Device → Result (S × Core) (Refused S) → Type 0
 VaryonOnceQuiet device was name moment room patience old outcome =
@@ -77,12 +71,13 @@ pub record BringsOnEach (run moment before after : ℕ) (old new : Device) (was 
   pub calm : StaysCalm (at old was.facts) (at new is.facts)
   pub spends : Spends before after old new
 
--- The session that begins is settled, with numbers enough for its records, and leaves no copy behind; where the clock is ahead of each crash image its disks
--- hold what it says.
+-- The session that begins is settled, with numbers enough for its records, leaves no copy behind and counts faults from those that there are; where the clock
+-- is ahead of each crash image its disks hold what it says.
 pub record IsStartedEach (run moment : ℕ) (old : Device) (was : Log) (new : State) : Type 0 where
   pub settled : IsSettled new.core
   pub numbers : HasSpareNumbers new.core
   pub left : NoneIsLeft new.core.descriptor new.core.status
+  pub faults : AreFaults new.device new.core.origin.faults
   pub held : ClockIsAheadEach run moment old was.facts → StartsHeld new.device new.core
 
 -- what has risen where no group comes on for this

@@ -1,13 +1,11 @@
 //! A group is made or varied on, once the transfers that are out have ended.
-ghost use Rattle.std.specs.Prelude.{◌≢◌, ◌≤◌, length, IfOk, IfErr, IsTrue, AllPairs};
-ghost use Rattle.std.specs.Option.{ForSome};
-ghost use Rattle.lvm_num.specs.Descriptor.{is_size};
+ghost use Rattle.std.specs.Prelude.{◌≢◌, IfOk, IfErr};
 ghost use Rattle.lvm_session.specs.Sound.{IsLit};
-ghost use Rattle.lvm_session_start.specs.Beginning.{AreFaults};
 ghost use Rattle.lvm_core.specs.Coming.{shelf_left, history_left};
 ghost use Rattle.lvm_core.specs.Sound.{HaveAllLanded};
 ghost use Rattle.lvm_core.specs.Starting.{IsRoom};
 ghost use Rattle.lvm_core.specs.State.{state_of};
+ghost use Rattle.lvm_group.specs.NewGroup.{IsWellFormed};
 ghost use Rattle.lvm_quiesce.specs.Groups.{BringsOnEach, CauseRose, IsStartedEach, MkvgOnceQuiet, RestGives, VaryonOnceQuiet};
 
 use crate::ends::{Quiesced, quiesce};
@@ -35,14 +33,10 @@ pub fn mkvg<S: Shelf>(
 ) -> Result<Driver<S>, Refused<S>>
     requires lit { IsLit (S.device shelf) }
     requires landed { HaveAllLanded history.facts }
-    requires a_disk { 1 ≤ length disks.now }
-    requires differ { AllPairs (λ a b. a ≢ b) disks.now }
-    requires size { ForSome mib (λ given. IsTrue (is_size given)) }
-    requires moment { moment ≢ 0 }
+    requires asked { IsWellFormed (record { name = name; mib = mib; disks = disks.now; force = force; moment = moment }) }
     requires room { IsRoom room }
     ensures gives { MkvgOnceQuiet S.device (record { name = name; mib = mib; disks = disks.now; force = force; moment = moment }) room patience.old.left history (S.device shelf) result }
     ensures starts { IfOk result (λ driver. IsStartedEach history.run moment (S.device shelf) history (state_of S.device driver)) }
-    ensures faults { IfOk result (λ driver. AreFaults (S.device driver.0) driver.1.origin.faults) }
     ensures causes { IfErr result (λ refused. CauseRose patience.old.left (S.device shelf).counts (S.device refused.shelf).counts refused.cause) }
     // whatever the answer
     ensures leaves { BringsOnEach history.run moment patience.old.left patience.new.left (S.device shelf) (S.device (shelf_left result)) history (history_left result) }
@@ -79,7 +73,6 @@ pub fn varyon<S: Shelf>(
     requires moment { moment ≢ 0 }
     ensures gives { VaryonOnceQuiet S.device history name moment room patience.old.left (S.device shelf) result }
     ensures starts { IfOk result (λ driver. IsStartedEach history.run moment (S.device shelf) history (state_of S.device driver)) }
-    ensures faults { IfOk result (λ driver. AreFaults (S.device driver.0) driver.1.origin.faults) }
     ensures causes { IfErr result (λ refused. CauseRose patience.old.left (S.device shelf).counts (S.device refused.shelf).counts refused.cause) }
     // whatever the answer
     ensures leaves { BringsOnEach history.run moment patience.old.left patience.new.left (S.device shelf) (S.device (shelf_left result)) history (history_left result) }

@@ -216,7 +216,7 @@ finish_turns old new turned.Moved made =
     record { table = end_table old new made.0 made.1; grows = same_facts old new same; takings = same_takings old new same }
 finish_turns old new turned.Idle (inl finds) = at_once old new finds.is
 finish_turns old new turned.Idle (inr nothing) = at_once old new (ap (λ (s : State). s.core) nothing.is)
-finish_turns old new turned.Dark made = darkens old new made
+finish_turns old new turned.Dark made = darkens old new made.1
 finish_turns old new turned.Off made = record { table = all_end outcome.Off old.core new.core (ap (λ (s : State). s.core.requests) made.is); grows = off_grows old new made; takings = off_takings old new made }
 
 on_turns : (old new : State) (answer : Turned) → IsSound old → old.core.power ≡ power.On → OnMakes old new answer → Turns old new

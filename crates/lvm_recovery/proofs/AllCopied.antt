@@ -1,15 +1,13 @@
 -- Copies that are made one after another.
-use Rattle.std.proofs.Common.{◌≡◌, inl, inr, ⊎_elim, ℕ, zero, suc, ◌+◌, ◌-◌, ◌<◌, ◌≤◌, Bool, true, false, Option, Some, None, length, slice_get, slice_index_or, IsTrue, IsFalse, IfSome, refl, sym, ◌∙◌, ap, subst, arith, eq-eqb}
-use Rattle.std.specs.Prelude.{◌⊎◌, ◌==◌, ◌||◌, List, [], ◌∷◌}
+use Rattle.std.proofs.Common.{◌≡◌, inl, inr, ⊎_elim, ℕ, zero, suc, ◌+◌, ◌<◌, ◌≤◌, Some, length, slice_get, slice_index_or, IsTrue, refl, sym, ◌∙◌, ap, subst, arith}
+use Rattle.std.specs.Prelude.{◌⊎◌, List, [], ◌∷◌}
 use Rattle.std.proofs.lemmas.Bool.{cases_lt}
-use Rattle.lvm_num.specs.declared.place.Place.{Place}
 use Rattle.lvm_num.specs.Buffer.{Buffer, Sector}
 use Rattle.lvm_disk.specs.Device.{Media, Device, IsReady, image_of}
-use Rattle.lvm_disk.specs.Steps.{BothTold}
 use Rattle.lvm_disk.specs.Paths.{Here}
-use Rattle.lvm_kept.specs.Plans.{Plan, ChangesBy}
+use Rattle.lvm_kept.specs.Plans.{ChangesBy}
 use Rattle.lvm_kept.specs.Group.{IsOneOf}
-use Rattle.lvm_write.proofs.Writing.{if_told, told_at, both_at, both_map, both_from, both_same, writing_here}
+use Rattle.lvm_write.proofs.Writing.{if_told, told_at, both_at, both_map, writing_here}
 use Rattle.lvm_write.proofs.Transfers.{keeps_here, spends_none}
 use Rattle.lvm_begin.specs.declared.begin.Begun.{Begun}
 use Rattle.lvm_begin.specs.declared.begin.Begun.TheVariants as begun
@@ -17,7 +15,7 @@ use Rattle.lvm_begin.specs.Ends.{HasNoFault}
 use Rattle.lvm_write.specs.Writes.{DiskWritesLeave, IsBack}
 use Rattle.lvm_recovery.specs.declared.copying.Recopy.{Recopy}
 use Rattle.lvm_recovery.proofs.Logged.{only_none, only_then, only_wider}
-use Rattle.lvm_recovery.specs.Copying.{IsInRun, IsInOneRun, LogsOnly, IsFull, IsAt, is_of_copy, IsOfCopy, IsCopied, CopyGives, sources_and_targets, IsOfCopies, AreApart, AllWell, HowAll, AllGive}
+use Rattle.lvm_recovery.specs.Copying.{IsInRun, IsInOneRun, LogsOnly, IsFull, is_of_copy, IsOfCopy, IsCopied, CopyGives, sources_and_targets, IsOfCopies, AreApart, AllGive}
 use Rattle.lvm_recovery.proofs.Copied.{does_wider, does_then, back_then, well_then, failed_then, cut_then, left_then, or_first, or_second}
 
 -- ---- the list

@@ -1,17 +1,15 @@
 -- A copy by a read and a write, and one copy after another.
-use Rattle.std.proofs.Common.{◌≡◌, inl, inr, ⊎_elim, ℕ, ◌+◌, ◌-◌, ◌<◌, ◌≤◌, Bool, true, false, Option, Some, None, length, slice_get, IsTrue, IsFalse, IfSome, refl, sym, ◌∙◌, ap, subst, arith, eq-eqb}
-use Rattle.std.specs.Prelude.{◌⊎◌, ◌==◌, ◌||◌, List, [], ◌∷◌}
-use Rattle.lvm_num.specs.declared.place.Place.{Place}
+use Rattle.std.proofs.Common.{◌≡◌, ℕ, ◌+◌, ◌-◌, ◌<◌, Bool, true, false, IsTrue, IsFalse, refl, ◌∙◌, subst, arith, eq-eqb}
+use Rattle.std.specs.Prelude.{◌==◌, ◌||◌}
 use Rattle.lvm_num.specs.Buffer.{Buffer, Sector}
 use Rattle.lvm_num.specs.Disks.{Disks}
-use Rattle.lvm_disk.specs.Counts.{Rose, RoseBy}
-use Rattle.lvm_disk.specs.Device.{Media, Device, IsReady, image_of}
-use Rattle.lvm_disk.specs.Steps.{BothTold}
+use Rattle.lvm_disk.specs.Counts.{Rose}
+use Rattle.lvm_disk.specs.Device.{Device, image_of}
 use Rattle.lvm_kept.specs.Plans.{Plan, ChangesBy}
 use Rattle.lvm_area.specs.Reading.{IsCutOff}
 use Rattle.lvm_write.specs.Parts.{Spends}
 use Rattle.lvm_write.specs.Written.{KeepsShelf}
-use Rattle.lvm_write.proofs.Writing.{if_told, told_at, both_map, both_from, changes_more, logs_wider, moments_on, moments_wider}
+use Rattle.lvm_write.proofs.Writing.{if_told, told_at, both_map, changes_more, logs_wider, moments_on, moments_wider}
 use Rattle.lvm_write.proofs.Transfers.{keeps_then, spends_then, spent_then}
 use Rattle.lvm_begin.specs.declared.begin.Begun.{Begun}
 use Rattle.lvm_begin.specs.declared.begin.Begun.TheVariants as begun
@@ -19,7 +17,7 @@ use Rattle.lvm_begin.specs.Ends.{HasNoFault}
 use Rattle.lvm_write.specs.Writes.{DiskWritesLeave, IsBack}
 use Rattle.lvm_recovery.specs.declared.copying.Recopy.{Recopy}
 use Rattle.lvm_recovery.proofs.Logged.{in_run, only_planned, only_then}
-use Rattle.lvm_recovery.specs.Copying.{IsInRun, LogsOnly, IsFull, IsAt, IsLeftOut, HasFailed, IsOfStep, HoldsRun, RunHolds, HasMoved, StepWell, HowStep, StepGives, is_of_copy, IsOfCopy, IsCopied, CopyWell, HowCopy, CopyGives}
+use Rattle.lvm_recovery.specs.Copying.{IsInRun, LogsOnly, IsLeftOut, HasFailed, IsOfStep, HoldsRun, RunHolds, StepGives, is_of_copy, IsOfCopy, CopyGives}
 
 -- ---- what is done is done by more, too
 

@@ -1,18 +1,17 @@
 -- What planned copies need, and what they leave.
-use Rattle.std.proofs.Common.{◌≡◌, inl, inr, ⊎_elim, ℕ, ◌+◌, ◌*◌, ◌%◌, ◌<◌, ◌≤◌, ◌&&◌, Bool, true, false, not, List, ◌∷◌, Option, Some, length, slice_get, slice_index_or, refl, sym, ap, subst, ◌∙◌, arith, All}
+use Rattle.std.proofs.Common.{◌≡◌, inl, inr, ⊎_elim, ℕ, ◌+◌, ◌*◌, ◌%◌, ◌<◌, ◌≤◌, ◌&&◌, Bool, true, false, not, List, ◌∷◌, Option, Some, slice_get, slice_index_or, refl, sym, subst, ◌∙◌, arith}
 use Rattle.std.specs.Prelude.{IsTrue, IsFalse}
 use Rattle.std.proofs.Math.Nat.{mod-lt}
 use Rattle.lvm_num.specs.declared.place.Place.{Place}
 use Rattle.lvm_num.specs.declared.place.Pp.{Pp}
-use Rattle.lvm_num.specs.declared.descriptor.PvRow.{PvRow}
 use Rattle.lvm_num.specs.declared.descriptor.LvRow.{LvRow}
 use Rattle.lvm_num.specs.declared.descriptor.Descriptor.{Descriptor}
 use Rattle.lvm_num.specs.declared.status.Status.{Status}
 use Rattle.lvm_num.specs.Disks.{Disks}
-use Rattle.lvm_num.specs.Geometry.{data_start, partition_blocks, sector_of, sectors_needed}
-use Rattle.lvm_num.specs.Descriptor.{IsValid, IsPartitionOf, copies_of, member_of, partitions_used}
+use Rattle.lvm_num.specs.Geometry.{data_start, partition_blocks, sectors_needed}
+use Rattle.lvm_num.specs.Descriptor.{IsValid, IsPartitionOf, copies_of, partitions_used}
 use Rattle.lvm_num.specs.Record.{Stamped}
-use Rattle.lvm_disk.specs.Device.{Media, Device, image_of}
+use Rattle.lvm_disk.specs.Device.{image_of}
 use Rattle.lvm_kept.specs.Contents.{Contents, contents_of}
 use Rattle.lvm_kept.specs.Group.{IsOneOf, is_named, is_stale_by, fresh_on}
 use Rattle.lvm_kept.proofs.Standing.{note_shows}
@@ -23,8 +22,8 @@ use Rattle.lvm_recover.specs.Recopied.{IsFromFirst}
 use Rattle.lvm_recover.proofs.Copying.{left_passes}
 use Rattle.lvm_recover.proofs.Images.{images_are_recopied}
 use Rattle.lvm_recovery.specs.declared.copying.Recopy.{Recopy}
-use Rattle.lvm_recovery.specs.Copying.{MayTransfer, MayCopy, IsOfCopies}
-use Rattle.lvm_recovery.specs.Planned.{place_on, IsNamedByOne, IsPlannedCopy, ArePlanned}
+use Rattle.lvm_recovery.specs.Copying.{MayTransfer, IsOfCopies}
+use Rattle.lvm_recovery.specs.Planned.{place_on, IsPlannedCopy}
 use Rattle.lvm_recover.proofs.Beginning.{usable_stay, next_leaves_none}
 use Rattle.lvm_recovery.specs.Ending.{NextSamePlan, RestatedMayEqualise, SameNotesSamePlan, HaveSectors, PlannedMayBeMade, EqualisedEnds}
 use Rattle.lvm_recovery.proofs.AllCopied.{one_at, at_index}

@@ -1,17 +1,17 @@
 -- What is kept while copies are made and notes emptied.
-use Rattle.std.proofs.Common.{◌≡◌, inl, inr, ℕ, List, Option, None, Some, IfSome, IsTrue, refl, sym, ◌∙◌, subst}
+use Rattle.std.proofs.Common.{◌≡◌, ℕ, List, Option, None, Some, IfSome, refl}
 use Rattle.lvm_num.specs.declared.descriptor.Descriptor.{Descriptor}
 use Rattle.lvm_num.specs.declared.status.Status.{Status}
-use Rattle.lvm_num.specs.Buffer.{Buffer, Sector}
+use Rattle.lvm_num.specs.Buffer.{Buffer}
 use Rattle.lvm_num.specs.Disks.{Disks}
 use Rattle.lvm_disk.specs.Device.{Media, Image, Device, image_of, MayLeave}
 use Rattle.lvm_disk.specs.Paths.{DeviceStep, Path}
 use Rattle.lvm_disk.proofs.Paths.{append-path, map-path}
-use Rattle.lvm_kept.specs.Contents.{Contents, contents_of}
+use Rattle.lvm_kept.specs.Contents.{contents_of}
 use Rattle.lvm_kept.specs.Plans.{ChangesBy}
 use Rattle.lvm_kept.specs.Torn.{IsOfNote}
 use Rattle.lvm_steps.specs.Moments.{StaysKept}
-use Rattle.lvm_write.specs.Notes.{empty_note_sector, NoteTold}
+use Rattle.lvm_write.specs.Notes.{empty_note_sector}
 use Rattle.lvm_write.specs.Written.{IsWriting}
 use Rattle.lvm_write.proofs.Writing.{told_at, both_at, changes_more}
 use Rattle.lvm_begin.proofs.Untold.{untold_kept}
@@ -21,7 +21,7 @@ use Rattle.lvm_recover.specs.Recopied.{IsFromFirst}
 use Rattle.lvm_recover.proofs.Moments.{copying_stays_kept, emptying_stays_kept}
 use Rattle.lvm_recovery.specs.declared.copying.Recopy.{Recopy}
 use Rattle.lvm_recovery.specs.Copying.{IsOfCopies, AllGive}
-use Rattle.lvm_recovery.specs.Equalising.{WentOn, StoppedCopying, EqualiseGives, MayEqualise, EqualisedStaysKept}
+use Rattle.lvm_recovery.specs.Equalising.{WentOn, StoppedCopying, MayEqualise, EqualisedStaysKept}
 use Rattle.lvm_recovery.proofs.Planned.{planned_are_from_first, planned_are_equalled}
 
 module _ (copies : List Recopy) (targets : Disks) (group : Descriptor) (status : Status) (there : Disks) (old : Device) (it : MayEqualise copies targets group status there old) where

@@ -1,33 +1,30 @@
 -- One transfer of 256 sectors of data on a shelf at rest.
-use Rattle.std.proofs.Common.{◌≡◌, inl, inr, ⊎_elim, ℕ, ◌+◌, ◌-◌, ◌<◌, ◌≤◌, Bool, true, false, Option, Some, None, length, slice_get, get_or, IsTrue, IsFalse, IfSome, refl, sym, ◌∙◌, ap, subst, arith, eq-eqb}
-use Rattle.std.specs.Prelude.{◌⊎◌, ◌==◌, ◌&&◌, ◌++◌, List, [], ◌∷◌, map, nat_le, nat_lt, if◌then◌else◌, unwrap_or}
+use Rattle.std.proofs.Common.{◌≡◌, inl, inr, ⊎_elim, ℕ, ◌+◌, ◌-◌, ◌<◌, ◌≤◌, Bool, true, false, Option, Some, None, length, slice_get, get_or, IsTrue, IsFalse, refl, sym, ◌∙◌, ap, subst, arith, eq-eqb}
+use Rattle.std.specs.Prelude.{◌⊎◌, ◌==◌, ◌&&◌, List, [], nat_le, nat_lt, if◌then◌else◌, unwrap_or}
 use Rattle.std.proofs.lemmas.Bool.{eqb-true, ltb-true, leb-true}
 use Rattle.std.proofs.lemmas.Bool.Decides.{nat_tests}
 use Rattle.std.proofs.lemmas.Option.{slice_get-get_or}
 use Rattle.std.specs.Bool.{MatchBool}
 use Rattle.lvm_num.specs.declared.place.Place.{Place}
 use Rattle.lvm_num.specs.Buffer.{Buffer, Sector}
-use Rattle.lvm_num.specs.Disks.{Disks}
 use Rattle.lvm_num.specs.Geometry.{data_start}
 use Rattle.lvm_disk.specs.Counts.{Counts, Rose, RoseAt, RoseBy}
-use Rattle.lvm_disk.specs.Device.{Media, Flight, Range, Device, IsReady, IsTorn, written, image_of}
-use Rattle.lvm_disk.specs.Steps.{Logs, BothTold, Cuts, CountsFailure, IsFault, Puts, PutsSome, Reads}
+use Rattle.lvm_disk.specs.Device.{Media, Flight, Range, Device, IsReady, IsTorn, written}
+use Rattle.lvm_disk.specs.Steps.{Logs, BothTold, CountsFailure, IsFault, Puts, PutsSome}
 use Rattle.lvm_disk.specs.Paths.{DeviceStep, Path}
 use Rattle.lvm_disk.proofs.Paths.{map-path, last-path}
 use Rattle.lvm_kept.specs.Raw.{OnlyAdds}
-use Rattle.lvm_kept.specs.Plans.{Plan, IsPlanned}
+use Rattle.lvm_kept.specs.Plans.{IsPlanned}
 use Rattle.lvm_transfer.specs.Transfer.{IsOut, TransferGives, Rests, flight_of}
 use Rattle.lvm_transfer.specs.declared.moves.Moved.{Moved}
 use Rattle.lvm_transfer.specs.declared.moves.Moved.TheVariants as moved
 use Rattle.lvm_transfer.proofs.Ending.{one_left}
 use Rattle.lvm_transfer.proofs.Effects.{done_effect, out_flights}
-use Rattle.lvm_area.specs.Reading.{IsCutOff}
 use Rattle.lvm_write.specs.Written.{IsWriting, IsInPlan}
 use Rattle.lvm_write.proofs.Writing.{logs_one, logs_same, both_map, adds_writing, media_written, stand_told}
 use Rattle.lvm_begin.specs.declared.begin.Begun.{Begun}
 use Rattle.lvm_begin.specs.declared.begin.Begun.TheVariants as begun
-use Rattle.lvm_write.specs.Writes.{DiskWritesLeave}
-use Rattle.lvm_recovery.specs.Copying.{IsFull, IsAt, IsLeftOut, HasFailed, IsOfStep, RunHolds, HasMoved, StepWell, HowStep, StepGives}
+use Rattle.lvm_recovery.specs.Copying.{IsFull, IsOfStep, RunHolds, HasMoved, HowStep, StepGives}
 
 -- the disk is on one side alone
 clash : {X : Type 0} (t : Bool) → IsTrue t → IsFalse t → X

@@ -1,6 +1,6 @@
 -- What the notes of some disks name, found row by row.
-use Rattle.std.proofs.Common.{◌≡◌, ◌⊎◌, inl, inr, ⊎_elim, ℕ, zero, suc, ◌+◌, ◌<◌, ◌≤◌, ◌==◌, ◌&&◌, ◌||◌, ◌++◌, Bool, true, false, List, [], ◌∷◌, Option, Some, None, length, slice_get, slice_index_or, map, refl, sym, ap, subst, ◌∙◌, arith, eq-eqb, IsPermutation}
-use Rattle.std.specs.Prelude.{◌↔◌, IsTrue, IsFalse}
+use Rattle.std.proofs.Common.{◌≡◌, ◌⊎◌, inl, inr, ⊎_elim, ℕ, ◌+◌, ◌<◌, ◌≤◌, ◌==◌, ◌&&◌, ◌||◌, ◌++◌, Bool, true, false, List, [], ◌∷◌, Option, Some, None, length, slice_get, slice_index_or, map, refl, sym, ap, subst, ◌∙◌, arith, eq-eqb, IsPermutation}
+use Rattle.std.specs.Prelude.{IsTrue}
 use Rattle.std.specs.List.{list_any, Contains, dedup}
 use Rattle.std.specs.Cmp.{IsEquivalence}
 use Rattle.std.specs.List.Retain.{IsFiltered, DiffersFromLast}
@@ -20,10 +20,9 @@ use Rattle.lvm_survey.specs.Rows.{AreRows}
 use Rattle.lvm_survey.specs.Surveyed.{surveyed}
 use Rattle.lvm_commit.proofs.Copies.{contains}
 use Rattle.lvm_recovery.specs.declared.plan.TrackGroup.{TrackGroup}
-use Rattle.lvm_recovery.specs.Planned.{IsNamedByOne}
 use Rattle.lvm_recovery.specs.Plan.{group_of, AreNamed}
 use Rattle.lvm_recovery.proofs.AllCopied.{one_at, at_index}
-use Rattle.lvm_recovery.proofs.Naming.{to_left, to_right, either, of_map, to_map, both}
+use Rattle.lvm_recovery.proofs.Naming.{to_left, to_right, either, both}
 
 -- a row below one names it
 pub record IsNamedBelow (s : Survey) (disks : Disks) (k : ℕ) (one : TrackGroup) : Type 0 where

@@ -1,6 +1,6 @@
 -- The copies of what is named are exactly the planned ones.
-use Rattle.std.proofs.Common.{◌≡◌, ◌⊎◌, inl, inr, ⊎_elim, ℕ, zero, suc, ◌+◌, ◌*◌, ◌<◌, ◌≤◌, ◌==◌, ◌++◌, ◌&&◌, Bool, true, false, not, List, [], ◌∷◌, Option, Some, None, find, flat_map, map, filter, refl, sym, ap, subst, ◌∙◌, arith}
-use Rattle.std.specs.Prelude.{IsTrue, if◌then◌else◌, nat_lt}
+use Rattle.std.proofs.Common.{◌≡◌, ◌⊎◌, inl, inr, ⊎_elim, ℕ, ◌+◌, ◌*◌, ◌==◌, ◌++◌, ◌&&◌, Bool, true, false, List, [], ◌∷◌, Option, Some, None, find, flat_map, map, filter, refl, sym, ap, subst, ◌∙◌, arith}
+use Rattle.std.specs.Prelude.{if◌then◌else◌, nat_lt}
 use Rattle.std.proofs.lemmas.Bool.{eqb-true, ltb-true}
 use Rattle.std.proofs.lemmas.Bool.Decides.{nat_tests}
 use Rattle.lvm_num.specs.declared.place.Pp.{Pp}
@@ -20,8 +20,8 @@ use Rattle.lvm_next.specs.Next.{is_active}
 use Rattle.lvm_rest.proofs.Rows.{row_is_volume}
 use Rattle.lvm_recovery.specs.declared.copying.Recopy.{Recopy}
 use Rattle.lvm_recovery.specs.declared.plan.TrackGroup.{TrackGroup}
-use Rattle.lvm_recovery.specs.Planned.{place_on, IsNamedByOne, IsPlannedCopy, ArePlanned}
-use Rattle.lvm_recovery.specs.Plan.{AreNamed, usable_by, copies_from, copies_of_group, copies_in, copies_named, NamedArePlanned}
+use Rattle.lvm_recovery.specs.Planned.{place_on, IsNamedByOne, IsPlannedCopy}
+use Rattle.lvm_recovery.specs.Plan.{usable_by, copies_from, copies_of_group, copies_in, copies_named, NamedArePlanned}
 
 -- ---- lists
 

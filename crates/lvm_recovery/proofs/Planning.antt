@@ -1,16 +1,14 @@
 -- Which copies are planned.
-use Rattle.std.proofs.Common.{◌≡◌, ◌⊎◌, inl, inr, ⊎_elim, ℕ, zero, suc, ◌+◌, ◌*◌, ◌<◌, ◌≤◌, ◌==◌, ◌++◌, Bool, true, false, List, [], ◌∷◌, Option, Some, None, length, slice_get, slice_index_or, take, find, flat_map, refl, sym, ap, subst, ◌∙◌, arith, All}
-use Rattle.std.specs.Prelude.{IsTrue, if◌then◌else◌}
+use Rattle.std.proofs.Common.{◌≡◌, ℕ, suc, ◌+◌, ◌<◌, ◌==◌, ◌++◌, Bool, true, false, List, [], ◌∷◌, Option, Some, None, length, slice_index_or, take, find, flat_map, refl, sym, ap, subst, ◌∙◌, arith, All}
+use Rattle.std.specs.Prelude.{if◌then◌else◌}
 use Rattle.std.proofs.lemmas.List.{take_more, append-nil}
 use Rattle.std.proofs.lemmas.Bool.{eqb-true}
-use Rattle.lvm_num.specs.declared.place.Pp.{Pp}
 use Rattle.lvm_num.specs.declared.descriptor.PvRow.{PvRow}
 use Rattle.lvm_num.specs.declared.descriptor.LvRow.{LvRow}
 use Rattle.lvm_num.specs.declared.descriptor.Descriptor.{Descriptor}
 use Rattle.lvm_num.specs.declared.status.Status.{Status}
 use Rattle.lvm_num.specs.Disks.{Disks}
-use Rattle.lvm_num.specs.Descriptor.{IsValid, IsLaidOut, IsMember, IsPartitionOf, member_of, volume_of, partitions_in, partitions_used}
-use Rattle.lvm_kept.specs.Group.{IsOneOf}
+use Rattle.lvm_num.specs.Descriptor.{IsValid, IsLaidOut, IsMember, IsPartitionOf, volume_of, partitions_used}
 use Rattle.lvm_kept.proofs.Entries.{volume_is_row}
 use Rattle.lvm_commit.proofs.Copies.{of_rows}
 use Rattle.lvm_recovery.specs.declared.copying.Recopy.{Recopy}

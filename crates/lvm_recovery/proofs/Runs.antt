@@ -1,11 +1,10 @@
 -- Ranges that are written while copies are made.
-use Rattle.std.proofs.Common.{◌≡◌, inl, inr, ℕ, ◌+◌, ◌-◌, ◌*◌, ◌%◌, ◌<◌, ◌≤◌, ◌&&◌, Bool, true, false, not, List, ◌∷◌, Option, Some, refl, sym, ap, subst, ◌∙◌, arith}
+use Rattle.std.proofs.Common.{◌≡◌, inr, ℕ, ◌+◌, ◌-◌, ◌*◌, ◌%◌, ◌<◌, ◌≤◌, ◌&&◌, Bool, true, false, not, List, ◌∷◌, Option, Some, refl, sym, ap, subst, ◌∙◌, arith}
 use Rattle.std.specs.Prelude.{IsTrue}
 use Rattle.std.proofs.Math.Nat.{mod-lt}
 use Rattle.lvm_num.specs.declared.place.Place.{Place}
 use Rattle.lvm_num.specs.declared.place.Pp.{Pp}
 use Rattle.lvm_num.specs.declared.descriptor.Mode.{Mode}
-use Rattle.lvm_num.specs.declared.descriptor.LvRow.{LvRow}
 use Rattle.lvm_num.specs.declared.descriptor.Descriptor.{Descriptor}
 use Rattle.lvm_num.specs.declared.status.Status.{Status}
 use Rattle.lvm_num.specs.Disks.{Disks}
@@ -19,9 +18,9 @@ use Rattle.lvm_kept.specs.Recovered.{IsMadeEqual, IsCopyRange}
 use Rattle.lvm_rest.proofs.Good.{mib_positive}
 use Rattle.lvm_recover.proofs.Copying.{left_passes}
 use Rattle.lvm_recovery.specs.declared.copying.Recopy.{Recopy}
-use Rattle.lvm_recovery.specs.Copying.{IsInRun, IsInOneRun}
+use Rattle.lvm_recovery.specs.Copying.{IsInRun}
 use Rattle.lvm_recovery.specs.Ending.{RunsAreOfCopies}
-use Rattle.lvm_recovery.specs.Planned.{IsPlannedCopy, ArePlanned}
+use Rattle.lvm_recovery.specs.Planned.{IsPlannedCopy}
 use Rattle.lvm_recovery.proofs.Planned.{in_group, group_of_start, block_inside, sector_is}
 
 left_true : (p q : Bool) → IsTrue (p && q) → IsTrue p

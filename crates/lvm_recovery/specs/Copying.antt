@@ -1,5 +1,5 @@
 -- Runs of 256 sectors that are copied between disks.
-use Rattle.std.specs.Prelude.{◌≡◌, ◌⊎◌, ℕ, ◌+◌, ◌-◌, ◌<◌, ◌≤◌, ◌==◌, ◌||◌, Bool, true, false, List, [], ◌∷◌, length, Some, slice_get, IsTrue, IfSome, All, Option, None, ◌++◌}
+use Rattle.std.specs.Prelude.{◌≡◌, ℕ, ◌+◌, ◌<◌, ◌≤◌, ◌==◌, ◌||◌, Bool, true, false, List, [], ◌∷◌, length, Some, slice_get, IsTrue, IfSome, All, Option, None, ◌++◌}
 use Rattle.std.specs.List.{list_any}
 use Rattle.lvm_num.specs.declared.place.Place.{Place}
 use Rattle.lvm_num.specs.Buffer.{Buffer, Sector}
@@ -8,7 +8,6 @@ use Rattle.lvm_num.specs.Geometry.{data_start}
 use Rattle.lvm_disk.specs.Counts.{Rose, RoseBy}
 use Rattle.lvm_disk.specs.Device.{Media, Range, Flight, Device}
 use Rattle.lvm_disk.specs.Steps.{BothTold}
-use Rattle.lvm_kept.specs.Plans.{Plan}
 use Rattle.lvm_kept.specs.Group.{IsOneOf}
 use Rattle.lvm_area.specs.Reading.{IsCutOff}
 use Rattle.lvm_begin.specs.declared.begin.Begun.{Begun}

@@ -6,6 +6,9 @@ ghost use Rattle.lvm_replies.specs.Blocks.{hex_digit, hex_text, is_filled, block
 use lvm_num::{Memory, Text, word_of};
 use std::alloc::{AllocError, Global};
 
+// The bytes of the line of a block that a word fills, but for a large number.
+const LINE: usize = 32;
+
 /// `rd`: the number of a block, and the word that fills it in 16 lower-case hexadecimal digits, or else
 /// its 512 bytes in 1,024.
 pub fn show_block(alloc: Global, at: u64, block: &[u8; 512]) -> Result<Text, Memory>
@@ -17,7 +20,8 @@ pub fn show_block(alloc: Global, at: u64, block: &[u8; 512]) -> Result<Text, Mem
 fn block_line(alloc: Global, at: u64, block: &[u8; 512]) -> Result<String, AllocError>
     ensures { IfOk result (λ text. string_bytes text ≡ block_text at block.now) }
 {
-    let mut text = format!(in alloc; "{at} ")?;
+    let mut text = String::with_capacity(alloc, LINE)?;
+    write!(text, "{at} ")?;
     push_hex(&mut text, shown(block))?;
     text.push('\n')?;
     Ok(text)

@@ -258,7 +258,7 @@ module _ (p : Pp) (old : State) (sound : IsSound old) (on : old.core.power ≡ p
     finish_open turned.Moved made = learned_open made.1.row.owner made.1.ok new.core made.0 made.1.buf made.1.learns
     finish_open turned.Idle (inl finds) = still p new.core (same_copy p old.core new.core (ap (λ (c : Core). c.copy) finds.is) was)
     finish_open turned.Idle (inr nothing) = still p new.core (same_copy p old.core new.core (ap (λ (s : State). s.core.copy) nothing.is) was)
-    finish_open turned.Dark made = dark_not (ap (λ (c : Core). c.power) made.is)
+    finish_open turned.Dark made = dark_not (ap (λ (c : Core). c.power) made.1.is)
     finish_open turned.Off made = absurd (let e : power.Off ≡ power.On = sym (ap (λ (s : State). s.core.power) made.is) ∙ goes_still in cc e)
 
     on_open : (answer : Turned) → OnMakes old new answer → IsOpenStill p new.core

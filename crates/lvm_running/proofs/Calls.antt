@@ -38,8 +38,8 @@ use Rattle.lvm_tie.proofs.Spares.{calls_spare_descriptors}
 use Rattle.lvm_tie.proofs.Stamps.{arrange_leaves_before, calls_stay}
 use Rattle.lvm_vol.specs.Facts.{Fact}
 use Rattle.lvm_running.specs.Laws.{CallsRunOn}
-use Rattle.lvm_running.specs.Running.{GoesOnOrEnds, KeepsShape, LeavesSession, MayFindNoMore}
-use Rattle.lvm_running.proofs.Running.{was_lit}
+use Rattle.lvm_running.specs.Running.{GoesOffByCut, GoesOnOrEnds, KeepsShape, LeavesSession, MayFindNoMore}
+use Rattle.lvm_running.proofs.Running.{keeps_power, was_lit}
 use Rattle.lvm_running.proofs.Shapes.{Given, dark_given, given}
 use Rattle.lvm_running.proofs.Shelves.{fewer_leaves}
 
@@ -70,6 +70,7 @@ module _ (s : State) (new : Core) where
   keeps_of same = record {
     sizes = refl;
     counts = none_falls_at_once s.device.counts;
+    cut = keeps_power s.device s.device refl;
     log = ap (λ (x : Shape). x.0.2) same;
     room = record { most = ap (λ (x : Shape). x.1) same; long = ap (λ (x : Shape). x.2) same };
     descriptor = ap (λ (x : Shape). x.0.0) same;
@@ -127,6 +128,20 @@ module _ (old new : State) (what : Arrange) (done : Bool) (it : Arranges old new
       by : (b : Bool) → ArrangeGives old.device new.device what b → NoneFalls old.device.counts new.device.counts
       by true made = step_counts old.device new.device (Arranged what made.1)
       by false made = subst (λ (d : Device). NoneFalls old.device.counts d.counts) (sym made.1) (none_falls_at_once old.device.counts)
+
+  -- where it puts the power off it cuts it
+  order_cuts : GoesOffByCut old.device new.device
+  order_cuts = by done it.device
+    where
+      made_cuts : (w : Arrange) → OrderMakes old.device new.device w → GoesOffByCut old.device new.device
+      made_cuts (arrange.Fail disk) is = keeps_power old.device new.device (ap (λ (d : Device). d.power) is)
+      made_cuts (arrange.Heal disk) is = keeps_power old.device new.device (ap (λ (d : Device). d.power) is)
+      made_cuts (arrange.Cut word) (off, inl was) = λ lit went. absurd (let e : true ≡ false = sym lit ∙ was.0 in cc e)
+      made_cuts (arrange.Cut word) (off, inr cuts) = λ lit went. cuts.cuts
+
+      by : (b : Bool) → ArrangeGives old.device new.device what b → GoesOffByCut old.device new.device
+      by true made = made_cuts what made.1
+      by false made = keeps_power old.device new.device (ap (λ (d : Device). d.power) made.1)
 
   order_sizes : new.device.sizes ≡ old.device.sizes
   order_sizes = by done it.device
@@ -187,6 +202,7 @@ module _ (old new : State) (what : Arrange) (done : Bool) (it : Arranges old new
     keeps = record {
       sizes = order_sizes;
       counts = order_counts;
+      cut = order_cuts;
       log = ap (λ (g : Given). g.2) order_core.given_is;
       room = record { most = order_core.most; long = order_core.long };
       descriptor = ap (λ (g : Given). g.0) order_core.given_is;

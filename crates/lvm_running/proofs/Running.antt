@@ -1,13 +1,15 @@
 -- One run behind another.
-use Rattle.std.proofs.Common.{◌≡◌, inl, inr, refl, sym, ap, subst, ◌∙◌}
-use Rattle.lvm_disk.proofs.Rising.{none_falls_at_once, none_falls_on}
+use Rattle.std.proofs.Common.{◌≡◌, inl, inr, Bool, true, false, refl, sym, ap, subst, ◌∙◌}
+use Rattle.lvm_disk.specs.Counts.{NoneFalls, Rose}
+use Rattle.lvm_disk.specs.Device.{Device}
+use Rattle.lvm_disk.proofs.Rising.{none_falls_at_once, none_falls_on, rose_after, rose_before}
 use Rattle.lvm_vol.specs.Log.{Log}
 use Rattle.lvm_session.specs.declared.open.Power.TheVariants as power
 use Rattle.lvm_session.specs.State.{Core, State}
 use Rattle.lvm_tie.specs.GoingOn.{GoesOn}
 use Rattle.lvm_tie.proofs.Spanning.{goes_same, goes_then}
 use Rattle.lvm_running.specs.Laws.{RunsJoin}
-use Rattle.lvm_running.specs.Running.{GoesOnOrEnds, KeepsShape, LeavesSession, RunsOn}
+use Rattle.lvm_running.specs.Running.{GoesOffByCut, GoesOnOrEnds, KeepsShape, LeavesSession, RunsOn}
 
 -- ---- whether it goes on
 
@@ -38,6 +40,20 @@ ends_on old mid new (inr (inl one)) (inr (inr two)) = absurd (let e : power.Dark
 ends_on old mid new (inr (inr one)) (inl two) = inr (inr (one.0, two ∙ one.1))
 ends_on old mid new (inr (inr one)) (inr (inr two)) = absurd (let e : power.Off ≡ power.On = sym one.1 ∙ two.0 in cc)
 
+-- ---- its power
+
+-- what keeps its power needs no cut,
+pub keeps_power : (old new : Device) → new.power ≡ old.power → GoesOffByCut old new
+keeps_power old new same lit off = absurd (let e : true ≡ false = sym lit ∙ sym same ∙ off in cc e)
+
+-- and of two moments it goes off in the one or in the other
+cut_both : (old mid new : Device) → NoneFalls old.counts mid.counts → NoneFalls mid.counts new.counts → GoesOffByCut old mid → GoesOffByCut mid new → GoesOffByCut old new
+cut_both old mid new first last one two lit off = by mid.power refl
+  where
+    by : (b : Bool) → mid.power ≡ b → Rose old.counts.cuts new.counts.cuts
+    by true on = rose_before first.cuts (two on off)
+    by false went = rose_after (one lit went) last.cuts
+
 -- ---- its run
 
 pub run_is : (old new : State) → KeepsShape old new → new.core.history.run ≡ old.core.history.run
@@ -53,7 +69,7 @@ leaves_none s = record {
   epoch = λ lit. record { epoch = refl; stamped = λ is. is };
   later = λ moment was. was;
   causes = λ first has. has;
-  keeps = record { sizes = refl; counts = none_falls_at_once s.device.counts; log = refl; room = record { most = refl; long = refl }; descriptor = refl; origin = refl; power = inl refl };
+  keeps = record { sizes = refl; counts = none_falls_at_once s.device.counts; cut = keeps_power s.device s.device refl; log = refl; room = record { most = refl; long = refl }; descriptor = refl; origin = refl; power = inl refl };
 }
 
 pub runs_none : (s : State) → RunsOn s s
@@ -68,6 +84,7 @@ keeps_both : (old mid new : State) → KeepsShape old mid → KeepsShape mid new
 keeps_both old mid new one two = record {
   sizes = two.sizes ∙ one.sizes;
   counts = none_falls_on one.counts two.counts;
+  cut = cut_both old.device mid.device new.device one.counts two.counts one.cut two.cut;
   log = two.log ∙ one.log;
   room = record { most = two.room.most ∙ one.room.most; long = two.room.long ∙ one.room.long };
   descriptor = two.descriptor ∙ one.descriptor;

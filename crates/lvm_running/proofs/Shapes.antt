@@ -132,7 +132,7 @@ module _ (old new : State) where
   finish_goes on turned.Moved made = end_goes made.0 made.1
   finish_goes on turned.Idle (inl finds) = same_goes old.core new.core finds.is
   finish_goes on turned.Idle (inr nothing) = same_goes old.core new.core (ap (λ (s : State). s.core) nothing.is)
-  finish_goes on turned.Dark made = dark_goes made
+  finish_goes on turned.Dark made = dark_goes made.1
   finish_goes on turned.Off made = record {
     given_is = ap (λ (s : State). given s.core) made.is;
     power = inr (inr (on, ap (λ (s : State). s.core.power) made.is));

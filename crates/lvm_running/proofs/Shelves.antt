@@ -47,7 +47,8 @@ use Rattle.lvm_tie_shelf.proofs.Owned.{reads_none}
 use Rattle.lvm_tie.specs.Spares.{LeavesDescriptors}
 use Rattle.lvm_tie.specs.Stamps.{AreValid}
 use Rattle.lvm_tie.proofs.LandingsCauses.{waits_unless}
-use Rattle.lvm_running.specs.Running.{MayFindNoMore}
+use Rattle.lvm_running.specs.Running.{GoesOffByCut, MayFindNoMore}
+use Rattle.lvm_running.proofs.Running.{keeps_power}
 
 -- ---- what is found
 
@@ -72,10 +73,11 @@ module _ (old new : Image) (by : ChangesBy (IsOutside kind.Descriptor) old new) 
 abbrev Leaves : Device → Device → Type 0
 Leaves old new = LeavesDescriptors old → LeavesDescriptors new × MayFindNoMore old new
 
--- a shelf as large, to which no order was given
+-- a shelf as large, to which no order was given, and whose power goes off by a cut alone
 pub record Steps (old new : Device) : Type 0 where
   pub sizes : new.sizes ≡ old.sizes
   pub orders : new.orders ≡ old.orders
+  pub cut : GoesOffByCut old new
   pub leaves : LeavesDescriptors old → LeavesDescriptors new × MayFindNoMore old new
 
 -- where what is out was out, and no crash image is new
@@ -87,6 +89,7 @@ same_steps : (old new : Device) → new ≡ old → Steps old new
 same_steps old new same = record {
   sizes = ap (λ (d : Device). d.sizes) same;
   orders = ap (λ (d : Device). d.orders) same;
+  cut = keeps_power old new (ap (λ (d : Device). d.power) same);
   leaves = fewer_leaves old new (λ d s value flies. subst (λ (x : Device). IsInFlight x.flights d s value) same flies) (λ image may. subst (λ (x : Device). MayLeave x image) same may);
 }
 
@@ -98,6 +101,7 @@ start_steps : (old new : Device) (f : Flight) → Starts old new f → Outside f
 start_steps old new f starts outside = record {
   sizes = ap (λ (d : Device). d.sizes) starts.new_is;
   orders = ap (λ (d : Device). d.orders) starts.new_is;
+  cut = keeps_power old new (ap (λ (d : Device). d.power) starts.new_is);
   leaves = λ leaves. (
     λ d at value flies. ⊎_elim (leaves d at value) (outside d at value) (in_old_or_new old.flights f d at value (subst (λ (x : Device). IsInFlight x.flights d at value) starts.new_is flies)),
     λ id k image may found.
@@ -121,11 +125,13 @@ end_steps : (ok : Bool) (old new : Device) (ticket : ℕ) (buf : Buffer) → End
 end_steps true old new ticket buf ends = record {
   sizes = ap (λ (d : Device). d.sizes) ends.new_is;
   orders = ap (λ (d : Device). d.orders) ends.new_is;
+  cut = keeps_power old new (ap (λ (d : Device). d.power) ends.new_is);
   leaves = fewer_leaves old new (was_out ends.flight old.flights new.flights ends.flights) (done_leaves old new ticket buf ends);
 }
 end_steps false old new ticket buf ends = record {
   sizes = ap (λ (d : Device). d.sizes) ends.new_is;
   orders = ap (λ (d : Device). d.orders) ends.new_is;
+  cut = keeps_power old new (ap (λ (d : Device). d.power) ends.new_is);
   leaves = fewer_leaves old new (was_out ends.flight old.flights new.flights ends.flights) (failed_leaves old new ticket buf ends);
 }
 
@@ -133,6 +139,7 @@ wait_steps : (old new : Device) → Waits old new → Steps old new
 wait_steps old new waits = record {
   sizes = ap (λ (d : Device). d.sizes) waits.new_is;
   orders = ap (λ (d : Device). d.orders) waits.new_is;
+  cut = keeps_power old new (ap (λ (d : Device). d.power) waits.new_is);
   leaves = fewer_leaves old new (λ d s value flies. subst (λ (x : Device). IsInFlight x.flights d s value) waits.new_is flies) (λ image may. subst (λ (x : Device). MayLeave x image) waits.new_is may);
 }
 
@@ -140,6 +147,7 @@ cut_steps : (old new : Device) → Cuts old new → Steps old new
 cut_steps old new cuts = record {
   sizes = ap (λ (d : Device). d.sizes) cuts.new_is;
   orders = ap (λ (d : Device). d.orders) cuts.new_is;
+  cut = λ lit off. cuts.cuts;
   leaves = fewer_leaves old new (λ d s value flies. absurd (subst (λ (x : Device). IsInFlight x.flights d s value) cuts.new_is flies)) (cut_leaves old new cuts);
 }
 
@@ -216,7 +224,7 @@ module _ (old new : State) (sound : IsSound old) (valid : AreValid old.core.stat
   finish_steps turned.Moved made = end_steps made.1.ok old.device new.device made.1.row.ticket made.1.buf made.1.returns.ends
   finish_steps turned.Idle (inl finds) = wait_steps old.device new.device finds.waits
   finish_steps turned.Idle (inr nothing) = same_steps old.device new.device (ap (λ (s : State). s.device) nothing.is)
-  finish_steps turned.Dark made = dark_steps old.device new.device made.device
+  finish_steps turned.Dark made = dark_steps old.device new.device made.1.device
   finish_steps turned.Off made = same_steps old.device new.device (ap (λ (s : State). s.device) made.is)
 
   on_steps : old.core.power ≡ power.On → (answer : Turned) → OnMakes old new answer → Steps old.device new.device

@@ -26,9 +26,11 @@ module _ (old new : State) (answer : Turned) (was_sound : IsSound old) (sound : 
   keeps : KeepsShape old new
   keeps =
       let goes = turn_goes old new answer made in
+      let steps = turn_steps old new was_sound valid answer made in
       record {
-        sizes = (turn_steps old new was_sound valid answer made).sizes;
+        sizes = steps.sizes;
         counts = turn_counts old new answer made;
+        cut = steps.cut;
         log = ap (λ (g : Given). g.2) goes.given_is;
         room = turn_room old new answer made;
         descriptor = ap (λ (g : Given). g.0) goes.given_is;

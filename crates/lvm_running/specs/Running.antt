@@ -1,7 +1,7 @@
 -- What turns and calls leave of a session, from one moment of it to a later one.
-use Rattle.std.specs.Prelude.{◌≡◌, ◌⊎◌, ◌<◌, ℕ, [], List, None}
+use Rattle.std.specs.Prelude.{◌≡◌, ◌⊎◌, ◌<◌, ℕ, true, false, [], List, None}
 use Rattle.lvm_num.specs.declared.descriptor.Descriptor.{Descriptor}
-use Rattle.lvm_disk.specs.Counts.{NoneFalls}
+use Rattle.lvm_disk.specs.Counts.{NoneFalls, Rose}
 use Rattle.lvm_disk.specs.Device.{Device, Image, MayLeave}
 use Rattle.lvm_vol.specs.Facts.{Fact}
 use Rattle.lvm_vol.specs.Legal.{IsLater}
@@ -42,10 +42,15 @@ pub record IsBefore (moment : ℕ) (s : State) : Type 0 where
 abbrev pub GoesOnOrEnds : Core → Core → Type 0
 GoesOnOrEnds old new = (new.power ≡ old.power) ⊎ (new.power ≡ power.Dark) ⊎ ((old.power ≡ power.On) × (new.power ≡ power.Off))
 
--- It is of the group, the run and the rooms that it was given, on disks as large, whose counts never fall.
+-- the power goes off by a cut alone
+abbrev pub GoesOffByCut : Device → Device → Type 0
+GoesOffByCut old new = old.power ≡ true → new.power ≡ false → Rose old.counts.cuts new.counts.cuts
+
+-- It is of the group, the run and the rooms that it was given, on disks as large, whose counts never fall and whose power goes off by a cut alone.
 pub record KeepsShape (old new : State) : Type 0 where
   pub sizes : new.device.sizes ≡ old.device.sizes
   pub counts : NoneFalls old.device.counts new.device.counts
+  pub cut : GoesOffByCut old.device new.device
   pub log : record new.core.history { facts = [] } ≡ record old.core.history { facts = [] }
   pub room : SameRoom old.core new.core
   pub descriptor : new.core.descriptor ≡ old.core.descriptor

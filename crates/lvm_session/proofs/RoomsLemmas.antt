@@ -1,5 +1,5 @@
 -- The rooms of a session last.
-use Rattle.std.proofs.Common.{◌≡◌, length, sym, ◌∙◌, arith}
+use Rattle.std.proofs.Common.{◌≡◌, length, arith}
 use Rattle.lvm_session.specs.declared.session.Session.{Session}
 use Rattle.lvm_session.specs.Rooms.{HasRooms, SameRooms}
 
@@ -8,6 +8,5 @@ pub rooms_last : (old new : Session) → HasRooms old → SameRooms old new → 
 rooms_last old new has same most pool = record {
   requests = let fit = has.requests in let kept = same.requests in omega (arith, fit, kept, most);
   flying = let fit = has.flying in let kept = same.flying in omega (arith, fit, kept, pool);
-  buffers = pool ∙ has.buffers ∙ sym same.buffers;
   bytes = let fit = has.bytes in let kept = same.bytes in omega (arith, fit, kept);
 }

@@ -1,5 +1,5 @@
 -- A turn: the first event that may be made, else the end of a transfer, else the end of the session.
-use Rattle.std.specs.Prelude.{◌≡◌, ◌⊎◌, ℕ, Bool, true, false, [], Some, None}
+use Rattle.std.specs.Prelude.{◌≡◌, ◌⊎◌, ◌+◌, ◌<◌, ℕ, Bool, true, false, [], Some, None, length}
 use Rattle.lvm_disk.specs.declared.shelf.Arrange.{Arrange}
 use Rattle.lvm_disk.specs.Steps.{ArrangeGives, GoesDark, Waits}
 use Rattle.lvm_status.specs.Update.{Stored}
@@ -37,12 +37,13 @@ is_start (event.StartData place target) = true
 is_start event.ReadCopy = true
 is_start event.WriteCopy = true
 
--- the same is committed and wanted, and in flight too, unless a start to which the power didn't last put in flight what is wanted
+-- the same is committed and wanted, and in flight too, unless a start to which the power didn't last put in flight what is wanted, under the next stamp
 pub record SaysTheSame (old new : Stored) : Type 0 where
   pub group : new.group ≡ old.group
   pub committed : new.committed ≡ old.committed
   pub wanted : new.wanted ≡ old.wanted
   pub in_flight : (new.in_flight ≡ old.in_flight) ⊎ ((old.in_flight ≡ None) × (new.in_flight ≡ Some old.wanted))
+  pub stamp : (new.stamp ≡ old.stamp) ⊎ ((old.in_flight ≡ None) × (new.stamp ≡ record old.stamp { seq = old.stamp.seq + 1 }))
 
 -- The power is found off, or cut: the session is over.
 pub record Darkens (old new : State) : Type 0 where
@@ -75,11 +76,11 @@ pub record Finds (old new : State) : Type 0 where
   pub waits : Waits old.device new.device
   pub is : new.core ≡ old.core
 
--- what a turn makes that finds no event, and its answer: a transfer ends; nothing does; the power is off; or the session is over
+-- what a turn makes that finds no event, and its answer: a transfer ends; nothing does; the power is off by the end of one that was out; or the session is over
 abbrev pub FinishMakes : State → State → Turned → Type 0
 FinishMakes old new turned.Moved = (at : ℕ) × Ends old new at
 FinishMakes old new turned.Idle = Finds old new ⊎ FindsNothing old new
-FinishMakes old new turned.Dark = Darkens old new
+FinishMakes old new turned.Dark = (0 < length old.device.flights) × Darkens old new
 FinishMakes old new turned.Off = GoesOff old new
 
 -- What a turn of a session that is on makes, and its answer: the first event that may be made, unless the power is found off; and where there is none,

@@ -26,9 +26,8 @@ pub struct Session {
     pub queue: Queue,
     /// The copy that is being brought up.
     pub copy: Option<OpenCopy>,
-    /// The transfer buffers, and how many there are.
+    /// The transfer buffers.
     pub pool: Pool,
-    pub buffers: u32,
     /// Whose transfers are out, in the order of their starts.
     pub flying: Vec<Flown>,
     /// The committed status, the one in flight and the wanted one.

@@ -31,7 +31,6 @@ fn of_parts(parts: Parts, history: History, homes: Homes, faults: [u64; 128]) ->
     ensures core { core_of result ≡ with_parts parts history homes faults }
     ensures requests { vec_capacity result.requests ≡ vec_capacity parts.requests }
     ensures flying { vec_capacity result.flying ≡ vec_capacity parts.flying }
-    ensures buffers { result.buffers ≡ parts.room.pool }
     ensures bytes { result.bytes ≡ parts.bytes }
 {
     Session {
@@ -42,7 +41,6 @@ fn of_parts(parts: Parts, history: History, homes: Homes, faults: [u64; 128]) ->
         queue: parts.queue,
         copy: None,
         pool: parts.pool,
-        buffers: parts.room.pool,
         flying: parts.flying,
         updater: parts.updater,
         cache: parts.cache,

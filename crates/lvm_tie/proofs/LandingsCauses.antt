@@ -363,7 +363,7 @@ module _ (first : List Fact) (old new : State) (sound : IsSound old) (was : HasC
   finish_caused on turned.Moved made = end_caused on made.0 made.1
   finish_caused on turned.Idle (inl finds) = stays_caused first old new (step_counts old.device new.device (Waited finds.waits)) (ap ground finds.is) was
   finish_caused on turned.Idle (inr nothing) = still (ap (λ (s : State). s.device) nothing.is) (ap (λ (s : State). ground s.core) nothing.is)
-  finish_caused on turned.Dark made = cut_caused made
+  finish_caused on turned.Dark made = cut_caused made.1
   finish_caused on turned.Off made = off_caused made
 
   on_caused : old.core.power ≡ power.On → (answer : Turned) → OnMakes old new answer → HasCausesSince first new

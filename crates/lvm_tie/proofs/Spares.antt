@@ -286,7 +286,7 @@ module _ (old new : Session) (outside : LeavesDescriptors old.device) (spares : 
   finish_spares turned.Moved made = end_spares made.0 made.1
   finish_spares turned.Idle (inl finds) = spares_on old new (of_still old.core new.core (ap still finds.is)) (step_slots old.device new.device outside (Waited finds.waits)) spares
   finish_spares turned.Idle (inr nothing) = all_still (ap (λ (s : Session). s.device) nothing.is) (ap (λ (s : Session). still s.core) nothing.is)
-  finish_spares turned.Dark made = dark_spares made
+  finish_spares turned.Dark made = dark_spares made.1
   finish_spares turned.Off made = all_still (ap (λ (s : Session). s.device) made.is) (ap (λ (s : Session). still s.core) made.is)
 
   on_spares : (answer : Turned) → OnMakes old new answer → SparesDescriptors new

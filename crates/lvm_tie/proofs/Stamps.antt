@@ -201,7 +201,7 @@ module _ (old new : Session) where
   finish_epoch lit turned.Moved made = of_goes old.core.status new.core.status (learned_goes made.1.row.owner made.1.ok old.core new.core made.0 made.1.buf made.1.learns)
   finish_epoch lit turned.Idle (inl finds) = still_epoch (ap (λ (c : Core). c.status) finds.is)
   finish_epoch lit turned.Idle (inr nothing) = still_epoch (ap (λ (s : Session). s.core.status) nothing.is)
-  finish_epoch lit turned.Dark made = absurd (lit (dark_is made))
+  finish_epoch lit turned.Dark made = absurd (lit (dark_is made.1))
   finish_epoch lit turned.Off made = still_epoch (ap (λ (s : Session). s.core.status) made.is)
 
   on_epoch : (new.core.power ≡ power.Dark → ⊥) → (answered : Turned) → OnMakes old new answered → KeepsEpoch old.core.status new.core.status
@@ -256,7 +256,7 @@ module _ (moment : ℕ) (old new : Session) (was : IsLater old.core.history.fact
   finish_later turned.Moved made = same_later (ap (λ (g : Ground). g.2) (learned_same made.1.row.owner made.1.ok old.core new.core made.0 made.1.buf made.1.learns))
   finish_later turned.Idle (inl finds) = same_later (ap (λ (c : Core). c.history.facts) finds.is)
   finish_later turned.Idle (inr nothing) = same_later (ap (λ (s : Session). s.core.history.facts) nothing.is)
-  finish_later turned.Dark made = cut_later made
+  finish_later turned.Dark made = cut_later made.1
   finish_later turned.Off made = subst (λ (fs : List Fact). IsLater fs moment) (sym (ap (λ (s : Session). s.core.history.facts) made.is))
       (later_joins moment old.core.history.facts (landings outcome.Off old.core.history.facts old.core.requests) was (landings_later moment outcome.Off old.core.history.facts old.core.requests))
 
@@ -414,7 +414,7 @@ module _ (moment : ℕ) (old new : Session) (was_sound : IsSound old) (sound : I
   finish_left turned.Moved made = end_left made.0 made.1
   finish_left turned.Idle (inl finds) = no_more_left (beginning_at moment) old.device new.device (λ image may. subst (λ (d : Device). MayLeave d image) finds.waits.new_is may) before
   finish_left turned.Idle (inr nothing) = still_left (ap (λ (s : Session). s.device) nothing.is)
-  finish_left turned.Dark made = dark_left (beginning_at moment) old.device new.device made.device before
+  finish_left turned.Dark made = dark_left (beginning_at moment) old.device new.device made.1.device before
   finish_left turned.Off made = still_left (ap (λ (s : Session). s.device) made.is)
 
   on_left : old.core.power ≡ power.On → (answered : Turned) → OnMakes old new answered → LeavesBefore (beginning_at moment) new.device

@@ -70,7 +70,7 @@ module _ (run : ℕ) (old new : Session) (on : old.core.power ≡ power.On) (sou
   finish_goes_on turned.Moved makes = goes_step run old new (λ past tied. end_ties makes.0 past old new tied sound (sectors, makes.1)) on
       (ends_step makes.1.ok old.device new.device makes.1.row.ticket makes.1.buf makes.1.returns.ends) (ap (λ (h : Rattle.lvm_vol.specs.Log.Log). h.facts) (ends_history old new makes.0 makes.1))
   finish_goes_on turned.Idle makes = finds_goes_on makes
-  finish_goes_on turned.Dark makes = darkens_goes_on makes
+  finish_goes_on turned.Dark makes = darkens_goes_on makes.1
   finish_goes_on turned.Off makes = off_goes makes
 
   on_goes_on : IsValidStatus old.core.status.wanted → (answer : Turned) → OnMakes old new answer → GoesOn run old new

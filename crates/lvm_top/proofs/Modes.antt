@@ -202,12 +202,12 @@ module _ (old new : State) (off : HasNoPassiveOn old) where
   synced_off : {answer : Reply} (refused : Core → Option SyncFault) (copies : List Copy) (core : Core) → HasNoPassive core.descriptor → IsSynced refused copies core old new answer → HasNoPassiveOn new
   synced_off refused copies core its done = by (is_unheard done.result) done.leaves
     where
-      then : HasNoPassive done.end.core.descriptor
-      then = subst HasNoPassive (sym done.beside.leaves.keeps.descriptor) its
+      stays : HasNoPassive done.end.core.descriptor
+      stays = subst HasNoPassive (sym done.beside.leaves.keeps.descriptor) its
 
       by : (b : Bool) → FailsIf b done.end old.posts old.last new → HasNoPassiveOn new
       by true ended = none_off ended.session
-      by false left = leaves_off done.end.core.power done.end old.posts old.last then left
+      by false left = leaves_off done.end.core.power done.end old.posts old.last stays left
 
   sync_volume_off : {answer : Reply} (name : List ℕ) → SyncVolumeDoes name old new answer → HasNoPassiveOn new
   sync_volume_off name (NoGroupForSync none is) = same_off is.1

@@ -160,7 +160,7 @@ finish_room : (old new : State) (answer : Turned) → FinishMakes old new answer
 finish_room old new turned.Moved made = room old.core new.core (end_framed old new made.0 made.1)
 finish_room old new turned.Idle (inl finds) = room old.core new.core (same old.core new.core finds.is)
 finish_room old new turned.Idle (inr nothing) = room old.core new.core (same old.core new.core (ap (λ (s : State). s.core) nothing.is))
-finish_room old new turned.Dark made = dark_room old new made
+finish_room old new turned.Dark made = dark_room old new made.1
 finish_room old new turned.Off made = off_room old new made
 
 on_room : (old new : State) (answer : Turned) → OnMakes old new answer → SameRoom old.core new.core

@@ -229,7 +229,7 @@ module _ (old new : State) where
   finished sound on turned.Moved made = ended sound on made.0 made.1
   finished sound on turned.Idle (inl finds) = stay (ap (λ (c : Core). c.requests) finds.is)
   finished sound on turned.Idle (inr nothing) = stay (ap (λ (s : State). s.core.requests) nothing.is)
-  finished sound on turned.Dark made = all_land outcome.Dark refl (ap (λ (c : Core). c.requests) made.is)
+  finished sound on turned.Dark made = all_land outcome.Dark refl (ap (λ (c : Core). c.requests) made.1.is)
   finished sound on turned.Off made = all_land outcome.Off refl (ap (λ (s : State). s.core.requests) made.is)
 
   made_on : IsSound old → old.core.power ≡ power.On → (answer : Turned) → OnMakes old new answer → GetsItsBlocks old new

@@ -43,7 +43,7 @@ module _ (old new : State) where
   finish_counts turned.Moved made = end_counts made.0 made.1
   finish_counts turned.Idle (inl finds) = step_counts old.device new.device (Waited finds.waits)
   finish_counts turned.Idle (inr nothing) = stays old.device new.device (ap (λ (s : State). s.device) nothing.is)
-  finish_counts turned.Dark made = darkens old.device new.device made.device
+  finish_counts turned.Dark made = darkens old.device new.device made.1.device
   finish_counts turned.Off made = stays old.device new.device (ap (λ (s : State). s.device) made.is)
 
   on_counts : (answer : Turned) → OnMakes old new answer → NoneFalls old.device.counts new.device.counts

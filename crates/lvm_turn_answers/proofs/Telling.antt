@@ -20,7 +20,7 @@ module _ (old new : State) (sound : IsSound old) where
   finish_power turned.Moved on made = (end_framed old new made.0 made.1).power_is ∙ on
   finish_power turned.Idle on (inl finds) = ap (λ (c : Core). c.power) finds.is ∙ on
   finish_power turned.Idle on (inr nothing) = ap (λ (s : State). s.core.power) nothing.is ∙ on
-  finish_power turned.Dark on made = ap (λ (c : Core). c.power) made.is
+  finish_power turned.Dark on made = ap (λ (c : Core). c.power) made.1.is
   finish_power turned.Off on made = ap (λ (s : State). s.core.power) made.is
 
   on_power : (answer : Turned) → old.core.power ≡ power.On → OnMakes old new answer → new.core.power ≡ power_by answer

@@ -286,7 +286,7 @@ module _ (old : State) (sound : IsSound old) (on : old.core.power ≡ power.On) 
     finish_marks turned.Moved made = end_marks made.0 made.1
     finish_marks turned.Idle (inl finds) = of_same old new (no_passes (ap (λ (k : Core). k.status) finds.is)) (ap (λ (k : Core). k.requests) finds.is)
     finish_marks turned.Idle (inr nothing) = of_same old new (no_passes (ap (λ (s : State). s.core.status) nothing.is)) (ap (λ (s : State). s.core.requests) nothing.is)
-    finish_marks turned.Dark made = dark_marks made
+    finish_marks turned.Dark made = dark_marks made.1
     finish_marks turned.Off made = off_marks made
 
     on_marks : (answer : Turned) → OnMakes old new answer → MarksFor old new

@@ -173,6 +173,7 @@ says old new disk next = ⊎_elim flying begun next.begins
       committed = ap (λ (u : Updates). u.committed) next.started ∙ ap (λ (s : Stored). s.committed) it.1;
       wanted = ap (λ (u : Updates). u.wanted) next.started ∙ ap (λ (s : Stored). s.wanted) it.1;
       in_flight = inl (ap (λ (u : Updates). u.in_flight) next.started ∙ ap (λ (s : Stored). s.in_flight) it.1);
+      stamp = inl (ap (λ (u : Updates). u.stamp) next.started ∙ ap (λ (s : Stored). s.stamp) it.1);
     }
 
     begun : MayStart (seen old) × (seen next.begun ≡ with_update (seen old)) → SaysTheSame old new
@@ -181,6 +182,7 @@ says old new disk next = ⊎_elim flying begun next.begins
       committed = ap (λ (u : Updates). u.committed) next.started ∙ ap (λ (u : Updates). u.committed) it.1;
       wanted = ap (λ (u : Updates). u.wanted) next.started ∙ ap (λ (u : Updates). u.wanted) it.1;
       in_flight = inr (it.0.none, ap (λ (u : Updates). u.in_flight) next.started ∙ ap (λ (u : Updates). u.in_flight) it.1);
+      stamp = inr (it.0.none, ap (λ (u : Updates). u.stamp) next.started ∙ ap (λ (u : Updates). u.stamp) it.1);
     }
 
 pub flies : (core : Core) (new : Stored) (disk : ℕ) → NextOn core.status new (Some disk) → new.in_flight ≡ None → ⊥

@@ -9,6 +9,7 @@ pub mod After
 pub mod Beside
 pub mod Equalled
 pub mod Recovering
+pub mod Refusing
 pub mod Wrote
 pub mod Bringing
 pub mod KeptPaths

@@ -1,5 +1,5 @@
 -- How a varyon ends.
-use Rattle.std.specs.Prelude.{◌≡◌, ◌⊎◌, ◌<◌, ◌≤◌, false, ℕ, List, [], Some, IsTrue, Result, Ok, Err}
+use Rattle.std.specs.Prelude.{◌≡◌, ◌⊎◌, ◌<◌, ◌≤◌, false, ℕ, List, [], Some, IsTrue, Result, Ok, Err, IfOk}
 use Rattle.lvm_num.specs.declared.record.Stamp.{Stamp}
 use Rattle.lvm_num.specs.declared.descriptor.Descriptor.{Descriptor}
 use Rattle.lvm_num.specs.declared.status.Status.{Status}
@@ -10,7 +10,7 @@ use Rattle.lvm_disk.specs.Device.{Media, Device, image_of}
 use Rattle.lvm_vol.specs.Log.{Log, spare_entries, cut_log}
 use Rattle.lvm_kept.specs.Contents.{Contents, contents_of}
 use Rattle.lvm_kept.specs.Recovered.{Recovered}
-use Rattle.lvm_stamps.specs.Behind.{IsBehind}
+use Rattle.lvm_stamps.specs.Behind.{ClockIsAhead, IsBehind}
 use Rattle.lvm_homes.specs.declared.homes.Homes.{Homes}
 use Rattle.lvm_quorum.specs.Choosing.{HasNoRecord, HasRecord, IsAmbiguous, LacksQuorum}
 use Rattle.lvm_area.specs.Reading.{IsUnwritten, IsRested, IsCutOff}
@@ -28,6 +28,7 @@ use Rattle.lvm_varyon.specs.Found.{Found, HaveAnswered}
 use Rattle.lvm_next.specs.Next.{IsNextStatus}
 use Rattle.lvm_varyon.specs.Chosen.{answering, last_moment, MayComeOn, IsClockBack}
 use Rattle.lvm_next.specs.Restated.{Restated}
+use Rattle.lvm_recover.specs.Recovered.{HasNoPassive}
 use Rattle.lvm_recovery.specs.declared.copying.Recopy.{Recopy}
 use Rattle.lvm_recovery.specs.Planned.{ArePlanned}
 use Rattle.lvm_varyon.specs.Writing.{beginning, Writes, IsStillOut}
@@ -135,6 +136,12 @@ log_after cause.GroupExists log = log
 abbrev pub VaryonGives : {S : Type 0} → (S → Device) → Device → Log → List ℕ → ℕ → Room → ℕ → Result (S × Core) (Refused S) → Type 0
 VaryonGives device old log name moment room patience (Ok driver) = ComesOn old (device driver.0) log name moment room driver.1
 VaryonGives device old log name moment room patience (Err refused) = Refuses old (device refused.shelf) name moment patience log refused.cause × (refused.history ≡ log_after refused.cause log)
+
+-- So it is, and where the clock's moments rise the disks show what the session says: the group is restated, and without volumes in mode passive recovered.
+pub record VariesOnAt {S : Type 0} (device : S → Device) (log : Log) (name : List ℕ) (moment : ℕ) (room : Room) (patience : ℕ) (old : Device) (outcome : Result (S × Core) (Refused S)) : Type 0 where
+  pub gives : VaryonGives device old log name moment room patience outcome
+  pub restated : IfOk outcome (λ driver. ClockIsAhead log.run moment old log.facts → IsRestated old (device driver.0) driver.1.descriptor)
+  pub recovered : IfOk outcome (λ driver. ClockIsAhead log.run moment old log.facts → HasNoPassive driver.1.descriptor → IsRecovered old (device driver.0) driver.1.descriptor)
 
 -- ---- before the session
 

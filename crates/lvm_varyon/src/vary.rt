@@ -3,14 +3,13 @@ ghost use Rattle.std.specs.Prelude.{◌≡◌, ◌≢◌, ◌+◌, ◌≤◌, If
 ghost use Rattle.lvm_disk.specs.Device.{IsReady};
 ghost use Rattle.lvm_disk.specs.Paths.{DeviceStep, Path};
 ghost use Rattle.lvm_steps.specs.Moments.{StaysKept};
-ghost use Rattle.lvm_stamps.specs.Behind.{ClockIsAhead, IsBehind};
+ghost use Rattle.lvm_stamps.specs.Behind.{IsBehind};
 ghost use Rattle.lvm_session_start.specs.Beginning.{AreFaults};
 ghost use Rattle.lvm_core.specs.Sound.{HaveAllLanded};
 ghost use Rattle.lvm_core.specs.Starting.{IsRoom};
-ghost use Rattle.lvm_recover.specs.Recovered.{HasNoPassive};
 ghost use Rattle.lvm_core.specs.State.{state_of};
 ghost use Rattle.lvm_core.specs.Coming.{BringsOn, IsStarted, shelf_left, history_left};
-ghost use Rattle.lvm_varyon.specs.Varied.{VaryonGives, IsRestated, IsRecovered, BringGives, IsAheadOfDisks, brought_of, log_after, Stops};
+ghost use Rattle.lvm_varyon.specs.Varied.{VariesOnAt, BringGives, IsAheadOfDisks, brought_of, log_after, Stops};
 ghost use Rattle.lvm_area.specs.Reading.{OnlyReads};
 ghost use Rattle.lvm_write.specs.Parts.{Spends};
 ghost use Rattle.lvm_varyon.specs.Parts.{IsPlannedBy, plan_beginning};
@@ -54,12 +53,10 @@ pub fn varyon<S: Shelf>(
     requires landed { HaveAllLanded history.facts }
     requires room { IsRoom room }
     requires moment { moment ≢ 0 }
-    ensures gives { VaryonGives S.device (S.device shelf) history name moment room patience.old.left result }
+    ensures gives { VariesOnAt S.device history name moment room patience.old.left (S.device shelf) result }
     // the group is on
     ensures starts { IfOk result (λ driver. IsStarted history.run moment (S.device shelf) history (state_of S.device driver)) }
     ensures faults { IfOk result (λ driver. AreFaults (S.device driver.0) driver.1.origin.faults) }
-    ensures restated { IfOk result (λ driver. ClockIsAhead history.run moment (S.device shelf) history.facts → IsRestated (S.device shelf) (S.device driver.0) driver.1.descriptor) }
-    ensures recovered { IfOk result (λ driver. ClockIsAhead history.run moment (S.device shelf) history.facts → HasNoPassive driver.1.descriptor → IsRecovered (S.device shelf) (S.device driver.0) driver.1.descriptor) }
     // whatever the answer
     ensures leaves { BringsOn history.run moment patience.old.left patience.new.left (S.device shelf) (S.device (shelf_left result)) history (history_left result) }
 {

@@ -31,19 +31,12 @@ commit_status-requires-clause-may g c =
     subst (λ (r : CommitEnd). RecordGives w c.args.buf.number c.args.patience.now.left c.write_descriptor.new.patience.left (stamped first) mid c.args.homes.now c.write_descriptor.new.homes old m r) c.in-Done.is
     c.write_descriptor.ensures.gives in
     let one = describes first mid c.args.homes.now c.write_descriptor.new.homes old m content c.args.buf.number c.args.patience.now.left c.write_descriptor.new.patience.left (commit_end.Done c.in-Done.buf) gives in
-    may_settle_on c.args.d.now first mid old m c.requires.may one.loses c.in-Done.ensures.committed.0 (ap (λ (s : Stamp). s.epoch) gives.how.0.stamp) one.keeps.sizes gives.how.1
-
-pub commit_status-requires-clause-numbers : goal.commit_status-requires-clause-numbers
-commit_status-requires-clause-numbers g c =
-    let first : Stored = c.args.updater.now in
-    let mid : Stored = c.write_descriptor.new.updater in
-    let old : Device = g.S.Shelf.device c.args.shelf.now in
-    let m : Device = g.S.Shelf.device c.write_descriptor.new.shelf in
-    let content : List ℕ = c.args.content.now in
-    let one = describes first mid c.args.homes.now c.write_descriptor.new.homes old m content c.args.buf.number c.args.patience.now.left c.write_descriptor.new.patience.left c.write_descriptor.result c.write_descriptor.ensures.gives in
-    numbers_left first mid old m one.loses
-    (stamp_is first mid c.args.homes.now c.write_descriptor.new.homes old m content c.args.buf.number c.args.patience.now.left c.write_descriptor.new.patience.left c.write_descriptor.result c.write_descriptor.ensures.gives)
-    1 c.requires.numbers
+    record {
+      ready = gives.how.0.ready;
+      settle = may_settle_on c.args.d.now first mid old m c.requires.may.settle one.loses c.in-Done.ensures.committed.0 (ap (λ (s : Stamp). s.epoch) gives.how.0.stamp) one.keeps.sizes gives.how.1;
+      numbers = numbers_left first mid old m one.loses
+          (stamp_is first mid c.args.homes.now c.write_descriptor.new.homes old m content c.args.buf.number c.args.patience.now.left c.write_descriptor.new.patience.left (commit_end.Done c.in-Done.buf) gives) 1 c.requires.may.numbers;
+    }
 
 -- ---- where it was not, or too few members are left
 
@@ -67,10 +60,10 @@ returns-in_default g c =
     let one = describes first mid homes after old m content number p q r gives in
     let stamp = stamp_is first mid homes after old m content number p q r gives in
     record {
-      ends = descriptor_ends first mid homes after old m content number p q r gives c.requires.may.votes c.in_default.not-Done c.write_descriptor.ensures.committed;
+      ends = descriptor_ends first mid homes after old m content number p q r gives c.requires.may.settle.votes c.in_default.not-Done c.write_descriptor.ensures.committed;
       leaves = record {
         loses = one.loses;
-        left = round_left c.args.d.now first mid c.requires.may.valid c.write_descriptor.ensures.marks (loses_less first mid old m one.loses);
+        left = round_left c.args.d.now first mid c.requires.may.settle.valid c.write_descriptor.ensures.marks (loses_less first mid old m one.loses);
         forgotten = c.write_descriptor.ensures.marks.forgotten;
         numbers = spends_one first mid old m one.loses stamp;
         keeps = keeps_wider (there first) (there first) (IsOfRecord w) (IsOfCommit content first mid) old m (λ d off. off) (is_of_commit first mid homes after old m content number p q r gives sectors frames mid (omega arith)) one.keeps;
@@ -111,8 +104,8 @@ returns-in-Done g c =
       loses = e.leaves.loses;
       keeps = e.leaves.keeps;
       kept = e.kept;
-      valid = c.requires.may.valid;
-      describes = c.requires.describes;
+      valid = c.requires.may.settle.valid;
+      describes = c.requires.content.describes;
       round = c.write_descriptor.ensures.marks;
       left = e.leaves.left;
       forgotten = e.leaves.forgotten;

@@ -8,7 +8,7 @@ use Rattle.lvm_commit.proofs.commit.commit_status.Goals as goal
 
 pub loop-shelf-init : goal.loop-shelf-init
 loop-shelf-init g c = record {
-  rounds = no_rounds c.args.d.now c.args.patience.now.left c.args.updater.now c.args.homes.now (g.S.Shelf.device c.args.shelf.now) c.args.buf c.requires.may c.requires.ready;
+  rounds = no_rounds c.args.d.now c.args.patience.now.left c.args.updater.now c.args.homes.now (g.S.Shelf.device c.args.shelf.now) c.args.buf c.requires.may.settle c.requires.may.ready;
   unwritten = λ same. (refl, refl, refl, refl);
 }
 

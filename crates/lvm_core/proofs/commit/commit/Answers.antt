@@ -1,11 +1,8 @@
-use Rattle.std.proofs.Common.{◌≡◌, Ok, ◌≤◌, ℕ, List, length, sym, ◌∙◌, ap, subst}
-use Rattle.lvm_num.specs.declared.record.Kind.TheVariants as kind
+use Rattle.std.proofs.Common.{sym, ◌∙◌, ap, subst}
 use Rattle.lvm_num.specs.declared.descriptor.Descriptor.{Descriptor}
-use Rattle.lvm_num.specs.DescriptorBytes.{descriptor_bytes, descriptor_of}
-use Rattle.lvm_num.specs.Record.{longest_content}
 use Rattle.lvm_disk.specs.Device.{Device}
 use Rattle.lvm_vgda.proofs.Whole.{spelled_is_read}
-use Rattle.lvm_commit.specs.Settling.{MaySettle, IsOfCommit, CommitLeaves}
+use Rattle.lvm_commit.specs.Settling.{IsContentOf, IsOfCommit, CommitLeaves, MayCommit}
 use Rattle.lvm_core.proofs.Committing.{may_next}
 use Rattle.lvm_session.specs.declared.session.Session.{Session}
 use Rattle.lvm_session.specs.State.{state}
@@ -15,21 +12,18 @@ use Rattle.lvm_core.proofs.Ends.{descriptor_numbered, is_out, core_ends_with, st
 use Rattle.lvm_core.proofs.Sizes.{descriptor_fits}
 use Rattle.lvm_core.proofs.commit.commit.Goals as goal
 
-pub commit_descriptor-settled-requires-clause-content : goal.commit_descriptor-settled-requires-clause-content
-commit_descriptor-settled-requires-clause-content g c =
-    subst (λ (l : List ℕ). length l ≤ longest_content kind.Descriptor) (sym (c.as_slice.ensures ∙ c.into_parts-descriptor.ensures.bytes)) (descriptor_fits c.args.next c.into_parts-descriptor.ensures.valid)
-
 pub commit_descriptor-settled-requires-clause-may : goal.commit_descriptor-settled-requires-clause-may
 commit_descriptor-settled-requires-clause-may g c =
     let device : Device = g.S.Shelf.device c.args.shelf.now in
-    subst (λ (d : Descriptor). MaySettle d c.take_buffer-buf.new.session.updater device) (sym c.into_parts-descriptor.ensures.descriptor)
-    (subst (λ (s : Session). MaySettle c.args.next s.updater device) (sym c.take_buffer-buf.ensures.taken)
-    (may_next c.args.session.now.descriptor c.args.next c.args.session.now.updater device c.requires.may c.into_parts-descriptor.ensures.valid c.requires.alike))
+    subst (λ (d : Descriptor). MayCommit 2 d c.take_buffer-buf.new.session.updater device) (sym c.into_parts-descriptor.ensures.descriptor)
+    (subst (λ (s : Session). MayCommit 2 c.args.next s.updater device) (sym c.take_buffer-buf.ensures.taken)
+    (may_next 2 c.args.session.now.descriptor c.args.next c.args.session.now.updater device c.requires.may c.into_parts-descriptor.ensures.valid c.requires.alike))
 
-pub commit_descriptor-settled-requires-clause-describes : goal.commit_descriptor-settled-requires-clause-describes
-commit_descriptor-settled-requires-clause-describes g c =
-    subst (λ (l : List ℕ). descriptor_of l ≡ Ok c.into_parts-descriptor.result.0) (sym (c.as_slice.ensures ∙ c.into_parts-descriptor.ensures.bytes))
-    (subst (λ (d : Descriptor). descriptor_of (descriptor_bytes c.args.next) ≡ Ok d) (sym c.into_parts-descriptor.ensures.descriptor) (spelled_is_read c.args.next c.into_parts-descriptor.ensures.valid))
+pub commit_descriptor-settled-requires-clause-content : goal.commit_descriptor-settled-requires-clause-content
+commit_descriptor-settled-requires-clause-content g c =
+    subst (λ (d : Descriptor). IsContentOf d c.as_slice.result.now) (sym c.into_parts-descriptor.ensures.descriptor)
+    (subst (IsContentOf c.args.next) (sym (c.as_slice.ensures ∙ c.into_parts-descriptor.ensures.bytes))
+    (record { fits = descriptor_fits c.args.next c.into_parts-descriptor.ensures.valid; describes = spelled_is_read c.args.next c.into_parts-descriptor.ensures.valid }))
 
 pub go_on_with-requires-clause-out : goal.go_on_with-requires-clause-out
 go_on_with-requires-clause-out g c =

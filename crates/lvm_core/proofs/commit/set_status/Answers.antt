@@ -1,18 +1,18 @@
 use Rattle.std.proofs.Common.{sym, ◌∙◌, ap, subst}
 use Rattle.lvm_status.specs.Update.{Stored}
-use Rattle.lvm_commit.specs.Settling.{MaySettle, IsOfStatus, StatusStaysKept, CommitLeaves}
+use Rattle.lvm_commit.specs.Settling.{MayCommit, IsOfStatus, StatusStaysKept, CommitLeaves}
 use Rattle.lvm_session.specs.declared.session.Session.{Session}
 use Rattle.lvm_session.specs.State.{state}
 use Rattle.lvm_session.specs.Fields.{core_of}
 use Rattle.lvm_core.specs.Steps.{IsMarked}
 use Rattle.lvm_core.proofs.Ends.{status_numbered, is_out, core_ends, status_ends, commits_marks, at_once}
-use Rattle.lvm_core.proofs.Marking.{may_settle}
+use Rattle.lvm_core.proofs.Marking.{may_commit}
 use Rattle.lvm_core.proofs.commit.set_status.Goals as goal
 
 pub commit_status-settled-requires-clause-may : goal.commit_status-settled-requires-clause-may
 commit_status-settled-requires-clause-may g c =
-    subst (λ (s : Session). MaySettle s.descriptor s.updater (g.S.Shelf.device c.args.shelf.now)) (sym c.take_buffer-buf.ensures.taken)
-    (may_settle c.args.session.now.descriptor (g.S.Shelf.device c.args.shelf.now) c.args.stale.now c.args.fresh.now c.args.session.now.updater c.mark.new.updater c.mark.ensures c.requires.may)
+    subst (λ (s : Session). MayCommit 1 s.descriptor s.updater (g.S.Shelf.device c.args.shelf.now)) (sym c.take_buffer-buf.ensures.taken)
+    (may_commit 1 c.args.session.now.descriptor (g.S.Shelf.device c.args.shelf.now) c.args.stale.now c.args.fresh.now c.args.session.now.updater c.mark.new.updater c.mark.ensures c.requires.may)
 
 pub go_on-requires-clause-out : goal.go_on-requires-clause-out
 go_on-requires-clause-out g c =

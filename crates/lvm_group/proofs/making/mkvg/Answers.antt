@@ -27,7 +27,7 @@ returns-in-Ok g c =
     let old = g.S.Shelf.device c.args.shelf in
     let new = g.S.Shelf.device c.make.new.shelf in
     let stands : Stands w c.args.room was c.make.new.history old new c.in-Ok.standing = c.in-Ok.ensures.made in
-    let two = settles w c.args.room was c.make.new.history old new c.in-Ok.standing stands c.requires.moment c.start.result.1 c.start.ensures.core in
+    let two = settles w c.args.room was c.make.new.history old new c.in-Ok.standing stands c.requires.asked.moment c.start.result.1 c.start.ensures.core in
     let leaves = c.in-Ok.ensures.leaves in
     record {
       gives = subst (λ (s : g.row.S.Denot). IsMade w c.args.room was old (g.S.Shelf.device s) c.start.result.1) (sym c.start.ensures.shelf) (made w c.args.room was c.make.new.history old new c.in-Ok.standing stands c.start.result.1 c.start.ensures.core);

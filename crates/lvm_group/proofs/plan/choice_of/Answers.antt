@@ -16,7 +16,7 @@ same_status disks moment set s same is = is ∙ (λ t. let made : Status = recor
 
 pub set_of-answering-requires : goal.set_of-answering-requires
 set_of-answering-requires g c = λ k d lt.
-    let there = is_there (g.S.Shelf.device c.args.shelf.now).sizes c.args.disks.now c.requires.there k d lt in
+    let there = is_there (g.S.Shelf.device c.args.shelf.now).sizes c.args.disks.now c.requires.can.there k d lt in
     omega (arith, there, c.disks-disks.ensures.number, c.disks-disks.ensures.some)
 
 pub returns : goal.returns
@@ -32,10 +32,10 @@ returns g c =
       status = status_is;
       targets = c.set_of-answering.ensures;
       valid = subst IsValid (sym is)
-          (valid_group sizes c.args.name c.args.mib disks c.args.moment c.requires.moment c.ranges.moment.fits c.in_ok-descriptor.ensures.name c.requires.size c.requires.some c.requires.few
-          (are_members sizes c.args.mib disks few c.requires.there c.requires.fit c.requires.differ));
+          (valid_group sizes c.args.name c.args.mib disks c.args.moment c.requires.can.some_moment c.ranges.moment.fits c.in_ok-descriptor.ensures.name c.requires.can.size c.requires.can.some c.requires.can.few
+          (are_members sizes c.args.mib disks few c.requires.can.there c.requires.can.fit c.requires.can.differ));
       stated = subst IsValidStatus (sym status_is)
-          (valid_status disks c.args.moment c.requires.moment c.ranges.moment.fits c.requires.some c.requires.few (λ k lt. let there = is_there sizes disks c.requires.there k 0 lt in omega (arith, there, few)));
+          (valid_status disks c.args.moment c.requires.can.some_moment c.ranges.moment.fits c.requires.can.some c.requires.can.few (λ k lt. let there = is_there sizes disks c.requires.can.there k 0 lt in omega (arith, there, few)));
       group = subst (λ (d : Descriptor). IsOneGroup d c.in_ok-status.status) (sym is)
-          (subst (IsOneGroup group) (sym status_is) (one_group sizes c.args.name c.args.mib disks c.args.moment c.requires.few (λ disk its. let there = there_among sizes disks c.requires.there disk its in omega (arith, there, few))));
+          (subst (IsOneGroup group) (sym status_is) (one_group sizes c.args.name c.args.mib disks c.args.moment c.requires.can.few (λ disk its. let there = there_among sizes disks c.requires.can.there disk its in omega (arith, there, few))));
     }

@@ -1,4 +1,4 @@
-use Rattle.std.proofs.Common.{ℕ, IfErr, ap, sym, subst}
+use Rattle.std.proofs.Common.{ℕ, IfErr, ap, sym, subst, arith}
 use Rattle.lvm_disk_lines.specs.passed.Quiesce.{CauseRose, MkvgOnceQuiet}
 use Rattle.lvm_group_lines.specs.Groups.{MkvgDoes, NoMkvgWhileOn, Makes, asked_for, itself}
 use Rattle.lvm_disk_lines.specs.passed.Stage.{CommandEnds, Aside, Holder}
@@ -17,6 +17,11 @@ returns-in_default-clause-ends g c =
     asked_ends g.S.Shelf.device (λ log. MkvgDoes log c.args.room c.args.force c.args.name c.args.mib c.args.disks.now) ⊥ Aside c.args.stage c.refused.result.stage c.refused.result.reply c.requires.fits c.requires.between c.refused.ensures.stage
     (one_refused c.refused.result.reply refusal.GroupOn c.refused.ensures.reply) _ _ asked (NoMkvgWhileOn (on_unless c.args.stage.holder c.in_default.not-Off) c.refused.ensures.reply asked)
 
+pub mkvg-requires-clause-asked : goal.mkvg-requires-clause-asked
+mkvg-requires-clause-asked g c =
+    let some = c.now-moment.ensures.some in
+    record { some = c.requires.a_disk; differ = c.requires.differ; size = c.requires.size; moment = λ none. omega (arith, some, none) }
+
 pub left-holder-requires-clause-may : goal.left-holder-requires-clause-may
 left-holder-requires-clause-may g c =
     let shelf = c.in-Off.shelf in
@@ -24,7 +29,7 @@ left-holder-requires-clause-may g c =
     let w = asked_for c.args.name c.args.mib c.args.disks.now c.args.force c.now-moment.result in
     may_hold g.S.Shelf.device log.run c.now-moment.result (g.S.Shelf.device shelf) log c.mkvg.result
     (serves g.S.Shelf.device shelf log w c.args.room _ c.mkvg.result c.mkvg.ensures.gives (record { ordered = c.run.ensures.ordered; few = (fits_as c.args.stage (held (holder.Off shelf log) c.args.stage.posts c.args.stage.bytes) (ap (λ (h : Holder g.row.S.Denot). held h c.args.stage.posts c.args.stage.bytes) c.in-Off.is) c.requires.fits).few }))
-    c.mkvg.ensures.starts c.mkvg.ensures.faults
+    c.mkvg.ensures.starts
 
 pub left-holder-requires-clause-still : goal.left-holder-requires-clause-still
 left-holder-requires-clause-still g c =
@@ -59,7 +64,7 @@ returns-in-Off-clause-ends g c =
       starts = c.mkvg.ensures.starts;
       brings = c.mkvg.ensures.leaves;
       came = came device shelf log w c.args.room _ outcome c.mkvg.ensures.gives;
-      serves = all_serve device log.run moment (device shelf) log outcome by answer may c.mkvg.ensures.starts c.mkvg.ensures.faults left;
+      serves = all_serve device log.run moment (device shelf) log outcome by answer may c.mkvg.ensures.starts left;
       stands = stands device shelf log w c.args.room _ outcome c.mkvg.ensures.gives;
       stayed = stayed device shelf log w c.args.room _ outcome c.mkvg.ensures.gives;
       left = left;

@@ -23,7 +23,7 @@ left-holder-requires-clause-may g c =
     let log = c.in-Off.history in
     may_hold g.S.Shelf.device log.run c.now-moment.result (g.S.Shelf.device shelf) log c.varyon.result
     (serves g.S.Shelf.device shelf log c.args.name c.now-moment.result _ c.args.room c.varyon.result c.varyon.ensures.gives (record { ordered = c.run.ensures.ordered; few = (fits_as c.args.stage (held (holder.Off shelf log) c.args.stage.posts c.args.stage.bytes) (ap (λ (h : Holder g.row.S.Denot). held h c.args.stage.posts c.args.stage.bytes) c.in-Off.is) c.requires.fits).few }))
-    c.varyon.ensures.starts c.varyon.ensures.faults
+    c.varyon.ensures.starts
 
 pub left-holder-requires-clause-still : goal.left-holder-requires-clause-still
 left-holder-requires-clause-still g c =
@@ -45,7 +45,7 @@ returns-in-Off-clause-ends g c =
     let fits = fits_as c.args.stage (held (holder.Off shelf log) posts bytes) was c.requires.fits in
     let left : Left device outcome by answer = record { on = c.left-holder.ensures.on; off = c.left-holder.ensures.off } in
     let may = serves device shelf log c.args.name c.now-moment.result _ c.args.room outcome c.varyon.ensures.gives (record { ordered = c.run.ensures.ordered; few = fits.few }) in
-    let serving = all_serve device log.run moment (device shelf) log outcome by answer may c.varyon.ensures.starts c.varyon.ensures.faults left in
+    let serving = all_serve device log.run moment (device shelf) log outcome by answer may c.varyon.ensures.starts left in
     let gives = subst (λ (n : ℕ). VaryonOnceQuiet itself log c.args.name moment c.args.room n (device shelf) (device_outcome device outcome)) c.whole-patience.ensures (itself_gives device shelf log c.args.name c.now-moment.result _ c.args.room outcome c.varyon.ensures.gives) in
     let causes = subst (λ (n : ℕ). IfErr outcome (λ refused. CauseRose n (device shelf).counts (device refused.shelf).counts refused.cause)) c.whole-patience.ensures c.varyon.ensures.causes in
     ends_as device (λ log. VaryonDoes log c.args.room c.args.name) ⊥ Aside c.args.stage (held (holder.Off shelf log) posts bytes) c.answered.result.stage (held by posts bytes) c.answered.result.reply answer _ _

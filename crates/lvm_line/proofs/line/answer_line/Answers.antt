@@ -5,11 +5,10 @@ use Rattle.lvm_parse.specs.Grammar.{line_of}
 use Rattle.lvm_parse.proofs.Fields.{line_is_within}
 use Rattle.lvm_operands.specs.Reading.{misfit}
 use Rattle.lvm_copy_lines.specs.passed.Stage.{Reply, shelf_in}
-use Rattle.lvm_copy_lines.specs.passed.RefusalVariants as refusal
 use Rattle.lvm_copy_lines.specs.passed.ReplyVariants as reply
 use Rattle.lvm_line.specs.Lines.{CommandInPlace, IsLeftToDo}
 use Rattle.lvm_line.proofs.Answering.{mkvg_left}
-use Rattle.lvm_line.proofs.InPlace.{done_in_place, still_in_place}
+use Rattle.lvm_line.proofs.Staying.{done_in_place, still_in_place}
 use Rattle.lvm_line.proofs.line.answer_line.Goals as goal
 
 pub serve-requires-clause-within : goal.serve-requires-clause-within
@@ -22,21 +21,21 @@ returns-in-Ok-None g c = (
   λ stuck. cc stuck,
 )
 
-pub returns-in-Ok-Some-in-Some : goal.returns-in-Ok-Some-in-Some
-returns-in-Ok-Some-in-Some g c =
-    done_in_place g.S.Shelf.device c.args.stage.now c.requires.fits c.requires.between c.args.line.now (g.met.S.Shelf.sectors_are_whole (shelf_in c.args.stage.now)) c.in-Ok-Some.command c.serve.new.stage c.in-Ok-Some-in-Some.reply c.behind.result
+pub returns-in-Some : goal.returns-in-Some
+returns-in-Some g c =
+    done_in_place g.S.Shelf.device c.args.stage.now c.requires.fits c.requires.between c.args.line.now (g.met.S.Shelf.sectors_are_whole (shelf_in c.args.stage.now)) c.in-Ok-Some.command c.serve.new.stage c.in-Some.reply c.behind.result
     (c.in-Ok-Some.ensures.read ∙ ap (λ (o : Option Command). Ok o) c.in-Ok-Some.field-0-is)
-    (subst (λ (o : Option Reply). CommandInPlace g.S.Shelf.device c.in-Ok-Some.command c.args.stage.now c.serve.new.stage o) c.in-Ok-Some-in-Some.is c.serve.ensures) c.behind.ensures
+    (subst (λ (o : Option Reply). CommandInPlace g.S.Shelf.device c.in-Ok-Some.command c.args.stage.now c.serve.new.stage o) c.in-Some.is c.serve.ensures) c.behind.ensures
 
-pub returns-in-Ok-Some-in-None : goal.returns-in-Ok-Some-in-None
-returns-in-Ok-Some-in-None g c =
-    let left = subst (λ (o : Option Reply). CommandInPlace g.S.Shelf.device c.in-Ok-Some.command c.args.stage.now c.serve.new.stage o) c.in-Ok-Some-in-None.is c.serve.ensures in
+pub returns-in-None : goal.returns-in-None
+returns-in-None g c =
+    let left = subst (λ (o : Option Reply). CommandInPlace g.S.Shelf.device c.in-Ok-Some.command c.args.stage.now c.serve.new.stage o) c.in-None.is c.serve.ensures in
     (left.0, subst IsLeftToDo (sym (c.in-Ok-Some.ensures.read ∙ ap (λ (o : Option Command). Ok o) c.in-Ok-Some.field-0-is)) left.1)
 
 pub returns-in-Err-BadLine : goal.returns-in-Err-BadLine
 returns-in-Err-BadLine g c = (
   still_in_place g.S.Shelf.device c.args.stage.now c.requires.fits c.requires.between c.args.line.now (g.met.S.Shelf.sectors_are_whole (shelf_in c.args.stage.now)) (misfit c.in-Err-BadLine.column)
-      (reply.Refused (refusal.BadLine c.in-Err-BadLine.column)) ((c.parse.ensures.bad_line c.in-Err-BadLine.column).0 (cc)) (λ log room last. (refl, refl)) (omega arith),
+      _ ((c.parse.ensures.bad_line c.in-Err-BadLine.column).0 (cc)) (λ log room last. (cc (c.in-Err-BadLine.column-is), refl)) (omega arith),
   λ stuck. cc stuck,
 )
 

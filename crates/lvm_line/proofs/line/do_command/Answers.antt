@@ -45,18 +45,18 @@ returns-in-Cut g c = done_by g.S.Shelf.device c.args.room c.args.command _ _ _ c
 
 pub returns-in-Rd : goal.returns-in-Rd
 returns-in-Rd g c =
-    served_by g.S.Shelf.device c.args.room c.args.command _ c.args.stage c.do_rd.new.stage c.do_rd.result c.left.result.stage c.left.result.reply (g.C.Clock.last c.args.clock.now) (g.C.Clock.asked c.args.clock.now) c.in-Rd.is c.left.ensures.left c.left.ensures.reply
-    (c.do_rd.ensures c.left.result.stage c.left.ensures.left (g.C.Clock.last c.args.clock.now)) refl
+    served_by g.S.Shelf.device c.args.room c.args.command _ c.args.stage c.do_rd-reply.new.stage c.do_rd-reply.result c.left.result.stage c.left.result.reply (g.C.Clock.last c.args.clock.now) (g.C.Clock.asked c.args.clock.now) c.in-Rd.is c.left.ensures.left c.left.ensures.reply
+    (c.do_rd-reply.ensures c.left.result.stage c.left.ensures.left (g.C.Clock.last c.args.clock.now)) refl
 
 pub returns-in-Wr : goal.returns-in-Wr
 returns-in-Wr g c =
-    served_by g.S.Shelf.device c.args.room c.args.command _ c.args.stage c.do_wr.new.stage c.do_wr.result c.left-in-Wr.result.stage c.left-in-Wr.result.reply (g.C.Clock.last c.args.clock.now) (g.C.Clock.asked c.args.clock.now) c.in-Wr.is c.left-in-Wr.ensures.left c.left-in-Wr.ensures.reply
-    (c.do_wr.ensures c.left-in-Wr.result.stage c.left-in-Wr.ensures.left (g.C.Clock.last c.args.clock.now)) refl
+    served_by g.S.Shelf.device c.args.room c.args.command _ c.args.stage c.do_wr-reply.new.stage c.do_wr-reply.result c.left-in-Wr.result.stage c.left-in-Wr.result.reply (g.C.Clock.last c.args.clock.now) (g.C.Clock.asked c.args.clock.now) c.in-Wr.is c.left-in-Wr.ensures.left c.left-in-Wr.ensures.reply
+    (c.do_wr-reply.ensures c.left-in-Wr.result.stage c.left-in-Wr.ensures.left (g.C.Clock.last c.args.clock.now)) refl
 
 pub returns-in-Post : goal.returns-in-Post
 returns-in-Post g c =
-    served_by g.S.Shelf.device c.args.room c.args.command _ c.args.stage c.do_post.new.stage c.do_post.result c.left-in-Post.result.stage c.left-in-Post.result.reply (g.C.Clock.last c.args.clock.now) (g.C.Clock.asked c.args.clock.now) c.in-Post.is c.left-in-Post.ensures.left c.left-in-Post.ensures.reply
-    (c.do_post.ensures c.left-in-Post.result.stage c.left-in-Post.ensures.left (g.C.Clock.last c.args.clock.now)) refl
+    served_by g.S.Shelf.device c.args.room c.args.command _ c.args.stage c.do_post-reply.new.stage c.do_post-reply.result c.left-in-Post.result.stage c.left-in-Post.result.reply (g.C.Clock.last c.args.clock.now) (g.C.Clock.asked c.args.clock.now) c.in-Post.is c.left-in-Post.ensures.left c.left-in-Post.ensures.reply
+    (c.do_post-reply.ensures c.left-in-Post.result.stage c.left-in-Post.ensures.left (g.C.Clock.last c.args.clock.now)) refl
 
 pub returns-in-Wait : goal.returns-in-Wait
 returns-in-Wait g c = done_by g.S.Shelf.device c.args.room c.args.command _ _ _ c.do_wait.result.reply _ _ _ _ c.in-Wait.is (c.do_wait.ensures (g.C.Clock.last c.args.clock.now)) refl

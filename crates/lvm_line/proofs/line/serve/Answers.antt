@@ -1,38 +1,38 @@
-use Rattle.std.proofs.Common.{Some, Ok, refl, sym, subst}
+use Rattle.std.proofs.Common.{None, Some, Ok, refl, sym, subst}
 use Rattle.lvm_parse.specs.declared.command.Command.{Command}
 use Rattle.lvm_parse.specs.declared.command.Command.TheVariants as command
 use Rattle.lvm_copy_lines.specs.passed.Stage.{CommandEnds, session_in}
 use Rattle.lvm_line.specs.Lines.{CommandDoes, IsOrder, role_of}
-use Rattle.lvm_line.proofs.InPlace.{lists_in_place}
+use Rattle.lvm_line.proofs.Answering.{left_over}
 use Rattle.lvm_line.proofs.Lining.{heard_disk, heard_group, heard_volume, one_disk, one_group, one_volume}
+use Rattle.lvm_line.proofs.Staying.{lists_in_place, placed_as}
+use Rattle.lvm_line.proofs.line.serve.Goals.{in-Lsvg, in-Lslv, in-Lspv, in-Rd, in-Wr, in-Post, in_default}
 use Rattle.lvm_line.proofs.line.serve.Goals as goal
 
-pub returns-in-Lsvg : goal.returns-in-Lsvg
-returns-in-Lsvg g c =
-    lists_in_place g.S.Shelf.device c.args.stage.now c.requires.fits c.requires.between c.args.command (command.Lsvg c.in-Lsvg.volumes c.in-Lsvg.name) c.list_group.result c.in-Lsvg.is
-    (one_group c.in-Lsvg.volumes c.in-Lsvg.name (session_in c.args.stage.now) c.list_group.result c.list_group.ensures) (heard_group c.in-Lsvg.volumes c.in-Lsvg.name (session_in c.args.stage.now) c.list_group.result c.list_group.ensures) refl (λ log room new last same. (c.list_group.ensures, same))
-
-pub returns-in-Lslv : goal.returns-in-Lslv
-returns-in-Lslv g c =
-    lists_in_place g.S.Shelf.device c.args.stage.now c.requires.fits c.requires.between c.args.command (command.Lslv c.in-Lslv.name) c.list_volume.result c.in-Lslv.is
-    (one_volume c.in-Lslv.name (session_in c.args.stage.now) c.list_volume.result c.list_volume.ensures) (heard_volume c.in-Lslv.name (session_in c.args.stage.now) c.list_volume.result c.list_volume.ensures) refl (λ log room new last same. (c.list_volume.ensures, same))
-
-pub returns-in-Lspv : goal.returns-in-Lspv
-returns-in-Lspv g c =
-    lists_in_place g.S.Shelf.device c.args.stage.now c.requires.fits c.requires.between c.args.command (command.Lspv c.in-Lspv.disk) c.list_disk.result c.in-Lspv.is
-    (one_disk c.in-Lspv.disk _ (session_in c.args.stage.now) c.list_disk.result c.list_disk.ensures) (heard_disk c.in-Lspv.disk _ (session_in c.args.stage.now) c.list_disk.result c.list_disk.ensures) refl (λ log room new last same. (c.list_disk.ensures, same))
-
-pub returns-in-Rd : goal.returns-in-Rd
-returns-in-Rd g c = λ left its room last.
-    subst (λ (d : Command). CommandEnds g.S.Shelf.device (λ log. CommandDoes log room d) (IsOrder (Ok (Some d))) (role_of (Ok (Some d))) c.args.stage.now left c.do_rd.result last last) (sym c.in-Rd.is)
-    (c.do_rd.ensures left its last)
-
-pub returns-in-Wr : goal.returns-in-Wr
-returns-in-Wr g c = λ left its room last.
-    subst (λ (d : Command). CommandEnds g.S.Shelf.device (λ log. CommandDoes log room d) (IsOrder (Ok (Some d))) (role_of (Ok (Some d))) c.args.stage.now left c.do_wr.result last last) (sym c.in-Wr.is)
-    (c.do_wr.ensures left its last)
-
-pub returns-in-Post : goal.returns-in-Post
-returns-in-Post g c = λ left its room last.
-    subst (λ (d : Command). CommandEnds g.S.Shelf.device (λ log. CommandDoes log room d) (IsOrder (Ok (Some d))) (role_of (Ok (Some d))) c.args.stage.now left c.do_post.result last last) (sym c.in-Post.is)
-    (c.do_post.ensures left its last)
+pub returns : goal.returns
+returns g c =
+    let device = g.S.Shelf.device in
+    let old = c.args.stage.now in
+    let it = c.args.command in
+    let kept = c.match-command.stage in
+    let answer = c.match-command.result in
+    let session = session_in old in
+    elim c.match-command.branch [
+      | in-Lsvg w ↦ placed_as device it old kept old answer (Some w.list_group.result) w.stage-is w.result-is
+          (lists_in_place device old c.requires.fits c.requires.between it (command.Lsvg w.in-Lsvg.volumes w.in-Lsvg.name) w.list_group.result w.in-Lsvg.is
+          (one_group w.in-Lsvg.volumes w.in-Lsvg.name session w.list_group.result w.list_group.ensures) (heard_group w.in-Lsvg.volumes w.in-Lsvg.name session w.list_group.result w.list_group.ensures) refl (λ log room new last same. (w.list_group.ensures, same)))
+      | in-Lslv w ↦ placed_as device it old kept old answer (Some w.list_volume.result) w.stage-is w.result-is
+          (lists_in_place device old c.requires.fits c.requires.between it (command.Lslv w.in-Lslv.name) w.list_volume.result w.in-Lslv.is
+          (one_volume w.in-Lslv.name session w.list_volume.result w.list_volume.ensures) (heard_volume w.in-Lslv.name session w.list_volume.result w.list_volume.ensures) refl (λ log room new last same. (w.list_volume.ensures, same)))
+      | in-Lspv w ↦ placed_as device it old kept old answer (Some w.list_disk.result) w.stage-is w.result-is
+          (lists_in_place device old c.requires.fits c.requires.between it (command.Lspv w.in-Lspv.disk) w.list_disk.result w.in-Lspv.is
+          (one_disk w.in-Lspv.disk _ session w.list_disk.result w.list_disk.ensures) (heard_disk w.in-Lspv.disk _ session w.list_disk.result w.list_disk.ensures) refl (λ log room new last same. (w.list_disk.ensures, same)))
+      | in-Rd w ↦ placed_as device it old kept w.do_rd.new.stage answer (Some w.do_rd.result) w.stage-is w.result-is
+          (λ left its room last. subst (λ (d : Command). CommandEnds device (λ log. CommandDoes log room d) (IsOrder (Ok (Some d))) (role_of (Ok (Some d))) old left w.do_rd.result last last) (sym w.in-Rd.is) (w.do_rd.ensures left its last))
+      | in-Wr w ↦ placed_as device it old kept w.do_wr.new.stage answer (Some w.do_wr.result) w.stage-is w.result-is
+          (λ left its room last. subst (λ (d : Command). CommandEnds device (λ log. CommandDoes log room d) (IsOrder (Ok (Some d))) (role_of (Ok (Some d))) old left w.do_wr.result last last) (sym w.in-Wr.is) (w.do_wr.ensures left its last))
+      | in-Post w ↦ placed_as device it old kept w.do_post.new.stage answer (Some w.do_post.result) w.stage-is w.result-is
+          (λ left its room last. subst (λ (d : Command). CommandEnds device (λ log. CommandDoes log room d) (IsOrder (Ok (Some d))) (role_of (Ok (Some d))) old left w.do_post.result last last) (sym w.in-Post.is) (w.do_post.ensures left its last))
+      | in_default w ↦ placed_as device it old kept old answer None w.stage-is w.result-is
+          (refl, left_over it w.in_default.not-Lsvg w.in_default.not-Lslv w.in_default.not-Lspv w.in_default.not-Rd w.in_default.not-Wr w.in_default.not-Post)
+    ]

@@ -19,5 +19,5 @@ pub loop-flights-preserved : goal.loop-flights-preserved
 loop-flights-preserved c =
     let next = headed c.loop-flights.flights.items c.remove-flying.result c.remove-flying.new.self.items (omega arith) c.remove-flying.ensures.value c.remove-flying.ensures.items in
     one_cut _ _ _ _ _ _ _ _ _ _ _ _ c.loop-flights.invariant (flight_of c.remove-flying.result) (flights_of c.remove-flying.new.self.items) next c.tear_flight.new.disks.items c.push.new.self.items
-    (c.loop-flights.counted + c.writes-counted.result) (vec_capacity c.push.new.self) (vec_capacity c.remove-flying.new.self) c.tear_flight.ensures.sizes c.tear_flight.ensures.torn
-    c.tear_flight.ensures.sectors c.in-Ok.ensures.items (omega arith) c.push.ensures.capacity (omega arith)
+    (c.loop-flights.counted + c.writes-counted.result) (vec_capacity c.push.new.self) (vec_capacity c.remove-flying.new.self) c.tear_flight.ensures.disks.sizes c.tear_flight.ensures.torn
+    c.tear_flight.ensures.disks.sectors c.in-Ok.ensures.items (omega arith) c.push.ensures.capacity (omega arith)

@@ -7,7 +7,7 @@ use Rattle.lvm_volumes.specs.Endings.{StillHeld, KeepsFresh}
 use Rattle.lvm_volumes.proofs.Breaking.{stopped}
 use Rattle.lvm_volumes.proofs.Entering.{has_numbers}
 use Rattle.lvm_copy_plan.specs.PlannedCopies.{ArePlanned}
-use Rattle.lvm_mirrors.proofs.Adding.{added_unused, added_once, mark_break_leaves, mark_break, mid_numbers, mid_alike, all_leaves, all_still, all_keeps, all_ends}
+use Rattle.lvm_mirrors.proofs.Adding.{added_unused, mark_break_leaves, mark_break, mid_numbers, mid_alike, all_leaves, all_still, all_keeps, all_ends}
 use Rattle.lvm_mirrors.proofs.copies.add.Goals as goal
 
 pub set_status-requires-clause-numbers : goal.set_status-requires-clause-numbers
@@ -16,10 +16,6 @@ set_status-requires-clause-numbers g c = has_numbers c.args.driver.now.1 c.requi
 pub set_status-requires-clause-unused : goal.set_status-requires-clause-unused
 set_status-requires-clause-unused g c =
     added_unused c.requires.may.0 c.requires.may.1.0 c.args.added.now c.args.next (state_of g.S.Shelf.device c.args.driver.now) c.requires.settled c.requires.may.1.1
-
-pub set_status-requires-clause-once : goal.set_status-requires-clause-once
-set_status-requires-clause-once g c =
-    added_once c.requires.may.0 c.requires.may.1.0 c.args.added.now c.args.next (state_of g.S.Shelf.device c.args.driver.now) c.requires.settled c.requires.may.1.1
 
 pub returns-in_err-set_status : goal.returns-in_err-set_status
 returns-in_err-set_status g c =

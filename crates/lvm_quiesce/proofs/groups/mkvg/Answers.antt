@@ -18,7 +18,6 @@ returns-in-Err g c =
     record {
       gives = RefusedAtOnce _ refl refuses refl refl;
       starts = tt;
-      faults = tt;
       causes = first_rose device.sizes (spare_entries c.args.history) w c.args.patience.now.left device.counts c.in-Err.cause refuses;
       leaves = none_brings c.args.history.run c.args.moment c.args.patience.now.left device c.args.history (g.met.S.Shelf.sectors_are_whole c.args.shelf) c.ranges.moment.fits;
     }
@@ -29,9 +28,9 @@ returns-in-Ok g c =
     let may : MayBegin (g.S.Shelf.device c.args.shelf).sizes (spare_entries c.args.history) c.args.disks.now c.args.mib =
     subst (λ (n : ℕ). MayBegin (g.S.Shelf.device c.args.shelf).sizes n c.args.disks.now c.args.mib) c.spare_entries.ensures.spare c.in_default.ensures.may in
     let rests = c.in-Ok.ensures in
-    let its = made g.S.Shelf.device c.args.shelf c.args.history c.args.moment c.args.patience.now.left c.mkvg.new.patience.left w c.args.room c.come_to_rest.new.patience.left c.in-Ok.shelf c.in-Ok.history c.mkvg.result may
+    let its = made g.S.Shelf.device c.args.shelf c.args.history c.args.moment c.args.patience.now.left c.mkvg.new.patience.left w c.args.room c.come_to_rest.new.patience.left c.in-Ok.shelf c.in-Ok.history c.mkvg.result c.mkvg.ensures.faults may
     rests.0 rests.1 rests.2 c.mkvg.ensures.gives c.mkvg.ensures.starts c.mkvg.ensures.leaves in
-    record { gives = its.gives; starts = its.starts; faults = c.mkvg.ensures.faults; causes = its.causes; leaves = its.leaves }
+    record { gives = its.gives; starts = its.starts; causes = its.causes; leaves = its.leaves }
 
 pub returns-in-Err-come_to_rest : goal.returns-in-Err-come_to_rest
 returns-in-Err-come_to_rest g c =
@@ -39,4 +38,4 @@ returns-in-Err-come_to_rest g c =
     subst (λ (n : ℕ). MayBegin (g.S.Shelf.device c.args.shelf).sizes n c.args.disks.now c.args.mib) c.spare_entries.ensures.spare c.in_default.ensures.may in
     let out = c.in-Err-come_to_rest.ensures in
     let its = stayed_out g.S.Shelf.device c.args.shelf c.args.history c.args.moment c.args.patience.now.left c.come_to_rest.new.patience.left _ _ _ c.in-Err-come_to_rest.refused (g.met.S.Shelf.sectors_are_whole c.in-Err-come_to_rest.refused.shelf) c.ranges.moment.fits may out.0 out.1 in
-    record { gives = its.gives; starts = tt; faults = tt; causes = its.causes; leaves = its.leaves }
+    record { gives = its.gives; starts = tt; causes = its.causes; leaves = its.leaves }

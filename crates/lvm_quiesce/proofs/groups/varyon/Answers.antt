@@ -13,7 +13,6 @@ returns-then-spare_entries-eq0 g c =
     record {
       gives = RefusedAtOnce _ refl (refl, full) refl refl;
       starts = tt;
-      faults = tt;
       causes = tt;
       leaves = none_brings c.args.history.run c.args.moment c.args.patience.now.left (g.S.Shelf.device c.args.shelf) c.args.history (g.met.S.Shelf.sectors_are_whole c.args.shelf) c.ranges.moment.fits;
     }
@@ -23,9 +22,9 @@ returns-in-Ok g c =
     let is = c.spare_entries.ensures.spare in
     let some = c.if-spare_entries-eq0.false in
     let rests = c.in-Ok.ensures in
-    let its = varied g.S.Shelf.device c.args.shelf c.args.history c.args.moment c.args.patience.now.left c.varyon.new.patience.left c.args.name c.args.room c.come_to_rest.new.patience.left c.in-Ok.shelf c.in-Ok.history c.varyon.result (omega (arith, is, some))
-    rests.0 rests.1 rests.2 (record { gives = c.varyon.ensures.gives; restated = c.varyon.ensures.restated; recovered = c.varyon.ensures.recovered }) c.varyon.ensures.starts c.varyon.ensures.leaves in
-    record { gives = its.gives; starts = its.starts; faults = c.varyon.ensures.faults; causes = its.causes; leaves = its.leaves }
+    let its = varied g.S.Shelf.device c.args.shelf c.args.history c.args.moment c.args.patience.now.left c.varyon.new.patience.left c.args.name c.args.room c.come_to_rest.new.patience.left c.in-Ok.shelf c.in-Ok.history c.varyon.result c.varyon.ensures.faults (omega (arith, is, some))
+    rests.0 rests.1 rests.2 c.varyon.ensures.gives c.varyon.ensures.starts c.varyon.ensures.leaves in
+    record { gives = its.gives; starts = its.starts; causes = its.causes; leaves = its.leaves }
 
 pub returns-in-Err : goal.returns-in-Err
 returns-in-Err g c =
@@ -33,4 +32,4 @@ returns-in-Err g c =
     let some = c.if-spare_entries-eq0.false in
     let out = c.in-Err.ensures in
     let its = stayed_out g.S.Shelf.device c.args.shelf c.args.history c.args.moment c.args.patience.now.left c.come_to_rest.new.patience.left _ _ _ c.in-Err.refused (g.met.S.Shelf.sectors_are_whole c.in-Err.refused.shelf) c.ranges.moment.fits (omega (arith, is, some)) out.0 out.1 in
-    record { gives = its.gives; starts = tt; faults = tt; causes = its.causes; leaves = its.leaves }
+    record { gives = its.gives; starts = tt; causes = its.causes; leaves = its.leaves }

@@ -1,4 +1,4 @@
-use Rattle.std.proofs.Common.{false, length, sym, ◌∙◌, ap, arith}
+use Rattle.std.proofs.Common.{false, length, ◌∙◌, ap, arith}
 use Rattle.std.proofs.lemmas.List.{length-replicate}
 use Rattle.lvm_session.specs.State.{Core}
 use Rattle.lvm_session_start.proofs.begin.first_session.Goals as goal
@@ -18,6 +18,5 @@ returns-clause-rooms g c =
     record {
       requests = omega (arith, most, requests, for_requests);
       flying = omega (arith, pool, flying, for_transfers);
-      buffers = pool ∙ sym made.buffers;
       bytes = omega (arith, blocks);
     }

@@ -1,4 +1,4 @@
-use Rattle.std.proofs.Common.{◌≤◌, sym, ap, subst, arith}
+use Rattle.std.proofs.Common.{◌≡◌, ◌≤◌, sym, ap, subst, arith}
 use Rattle.lvm_disk.specs.Device.{Device}
 use Rattle.lvm_disk.specs.Paths.{Here}
 use Rattle.lvm_vol.specs.Log.{Log, spare_entries}
@@ -8,7 +8,8 @@ use Rattle.lvm_session_start.specs.Beginning.{AreFaults}
 use Rattle.lvm_core.specs.Coming.{BringsOn}
 use Rattle.lvm_core.specs.Held.{StartsHeld}
 use Rattle.lvm_core.specs.declared.refused.Cause.TheVariants as cause
-use Rattle.lvm_varyon.specs.Varied.{ComesOn, IsRestated, IsRecovered}
+use Rattle.lvm_varyon.specs.Varied.{ComesOn, IsRestated, IsRecovered, Refuses}
+use Rattle.lvm_varyon.proofs.Refusing.{refused_gives, refuses_so}
 use Rattle.lvm_varyon.proofs.Spanning.{ahead_of, refused_keeps, refused_calm, comes_on, starts_held, none_left, settles, is_restated, is_recovered, on_keeps, on_calm}
 use Rattle.lvm_varyon.proofs.vary.varyon.Goals as goal
 
@@ -16,6 +17,14 @@ pub start-requires-clause-placed : goal.start-requires-clause-placed
 start-requires-clause-placed g c = c.in-Ok.ensures.gives.placed
 
 -- ---- the history is full
+
+pub returns-then-spare_entries-eq0-clause-gives : goal.returns-then-spare_entries-eq0-clause-gives
+returns-then-spare_entries-eq0-clause-gives g c =
+    let is = c.spare_entries.ensures.spare in
+    let none = c.if-spare_entries-eq0.true in
+    let full : spare_entries c.args.history ≡ 0 = omega (arith, is, none) in
+    refused_gives g.S.Shelf.device (g.S.Shelf.device c.args.shelf) c.args.history c.args.name c.args.moment c.args.room c.args.patience.now.left cause.HistoryFull c.refused.result
+    c.refused.ensures.cause c.refused.ensures.history (full, ap g.S.Shelf.device c.refused.ensures.shelf)
 
 pub returns-then-spare_entries-eq0-clause-leaves : goal.returns-then-spare_entries-eq0-clause-leaves
 returns-then-spare_entries-eq0-clause-leaves g c =
@@ -37,8 +46,16 @@ returns-in-Ok-clause-gives g c =
     let is = c.spare_entries.ensures.spare in
     let some = c.if-spare_entries-eq0.false in
     let spare : 1 ≤ spare_entries c.args.history = omega (arith, is, some) in
-    subst (λ (d : Device). ComesOn (g.S.Shelf.device c.args.shelf) d c.args.history c.args.name c.args.moment c.args.room c.start.result.1) (sym (ap g.S.Shelf.device c.start.ensures.shelf))
-    (comes_on _ _ c.args.history c.args.name c.args.moment c.args.room c.in-Ok.parts c.in-Ok.homes c.start.result.1 c.in-Ok.ensures.gives c.start.ensures.core spare)
+    let old = g.S.Shelf.device c.args.shelf in
+    let same = sym (ap g.S.Shelf.device c.start.ensures.shelf) in
+    record {
+      gives = subst (λ (d : Device). ComesOn old d c.args.history c.args.name c.args.moment c.args.room c.start.result.1) same
+          (comes_on _ _ c.args.history c.args.name c.args.moment c.args.room c.in-Ok.parts c.in-Ok.homes c.start.result.1 c.in-Ok.ensures.gives c.start.ensures.core spare);
+      restated = λ clock. subst (λ (d : Device). IsRestated old d c.start.result.1.descriptor) same
+          (is_restated _ _ c.args.history c.args.name c.args.moment c.args.room c.in-Ok.parts c.in-Ok.homes c.start.result.1 c.in-Ok.ensures.gives c.start.ensures.core clock);
+      recovered = λ clock soft. subst (λ (d : Device). IsRecovered old d c.start.result.1.descriptor) same
+          (is_recovered _ _ c.args.history c.args.name c.args.moment c.args.room c.in-Ok.parts c.in-Ok.homes c.start.result.1 c.in-Ok.ensures.gives c.start.ensures.core clock soft);
+    }
 
 pub returns-in-Ok-clause-starts : goal.returns-in-Ok-clause-starts
 returns-in-Ok-clause-starts g c =
@@ -53,16 +70,6 @@ returns-in-Ok-clause-starts g c =
 pub returns-in-Ok-clause-faults : goal.returns-in-Ok-clause-faults
 returns-in-Ok-clause-faults g c = subst (λ (d : Device). AreFaults d c.start.result.1.origin.faults) (sym (ap g.S.Shelf.device c.start.ensures.shelf)) c.start.ensures.faults
 
-pub returns-in-Ok-clause-restated : goal.returns-in-Ok-clause-restated
-returns-in-Ok-clause-restated g c = λ clock.
-    subst (λ (d : Device). IsRestated (g.S.Shelf.device c.args.shelf) d c.start.result.1.descriptor) (sym (ap g.S.Shelf.device c.start.ensures.shelf))
-    (is_restated _ _ c.args.history c.args.name c.args.moment c.args.room c.in-Ok.parts c.in-Ok.homes c.start.result.1 c.in-Ok.ensures.gives c.start.ensures.core clock)
-
-pub returns-in-Ok-clause-recovered : goal.returns-in-Ok-clause-recovered
-returns-in-Ok-clause-recovered g c = λ clock quiet.
-    subst (λ (d : Device). IsRecovered (g.S.Shelf.device c.args.shelf) d c.start.result.1.descriptor) (sym (ap g.S.Shelf.device c.start.ensures.shelf))
-    (is_recovered _ _ c.args.history c.args.name c.args.moment c.args.room c.in-Ok.parts c.in-Ok.homes c.start.result.1 c.in-Ok.ensures.gives c.start.ensures.core clock quiet)
-
 pub returns-in-Ok-clause-leaves : goal.returns-in-Ok-clause-leaves
 returns-in-Ok-clause-leaves g c =
     let old = g.S.Shelf.device c.args.shelf in
@@ -76,6 +83,17 @@ returns-in-Ok-clause-leaves g c =
     })
 
 -- ---- it isn't
+
+pub returns-in-Err-clause-gives : goal.returns-in-Err-clause-gives
+returns-in-Err-clause-gives g c =
+    let is = c.spare_entries.ensures.spare in
+    let some = c.if-spare_entries-eq0.false in
+    let spare : 1 ≤ spare_entries c.args.history = omega (arith, is, some) in
+    let old = g.S.Shelf.device c.args.shelf in
+    let left = c.args.patience.now.left in
+    refused_gives g.S.Shelf.device old c.args.history c.args.name c.args.moment c.args.room left c.in-Err.cause c.refused-in-Err.result c.refused-in-Err.ensures.cause c.refused-in-Err.ensures.history
+    (subst (λ (d : Device). Refuses old d c.args.name c.args.moment left c.args.history c.in-Err.cause) (sym (ap g.S.Shelf.device c.refused-in-Err.ensures.shelf))
+    (refuses_so old (g.S.Shelf.device c.bring.new.shelf) c.args.name c.args.moment left c.args.history c.in-Err.cause spare c.in-Err.ensures.gives))
 
 pub returns-in-Err-clause-leaves : goal.returns-in-Err-clause-leaves
 returns-in-Err-clause-leaves g c =

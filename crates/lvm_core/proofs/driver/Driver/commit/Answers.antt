@@ -1,15 +1,16 @@
-use Rattle.std.proofs.Common.{sym, subst}
+use Rattle.std.proofs.Common.{sym, subst, arith}
 use Rattle.lvm_commit.specs.Committed.{IsAlike}
 use Rattle.lvm_session.specs.State.{Core, state}
 use Rattle.lvm_session.specs.Fields.{core_of}
-use Rattle.lvm_core.specs.Settled.{IsSettled}
-use Rattle.lvm_core.proofs.Commits.{may_settle_now}
+use Rattle.lvm_core.specs.Settled.{IsSettled, HasSpareNumbers}
+use Rattle.lvm_core.proofs.Commits.{may_commit_now}
 use Rattle.lvm_core.proofs.Committing.{descriptor_sound, descriptor_sizes, descriptor_ends, descriptor_fails, descriptor_leaves}
 use Rattle.lvm_core.proofs.Own.{rooms_stay}
 use Rattle.lvm_core.proofs.driver.Driver.commit.Goals as goal
 
 pub commit-requires-clause-may : goal.commit-requires-clause-may
-commit-requires-clause-may g c = may_settle_now (state (g.S.Shelf.device c.self.inside.shelf) (core_of c.self.inside.session)) c.self.invariant.1 (subst (λ (v : g.row.S.Denot × Core). IsSettled v.1) (sym c.self.view_is) c.requires.settled)
+commit-requires-clause-may g c = may_commit_now (state (g.S.Shelf.device c.self.inside.shelf) (core_of c.self.inside.session)) c.self.invariant.1 (subst (λ (v : g.row.S.Denot × Core). IsSettled v.1) (sym c.self.view_is) c.requires.settled)
+    (subst (λ (v : g.row.S.Denot × Core). HasSpareNumbers v.1) (sym c.self.view_is) c.requires.numbers) 2 (omega arith)
 
 pub commit-requires-clause-alike : goal.commit-requires-clause-alike
 commit-requires-clause-alike g c = subst (λ (v : g.row.S.Denot × Core). IsAlike c.args.next v.1.descriptor) (sym c.self.view_is) c.requires.alike

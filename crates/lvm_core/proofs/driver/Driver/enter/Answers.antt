@@ -10,6 +10,6 @@ pub invariant_of-self : goal.invariant_of-self
 invariant_of-self g c =
     let core = core_of c.self.inside.session in
     let device = g.S.Shelf.device c.self.inside.shelf in (
-      record { requests = c.self.invariant.0.requests; flying = c.self.invariant.0.flying; buffers = c.self.invariant.0.buffers; bytes = c.self.invariant.0.bytes },
+      record { requests = c.self.invariant.0.requests; flying = c.self.invariant.0.flying; bytes = c.self.invariant.0.bytes },
       subst (λ (log : Log). IsSound (state device (record core { history = log }))) (sym c.push.ensures) (entered_sound device core c.args.entry c.requires.volume c.self.invariant.1),
     )

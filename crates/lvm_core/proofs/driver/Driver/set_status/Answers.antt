@@ -1,15 +1,16 @@
-use Rattle.std.proofs.Common.{◌++◌, sym, subst}
+use Rattle.std.proofs.Common.{◌++◌, sym, subst, arith}
 use Rattle.lvm_session.specs.State.{Core, state}
 use Rattle.lvm_session.specs.Fields.{core_of}
-use Rattle.lvm_core.specs.Settled.{IsSettled}
+use Rattle.lvm_core.specs.Settled.{IsSettled, HasSpareNumbers}
 use Rattle.lvm_core.specs.Committing.{AreUnused}
-use Rattle.lvm_core.proofs.Commits.{may_settle_now, unused_markable}
+use Rattle.lvm_core.proofs.Commits.{may_commit_now, unused_markable}
 use Rattle.lvm_core.proofs.Stating.{status_sound, status_sizes, status_ends_so, status_fails, nothing_done, restates, status_leaves}
 use Rattle.lvm_core.proofs.Own.{rooms_stay}
 use Rattle.lvm_core.proofs.driver.Driver.set_status.Goals as goal
 
 pub set_status-requires-clause-may : goal.set_status-requires-clause-may
-set_status-requires-clause-may g c = may_settle_now (state (g.S.Shelf.device c.self.inside.shelf) (core_of c.self.inside.session)) c.self.invariant.1 (subst (λ (v : g.row.S.Denot × Core). IsSettled v.1) (sym c.self.view_is) c.requires.settled)
+set_status-requires-clause-may g c = may_commit_now (state (g.S.Shelf.device c.self.inside.shelf) (core_of c.self.inside.session)) c.self.invariant.1 (subst (λ (v : g.row.S.Denot × Core). IsSettled v.1) (sym c.self.view_is) c.requires.settled)
+    (subst (λ (v : g.row.S.Denot × Core). HasSpareNumbers v.1) (sym c.self.view_is) c.requires.numbers) 1 (omega arith)
 
 pub set_status-requires-clause-markable : goal.set_status-requires-clause-markable
 set_status-requires-clause-markable g c = unused_markable (core_of c.self.inside.session) (c.args.stale.now ++ c.args.fresh.now) c.self.invariant.1.fitting.valid c.self.invariant.1.fitting.rows

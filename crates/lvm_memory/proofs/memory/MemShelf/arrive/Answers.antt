@@ -12,7 +12,7 @@ tear_flight-requires-clause-lies c = c.args.self.now.sound.lie c.args.place _ c.
 
 pub invariant_of-self : goal.invariant_of-self
 invariant_of-self c = record {
-  sound = sound_arrived _ _ _ _ _ _ _ _ _ _ _ _ c.args.place c.args.self.now.sound c.tear_flight.ensures.sizes c.tear_flight.ensures.sectors c.take_flight-flying.ensures.flights
+  sound = sound_arrived _ _ _ _ _ _ _ _ _ _ _ _ c.args.place c.args.self.now.sound c.tear_flight.ensures.disks.sizes c.tear_flight.ensures.disks.sectors c.take_flight-flying.ensures.flights
       c.take_flight-flying.ensures.capacity (ap (λ l. length {A = ℕ} l) c.count_failure.ensures.starts) c.count_failure.ensures.misses c.count_failure.ensures.faults;
 }
 
@@ -21,7 +21,7 @@ returns-then-fails-clause-gives c =
     let s = c.args.self.now in
     let flying = c.take_flight-flying.result in
     failed (device_of s) (flight_of flying) c.args.place c.pick.result flying.buf (media_of s.disks.items) (media_of c.tear_flight.new.disks.items) (sizes_of c.tear_flight.new.disks.items)
-    (flights_of c.take_flight-flying.new.flights.items) (counts_of c.count_failure.new.self) c.requires.power refl c.take_flight-flying.ensures.there c.tear_flight.ensures.sizes
+    (flights_of c.take_flight-flying.new.flights.items) (counts_of c.count_failure.new.self) c.requires.power refl c.take_flight-flying.ensures.there c.tear_flight.ensures.disks.sizes
     c.take_flight-flying.ensures.flights c.tear_flight.ensures.torn refl c.count_failure.ensures.counted
 
 pub finish_flight-requires-clause-lies : goal.finish_flight-requires-clause-lies
@@ -29,7 +29,7 @@ finish_flight-requires-clause-lies c = c.args.self.now.sound.lie c.args.place _ 
 
 pub invariant_of-self-2 : goal.invariant_of-self-2
 invariant_of-self-2 c = record {
-  sound = sound_arrived _ _ _ _ _ _ _ _ _ _ _ _ c.args.place c.args.self.now.sound c.finish_flight.ensures.sizes c.finish_flight.ensures.sectors c.take_flight-flying.ensures.flights
+  sound = sound_arrived _ _ _ _ _ _ _ _ _ _ _ _ c.args.place c.args.self.now.sound c.finish_flight.ensures.disks.sizes c.finish_flight.ensures.disks.sectors c.take_flight-flying.ensures.flights
       c.take_flight-flying.ensures.capacity refl refl refl;
 }
 
@@ -39,5 +39,5 @@ returns-clause-gives c =
     let flying = c.take_flight-flying.result in
     done (device_of s) (flight_of flying) c.args.place c.finish_flight.new.flying.ticket c.finish_flight.new.flying.buf (media_of s.disks.items) (media_of c.finish_flight.new.disks.items)
     (sizes_of c.finish_flight.new.disks.items) (flights_of c.take_flight-flying.new.flights.items) (sym (ap (λ (f : Flying). f.ticket) c.finish_flight.ensures.same)) c.requires.power refl
-    c.take_flight-flying.ensures.there c.finish_flight.ensures.sizes c.take_flight-flying.ensures.flights c.finish_flight.ensures.puts c.finish_flight.ensures.kept c.finish_flight.ensures.read
+    c.take_flight-flying.ensures.there c.finish_flight.ensures.disks.sizes c.take_flight-flying.ensures.flights c.finish_flight.ensures.puts c.finish_flight.ensures.kept c.finish_flight.ensures.read
     c.finish_flight.ensures.rest

@@ -12,7 +12,7 @@ returns-then-self-clause-dark c = inr (record {
     power = c.if-self.true;
     media = torn_like c.args.word (flights_of c.args.self.now.flights.items) (media_of c.args.self.now.disks.items) (media_of c.cut_flights.new.disks.items) c.cut_flights.ensures.cut;
     cuts = c.count_cut.ensures.rose;
-    new_is = darkened (device_of c.args.self.now) _ (media_of c.cut_flights.new.disks.items) _ _ _ _ c.cut_flights.ensures.sizes (ap flights_of c.cut_flights.ensures.flights) c.cut_flights.ensures.freed
+    new_is = darkened (device_of c.args.self.now) _ (media_of c.cut_flights.new.disks.items) _ _ _ _ c.cut_flights.ensures.disks.sizes (ap flights_of c.cut_flights.ensures.buffers.none) c.cut_flights.ensures.buffers.buffers
         (ap counts_of c.count_cut.ensures.same);
   };
   picked = c.cut_flights.ensures.cut;

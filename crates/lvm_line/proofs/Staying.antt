@@ -51,6 +51,11 @@ module _ {S : Type 0} (device : S → Device) (old : Stage S) (fits : IsFitting 
         subst (λ (a : Reply). (left : Stage S) → IsLeftBy device kept a left → (room : Room) → LineEnds device room line old left a) (sym behind) (λ left its room. command_line c left answer room is (ends left its room))
     done_in_place c kept answer in_place.Left is ends behind = absurd behind
 
+-- it is done so
+pub placed_as : {S : Type 0} (device : S → Device) (c : Command) (old kept is : Stage S) (answer says : Option Reply) → kept ≡ is → answer ≡ says → CommandInPlace device c old is says → CommandInPlace device c old kept answer
+placed_as device c old kept is answer says kept_is answer_is does =
+    subst (λ (s : Stage _). CommandInPlace device c old s answer) (sym kept_is) (subst (λ (o : Option Reply). CommandInPlace device c old is o) (sym answer_is) does)
+
 -- it is finished so
 pub finished_as : {S : Type 0} (device : S → Device) (room : Room) (line : List ℕ) (old new is : Stage S) (answer says : Reply) (last : ℕ) → new ≡ is → answer ≡ says → IsFinished device room line old is says last last → IsFinished device room line old new answer last last
 finished_as device room line old new is answer says last new_is answer_is ends =
