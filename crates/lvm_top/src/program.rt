@@ -21,7 +21,8 @@ use lvm_words::{Job, WordsFault, read_words};
 use std::alloc::Global;
 
 // What is written where the words are not in the language.
-const USAGE: &[u8] = b"usage: lvm script | lvm sim DISKS MIB | lvm gen SEED COUNT | lvm image N MIB\n";
+const USAGE: &[u8] =
+    b"usage: lvm script | lvm sim DISKS MIB | lvm gen SEED COUNT | lvm image N MIB\n";
 
 // What `--help` tells.
 const HELP: &[u8] =
