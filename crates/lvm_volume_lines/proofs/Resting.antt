@@ -138,7 +138,7 @@ module _ (s : Session) (still : IsStill s) where
       nobody at row is = cc (is)
   finishes new turned.Idle (inl finds) = absurd (let out = finds.waits.out in let none : length s.device.flights ≡ 0 = ap (λ (fs : List Flight). length fs) still.idle in omega (arith, out, none))
   finishes new turned.Idle (inr nothing) = inl nothing.is
-  finishes new turned.Dark dark = inr (ap (λ (c : Core). c.power) dark.is)
+  finishes new turned.Dark dark = inr (ap (λ (c : Core). c.power) dark.1.is)
   finishes new turned.Off off = absurd (let e : false ≡ true = sym still.votes ∙ off.lost in cc e)
 
   makes : (new : Session) (answer : Turned) → OnMakes s new answer → (new ≡ s) ⊎ (new.core.power ≡ power.Dark)
