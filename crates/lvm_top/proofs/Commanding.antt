@@ -7,6 +7,7 @@ use Rattle.lvm_top.specs.Run.{Promises, ran}
 use Rattle.lvm_top.specs.Script.{Stream}
 use Rattle.lvm_draws.proofs.Growing.{front_at_first}
 use Rattle.lvm_top.specs.declared.run.Ended.{Ended}
+use Rattle.lvm_top.specs.declared.status.ExitStatus.{ExitStatus}
 use Rattle.lvm_top.specs.declared.status.ExitStatus.TheVariants as ended
 use Rattle.lvm_top.proofs.Stopping.{nothing_promised}
 use Rattle.lvm_words.specs.declared.job.Job.{Job}
@@ -56,7 +57,10 @@ unread_promises asked clock entry exit same ready room input output end unrun =
 -- and nothing of a script that is drawn was written
 pub unread_generates : {S : Type 0} (asked : Result Job WordsFault) (output : Stream) (end : Ended S) → IsUnrun end ended.Memory
     → OnGen asked (λ seed count. IsUnrun end end.status × IsGenerated seed count end.status (record { before = output; after = output }))
-unread_generates asked output end unrun = on_gen asked _ (λ seed count. (rw unrun.status_is unrun, rw unrun.status_is (none seed count)))
+unread_generates asked output end unrun = on_gen asked _ (λ seed count. (
+  record { status_is = refl; refused_is = unrun.refused_is; history_is = unrun.history_is; sim_is = unrun.sim_is },
+  subst (λ (s : ExitStatus). IsGenerated seed count s (record { before = output; after = output })) (sym unrun.status_is) (none seed count),
+))
   where
     none : (seed count : ℕ) → IsGenerated seed count ended.Memory (record { before = output; after = output })
     none seed count = record { status_is = inr (inr refl); whole = λ is. absurd (cc); front = λ _. front_at_first seed count output.content; cause = λ is. absurd (cc) }
