@@ -1,0 +1,26 @@
+use Rattle.std.proofs.Common.{List, ap₂, subst}
+use Rattle.std.proofs.lemmas.List.{take-replicate}
+use Rattle.rand_pcg.specs.Lcg.{Lcg}
+use Rattle.lvm_driver.specs.Answers.{state_of}
+use Rattle.lvm_running.proofs.Running.{runs_both}
+use Rattle.lvm_load.specs.declared.client.Client.{Client}
+use Rattle.lvm_load.specs.Weaving.{DrawsAll, Weaving, fresh_client, weaving}
+use Rattle.lvm_load.proofs.workload.weave.Goals as goal
+
+pub returns-clause-weaves : goal.returns-clause-weaves
+returns-clause-weaves g c =
+    let first = state_of g.S.Shelf.device c.args.driver.now in
+    let mid = weaving (state_of g.S.Shelf.device c.draw_all.new.driver) c.draw_all.new.clients c.draw_all.new.rng c.draw_all.new.idle in
+    let start = ap₂ (λ (clients : List Client) (rng : Lcg). weaving first clients rng 0) (take-replicate c.args.workload.now.clients 64 fresh_client c.requires.clients.1) c.generator-rng.ensures in
+    record {
+      mid = mid;
+      after = c.finish.new.clients;
+      idle = c.finish.new.idle;
+      draws = subst (λ (w : Weaving). DrawsAll c.args.lv c.args.blocks c.args.workload.now.requests w mid) start c.draw_all.ensures.draws;
+      finishes = c.finish.ensures.finishes;
+    }
+
+pub returns-clause-runs : goal.returns-clause-runs
+returns-clause-runs g c =
+    let device = g.S.Shelf.device in
+    runs_both (state_of device c.args.driver.now) (state_of device c.draw_all.new.driver) (state_of device c.finish.new.driver) c.draw_all.ensures.runs.0 c.finish.ensures.runs

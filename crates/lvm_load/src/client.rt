@@ -1,0 +1,128 @@
+//! Clients whose requests one thread submits, and whose answers it takes.
+ghost use Rattle.std.specs.Prelude.{◌≡◌, ◌≤◌, ◌<◌, ◌+◌, ◌-◌, ◌*◌, ◌^◌, length, vec_capacity};
+ghost use Rattle.lvm_session.specs.declared.open.Power.TheVariants as power;
+ghost use Rattle.lvm_session.specs.Left.{left_of};
+ghost use Rattle.lvm_running.specs.Running.{RunsOn};
+ghost use Rattle.lvm_driver.specs.Answers.{state_of};
+ghost use Rattle.lvm_draws.specs.Draws.{after_draw};
+ghost use Rattle.lvm_load.specs.Weaving.{AsksDrawn, TakesFor, TakesEach, Turns, goes_on, idle_after, turns_left};
+
+use crate::request::submit_drawn;
+use lvm_disk::Shelf;
+use lvm_draws::draw_request;
+use lvm_driver::Driver;
+use lvm_session::{AskFault, Taken, Turned};
+use rand_pcg::Lcg64Xsh32;
+
+// Between the words of a client's requests.
+const STRIDE: u64 = 8;
+
+/// A client: the request that it has open, and how far the word of its next one is behind that of its first.
+#[derive(Clone, Copy, Debug, PartialEq, Eq)]
+pub struct Client {
+    pub request: Option<u64>,
+    pub offset: u64,
+}
+
+// Takes the answer of a client's open request, if it has landed.
+fn take<S: Shelf>(driver: &mut Driver<S>, clients: &mut [Client], k: u32)
+    requires within { k < length clients.old }
+    requires few { length clients.old ≤ 64 }
+    ensures takes { TakesFor k (state_of S.device driver.old) (state_of S.device driver.new) clients.old clients.new }
+    ensures runs { RunsOn (state_of S.device driver.old) (state_of S.device driver.new) }
+{
+    let client = &mut clients[k as usize];
+    if let Some(id) = client.request {
+        match driver.take(k + 1, id) {
+            Taken::NotYet => {}
+            _ => client.request = None,
+        }
+    }
+}
+
+// Takes the answers of the requests that have landed, in the order of clients.
+fn take_landed<S: Shelf>(driver: &mut Driver<S>, clients: &mut [Client])
+    requires few { length clients.old ≤ 64 }
+    ensures takes { TakesEach (state_of S.device driver.old) clients.old (length clients.old) (state_of S.device driver.new) clients.new }
+    ensures runs { RunsOn (state_of S.device driver.old) (state_of S.device driver.new) }
+{
+    for k in 0..clients.len() as u32 {
+        take(driver, clients, k);
+    }
+}
+
+// How many turns have moved nothing since the last that did, after one that answers so.
+fn idle_after(answer: Turned, idle: u32) -> u32
+    requires { idle < 1000000 }
+    ensures { result ≡ idle_after answer idle }
+{
+    match answer {
+        Turned::Moved => 0,
+        Turned::Idle | Turned::Dark | Turned::Off => idle + 1,
+    }
+}
+
+/// Makes a turn, and takes what has landed.
+pub(crate) fn turn<S: Shelf>(driver: &mut Driver<S>, clients: &mut [Client], idle: &mut u32)
+    requires unstuck { driver.old.1.power ≡ power.Stuck → ⊥ }
+    requires few { length clients.old ≤ 64 }
+    requires patient { idle.old < 1000000 }
+    ensures turns { Turns (state_of S.device driver.old) (state_of S.device driver.new) clients.old clients.new idle.old idle.new }
+    ensures less { turns_left driver.new.1 idle.new < turns_left driver.old.1 idle.old }
+    ensures runs { RunsOn (state_of S.device driver.old) (state_of S.device driver.new) }
+{
+    let before = driver.history().len();
+    let answer = driver.turn();
+    *idle = idle_after(answer, *idle);
+    if driver.history().len() > before {
+        take_landed(driver, clients);
+    }
+}
+
+// Whether further requests may begin where one isn't taken for this.
+fn goes_on(why: AskFault) -> bool
+    ensures { result ≡ goes_on (Err why) }
+{
+    match why {
+        AskFault::TableFull { .. } => true,
+        AskFault::Dark
+        | AskFault::Off
+        | AskFault::NoVolume
+        | AskFault::OutOfRange { .. }
+        | AskFault::HistoryFull => false,
+    }
+}
+
+/// Draws a request of a client and submits it. Answers whether further ones may begin.
+pub(crate) fn ask<S: Shelf>(
+    driver: &mut Driver<S>,
+    clients: &mut [Client],
+    rng: &mut Lcg64Xsh32,
+    k: u32,
+    lv: u16,
+    blocks: u64,
+    bytes: &mut Vec<u8>,
+) -> bool
+    requires unstuck { driver.old.1.power ≡ power.Stuck → ⊥ }
+    requires within { (k < length clients.old) × (length clients.old ≤ 64) }
+    requires some { 1 ≤ blocks }
+    requires room { 131072 ≤ vec_capacity bytes.old }
+    ensures asks { AsksDrawn lv blocks k rng.old (state_of S.device driver.old) (state_of S.device driver.new) clients.old clients.new result }
+    ensures rng { rng.new ≡ after_draw rng.old }
+    ensures runs { RunsOn (state_of S.device driver.old) (state_of S.device driver.new) }
+    ensures room { 131072 ≤ vec_capacity bytes.new }
+{
+    let drawn = draw_request(rng);
+    let number = k + 1;
+    let client = &mut clients[k as usize];
+    let first = 0x1_0000_0000 * u64::from(number);
+    let word = first.wrapping_add(client.offset);
+    client.offset = client.offset.wrapping_add(STRIDE);
+    match submit_drawn(driver, number, &drawn, lv, blocks, word, bytes) {
+        Ok(id) => {
+            client.request = Some(id);
+            true
+        }
+        Err(why) => goes_on(why),
+    }
+}

@@ -1,0 +1,11 @@
+//! Workloads that are drawn from a seed, over a group that is on.
+#![tactic(auto)]
+
+mod client;
+mod request;
+mod totals;
+mod workload;
+
+pub use client::Client;
+pub use totals::Totals;
+pub use workload::{Workload, weave};

@@ -1,0 +1,87 @@
+//! What is counted of a workload.
+ghost use Rattle.std.specs.Prelude.{◌≡◌, count_by};
+ghost use Rattle.lvm_load.specs.Totals.{entries_since, is_of, is_same, kind_of, totals_of};
+
+use lvm_history::History;
+use lvm_vol::{Entry, Outcome};
+
+/// How the requests of a workload ended.
+#[derive(Clone, Copy, Debug, PartialEq, Eq)]
+pub struct Totals {
+    /// How many began.
+    pub begun: u32,
+    /// How many writes ended well.
+    pub done: u32,
+    /// How many reads did.
+    pub got: u32,
+    /// How many writes failed on each copy that was fresh.
+    pub lost: u32,
+    /// How many ended in another way.
+    pub refused: u32,
+    /// How many didn't begin.
+    pub unbegun: u32,
+}
+
+/// What an entry tells of a request that is counted.
+#[derive(Clone, Copy, Debug, PartialEq, Eq)]
+pub enum Kind {
+    Begun,
+    Done,
+    Got,
+    Lost,
+    Refused,
+}
+
+// Whether a request that ended so counts so.
+fn is_end(kind: Kind, outcome: Outcome) -> bool
+    ensures { result ≡ is_same (kind_of outcome) kind }
+{
+    match outcome {
+        Outcome::Done => matches!(kind, Kind::Done),
+        Outcome::Got => matches!(kind, Kind::Got),
+        Outcome::Lost => matches!(kind, Kind::Lost),
+        Outcome::ReadFailed | Outcome::NoFresh | Outcome::Off | Outcome::Dark => matches!(
+            kind,
+            Kind::Refused
+        ),
+    }
+}
+
+// Whether an entry counts so.
+fn is_of(kind: Kind, entry: Entry) -> bool
+    ensures { result ≡ is_of kind entry }
+{
+    match entry {
+        Entry::Begun { .. } => matches!(kind, Kind::Begun),
+        Entry::Landed { outcome, .. } => is_end(kind, outcome),
+        _ => false,
+    }
+}
+
+// How many entries tell this, of those since it had so many.
+fn count(history: &History, from: u32, kind: Kind) -> u32
+    ensures { result ≡ count_by (is_of kind) (entries_since from history.now.facts) }
+{
+    let mut n = 0;
+    for k in from..history.len() {
+        if is_of(kind, history.entry(k)) {
+            n += 1;
+        }
+    }
+    n
+}
+
+/// The totals of a workload of so many requests, by what the history tells since it had so many entries.
+pub fn totals_since(history: &History, from: u32, requests: u32) -> Totals
+    ensures { result ≡ totals_of requests (entries_since from history.now.facts) }
+{
+    let begun = count(history, from, Kind::Begun);
+    Totals {
+        begun,
+        done: count(history, from, Kind::Done),
+        got: count(history, from, Kind::Got),
+        lost: count(history, from, Kind::Lost),
+        refused: count(history, from, Kind::Refused),
+        unbegun: requests.saturating_sub(begun),
+    }
+}
