@@ -1,5 +1,5 @@
 -- The copy that is open is brought up until it doesn't run.
-use Rattle.std.proofs.Common.{◌≡◌, ◌-◌, ℕ, Bool, true, false, Option, Some, None, if◌then◌else◌, refl, sym, ap, subst, ◌∙◌}
+use Rattle.std.proofs.Common.{◌≡◌, ◌⊎◌, inl, inr, ◌-◌, ℕ, Bool, true, false, Option, Some, None, if◌then◌else◌, refl, sym, ap, subst, ◌∙◌}
 use Rattle.std.specs.Prelude.{IfSome}
 use Rattle.std.specs.Option.{option_map_or}
 use Rattle.lvm_num.specs.declared.place.Pp.{Pp}
@@ -88,6 +88,11 @@ module _ (first old new : State) (patience left after : ℕ) (so_far : BroughtSo
 
   pub stops : GoesBeside old new left after → GoesBeside first new patience after
   stops beside = beside_both first old new patience left after so_far.beside beside
+
+  -- the turns up to one behind which it doesn't go on
+  pub last_turns : Runs old.core → (new ≡ old) ⊎ IsTurn old new → EachTurnWhile Runs first new
+  last_turns runs (inl same) = subst (EachTurnWhile Runs first) (sym same) so_far.turns
+  last_turns runs (inr made) = Then so_far.turns (runs, made) tt
 
 -- ---- it is closed
 

@@ -2,7 +2,7 @@ use Rattle.std.proofs.Common.{refl, sym, subst, ◌∙◌}
 use Rattle.std.proofs.lemmas.Result.{err_from_is_err_and}
 use Rattle.lvm_driver.specs.Answers.{state_of}
 use Rattle.lvm_resync.specs.declared.tally.Tally.{Tally}
-use Rattle.lvm_resync.specs.Syncing.{ArePassed, partition_copies, partition_fault}
+use Rattle.lvm_resync.specs.Syncing.{ArePassed, StopsAmong, partition_copies, partition_fault}
 use Rattle.lvm_resync.proofs.Asking.{not_begun, ready_by, stopped, synced, within_by}
 use Rattle.lvm_resync.proofs.Turning.{beside_none}
 use Rattle.lvm_resync.proofs.sync.sync_partition.Goals as goal
@@ -27,7 +27,8 @@ returns-in_err-pass_partition-in-None-clause-gives g c =
     let first = state_of device c.args.driver.now in
     let f = err_from_is_err_and c.from_residual.result c.from_residual.ensures.1 in
     rw (f.1, f.2) (stopped (partition_fault first.core c.args.lv c.args.lp) (partition_copies first.core.descriptor c.args.lv c.args.lp) first (state_of device c.pass_partition.new.driver) c.pass_partition.new.patience.left
-    c.in_err-pass_partition-in-None.field-0.0 (sym c.partition_fault.ensures ∙ c.in-None.is) c.in_err-pass_partition-in-None.ensures.ends)
+    c.in_err-pass_partition-in-None.field-0.0 (sym c.partition_fault.ensures ∙ c.in-None.is)
+    (subst (λ (t : Tally). StopsAmong (partition_copies first.core.descriptor c.args.lv c.args.lp) c.pass_partition.new.patience.left first (state_of device c.pass_partition.new.driver) t c.in_err-pass_partition-in-None.field-0.0) c.no_tally-tally.ensures c.in_err-pass_partition-in-None.ensures.ends))
 
 pub returns-in_ok-pass_partition-in-None-clause-gives : goal.returns-in_ok-pass_partition-in-None-clause-gives
 returns-in_ok-pass_partition-in-None-clause-gives g c =
