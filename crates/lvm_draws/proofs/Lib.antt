@@ -1,2 +1,2 @@
 mod Writing
-mod Growing
+pub mod Growing
