@@ -1,5 +1,5 @@
 -- What the session that a varyon begins finds on its disks.
-use Rattle.std.proofs.Common.{◌≡◌, ℕ, Bool, true, false, ◌&&◌, ◌++◌, List, Option, Some, None, refl, sym, ap, subst, ◌∙◌}
+use Rattle.std.proofs.Common.{◌≡◌, ℕ, Bool, true, false, ◌&&◌, ◌++◌, [], List, Option, Some, None, refl, sym, ap, subst, ◌∙◌}
 use Rattle.std.specs.Prelude.{IsTrue, not, nat_le}
 use Rattle.lvm_num.specs.declared.record.Stamp.{Stamp}
 use Rattle.lvm_num.specs.declared.descriptor.PvRow.{PvRow}
@@ -35,7 +35,7 @@ use Rattle.lvm_varyon.specs.Found.{HaveAnswered}
 use Rattle.lvm_varyon.specs.Varied.{IsAheadOfDisks, IsBrought, last_stamp}
 use Rattle.lvm_varyon.proofs.After.{HasRecords, MayHaveRecords, records_there, room_member, stamps_before, target_room}
 use Rattle.lvm_varyon.proofs.Equalled.{none_named, restated_last, shows_last, spares_last, stamps_last}
-use Rattle.lvm_varyon.proofs.Recovering.{recovered}
+use Rattle.lvm_varyon.proofs.Recovering.{recovered, recovered_with}
 
 told_before : (a b : Option Media) (R : Media → Media → Type 0) (m : Media) → b ≡ Some m → BothTold a b R → (was : Media) × (a ≡ Some was)
 told_before None None R m e both = absurd cc
@@ -122,6 +122,10 @@ module _ (old new : Device) (name : List ℕ) (moment : ℕ) (room : Room) (part
     pub recovers : (first more : List Range) → old.wrote ≡ Some first → new.wrote ≡ Some (first ++ more) → HasNoPassive is.written.group
         → Recovered (contents_of (image_of old.sizes was)) more final is.written.found.answered is.written.group.id is.written.group
     recovers = recovered old mid name moment homes records was stood.0 told stood.1 may is.valid new equal between.0 last between.1 told_last
+
+    -- whether the ranges are told or not
+    pub recovers_shown : HasNoPassive is.written.group → Recovered (contents_of (image_of old.sizes was)) [] final is.written.found.answered is.written.group.id is.written.group
+    recovers_shown = recovered_with old mid name moment homes records was stood.0 told stood.1 may is.valid new equal between.0 last between.1 told_last [] tt
 
     -- ---- the session
 

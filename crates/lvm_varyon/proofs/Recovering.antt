@@ -1,6 +1,7 @@
 -- A group that came on is recovered.
 use Rattle.std.proofs.Common.{◌≡◌, ◌⊎◌, inl, inr, ℕ, ◌+◌, ◌-◌, List, ◌++◌, Option, Some, refl, sym, ap, subst, ◌∙◌, arith}
 use Rattle.std.specs.Prelude.{IsTrue}
+use Rattle.std.specs.List.{AllByRecursion}
 use Rattle.std.proofs.lemmas.List.Elements.{recursion_from_All}
 use Rattle.lvm_num.specs.declared.status.Status.{Status}
 use Rattle.lvm_num.specs.Disks.{Disks}
@@ -96,8 +97,9 @@ module _ (old new : Device) (name : List ℕ) (moment : ℕ) (homes : Homes) (w 
   abbrev IsDone : Disks → Contents → Type 0
   IsDone v copied = ((shown : ShowsCommitted after w.group w.next v) × (shown.stands ≡ next)) × IsRecopied after w.group (Some next) v copied × AreNamedEqualled after w.group (Some next) v copied × OnlyNotesOf v copied final × CanWrite w.group v
 
-  pub recovered : (first more : List Range) → old.wrote ≡ Some first → last.wrote ≡ Some (first ++ more) → HasNoPassive w.group → Recovered before more final w.found.answered w.group.id w.group
-  recovered first more wrote wrote_last soft =
+  -- with ranges that count
+  pub recovered_with : (more : List Range) → AllByRecursion Counts more → HasNoPassive w.group → Recovered before more final w.found.answered w.group.id w.group
+  recovered_with more counts soft =
       let e = ends old new name moment homes w was now told told_now may valid last equal between is told_between told_last in
       let done = subst (λ (v : Disks). IsDone v e.copied) voters_are ((shows old new name moment homes w was now told told_now may, refl), e.recopied, e.equalled, e.emptied, enough old new name moment homes w was now told told_now may valid) in
       recovered_by_copying before after e.copied final more w.found.answered w.group (record {
@@ -114,6 +116,9 @@ module _ (old new : Device) (name : List ℕ) (moment : ℕ) (homes : Homes) (w 
         equalled = named_are_all w.group (Some next) there after e.copied soft done.2;
         emptied = done.3;
         empty = λ d lv g voter. none_named old new name moment homes w was now told told_now may valid last equal between is told_between told_last d lv g (on_target d voter);
-        ranges_are = recursion_from_All Counts more (only_told Counts old.wrote last.wrote first more wrote wrote_last logs);
+        ranges_are = counts;
         keeps = records_keep old new name moment homes w was now told told_now may;
       }) soft
+
+  pub recovered : (first more : List Range) → old.wrote ≡ Some first → last.wrote ≡ Some (first ++ more) → HasNoPassive w.group → Recovered before more final w.found.answered w.group.id w.group
+  recovered first more wrote wrote_last = recovered_with more (recursion_from_All Counts more (only_told Counts old.wrote last.wrote first more wrote wrote_last logs))

@@ -36,7 +36,7 @@ use Rattle.lvm_varyon.specs.Chosen.{answering}
 use Rattle.lvm_recover.specs.Recovered.{HasNoPassive}
 use Rattle.lvm_varyon.proofs.Left.{next_leaves_none}
 use Rattle.lvm_varyon.proofs.Seeing.{if_told}
-use Rattle.lvm_varyon.proofs.Holding.{holds, notes_home, recovers, restated, was_told}
+use Rattle.lvm_varyon.proofs.Holding.{holds, notes_home, recovers, recovers_shown, restated, was_told}
 
 -- ---- the span
 
@@ -135,6 +135,7 @@ module _ (old new : Device) (log : Log) (name : List ℕ) (moment : ℕ) (room :
     disks = is.written.found.answered;
     answered = is.written.found.have;
     recovered = λ was last first more told told_last wrote wrote_last. recovers old new name moment room parts homes is was last told told_last (ahead_of log.run moment old log.facts clock) first more wrote wrote_last (subst HasNoPassive group_is soft);
+    shown = λ was last told told_last. recovers_shown old new name moment room parts homes is was last told told_last (ahead_of log.run moment old log.facts clock) (subst HasNoPassive group_is soft);
   })
 
   pub on_keeps : Path DeviceStep (StaysKept old) old new → ClockIsAhead log.run moment old log.facts → Keeps log.run (at old log.facts) (at new core.history.facts)

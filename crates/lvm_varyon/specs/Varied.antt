@@ -1,5 +1,5 @@
 -- How a varyon ends.
-use Rattle.std.specs.Prelude.{◌≡◌, ◌⊎◌, ◌<◌, ◌≤◌, false, ℕ, List, Some, IsTrue, Result, Ok, Err}
+use Rattle.std.specs.Prelude.{◌≡◌, ◌⊎◌, ◌<◌, ◌≤◌, false, ℕ, [], List, Some, IsTrue, Result, Ok, Err}
 use Rattle.lvm_num.specs.declared.record.Stamp.{Stamp}
 use Rattle.lvm_num.specs.declared.descriptor.Descriptor.{Descriptor}
 use Rattle.lvm_num.specs.declared.status.Status.{Status}
@@ -71,11 +71,12 @@ pub record IsRestated (old new : Device) (group : Descriptor) : Type 0 where
   pub answered : HaveAnswered old new disks
   pub shows : (was is : Media) → old.media ≡ Some was → new.media ≡ Some is → Restated (contents_of (image_of old.sizes was)) (contents_of (image_of new.sizes is)) disks group
 
--- A group without volumes in mode passive is recovered, by the disks that answered.
+-- A group without volumes in mode passive is recovered, by the disks that answered; where ranges aren't told, in all but what is said of these.
 pub record IsRecovered (old new : Device) (group : Descriptor) : Type 0 where
   pub disks : Disks
   pub answered : HaveAnswered old new disks
   pub recovered : WhereTold old new (λ before ranges after. Recovered before ranges after disks group.id group)
+  pub shown : (was is : Media) → old.media ≡ Some was → new.media ≡ Some is → Recovered (contents_of (image_of old.sizes was)) [] (contents_of (image_of new.sizes is)) disks group.id group
 
 -- ---- the refusals
 
