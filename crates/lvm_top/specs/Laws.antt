@@ -10,16 +10,20 @@ use Rattle.lvm_steps.specs.Moments.{Begins, IsEarlier}
 use Rattle.lvm_stamps.specs.Behind.{IsBehind}
 use Rattle.lvm_core.specs.declared.parts.Room.{Room}
 use Rattle.lvm_core.specs.Leaves.{MayBeFound}
+use Rattle.lvm_session.specs.State.{Core}
+use Rattle.lvm_line.specs.Causes.{IsBroughtBack}
 use Rattle.lvm_line.specs.Lines.{IsLine, role_of}
+use Rattle.lvm_line.specs.passed.Quiesce.{Quiesces}
 use Rattle.lvm_line.specs.passed.Stage.{IsStuck, State, IsTimely, Reply}
 use Rattle.lvm_line.specs.passed.Recover.{HasNoPassive}
 use Rattle.lvm_line.specs.passed.Tie.{LeavesDescriptors}
 use Rattle.lvm_line.specs.passed.Varyon.{IsRecovered}
+use Rattle.lvm_line.specs.passed.RefusalVariants as refusal
 use Rattle.lvm_line.specs.passed.ReplyVariants as reply
 use Rattle.lvm_top.specs.declared.status.ExitStatus.TheVariants as ended
 use Rattle.lvm_top.specs.Run.{Run, IsRun, RanAlone}
 use Rattle.lvm_top.specs.Script.{Script, StaysAlone, entry_state}
-use Rattle.lvm_top.specs.Statuses.{at_end}
+use Rattle.lvm_top.specs.Statuses.{IsAtEnd, at_end}
 use Rattle.lvm_top.specs.Standing.{MayHaveCommitted, MayStand, MayStandAtEnd, HasFewDisks, StoodBefore}
 
 -- Whatever may be found after a line might be found before it, or is what the line may have committed; where no transfer that is out goes to a slot of descriptors
@@ -65,9 +69,22 @@ RunFindsWhatStands =
     → HasFewDisks r.entry → IsReady r.entry → IsBehind r.named r.entry → IsEarlier r.named r.entry past → RanAlone ran → (r.status ≡ ended.Stuck → ⊥)
     → (id : ℕ) (k : Descriptor) → MayBeFound r.exit id k → MayStandAtEnd ran.lines.ends (MayStand ran.lines.script) id k
 
+-- After any lines of a script a `varyonvg` that is answered `ok` brings its group back, from the shelf on which what was out has ended.
+abbrev pub VaryonsRecover : Type 0
+VaryonsRecover =
+    (log : Log) (room : Room) (first : State) (lines : List (List ℕ)) (replies : List Reply) (last : State) → Script log room first lines replies last → IsTimely log.run first
+    → (line name : List ℕ) (new : State) → line_of line ≡ Ok (Some (command.Varyon name)) → IsLine log room line reply.Ok last new
+    → (core : Core) × (new.session ≡ Some core) × ((quiet : Device) × Quiesces last.moment.device quiet × IsBroughtBack quiet new.moment.device core.descriptor)
+
 -- A run of a single `varyonvg` that refuses nothing leaves the group recovered that it has varied on, where no volume of it is in mode passive: what was written
 -- are records, and copies of track groups that the notes of its members named, and the fresh copies that answer of each volume in mode active are alike.
 abbrev pub VaryonRecovers : Type 0
 VaryonRecovers =
     (r : Run) (ran : IsRun r) (line name : List ℕ) → ran.lines.lines ≡ line ∷ [] → line_of line ≡ Ok (Some (command.Varyon name)) → r.status ≡ at_end 0 → IsBehind r.named r.entry
     → IsSomeAnd ran.end.session (λ core. HasNoPassive core.descriptor → IsRecovered r.entry r.exit core.descriptor)
+
+-- One that is refused for want of a quorum has written nothing.
+abbrev pub NoQuorumWritesNothing : Type 0
+NoQuorumWritesNothing =
+    (r : Run) (ran : IsRun r) (line name : List ℕ) (have total : ℕ) → ran.lines.lines ≡ line ∷ [] → line_of line ≡ Ok (Some (command.Varyon name))
+    → ran.lines.replies ≡ reply.Refused (refusal.NoQuorum have total) ∷ [] → IsAtEnd r.status → r.exit.wrote ≡ r.entry.wrote
