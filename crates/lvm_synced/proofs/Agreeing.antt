@@ -70,7 +70,7 @@ module _ (past : List Fact) (s : Session) (tied : IsTied past s) where
 
   -- settled as stale is the same in both
   settled_same : (p : Pp) → is_settled_stale v p ≡ is_settled core p
-  settled_same p = (λ t. stale_seen past s tied p t && stale_in (tied.sees.in_flight t) p) ∙ by core.status.in_flight
+  settled_same p = (λ t. stale_seen past s tied p t && stale_in (tied.sees.status.in_flight t) p) ∙ by core.status.in_flight
     where
       by : (u : Option Status) → is_stale core p && stale_in (option_map as_marks (option_map (λ (t : Status). let r : Stamped Status = record { stamp = core.status.stamp; value = t } in r) u)) p
           ≡ is_stale core p && calls_stale (unwrap_or u core.status.committed) p
@@ -91,7 +91,7 @@ module _ (past : List Fact) (s : Session) (tied : IsTied past s) where
         }
 
     isnt_missing : (c : Pp) → IsUsableOf core row lp c → IsFalse (v.missing c.disk)
-    isnt_missing c it = tied.sees.missing c.disk ∙ ap not it.there
+    isnt_missing c it = tied.sees.status.missing c.disk ∙ ap not it.there
 
     shown_at : (p : Pp) → Live v row.number b p → v.media.block row.number b p ≡ stands_at s tied.media p b
     shown_at p it = tied.describes.shown.blocks row.number b p it.copy

@@ -414,7 +414,7 @@ module _ (past : List Fact) (old new : Session) (place : ℕ) (admits : Admits o
     may_want = record {
       missing_still = λ d is. is;
       still = λ c is. wanted_is c ∙ is;
-      still_dirty = λ lv is. still_dirty lv (sym (ap (λ (m : Marks). m.dirty lv) tied.sees.wanted) ∙ is);
+      still_dirty = λ lv is. still_dirty lv (sym (ap (λ (m : Marks). m.dirty lv) tied.sees.status.wanted) ∙ is);
       added = λ c is. inl (sym (wanted_is c) ∙ is);
       open_same = inl refl;
       open_there = tied.good.sound.statuses.open_there;

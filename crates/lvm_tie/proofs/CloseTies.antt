@@ -74,21 +74,13 @@ module _ (past : List Fact) (s : Session) (tied : IsTied past s) (ended : (curso
     requests = tied.sees.requests;
     a_step = λ c is. absurd (cc is);
     only = λ j q at. ⊎_elim
-        (λ (r : IsRequestAt core j). inl (record { place = r.place; request = r.request; there = r.there; its = r.its }))
+        (λ (r : IsRequestAt core j). inl r)
         (λ (r : IsStepAt core j). absurd (let e : true ≡ false = sym r.row ∙ no_row core r.copy (ended_of core ended r.copy r.is_open) in cc))
         (tied.sees.only j q at);
     names = tied.sees.names;
     facts = tied.sees.facts;
-    committed = tied.sees.committed;
-    in_flight = tied.sees.in_flight;
-    wanted = tied.sees.wanted;
-    started = tied.sees.started;
-    written = tied.sees.written;
-    held = tied.sees.held;
-    missing = tied.sees.missing;
-    cache = tied.sees.cache;
-    home = tied.sees.home;
-    flying = tied.sees.flying;
+    status = tied.sees.status;
+    notes = tied.sees.notes;
     open_copy = not_open;
     step_write = no_write;
   }

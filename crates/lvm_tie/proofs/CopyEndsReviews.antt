@@ -133,21 +133,13 @@ module _ (past : List Fact) (device : Device) (core : Core) (how : CopyEnd) (nea
         subst (λ (x : Bringing). (q : Queued) × (v.queue x.place ≡ Some q) × SeesStep core_out x q) same
         (s.0, s.1, record { lv = s.2.lv; first = s.2.first; count = s.2.count; write = s.2.write; step = s.2.step; hand = s.2.hand; failed = s.2.failed });
     only = λ j q at. ⊎_elim
-        (λ (r : IsRequestAt core j). inl (record { place = r.place; request = r.request; there = r.there; its = r.its }))
+        (λ (r : IsRequestAt core j). inl r)
         (λ (r : IsStepAt core j). inr (record { copy = c_out; is_open = refl; row = or_true (is_out c.step) (is_running c_out && not (is_whole core c)) (inl out); its = ap (λ (x : Bringing). x.place) (sym (own r.copy r.is_open)) ∙ r.its }))
         (near.sees.only j q at);
     names = near.sees.names;
     facts = near.sees.facts;
-    committed = near.sees.committed;
-    in_flight = near.sees.in_flight;
-    wanted = near.sees.wanted;
-    started = near.sees.started;
-    written = near.sees.written;
-    held = near.sees.held;
-    missing = near.sees.missing;
-    cache = near.sees.cache;
-    home = near.sees.home;
-    flying = near.sees.flying;
+    status = near.sees.status;
+    notes = near.sees.notes;
     open_copy = none;
     step_write = write_out;
   }
@@ -237,21 +229,13 @@ module _ (past : List Fact) (device : Device) (core : Core) (how : CopyEnd) (nea
     requests = near.sees.requests;
     a_step = λ d is row. absurd (no_row d is row);
     only = λ j q at. ⊎_elim
-        (λ (r : IsRequestAt core j). inl (record { place = r.place; request = r.request; there = r.there; its = r.its }))
+        (λ (r : IsRequestAt core j). inl r)
         (λ (r : IsStepAt core j). clash (has_row core c) (ap (has_row core) (sym (own r.copy r.is_open)) ∙ r.row) none_there)
         (near.sees.only j q at);
     names = near.sees.names;
     facts = near.sees.facts;
-    committed = near.sees.committed;
-    in_flight = near.sees.in_flight;
-    wanted = near.sees.wanted;
-    started = near.sees.started;
-    written = near.sees.written;
-    held = near.sees.held;
-    missing = near.sees.missing;
-    cache = near.sees.cache;
-    home = near.sees.home;
-    flying = near.sees.flying;
+    status = near.sees.status;
+    notes = near.sees.notes;
     open_copy = none;
     step_write = write_in out;
   }
@@ -318,22 +302,14 @@ module _ (past : List Fact) (device : Device) (core : Core) (how : CopyEnd) (nea
       only = λ j p here. elim (cases_eq j i) [
         | inl e ↦ absurd (let no : None ≡ Some p = sym (gone j e) ∙ here in cc)
         | inr ne ↦ ⊎_elim
-            (λ (r : IsRequestAt core j). inl (record { place = r.place; request = r.request; there = r.there; its = r.its }))
+            (λ (r : IsRequestAt core j). inl r)
             (λ (r : IsStepAt core j). absurd (ne (sym r.its ∙ ap (λ (x : Bringing). x.place) (own r.copy r.is_open))))
             (near.sees.only j p (sym (elsewhere j ne) ∙ here))
       ];
       names = near.sees.names;
       facts = ap (λ b. if b then v.facts else v.facts ++ Taken (v.name i) ∷ []) sees_q.step ∙ near.sees.facts;
-      committed = near.sees.committed;
-      in_flight = near.sees.in_flight;
-      wanted = near.sees.wanted;
-      started = near.sees.started;
-      written = near.sees.written;
-      held = near.sees.held;
-      missing = near.sees.missing;
-      cache = near.sees.cache;
-      home = near.sees.home;
-      flying = near.sees.flying;
+      status = near.sees.status;
+      notes = near.sees.notes;
       open_copy = none;
       step_write = write_in out;
     }

@@ -58,26 +58,18 @@ module _ (past : List Fact) (core : Core) (v : State) (c : Bringing) (st : Step)
   sees_step_on = record {
     requests = λ k p at. let s = sees.requests k p at in (s.0, elsewhere (place_of p.request.id) (apart k p at) ∙ s.1, s.2);
     a_step = λ d at r. let own : c2 ≡ d = (let e : Some c2 ≡ Some d = at in cc) in
-        (q2, ap (λ (x : Bringing). queue x.place) (sym own) ∙ here, subst (λ (x : Bringing). SeesStep core2 x q2) own (record { lv = its.lv; first = its.first; count = its.count; write = its.write; step = its.step; hand = its.hand; failed = its.failed }));
+        (q2, ap (λ (x : Bringing). queue x.place) (sym own) ∙ here, subst (λ (x : Bringing). SeesStep core2 x q2) own its);
     only = λ j q at. elim (cases_eq j c.place) [
       | inl e ↦ inr (record { copy = c2; is_open = refl; row = row_now; its = sym e })
       | inr ne ↦ ⊎_elim
-          (λ (r : IsRequestAt core j). inl (record { place = r.place; request = r.request; there = r.there; its = r.its }))
+          (λ (r : IsRequestAt core j). inl r)
           (λ (r : IsStepAt core j). let own : r.copy ≡ c = (let e : Some r.copy ≡ Some c = sym r.is_open ∙ is in cc) in absurd (ne (sym r.its ∙ ap (λ (x : Bringing). x.place) own)))
           (sees.only j q (sym (elsewhere j ne) ∙ at))
     ];
     names = sees.names;
     facts = sees.facts;
-    committed = sees.committed;
-    in_flight = sees.in_flight;
-    wanted = sees.wanted;
-    started = sees.started;
-    written = sees.written;
-    held = sees.held;
-    missing = sees.missing;
-    cache = sees.cache;
-    home = sees.home;
-    flying = sees.flying;
+    status = sees.status;
+    notes = sees.notes;
     open_copy = running_on (is_running c) (groups_of core) c st v.open_copy (subst (λ (m : Option Bringing). SeesCopy (groups_of core) m v.open_copy) is sees.open_copy);
     step_write = refl;
   }

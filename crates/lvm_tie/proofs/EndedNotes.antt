@@ -107,7 +107,7 @@ module _ (past : List Fact) (old new : Session) (at disk : ℕ) (ok : Bool) (row
     pub names : (lv g : ℕ) → note lv g ≡ names_group out.items.items lv g
 
   flying_is : IsFlying
-  flying_is = by (v.flying_note disk) refl (subst (SeesNote (v.flying_note disk)) out.flies (tied.sees.flying disk))
+  flying_is = by (v.flying_note disk) refl (subst (SeesNote (v.flying_note disk)) out.flies (tied.sees.notes.flying disk))
     where
       by : (n : Option Groups) → v.flying_note disk ≡ n → SeesNote n (Some out.items) → IsFlying
       by None flies sees = absurd sees

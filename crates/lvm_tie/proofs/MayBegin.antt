@@ -179,7 +179,7 @@ module _ (past : List Fact) (old new : Session) (tied : IsTied past old) (sound 
           let meets = tied.votes.meet (members_in c all_disks core.descriptor.id core.descriptor) f.set (tied.are_votes.reads (members_in c all_disks core.descriptor.id core.descriptor) ∙ reads.reads.enough) f.enough in
           let disk = meets.0 in
           let shown : v.media.status disk ≡ Some v.committed = ⊎_elim (λ (same : v.media.status disk ≡ Some v.committed). same)
-          (λ (x : (y : Stamped Marks) × (v.in_flight ≡ Some y) × (v.media.status disk ≡ Some y)). absurd (let e : None ≡ Some x.0 = sym (tied.sees.in_flight ∙ no_update) ∙ x.1 in cc)) (f.have disk meets.2) in
+          (λ (x : (y : Stamped Marks) × (v.in_flight ≡ Some y) × (v.media.status disk ≡ Some y)). absurd (let e : None ≡ Some x.0 = sym (tied.sees.status.in_flight ∙ no_update) ∙ x.1 in cc)) (f.have disk meets.2) in
           let r = marks_of_some core.descriptor.id (c.status disk) v.committed (sym (tied.describes.shown.status disk) ∙ shown) in
           ap (λ (m : Stamped Marks). stamp_lt m.stamp u.stamp) (sym r.2) ∙ lower disk r.0 r.1
 

@@ -1,5 +1,5 @@
 -- The start of a note, tied.
-use Rattle.std.proofs.Common.{◌≡◌, inl, inr, ⊎_elim, ℕ, suc, ◌+◌, ◌<◌, Bool, true, false, ◌&&◌, ◌==◌, not, List, [], ◌∷◌, ◌++◌, Option, Some, None, refl, sym, ap, subst, ◌∙◌, arith, eqb-true}
+use Rattle.std.proofs.Common.{◌≡◌, inl, inr, ℕ, suc, ◌+◌, ◌<◌, Bool, true, false, ◌&&◌, ◌==◌, not, List, [], ◌∷◌, ◌++◌, Option, Some, None, refl, sym, ap, subst, ◌∙◌, arith, eqb-true}
 use Rattle.std.specs.Prelude.{IsTrue, IsFalse, if◌then◌else◌, find, slice_get, is_none, is_some, option_and_then, length}
 use Rattle.std.specs.Option.{option_map}
 use Rattle.std.proofs.lemmas.Bool.{cases_eq}
@@ -51,7 +51,7 @@ use Rattle.lvm_tie.proofs.Judged.{aimed_of, copy_is_one, on_member, missing_seen
 use Rattle.lvm_tie.proofs.Orderly.{open_one, orderly_same, out_of}
 use Rattle.lvm_tie.proofs.Words.{not_true}
 use Rattle.lvm_tie.specs.Out.{AreNotes, CarriesStep, CarryTheirs, MayUpdate}
-use Rattle.lvm_tie.specs.Seen.{SeesNote, IsRequestAt, IsStepAt, update_of, Sees}
+use Rattle.lvm_tie.specs.Seen.{SeesNote, update_of, Sees}
 use Rattle.lvm_tie.specs.Tied.{IsOrderly, IsTied, ShowsRecords}
 use Rattle.lvm_tie.specs.Records.{NoteStartTies}
 use Rattle.lvm_tie.proofs.Ties.{carry_more}
@@ -183,7 +183,7 @@ module _ (past : List Fact) (old new : Session) (place disk : ℕ) (starts : Sta
   may = record {
     disk = disk;
     there = is_due.there;
-    none = note_none (v.flying_note disk) (subst (SeesNote (v.flying_note disk)) is_due.none (tied.sees.flying disk));
+    none = note_none (v.flying_note disk) (subst (SeesNote (v.flying_note disk)) is_due.none (tied.sees.notes.flying disk));
     each = λ d. elim (cases_eq d disk) [ inl e ↦ inr (e, own d e) | inr ne ↦ inl (others d ne) ];
   }
 
@@ -209,34 +209,27 @@ module _ (past : List Fact) (old new : Session) (place disk : ℕ) (starts : Sta
   sees : Sees past next w
   sees = record {
     requests = tied.sees.requests;
-    a_step = λ c is at. let s = tied.sees.a_step c is at in (s.0, s.1, record { lv = s.2.lv; first = s.2.first; count = s.2.count; write = s.2.write; step = s.2.step; hand = s.2.hand; failed = s.2.failed });
-    only = λ i q at. ⊎_elim
-        (λ (r : IsRequestAt core i). inl (record { place = r.place; request = r.request; there = r.there; its = r.its }))
-        (λ (r : IsStepAt core i). inr (record { copy = r.copy; is_open = r.is_open; row = r.row; its = r.its }))
-        (tied.sees.only i q at);
+    a_step = tied.sees.a_step;
+    only = tied.sees.only;
     names = tied.sees.names;
     facts = tied.sees.facts;
-    committed = tied.sees.committed;
-    in_flight = tied.sees.in_flight;
-    wanted = tied.sees.wanted;
-    started = tied.sees.started;
-    written = tied.sees.written;
-    missing = tied.sees.missing;
-    cache = tied.sees.cache;
-    home = λ d lv g n there is. elim (cases_eq d disk) [
-      | inl e ↦ let its : n ≡ started core.cache.entries has_notes.notes = some_of n (started core.cache.entries has_notes.notes) (sym is ∙ ap (notes_on next.cache) e ∙ has_notes.is) in
-          ap (λ k. v.home_note k lv g) e ∙ tied.sees.home disk lv g has_notes.notes (subst (λ k. IsTrue (is_there core k)) e there) has_notes.was ∙ ap (λ (m : DiskNotes). names_group m.written.items lv g) (sym its)
-      | inr ne ↦ tied.sees.home d lv g n there (sym (elsewhere d ne) ∙ is)
-    ];
-    flying = λ d. elim (cases_eq d disk) [
-      | inl e ↦ subst (λ k. SeesNote (flying k) (flight_on next.cache k)) (sym e)
-          (subst (λ x. SeesNote x (flight_on next.cache disk)) (sym (own disk refl)) (subst (SeesNote (Some v.cache)) (sym (ap (λ (o : Option DiskNotes). option_and_then (λ (n : DiskNotes). n.flight) o) has_notes.is))
-          (λ lv g. tied.sees.cache lv g ∙ sym (note-names core.cache.entries lv g))))
-      | inr ne ↦ subst (λ x. SeesNote x (flight_on next.cache d)) (sym (others d ne)) (subst (SeesNote (v.flying_note d)) (sym (ap (λ (o : Option DiskNotes). option_and_then (λ (n : DiskNotes). n.flight) o) (elsewhere d ne))) (tied.sees.flying d))
-    ];
+    status = tied.sees.status;
+    notes = record {
+      cache = tied.sees.notes.cache;
+      home = λ d lv g n there is. elim (cases_eq d disk) [
+        | inl e ↦ let its : n ≡ started core.cache.entries has_notes.notes = some_of n (started core.cache.entries has_notes.notes) (sym is ∙ ap (notes_on next.cache) e ∙ has_notes.is) in
+            ap (λ k. v.home_note k lv g) e ∙ tied.sees.notes.home disk lv g has_notes.notes (subst (λ k. IsTrue (is_there core k)) e there) has_notes.was ∙ ap (λ (m : DiskNotes). names_group m.written.items lv g) (sym its)
+        | inr ne ↦ tied.sees.notes.home d lv g n there (sym (elsewhere d ne) ∙ is)
+      ];
+      flying = λ d. elim (cases_eq d disk) [
+        | inl e ↦ subst (λ k. SeesNote (flying k) (flight_on next.cache k)) (sym e)
+            (subst (λ x. SeesNote x (flight_on next.cache disk)) (sym (own disk refl)) (subst (SeesNote (Some v.cache)) (sym (ap (λ (o : Option DiskNotes). option_and_then (λ (n : DiskNotes). n.flight) o) has_notes.is))
+            (λ lv g. tied.sees.notes.cache lv g ∙ sym (note-names core.cache.entries lv g))))
+        | inr ne ↦ subst (λ x. SeesNote x (flight_on next.cache d)) (sym (others d ne)) (subst (SeesNote (v.flying_note d)) (sym (ap (λ (o : Option DiskNotes). option_and_then (λ (n : DiskNotes). n.flight) o) (elsewhere d ne))) (tied.sees.notes.flying d))
+      ];
+    };
     open_copy = tied.sees.open_copy;
     step_write = tied.sees.step_write;
-    held = tied.sees.held;
   }
 
   carries : (g : Flight) (who : Owner) → CarriesStep core v g who → CarriesStep next w g who

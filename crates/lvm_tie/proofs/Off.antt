@@ -76,13 +76,13 @@ module _ (past : List Fact) (s : Session) (tied : IsTied past s) (lost : is_lost
 
   few : IsFalse (tied.votes.writes (λ d. not (w.missing d)))
   few =
-      let each : (d : ℕ) → not (v.missing d) ≡ is_there core d = λ d. ap not (tied.sees.missing d) ∙ not_not (is_there core d) in
+      let each : (d : ℕ) → not (v.missing d) ≡ is_there core d = λ d. ap not (tied.sees.status.missing d) ∙ not_not (is_there core d) in
       let same : (λ (d : ℕ). not (v.missing d)) ≡ is_there core = λ t d. each d t in
       tied.are_votes.writes (λ d. not (v.missing d)) ∙ ap (λ (set : Disks). is_enough_to_write core.descriptor (votes_in core.descriptor set)) same
       ∙ not_true (is_enough_to_write core.descriptor (votes_in core.descriptor (is_there core))) lost
 
   no_note : (d : ℕ) → w.flying_note d ≡ None
-  no_note d = by (v.flying_note d) (flight_on core.cache d) (flies_none past s tied idle (owner.Note d)) (tied.sees.flying d)
+  no_note d = by (v.flying_note d) (flight_on core.cache d) (flies_none past s tied idle (owner.Note d)) (tied.sees.notes.flying d)
     where
       by : (n : Option Groups) (m : Option (ArrayVec NoteEntry)) → is_some m ≡ false → SeesNote n m → n ≡ None
       by None m none sees = refl
@@ -106,7 +106,7 @@ module _ (past : List Fact) (s : Session) (tied : IsTied past s) (lost : is_lost
   goes_off = record {
     lost = few;
     no_data = no_data past s tied idle quiet;
-    no_status = λ d. tied.sees.started d ∙ flies_none past s tied idle (owner.Status d);
+    no_status = λ d. tied.sees.status.started d ∙ flies_none past s tied idle (owner.Status d);
     no_note = no_note;
     no_copy = no_copy;
     requests = are_open core w (rises_of past s tied) quiet.sees (λ i q at no. quiet.only i q at) (shaped_of past s tied) (over_of past s tied);

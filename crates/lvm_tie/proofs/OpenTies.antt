@@ -240,16 +240,8 @@ module _ (past : List Fact) (s : Session) (new : Core) (counts : Counts) (lv lp 
         ap (λ (x : Open). w.name (place_of x.request.id)) was.2 ∙ ap (λ b. if b then no_request else v.name (place_of was.0.request.id)) test ∙ tied.sees.names k was.0 was.1
         ∙ ap (λ (x : Open). Rattle.lvm_vol.specs.Log.request_of core.history.facts x.request.id) (sym was.2);
     facts = tied.sees.facts;
-    committed = tied.sees.committed;
-    in_flight = tied.sees.in_flight;
-    wanted = tied.sees.wanted;
-    started = tied.sees.started;
-    written = tied.sees.written;
-    held = tied.sees.held;
-    missing = tied.sees.missing;
-    cache = tied.sees.cache;
-    home = tied.sees.home;
-    flying = tied.sees.flying;
+    status = tied.sees.status;
+    notes = tied.sees.notes;
     open_copy = record { copy = o; is_open = refl; target = refl; passed = λ l g. refl };
     step_write = tied.sees.step_write ∙ ap Rattle.lvm_tie.specs.Seen.step_write_in may.none;
   }

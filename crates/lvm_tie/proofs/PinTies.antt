@@ -64,23 +64,16 @@ after_pin_is c lv g = by (are_all_pinned c.entries lv g)
 sees_cache : (past : List Fact) (core : Core) (v : State) (entries : List CacheEntry) → Sees past core v → Sees past (record core { cache = record core.cache { entries = entries } }) (record v { cache = has_entry entries })
 sees_cache past core v entries sees = record {
   requests = sees.requests;
-  a_step = λ c is row. let s = sees.a_step c is row in (s.0, s.1, record { lv = s.2.lv; first = s.2.first; count = s.2.count; write = s.2.write; step = s.2.step; hand = s.2.hand; failed = s.2.failed });
-  only = λ j q at. ⊎_elim
-      (λ (r : IsRequestAt core j). inl (record { place = r.place; request = r.request; there = r.there; its = r.its }))
-      (λ (r : IsStepAt core j). inr (record { copy = r.copy; is_open = r.is_open; row = r.row; its = r.its }))
-      (sees.only j q at);
+  a_step = sees.a_step;
+  only = sees.only;
   names = sees.names;
   facts = sees.facts;
-  committed = sees.committed;
-  in_flight = sees.in_flight;
-  wanted = sees.wanted;
-  started = sees.started;
-  written = sees.written;
-  held = sees.held;
-  missing = sees.missing;
-  cache = λ lv g. refl;
-  home = sees.home;
-  flying = sees.flying;
+  status = sees.status;
+  notes = record {
+    cache = λ lv g. refl;
+    home = sees.notes.home;
+    flying = sees.notes.flying;
+  };
   open_copy = sees.open_copy;
   step_write = sees.step_write;
 }

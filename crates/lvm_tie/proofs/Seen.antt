@@ -146,7 +146,7 @@ module _ (past first : List Fact) (s : Session) (w : Faults) (tied : IsTied past
   still_is d is = by (is_member core.descriptor d) refl
     where
       by : (b : Bool) → is_member core.descriptor d ≡ b → IsTrue (v.missing d)
-      by false other = tied.sees.missing d ∙ ap (λ b. not (b && not (is_missing core d))) other
+      by false other = tied.sees.status.missing d ∙ ap (λ b. not (b && not (is_missing core d))) other
       by true member = missing_seen past s tied d member ∙ sound.origin.still_missing d (known_by (is_member core.descriptor d) (calls_missing core.origin.table d) member (sym (faults.missing d) ∙ is))
 
   -- ---- what is stale
@@ -173,7 +173,7 @@ module _ (past first : List Fact) (s : Session) (w : Faults) (tied : IsTied past
   of_wanted p is = cause_of p (or_right (is_held_stale core p) (is_wanted_stale core p) is)
 
   in_flight_is : (c : Pp) (u : Stamped Marks) → v.in_flight ≡ Some u → IsTrue (u.value.stale c) → HasCause w c
-  in_flight_is c u flies is = by core.status.in_flight refl (sym tied.sees.in_flight ∙ flies)
+  in_flight_is c u flies is = by core.status.in_flight refl (sym tied.sees.status.in_flight ∙ flies)
     where
       by : (m : Option Status) → core.status.in_flight ≡ m → option_map as_marks (option_map (λ (t : Status). let r : Stamped Status = record { stamp = core.status.stamp; value = t } in r) m) ≡ Some u → HasCause w c
       by None none e = absurd (cc e)

@@ -49,7 +49,7 @@ use Rattle.lvm_tie.proofs.Tied.{tied_owns}
 use Rattle.lvm_tie.proofs.Words.{clash}
 use Rattle.lvm_tie.proofs.Recorded.{records_last}
 use Rattle.lvm_tie.specs.Out.{AreNotes, CarriesStep, CarryTheirs, IsUpdateWrite, IsWriteOf, MayUpdate, is_owed_on}
-use Rattle.lvm_tie.specs.Seen.{update_of, IsRequestAt, IsStepAt, Sees}
+use Rattle.lvm_tie.specs.Seen.{update_of, Sees}
 use Rattle.lvm_tie.specs.Tied.{IsOrderly, IsTied, ShowsRecords}
 use Rattle.lvm_tie.specs.Records.{StatusStartTies}
 use Rattle.lvm_tie.proofs.MayBegin.{MayBegin, begins, fresh_update, fresh_write}
@@ -130,7 +130,7 @@ module _ (past : List Fact) (old new : Session) (starts : StartsStatus old new) 
       goes_on was =
           let is : seen status ≡ with_start (seen old.core.status) (Some starts.disk) = starts.started ∙ ap (λ (s : Stored). with_start (seen s) (Some starts.disk)) was.1 in
           let update_was : update_of old.core.status ≡ Some u = sym (λ k. option_map (λ (x : Status). let r : Stamped Status = record { stamp = (is k).stamp; value = x } in r) (is k).in_flight) ∙ update_now in
-          let flies : v.in_flight ≡ Some (as_marks u) = tied.sees.in_flight ∙ ap (option_map as_marks) update_was in
+          let flies : v.in_flight ≡ Some (as_marks u) = tied.sees.status.in_flight ∙ ap (option_map as_marks) update_was in
           record {
             good = subst (λ (o : Option (Stamped Marks)). Good tied.votes (record v { in_flight = o })) flies tied.good;
             describes = subst (λ (o : Option (Stamped Marks)). Describes (record v { in_flight = o }) v.facts group (Some u) (contents_of (image_of old.device.sizes tied.media))) flies
@@ -138,8 +138,8 @@ module _ (past : List Fact) (old new : Session) (starts : StartsStatus old new) 
             since = subst (λ (o : Option (Stamped Status)). OnlyUpdateSince old.device (Some write) o) update_was (subst (λ (x : Option RecordWrite). OnlyUpdateSince old.device x (update_of old.core.status)) (same was.0) tied.since);
             committed = ap (λ (x : Updates). x.committed) is;
             wanted = ap (λ (x : Updates). x.wanted) is;
-            written = λ d had. tied.sees.written d (sym (ap (λ (x : Updates). x.written d) is) ∙ had) ∙ flies;
-            held = λ x now enough. tied.sees.held x (update_was ∙ sym update_now ∙ now) (sym (ap is_held is) ∙ enough);
+            written = λ d had. tied.sees.status.written d (sym (ap (λ (x : Updates). x.written d) is) ∙ had) ∙ flies;
+            held = λ x now enough. tied.sees.status.held x (update_was ∙ sym update_now ∙ now) (sym (ap is_held is) ∙ enough);
           }
 
       begins : MayStart (seen old.core.status) × (seen starts.begun ≡ with_update (seen old.core.status)) → IsBegun v tied.votes group old.device tied.media write u old.core.status status
@@ -152,7 +152,7 @@ module _ (past : List Fact) (old new : Session) (starts : StartsStatus old new) 
           let value : starts.status ≡ old.core.status.wanted = let e : Some starts.status ≡ Some old.core.status.wanted = sym starts.flies ∙ ap (λ (x : Updates). x.in_flight) is in cc in
           let first = updates_last.begins tied.votes v group (contents_of (image_of old.device.sizes tied.media)) u tied.good
           (subst (λ (o : Option (Stamped Status)). Describes v v.facts group o (contents_of (image_of old.device.sizes tied.media))) no_update tied.describes)
-          its.own (ap marks_of value ∙ sym tied.sees.wanted) its.later its.last in
+          its.own (ap marks_of value ∙ sym tied.sees.status.wanted) its.later its.last in
           record {
             good = first.0;
             describes = first.1;
@@ -223,25 +223,26 @@ module _ (past : List Fact) (old new : Session) (starts : StartsStatus old new) 
   sees : Sees past core2 w
   sees = record {
     requests = tied.sees.requests;
-    a_step = λ c is has. let s = tied.sees.a_step c is has in (s.0, s.1, record { lv = s.2.lv; first = s.2.first; count = s.2.count; write = s.2.write; step = s.2.step; hand = s.2.hand; failed = s.2.failed });
-    only = λ j q at. ⊎_elim
-        (λ (r : IsRequestAt old.core j). inl (record { place = r.place; request = r.request; there = r.there; its = r.its }))
-        (λ (r : IsStepAt old.core j). inr (record { copy = r.copy; is_open = r.is_open; row = r.row; its = r.its }))
-        (tied.sees.only j q at);
+    a_step = tied.sees.a_step;
+    only = tied.sees.only;
     names = tied.sees.names;
     facts = tied.sees.facts;
-    committed = tied.sees.committed ∙ ap marks_of (sym begun.committed);
-    in_flight = ap (option_map as_marks) (sym update_now);
-    wanted = tied.sees.wanted ∙ ap marks_of (sym begun.wanted);
-    started = λ d. refl;
-    written = begun.written;
-    missing = λ d. tied.sees.missing d ∙ ap not (sym (missing_new d));
-    cache = tied.sees.cache;
-    home = λ d lv g n there. tied.sees.home d lv g n (sym (missing_new d) ∙ there);
-    flying = tied.sees.flying;
+    status = record {
+      committed = tied.sees.status.committed ∙ ap marks_of (sym begun.committed);
+      in_flight = ap (option_map as_marks) (sym update_now);
+      wanted = tied.sees.status.wanted ∙ ap marks_of (sym begun.wanted);
+      started = λ d. refl;
+      written = begun.written;
+      held = begun.held;
+      missing = λ d. tied.sees.status.missing d ∙ ap not (sym (missing_new d));
+    };
+    notes = record {
+      cache = tied.sees.notes.cache;
+      home = λ d lv g n there. tied.sees.notes.home d lv g n (sym (missing_new d) ∙ there);
+      flying = tied.sees.notes.flying;
+    };
     open_copy = tied.sees.open_copy;
     step_write = tied.sees.step_write;
-    held = begun.held;
   }
 
   carries : (g : Flight) (o : Owner) → CarriesStep old.core v g o → CarriesStep core2 w g o

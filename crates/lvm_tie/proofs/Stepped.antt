@@ -58,7 +58,7 @@ module _ (past : List Fact) (core : Core) (v : State) (c d : Bringing) (pool : L
   w = record v { queue = queue; name = name; media = with_block v.media block; open_copy = open_copy; step_write = None }
 
   step_of_it : (r : has_row core d ≡ true) → (x : Queued) × (queue d.place ≡ Some x) × SeesStep core2 d x
-  step_of_it r = let s = its.a_step r in (s.0, s.1, record { lv = s.2.lv; first = s.2.first; count = s.2.count; write = s.2.write; step = s.2.step; hand = s.2.hand; failed = s.2.failed })
+  step_of_it r = its.a_step r
 
   step_here : (e : Bringing) → d ≡ e → has_row core e ≡ true → (x : Queued) × (queue e.place ≡ Some x) × SeesStep core2 e x
   step_here e same r = subst (λ (y : Bringing). (x : Queued) × (queue y.place ≡ Some x) × SeesStep core2 y x) same (step_of_it (subst (λ (y : Bringing). has_row core y ≡ true) (sym same) r))
@@ -69,23 +69,15 @@ module _ (past : List Fact) (core : Core) (v : State) (c d : Bringing) (pool : L
     a_step = λ e there r. step_here e (let k : Some d ≡ Some e = there in cc) r;
     only = λ j x at. ⊎_elim
         (λ (was : (j ≡ c.place → ⊥) × (v.queue j ≡ Some x)). ⊎_elim
-        (λ (r : IsRequestAt core j). inl (record { place = r.place; request = r.request; there = r.there; its = r.its }))
+        (λ (r : IsRequestAt core j). inl r)
         (λ (r : IsStepAt core j). let own : r.copy ≡ c = (let e : Some r.copy ≡ Some c = sym r.is_open ∙ is in cc) in absurd (was.0 (sym r.its ∙ ap (λ (y : Bringing). y.place) own)))
         (sees_v.only j x was.1))
         (λ (here : (has_row core d ≡ true) × (d.place ≡ j)). inr (record { copy = d; is_open = refl; row = here.0; its = here.1 }))
         (its.only j x at);
     names = λ k p at. its.name_still k p at ∙ sees_v.names k p at;
     facts = sees_v.facts;
-    committed = sees_v.committed;
-    in_flight = sees_v.in_flight;
-    wanted = sees_v.wanted;
-    started = sees_v.started;
-    written = sees_v.written;
-    held = sees_v.held;
-    missing = sees_v.missing;
-    cache = sees_v.cache;
-    home = sees_v.home;
-    flying = sees_v.flying;
+    status = sees_v.status;
+    notes = sees_v.notes;
     open_copy = its.open_seen;
     step_write = sym (step_none d d.step its.rests);
   }

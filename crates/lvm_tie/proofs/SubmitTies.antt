@@ -250,12 +250,12 @@ module _ (past : List Fact) (old : Session) (client : ℕ) (ask : Ask) (bytes : 
           subst (λ (x : Open). SeesRequest x q) (sym is.1) (record { lv = refl; first = refl; count = refl; write = refl; step = refl; phase = refl; several = refl; targets = λ c. refl; got = λ buf none. absurd cc }),
         ))
         (one_more core.requests o p k at);
-    a_step = λ c is has. let s = tied.sees.a_step c is has in (s.0, put_there c.place (may.step c is has) ∙ s.1, record { lv = s.2.lv; first = s.2.first; count = s.2.count; write = s.2.write; step = s.2.step; hand = s.2.hand; failed = s.2.failed });
+    a_step = λ c is has. let s = tied.sees.a_step c is has in (s.0, put_there c.place (may.step c is has) ∙ s.1, s.2);
     only = λ j e at. elim (cases_eq j i) [
       | inl is ↦ inl (record { place = length core.requests; request = o; there = last_there core.requests o; its = sym is })
       | inr ne ↦ let test : (j == i) ≡ false = grind (arith, nat_tests) in ⊎_elim
           (λ (r : IsRequestAt core j). inl (record { place = r.place; request = r.request; there = still_there core.requests o r.request r.place r.there; its = r.its }))
-          (λ (r : IsStepAt core j). inr (record { copy = r.copy; is_open = r.is_open; row = r.row; its = r.its }))
+          (λ (r : IsStepAt core j). inr r)
           (tied.sees.only j e (sym (ap (λ b. if b then Some q else v.queue j) test) ∙ at))
     ];
     names = λ k p at. ⊎_elim
@@ -263,18 +263,10 @@ module _ (past : List Fact) (old : Session) (client : ℕ) (ask : Ask) (bytes : 
         (λ is. subst (λ (x : Open). w.name (place_of x.request.id) ≡ request_of new.history.facts x.request.id) (sym is.1) name_here)
         (one_more core.requests o p k at);
     facts = ap (λ (fs : List Fact). fs ++ Begun asks ∷ []) tied.sees.facts ∙ append_assoc past core.history.facts (Begun asks ∷ []);
-    committed = tied.sees.committed;
-    in_flight = tied.sees.in_flight;
-    wanted = tied.sees.wanted;
-    started = tied.sees.started;
-    written = tied.sees.written;
-    missing = tied.sees.missing;
-    cache = tied.sees.cache;
-    home = tied.sees.home;
-    flying = tied.sees.flying;
+    status = tied.sees.status;
+    notes = tied.sees.notes;
     open_copy = tied.sees.open_copy;
     step_write = tied.sees.step_write;
-    held = tied.sees.held;
   }
 
   carries : (g : Flight) (who : Owner) → CarriesStep core v g who → CarriesStep new w g who

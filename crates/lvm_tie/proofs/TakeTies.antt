@@ -115,26 +115,18 @@ module _ (past : List Fact) (old : Session) (place : ℕ) (o : Open) (tied : IsT
   sees1 : Sees past core1 (record v { queue = left })
   sees1 = record {
     requests = λ k p is. let r = was_there core.requests place k p is in let s = tied.sees.requests r.at p r.there in (s.0, elsewhere (place_of p.request.id) (apart r.at p r.there r.other) ∙ s.1, s.2);
-    a_step = λ c is row. let s = tied.sees.a_step c is row in (s.0, elsewhere c.place (step_apart c is row) ∙ s.1, record { lv = s.2.lv; first = s.2.first; count = s.2.count; write = s.2.write; step = s.2.step; hand = s.2.hand; failed = s.2.failed });
+    a_step = λ c is row. let s = tied.sees.a_step c is row in (s.0, elsewhere c.place (step_apart c is row) ∙ s.1, s.2);
     only = λ j e is. elim (cases_eq j i) [
       | inl same ↦ absurd (let n : None ≡ Some e = sym (gone j same) ∙ is in cc)
       | inr ne ↦ ⊎_elim
           (λ (r : IsRequestAt core j). inl (let l = is_left core.requests place r.place r.request r.there (λ e2. ne (sym r.its ∙ ap (λ (x : Open). place_of x.request.id) (some_of r.request o (sym r.there ∙ ap (slice_get core.requests) e2 ∙ there)))) in record { place = l.0; request = r.request; there = l.1; its = r.its }))
-          (λ (r : IsStepAt core j). inr (record { copy = r.copy; is_open = r.is_open; row = r.row; its = r.its }))
+          (λ (r : IsStepAt core j). inr r)
           (tied.sees.only j e (sym (elsewhere j ne) ∙ is))
     ];
     names = λ k p is. let r = was_there core.requests place k p is in tied.sees.names r.at p r.there;
     facts = tied.sees.facts;
-    committed = tied.sees.committed;
-    in_flight = tied.sees.in_flight;
-    wanted = tied.sees.wanted;
-    started = tied.sees.started;
-    written = tied.sees.written;
-    held = tied.sees.held;
-    missing = tied.sees.missing;
-    cache = tied.sees.cache;
-    home = tied.sees.home;
-    flying = tied.sees.flying;
+    status = tied.sees.status;
+    notes = tied.sees.notes;
     open_copy = tied.sees.open_copy;
     step_write = tied.sees.step_write;
   }

@@ -124,7 +124,7 @@ module _ (past : List Fact) (s : Session) (tied : IsTied past s) where
       by true writes = inr (inl (data_write f id number out writes))
 
   note_owned : (f : Flight) (disk : ℕ) → IsNoteOut core f disk → IsOwned v core.descriptor.mib tied.write f
-  note_owned f disk out = by (v.flying_note disk) refl (subst (λ o. SeesNote (v.flying_note disk) o) out.flies (tied.sees.flying disk))
+  note_owned f disk out = by (v.flying_note disk) refl (subst (λ o. SeesNote (v.flying_note disk) o) out.flies (tied.sees.notes.flying disk))
     where
       by : (n : Option Groups) → v.flying_note disk ≡ n → SeesNote (v.flying_note disk) (Some out.items) → IsOwned v core.descriptor.mib tied.write f
       by None is sees = absurd (subst (λ n. SeesNote n (Some out.items)) is sees)
@@ -148,7 +148,7 @@ module _ (past : List Fact) (s : Session) (tied : IsTied past s) where
       by None is = is
       by (Some w) is = record {
         write = is.write;
-        flies = tied.sees.started f.disk ∙ ap (has core.status.writes.started) is.disk_is ∙ is.started;
+        flies = tied.sees.status.started f.disk ∙ ap (has core.status.writes.started) is.disk_is ∙ is.started;
         target = ap w.targets is.disk_is ∙ is.target;
         first = is.first ∙ ap (λ d. slot_start w.kind (w.slots d)) (sym is.disk_is);
         count = is.count;

@@ -140,7 +140,7 @@ module _ (past : List Fact) (old new : Session) (index disk : ℕ) (ok : Bool) (
       (subst (λ (fs : List Flight). AreOut core tied.write fs core.flying) ended.removes.was (out_of old tied.write tied.orderly tied.notes)) (tickets_of old tied.write tied.orderly) returns.there ended.its
 
   pub written : IsWritten old.device core v tied.write f disk
-  written = is_written old.device core v tied.write f disk tied.since tied.orderly.update tied.sees.started (subst (IsOut core tied.write f) its_owner (its_row core v).out)
+  written = is_written old.device core v tied.write f disk tied.since tied.orderly.update tied.sees.status.started (subst (IsOut core tied.write f) its_owner (its_row core v).out)
 
   abbrev w : RecordWrite
   w = written.write

@@ -230,7 +230,7 @@ module _ (past : List Fact) (old new : Session) (at : ℕ) (tied : IsTied past o
     stale = stale_seen past old tied c.pp ∙ own_stale;
     still = still;
     added = λ p is. seen_stale p ∙ (and_both (calls_stale core.status.wanted p) (not (same_pp p c.pp)) (sym (fresher.stale p) ∙ is)).0;
-    still_dirty = λ lv is. ap (λ (ns : List ℕ). list_any (λ n. n == lv) ns) fresher.dirty ∙ sym (ap (λ (m : Marks). m.dirty lv) tied.sees.wanted) ∙ is;
+    still_dirty = λ lv is. ap (λ (ns : List ℕ). list_any (λ n. n == lv) ns) fresher.dirty ∙ sym (ap (λ (m : Marks). m.dirty lv) tied.sees.status.wanted) ∙ is;
     behind = λ lv b x y copy fresh missing other usable kept.
         let y_fresh : v.committed.value.stale y ≡ false = not_true (v.committed.value.stale y) (and_both (not (v.committed.value.stale y)) (not (v.missing y.disk)) usable).0 in
         others_same x (not_own x fresh) ∙ tied.good.sound.behind.left_behind lv b x y copy fresh missing other usable (sym (others_same y (not_own y y_fresh)) ∙ kept);

@@ -319,8 +319,8 @@ module _ (past : List Fact) (old new : Session) (index : ℕ) (ends : Ends old n
 
   sure_of : (p : Pp) → StaysFresh w p → is_sure core2 p ≡ true
   sure_of p fresh =
-      let committed : calls_stale old.core.status.committed p ≡ false = sym (ap (λ (m : Marks). m.stale p) tied.sees.committed) ∙ fresh.committed in
-      let wanted : calls_stale old.core.status.wanted p ≡ false = sym (ap (λ (m : Marks). m.stale p) tied.sees.wanted) ∙ fresh.wanted in
+      let committed : calls_stale old.core.status.committed p ≡ false = sym (ap (λ (m : Marks). m.stale p) tied.sees.status.committed) ∙ fresh.committed in
+      let wanted : calls_stale old.core.status.wanted p ≡ false = sym (ap (λ (m : Marks). m.stale p) tied.sees.status.wanted) ∙ fresh.wanted in
       λ k. not (committed k) && not (wanted k)
 
   covers_first : IsTrue (covers q2 q2.lv q2.first)
@@ -447,7 +447,7 @@ module _ (past : List Fact) (old new : Session) (index : ℕ) (ends : Ends old n
       other = stays.keeper.pp;
       copy = subst (λ (c : Pp). IsTrue (v.is_copy (lv_of o.request.ask) (at_of o.request.ask) c)) x.there (its_copy x.one x.its_one);
       other_copy = its_copy stays.keeper stays.one;
-      fresh = ap (λ (m : Marks). m.stale stays.keeper.pp) tied.sees.committed ∙ keeper_fresh;
+      fresh = ap (λ (m : Marks). m.stale stays.keeper.pp) tied.sees.status.committed ∙ keeper_fresh;
       kept = wants.stale stays.keeper.pp ∙ (λ k. keeper_wanted k || (keeper_not_due k || keeper_not_marked k));
     }
 
@@ -475,7 +475,7 @@ module _ (past : List Fact) (old new : Session) (index : ℕ) (ends : Ends old n
     -- ---- what the state wants
 
     still : (p : Pp) → IsTrue (w.wanted.stale p) → IsTrue (calls_stale status.wanted p)
-    still p is = wants.stale p ∙ or_true (calls_stale old.core.status.wanted p) (due p) (inl (sym (ap (λ (m : Marks). m.stale p) tied.sees.wanted) ∙ is))
+    still p is = wants.stale p ∙ or_true (calls_stale old.core.status.wanted p) (due p) (inl (sym (ap (λ (m : Marks). m.stale p) tied.sees.status.wanted) ∙ is))
 
     open_same : (e : Option CopyEnd) → ((h : CopyEnd) → e ≡ Some h → (x : OpenCopy) → v.open_copy ≡ Some x → calls_stale status.wanted x.target ≡ true)
         → (open_after e v.open_copy ≡ v.open_copy) ⊎ ((open_after e v.open_copy ≡ None) × ((x : OpenCopy) → v.open_copy ≡ Some x → IsTrue (calls_stale status.wanted x.target)))
@@ -490,8 +490,8 @@ module _ (past : List Fact) (old new : Session) (index : ℕ) (ends : Ends old n
     may_want = record {
       missing_still = λ d is. is;
       still = still;
-      still_dirty = λ lv is. ap (λ (ns : List ℕ). list_any (λ n. n == lv) ns) wants.dirty ∙ sym (ap (λ (m : Marks). m.dirty lv) tied.sees.wanted) ∙ is;
-      added = λ p is. ⊎_elim (λ was. inl (ap (λ (m : Marks). m.stale p) tied.sees.wanted ∙ was)) (λ its. replaced p its) (or_either (calls_stale old.core.status.wanted p) (due p) (sym (wants.stale p) ∙ is));
+      still_dirty = λ lv is. ap (λ (ns : List ℕ). list_any (λ n. n == lv) ns) wants.dirty ∙ sym (ap (λ (m : Marks). m.dirty lv) tied.sees.status.wanted) ∙ is;
+      added = λ p is. ⊎_elim (λ was. inl (ap (λ (m : Marks). m.stale p) tied.sees.status.wanted ∙ was)) (λ its. replaced p its) (or_either (calls_stale old.core.status.wanted p) (due p) (sym (wants.stale p) ∙ is));
       open_same = open_same how ends_stale;
       open_there = open_there how;
       behind = λ lv b c e copy fresh gone other usable kept. still c (good_w.sound.behind.left_behind lv b c e copy fresh gone other usable (falls (w.wanted.stale e) (calls_stale status.wanted e) (still e) kept));

@@ -70,15 +70,15 @@ module _ (past : List Fact) (s : Session) (tied : IsTied past s) (rests : IsRest
   no_update = ap (λ (o : Option Status). option_map (λ (t : Status). let r : Stamped Status = record { stamp = core.status.stamp; value = t } in r) o) rests.in_flight
 
   none_flies : v.in_flight ≡ None
-  none_flies = tied.sees.in_flight ∙ ap (option_map as_marks) no_update
+  none_flies = tied.sees.status.in_flight ∙ ap (option_map as_marks) no_update
 
   idle : IsIdle v
   idle = record {
     queue = λ i. empty i (v.queue i) refl;
     in_flight = none_flies;
-    wanted = tied.sees.wanted ∙ ap marks_of (sym rests.committed) ∙ sym tied.sees.committed;
-    no_status = λ d. tied.sees.started d ∙ (on.going.status.idle rests.in_flight d).1;
-    no_note = λ d. note_none (v.flying_note d) (subst (SeesNote (v.flying_note d)) (rests.notes d) (tied.sees.flying d));
+    wanted = tied.sees.status.wanted ∙ ap marks_of (sym rests.committed) ∙ sym tied.sees.status.committed;
+    no_status = λ d. tied.sees.status.started d ∙ (on.going.status.idle rests.in_flight d).1;
+    no_note = λ d. note_none (v.flying_note d) (subst (SeesNote (v.flying_note d)) (rests.notes d) (tied.sees.notes.flying d));
     no_copy = subst (λ (o : Option Bringing). SeesCopy (groups_of core) o v.open_copy) rests.copy tied.sees.open_copy;
     no_step = tied.sees.step_write ∙ ap step_write_in rests.copy;
   }
@@ -185,7 +185,7 @@ module _ (past : List Fact) (s : Session) (tied : IsTied past s) (rests : IsRest
   -- ---- all that it sees
 
   there_seen : (d : ℕ) → IsTrue (is_there core d) → IsFalse (v.missing d)
-  there_seen d there = tied.sees.missing d ∙ ap not there
+  there_seen d there = tied.sees.status.missing d ∙ ap not there
 
   notes_seen : (d lv g : ℕ) → IsTrue (is_there core d) → v.home_note d lv g ≡ is_named c d lv g
   notes_seen d lv g there = sym (tied.good.sound.notes.home d lv g (there_seen d there)) ∙ tied.describes.shown.names d lv g
@@ -197,7 +197,7 @@ module _ (past : List Fact) (s : Session) (tied : IsTied past s) (rests : IsRest
     names = tied.describes.shown.names;
     status = tied.describes.shown.status;
     committed = same_committed;
-    missing = tied.sees.missing;
+    missing = tied.sees.status.missing;
     notes = notes_seen;
   }
 
@@ -219,7 +219,7 @@ module _ (past : List Fact) (s : Session) (tied : IsTied past s) (rests : IsRest
       by None is some = absurd (cc some)
       by (Some n) is some =
           let none : n.flight ≡ None = sym (ap (λ (o : Option DiskNotes). option_and_then (λ (m : DiskNotes). m.flight) o) is) ∙ rests.notes d in
-          sym (notes_seen d lv g there) ∙ tied.sees.home d lv g n there is ∙ sym (names_written lv g n none) ∙ sym (ap (λ (o : Option DiskNotes). option_map_or (both_name lv g) o false) is)
+          sym (notes_seen d lv g there) ∙ tied.sees.notes.home d lv g n there is ∙ sym (names_written lv g n none) ∙ sym (ap (λ (o : Option DiskNotes). option_map_or (both_name lv g) o false) is)
 
 pub tied_rests : TiedRests
 tied_rests past s tied rests enough = (

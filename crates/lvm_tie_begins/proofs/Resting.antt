@@ -166,16 +166,20 @@ module _ (past : List Fact) (s : Session) (media : Media) (sound : IsSound s) (p
     only = λ i q at. some_is_none (v.queue i) q (idle.queue i) at;
     names = λ place o at. none_at core.requests place o rests.requests at;
     facts = facts_are;
-    committed = ap (λ (m : Stamped Marks). m.value) seen_first.committed ∙ ap marks_of stands.held.shows.committed;
-    in_flight = idle_first.in_flight ∙ sym (ap (option_map as_marks) no_update);
-    wanted = idle_first.wanted ∙ ap (λ (m : Stamped Marks). m.value) seen_first.committed ∙ ap marks_of (stands.held.shows.committed ∙ rests.committed);
-    started = λ d. idle_first.no_status d ∙ sym (none_written d);
-    written = λ d is. marked (has core.status.writes.written d) (on.going.status.idle rests.in_flight d).2 is;
-    held = λ u is enough. some_is_none (update_of core.status) u no_update is;
-    missing = seen_first.missing;
-    cache = λ lv g. refl;
-    home = home;
-    flying = λ d. subst (λ (x : Option Groups). SeesNote x (flight_on core.cache d)) (sym (idle_first.no_note d)) (subst (SeesNote None) (sym (rests.notes d)) tt);
+    status = record {
+      committed = ap (λ (m : Stamped Marks). m.value) seen_first.committed ∙ ap marks_of stands.held.shows.committed;
+      in_flight = idle_first.in_flight ∙ sym (ap (option_map as_marks) no_update);
+      wanted = idle_first.wanted ∙ ap (λ (m : Stamped Marks). m.value) seen_first.committed ∙ ap marks_of (stands.held.shows.committed ∙ rests.committed);
+      started = λ d. idle_first.no_status d ∙ sym (none_written d);
+      written = λ d is. marked (has core.status.writes.written d) (on.going.status.idle rests.in_flight d).2 is;
+      held = λ u is enough. some_is_none (update_of core.status) u no_update is;
+      missing = seen_first.missing;
+    };
+    notes = record {
+      cache = λ lv g. refl;
+      home = home;
+      flying = λ d. subst (λ (x : Option Groups). SeesNote x (flight_on core.cache d)) (sym (idle_first.no_note d)) (subst (SeesNote None) (sym (rests.notes d)) tt);
+    };
     open_copy = subst (λ (o : Option Bringing). SeesCopy (groups_of core) o v.open_copy) (sym rests.copy) idle_first.no_copy;
     step_write = idle_first.no_step ∙ sym (ap (λ (o : Option Bringing). step_write_in o) rests.copy);
   }
