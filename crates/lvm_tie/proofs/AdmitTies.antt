@@ -43,7 +43,6 @@ use Rattle.lvm_session.specs.declared.open.Open.{Open}
 use Rattle.lvm_session.specs.declared.bringing.OpenCopy.{OpenCopy as Bringing}
 use Rattle.lvm_session.specs.declared.bringing.Step.{Step}
 use Rattle.lvm_session.specs.declared.bringing.Step.TheVariants as step
-use Rattle.lvm_session.specs.declared.flown.Flown.{Flown}
 use Rattle.lvm_session.specs.declared.flown.Owner.{Owner}
 use Rattle.lvm_session.specs.declared.flown.Owner.TheVariants as owner
 use Rattle.lvm_session.specs.State.{Core, State as Session, state}
@@ -66,6 +65,7 @@ use Rattle.lvm_tie_shelf.specs.Owned.{OnlyUpdateSince}
 use Rattle.lvm_tie_shelf.proofs.Owned.{covered}
 use Rattle.lvm_tie_shelf.proofs.Quiet.{quiet_lasts}
 use Rattle.lvm_tie_shelf.proofs.Writing.{and_both, pp_same}
+use Rattle.lvm_tie.proofs.Ties.{carry_on}
 use Rattle.lvm_tie.proofs.Changing.{step_apart, sees_changed}
 use Rattle.lvm_tie.proofs.Judged.{there_is_copy, on_member, missing_seen, usable_seen, wanted_seen}
 use Rattle.lvm_tie.proofs.Modes.{active_is}
@@ -73,7 +73,7 @@ use Rattle.lvm_tie.proofs.Rows.{HaveRows, rows_are}
 use Rattle.lvm_tie.proofs.Orderly.{HaveNumbers, numbers_of, open_one, waiting_one}
 use Rattle.lvm_tie.proofs.Words.{or_left, or_either, any_none, filter_one, not_true, clash, stage_of_one, target_of, one_there}
 use Rattle.lvm_tie.proofs.Wanted.{dirty_rest, next_same, records_wanted, sees_wanted, stamp_same, update_same, write_same}
-use Rattle.lvm_tie.specs.Out.{CarriesStep, CarryTheirs, IsWriteOf}
+use Rattle.lvm_tie.specs.Out.{CarriesStep, IsWriteOf}
 use Rattle.lvm_tie.specs.Seen.{stage_at, phase_seen, update_of, SeesRequest, SeesOpen, SeesRunning, SeesCopy, IsRequestAt, IsStepAt, Sees}
 use Rattle.lvm_tie.specs.Tied.{IsOrderly, IsTied}
 use Rattle.lvm_tie.specs.Requests.{AdmitTies}
@@ -345,11 +345,6 @@ module _ (past : List Fact) (old new : Session) (place : ℕ) (admits : Admits o
         | inr ne ↦ let test : (c.place == i) ≡ false = grind (arith, nat_tests) in ap (λ b. if b then Some q2 else v.queue c.place) test
       ]
 
-  carry_so : (fs : List Flight) (them : List Flown) → CarryTheirs core v fs them → CarryTheirs core2 w fs them
-  carry_so [] them carry = tt
-  carry_so (f ∷ fs) [] carry = tt
-  carry_so (f ∷ fs) (r ∷ rs) carry = (carries f r.owner carry.0, carry_so fs rs carry.1)
-
   orderly : IsWriteOf new.core.status core.homes new.core.status.in_flight tied.write → IsOrderly (state old.device (record core2 { status = new.core.status })) tied.write
   orderly update = record { sound = subst IsSound whole sound; on = tied.orderly.on; update = update }
 
@@ -383,7 +378,7 @@ module _ (past : List Fact) (old new : Session) (place : ℕ) (admits : Admits o
         next = tied.next;
         notes = tied.notes;
         copy_aimed = tied.copy_aimed;
-        carry = carry_so old.device.flights core.flying tied.carry;
+        carry = carry_on core core2 v w old.device.flights core.flying carries tied.carry;
         members = tied.members;
         records = tied.records;
         own = tied.own;
@@ -444,7 +439,7 @@ module _ (past : List Fact) (old new : Session) (place : ℕ) (admits : Admits o
       next = next_same core.status stored wanted_rest wants.wants.missing core.descriptor core.homes (image_of old.device.sizes tied.media) tied.next;
       notes = λ d items flies. subst (λ st. IsNote (record { stamp = st.epoch; entries = items.items })) (sym (stamp_same core.status stored wanted_rest wants.wants.missing)) (tied.notes d items flies);
       copy_aimed = tied.copy_aimed;
-      carry = carry_so old.device.flights core.flying tied.carry;
+      carry = carry_on core core2 v w old.device.flights core.flying carries tied.carry;
       members = tied.members;
       records = records_wanted core.status stored wanted_rest wants.wants.missing core.descriptor (contents_of (image_of old.device.sizes tied.media)) tied.records;
       own = tied.own;

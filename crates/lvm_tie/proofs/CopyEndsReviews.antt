@@ -15,7 +15,6 @@ use Rattle.lvm_session.specs.declared.bringing.OpenCopy.{OpenCopy as Bringing}
 use Rattle.lvm_session.specs.declared.bringing.Step.{Step}
 use Rattle.lvm_session.specs.declared.bringing.Step.TheVariants as step
 use Rattle.lvm_session.specs.declared.bringing.CopyEnd.{CopyEnd}
-use Rattle.lvm_session.specs.declared.flown.Flown.{Flown}
 use Rattle.lvm_session.specs.declared.flown.Owner.{Owner}
 use Rattle.lvm_session.specs.declared.flown.Owner.TheVariants as owner
 use Rattle.lvm_session.specs.State.{Core, state}
@@ -32,8 +31,9 @@ use Rattle.lvm_invariant.specs.Events.{EndStep, Take}
 use Rattle.lvm_invariant.proofs.Each.{each_keeps}
 use Rattle.lvm_crash.specs.Session.{Describes}
 use Rattle.lvm_tie_shelf.proofs.Quiet.{quiet_lasts}
+use Rattle.lvm_tie.proofs.Ties.{carry_on}
 use Rattle.lvm_tie.proofs.Words.{clash, or_true}
-use Rattle.lvm_tie.specs.Out.{CarriesStep, CarryTheirs}
+use Rattle.lvm_tie.specs.Out.{CarriesStep}
 use Rattle.lvm_tie.specs.Seen.{IsRequestAt, IsStepAt, Sees, SeesHand, SeesStep, step_write_in, step_write_of, update_of}
 use Rattle.lvm_tie.specs.Tied.{IsOrderly, IsTied}
 use Rattle.lvm_tie.specs.Near.{IsNear, IsRunning, NearTies}
@@ -83,12 +83,6 @@ same_write c d step.Idle pp place = refl
 same_write c d (step.Reading source) pp place = refl
 same_write c d (step.Read buf) pp place = refl
 same_write c d step.Writing pp place = λ t. Some (record { target = pp t; place = place t })
-
--- what steps carry goes on where the rows do
-carry_on : (core next : Core) (v w : State) (fs : List Flight) (rows : List Flown) → ((g : Flight) (o : Owner) → CarriesStep core v g o → CarriesStep next w g o) → CarryTheirs core v fs rows → CarryTheirs next w fs rows
-carry_on core next v w [] rows each carry = tt
-carry_on core next v w (f ∷ fs) [] each carry = tt
-carry_on core next v w (f ∷ fs) (row ∷ rows) each carry = (each f row.owner carry.0, carry_on core next v w fs rows each carry.1)
 
 -- ---- its end
 

@@ -26,7 +26,6 @@ use Rattle.lvm_session.specs.declared.open.Open.{Open}
 use Rattle.lvm_session.specs.declared.bringing.OpenCopy.{OpenCopy as Bringing}
 use Rattle.lvm_session.specs.declared.bringing.Step.{Step}
 use Rattle.lvm_session.specs.declared.bringing.Step.TheVariants as step
-use Rattle.lvm_session.specs.declared.flown.Flown.{Flown}
 use Rattle.lvm_session.specs.declared.flown.Owner.{Owner}
 use Rattle.lvm_session.specs.declared.flown.Owner.TheVariants as owner
 use Rattle.lvm_session.specs.State.{Core, State as Session, state}
@@ -44,7 +43,8 @@ use Rattle.lvm_invariant.specs.Events.{Pin, Step as GoodStep}
 use Rattle.lvm_invariant.proofs.Each.{each_keeps}
 use Rattle.lvm_tie_shelf.proofs.Quiet.{quiet_lasts}
 use Rattle.lvm_tie_shelf.proofs.Writing.{and_both}
-use Rattle.lvm_tie.specs.Out.{CarriesStep, CarryTheirs}
+use Rattle.lvm_tie.proofs.Ties.{carry_on}
+use Rattle.lvm_tie.specs.Out.{CarriesStep}
 use Rattle.lvm_tie.specs.Seen.{IsRequestAt, IsStepAt, Sees, SeesRequest, phase_seen, update_of}
 use Rattle.lvm_tie.specs.Tied.{IsOrderly, IsTied}
 use Rattle.lvm_tie.proofs.Changing.{sees_changed, set_here, set_there, step_apart}
@@ -244,11 +244,6 @@ module _ (past : List Fact) (old new : Session) (place : ℕ) (event : Pins old 
         | inr ne ↦ let test : (c.place == i) ≡ false = grind (arith, nat_tests) in ap (λ b. if b then Some q2 else v.queue c.place) test
       ]
 
-  carry_so : (fs : List Flight) (them : List Flown) → CarryTheirs core v fs them → CarryTheirs core2 w fs them
-  carry_so [] them carry = tt
-  carry_so (f ∷ fs) [] carry = tt
-  carry_so (f ∷ fs) (r ∷ rs) carry = (carries f r.owner carry.0, carry_so fs rs carry.1)
-
   step_is : GoodStep tied.votes (Pin i q (has_entry entries)) v w
   step_is = (may, refl)
 
@@ -268,7 +263,7 @@ module _ (past : List Fact) (old new : Session) (place : ℕ) (event : Pins old 
     next = tied.next;
     notes = tied.notes;
     copy_aimed = tied.copy_aimed;
-    carry = carry_so old.device.flights core.flying tied.carry;
+    carry = carry_on core core2 v w old.device.flights core.flying carries tied.carry;
     members = tied.members;
     records = tied.records;
     own = tied.own;

@@ -26,7 +26,6 @@ use Rattle.lvm_path.specs.declared.ask.Ask.{Ask}
 use Rattle.lvm_path.specs.Asks.{lv_of, at_of, count_of, is_write}
 use Rattle.lvm_session.specs.declared.open.Open.{Open}
 use Rattle.lvm_session.specs.declared.bringing.OpenCopy.{OpenCopy as Bringing}
-use Rattle.lvm_session.specs.declared.flown.Flown.{Flown}
 use Rattle.lvm_session.specs.declared.flown.Owner.{Owner}
 use Rattle.lvm_session.specs.declared.flown.Owner.TheVariants as owner
 use Rattle.lvm_session.specs.State.{Core, State as Session, state}
@@ -44,9 +43,10 @@ use Rattle.lvm_invariant.specs.Events.{Event, Submit}
 use Rattle.lvm_invariant.proofs.Each.{each_keeps}
 use Rattle.lvm_tie_shelf.proofs.Owned.{covered}
 use Rattle.lvm_tie_shelf.proofs.Quiet.{quiet_lasts}
+use Rattle.lvm_tie.proofs.Ties.{carry_on}
 use Rattle.lvm_tie.proofs.Judged.{copy_is}
 use Rattle.lvm_tie.proofs.Orderly.{all_at, asked_one, open_one, valid_of}
-use Rattle.lvm_tie.specs.Out.{CarriesStep, CarryTheirs}
+use Rattle.lvm_tie.specs.Out.{CarriesStep}
 use Rattle.lvm_tie.specs.Seen.{update_of, SeesRequest, IsRequestAt, IsStepAt, Sees}
 use Rattle.lvm_tie.specs.Tied.{IsOrderly, IsTied}
 use Rattle.lvm_tie.specs.Requests.{SubmitTies}
@@ -276,11 +276,6 @@ module _ (past : List Fact) (old : Session) (client : ℕ) (ask : Ask) (bytes : 
   carries g owner.Copy its = λ c p is writing here.
       its c p is writing (sym (put_there c.place (may.step c is (ap (λ (st : Step). is_out st || (is_running c && not (is_whole core c))) writing))) ∙ here)
 
-  carry_so : (fs : List Flight) (rows : List Flown) → CarryTheirs core v fs rows → CarryTheirs new w fs rows
-  carry_so [] rows carry = tt
-  carry_so (f ∷ fs) [] carry = tt
-  carry_so (f ∷ fs) (r ∷ rs) carry = (carries f r.owner carry.0, carry_so fs rs carry.1)
-
   pub tied_after : IsOrderly (state old.device new) tied.write → IsTied past (state old.device new)
   tied_after orderly = record {
     votes = tied.votes;
@@ -296,7 +291,7 @@ module _ (past : List Fact) (old : Session) (client : ℕ) (ask : Ask) (bytes : 
     since = tied.since;
     orderly = orderly;
     copy_aimed = tied.copy_aimed;
-    carry = carry_so old.device.flights core.flying tied.carry;
+    carry = carry_on core new v w old.device.flights core.flying carries tied.carry;
     members = tied.members;
     records = tied.records;
     next = tied.next;

@@ -16,7 +16,6 @@ use Rattle.lvm_path.specs.Targets.{is_begun}
 use Rattle.lvm_session.specs.declared.open.Open.{Open}
 use Rattle.lvm_session.specs.declared.bringing.OpenCopy.{OpenCopy as Bringing}
 use Rattle.lvm_session.specs.declared.bringing.Step.{Step}
-use Rattle.lvm_session.specs.declared.flown.Flown.{Flown}
 use Rattle.lvm_session.specs.declared.flown.Owner.{Owner}
 use Rattle.lvm_session.specs.declared.flown.Owner.TheVariants as owner
 use Rattle.lvm_session.specs.State.{Core, State as Session, state}
@@ -31,9 +30,10 @@ use Rattle.lvm_invariant.specs.Take.{Takes, taken}
 use Rattle.lvm_invariant.specs.Events.{Take}
 use Rattle.lvm_invariant.proofs.Each.{each_keeps}
 use Rattle.lvm_tie_shelf.proofs.Quiet.{quiet_lasts}
+use Rattle.lvm_tie.proofs.Ties.{carry_on}
 use Rattle.lvm_tie.proofs.Entered.{sees_entered}
 use Rattle.lvm_tie.proofs.Orderly.{HaveNumbers, numbers_of, open_one}
-use Rattle.lvm_tie.specs.Out.{CarriesStep, CarryTheirs}
+use Rattle.lvm_tie.specs.Out.{CarriesStep}
 use Rattle.lvm_tie.specs.Seen.{update_of, phase_seen, SeesRequest, IsRequestAt, IsStepAt, Sees}
 use Rattle.lvm_tie.specs.Tied.{IsOrderly, IsTied}
 use Rattle.lvm_tie.specs.Lands.{TakeTies}
@@ -150,11 +150,6 @@ module _ (past : List Fact) (old : Session) (place : ℕ) (o : Open) (tied : IsT
   carries g owner.Copy its = λ c p is writing here.
       its c p is writing (sym (elsewhere c.place (step_apart c is (ap (λ (st : Step). is_out st || (is_running c && not (is_whole core c))) writing))) ∙ here)
 
-  carry_so : (fs : List Flight) (them : List Flown) → CarryTheirs core v fs them → CarryTheirs core2 w fs them
-  carry_so [] them carry = tt
-  carry_so (f ∷ fs) [] carry = tt
-  carry_so (f ∷ fs) (r ∷ rs) carry = (carries f r.owner carry.0, carry_so fs rs carry.1)
-
   pub tied_after : IsOrderly (state old.device core2) tied.write → IsTied past (state old.device core2)
   tied_after orderly = record {
     votes = tied.votes;
@@ -169,7 +164,7 @@ module _ (past : List Fact) (old : Session) (place : ℕ) (o : Open) (tied : IsT
     since = tied.since;
     orderly = orderly;
     copy_aimed = tied.copy_aimed;
-    carry = carry_so old.device.flights core.flying tied.carry;
+    carry = carry_on core core2 v w old.device.flights core.flying carries tied.carry;
     members = tied.members;
     records = tied.records;
     next = tied.next;

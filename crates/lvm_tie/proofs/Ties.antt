@@ -67,6 +67,12 @@ since_start old new f (Some w) (Some u) starts low since = update_goes_on w u ol
 since_start old new f (Some w) None starts low since = absurd since
 since_start old new f None (Some u) starts low since = absurd since
 
+-- what steps carry goes on where the rows do
+pub carry_on : (core next : Core) (v w : State) (fs : List Flight) (rows : List Flown) → ((g : Flight) (o : Owner) → CarriesStep core v g o → CarriesStep next w g o) → CarryTheirs core v fs rows → CarryTheirs next w fs rows
+carry_on core next v w [] rows each carry = tt
+carry_on core next v w (f ∷ fs) [] each carry = tt
+carry_on core next v w (f ∷ fs) (row ∷ rows) each carry = (each f row.owner carry.0, carry_on core next v w fs rows each carry.1)
+
 -- what steps carry goes on, with one transfer more that isn't a step's
 pub carry_more : (core new : Core) (v w : State) (fs : List Flight) (rows : List Flown) (write : Option RecordWrite) (f : Flight) (row : Flown) → AreOut core write fs rows
     → ((g : Flight) (o : Owner) → CarriesStep core v g o → CarriesStep new w g o) → CarriesStep new w f row.owner → CarryTheirs core v fs rows → CarryTheirs new w (fs ++ f ∷ []) (rows ++ row ∷ [])
