@@ -99,11 +99,11 @@ module _ (past : List Fact) (s : Session) (tied : IsTied past s) where
     -- ---- the block
 
     none_goes : (i : ℕ) (r : Queued) → Started v i r → IsTrue (covers r row.number b) → ⊥
-    none_goes i r started over = ⊎_elim by_request by_step (tied.sees.only i r started.there)
+    none_goes i r started over = ⊎_elim by_request by_step (tied.sees.queue.only i r started.there)
       where
         by_request : IsRequestAt core i → ⊥
         by_request k =
-            let q = tied.sees.requests k.place k.request k.there in
+            let q = tied.sees.queue.requests k.place k.request k.there in
             let same : q.0 ≡ r = some_same q.0 r (sym q.1 ∙ ap v.queue k.its ∙ started.there) in
             let seen : SeesRequest k.request r = subst (SeesRequest k.request) same q.2 in
             let calm = at.calm k.place k.request k.there (sym seen.write ∙ started.write) (going_started k.request.request.phase (is_begun k.request.request.targets.items) (sym seen.phase ∙ started.going)) in
@@ -112,7 +112,7 @@ module _ (past : List Fact) (s : Session) (tied : IsTied past s) where
 
         by_step : IsStepAt core i → ⊥
         by_step k =
-            let q = tied.sees.a_step k.copy k.is_open k.row in
+            let q = tied.sees.queue.a_step k.copy k.is_open k.row in
             let same : q.0 ≡ r = some_same q.0 r (sym q.1 ∙ ap v.queue k.its ∙ started.there) in
             not_both r.write started.write (ap (λ (x : Queued). x.write) (sym same) ∙ q.2.write)
 

@@ -170,13 +170,13 @@ module _ (past : List Fact) (old new : Session) (place : ℕ) (admits : Admits o
   i = place_of o.request.id
 
   abbrev q : Queued
-  q = (tied.sees.requests place o admits.there).0
+  q = (tied.sees.queue.requests place o admits.there).0
 
   at : v.queue i ≡ Some q
-  at = (tied.sees.requests place o admits.there).1
+  at = (tied.sees.queue.requests place o admits.there).1
 
   sees : SeesRequest o q
-  sees = (tied.sees.requests place o admits.there).2
+  sees = (tied.sees.queue.requests place o admits.there).2
 
   abbrev several : Bool
   several = nat_le 2 (length admits.targets)
@@ -218,11 +218,11 @@ module _ (past : List Fact) (old new : Session) (place : ℕ) (admits : Admits o
     where
       by_request : is_held_back core o.request ≡ false → (r : IsRequestAt core j) → (b : Bool) → is_waiting r.request ≡ b → IsTrue (has_landed e.phase)
       by_request unblocked r false over =
-          let s = tied.sees.requests r.place r.request r.there in
+          let s = tied.sees.queue.requests r.place r.request r.there in
           let same : s.0 ≡ e = some_of s.0 e (sym s.1 ∙ ap v.queue r.its ∙ there) in
           ap (λ (x : Queued). has_landed x.phase) (sym same) ∙ ap has_landed s.2.phase ∙ ap (λ (p : RequestPhase). has_landed (phase_seen p (is_begun r.request.request.targets.items))) (rows.landed r.place r.request r.there over)
       by_request unblocked r true waiting =
-          let s = tied.sees.requests r.place r.request r.there in
+          let s = tied.sees.queue.requests r.place r.request r.there in
           let same : s.0 ≡ e = some_of s.0 e (sym s.1 ∙ ap v.queue r.its ∙ there) in
           let row : Row = record { id = place_of r.request.request.id; ask = held_of r.request.request.ask } in
           let block = common e conflict.lv conflict.block conflict.first conflict.second (held_of r.request.request.ask) (sym s.2.lv ∙ ap (λ (x : Queued). x.lv) same) (sym s.2.first ∙ ap (λ (x : Queued). x.first) same) (sym s.2.count ∙ ap (λ (x : Queued). x.count) same) in
@@ -237,7 +237,7 @@ module _ (past : List Fact) (old new : Session) (place : ℕ) (admits : Admits o
 
       by_step : is_held_back core o.request ≡ false → IsStepAt core j → IsTrue (has_landed e.phase)
       by_step unblocked r =
-          let s = tied.sees.a_step r.copy r.is_open r.row in
+          let s = tied.sees.queue.a_step r.copy r.is_open r.row in
           let same : s.0 ≡ e = some_of s.0 e (sym s.1 ∙ ap v.queue r.its ∙ there) in
           let row : Row = step_row core r.copy in
           let block = common e conflict.lv conflict.block conflict.first conflict.second row.ask (sym s.2.lv ∙ ap (λ (x : Queued). x.lv) same) (sym s.2.first ∙ ap (λ (x : Queued). x.first) same) (sym s.2.count ∙ ap (λ (x : Queued). x.count) same) in
@@ -255,7 +255,7 @@ module _ (past : List Fact) (old new : Session) (place : ℕ) (admits : Admits o
       past_by (inr is) = ap is_past (sees.phase ∙ is)
 
       by : Early (is_held_back core o.request) o.request.phase (is_begun o.request.targets.items) → IsTrue (has_landed e.phase)
-      by (First is unblocked) = ⊎_elim (λ r. by_request unblocked r (is_waiting r.request) refl) (λ r. by_step unblocked r) (tied.sees.only j e there)
+      by (First is unblocked) = ⊎_elim (λ r. by_request unblocked r (is_waiting r.request) refl) (λ r. by_step unblocked r) (tied.sees.queue.only j e there)
       by (Again is) = tied.good.sound.holds.order i j q e at there less conflict (past_by is)
 
   -- what is chosen is a copy that the state sees

@@ -319,10 +319,7 @@ module _ (past : List Fact) (old new : Session) (at disk : ℕ) (row : Flown) (b
 
   sees : Sees past core3 (record v3 { open_copy = v.open_copy })
   sees = record {
-    requests = tied.sees.requests;
-    a_step = tied.sees.a_step;
-    only = tied.sees.only;
-    names = tied.sees.names;
+    queue = tied.sees.queue;
     facts = tied.sees.facts;
     status = record {
       committed = tied.sees.status.committed ∙ ap marks_of (sym (losing.committed_same core.status lost status disk group going.fitting.group going.status loses rest));

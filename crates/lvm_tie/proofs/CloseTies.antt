@@ -71,13 +71,15 @@ module _ (past : List Fact) (s : Session) (tied : IsTied past s) (ended : (curso
 
   sees : Sees past (closed core) v
   sees = record {
-    requests = tied.sees.requests;
-    a_step = λ c is. absurd (cc is);
-    only = λ j q at. ⊎_elim
-        (λ (r : IsRequestAt core j). inl r)
-        (λ (r : IsStepAt core j). absurd (let e : true ≡ false = sym r.row ∙ no_row core r.copy (ended_of core ended r.copy r.is_open) in cc))
-        (tied.sees.only j q at);
-    names = tied.sees.names;
+    queue = record {
+      requests = tied.sees.queue.requests;
+      a_step = λ c is. absurd (cc is);
+      only = λ j q at. ⊎_elim
+          (λ (r : IsRequestAt core j). inl r)
+          (λ (r : IsStepAt core j). absurd (let e : true ≡ false = sym r.row ∙ no_row core r.copy (ended_of core ended r.copy r.is_open) in cc))
+          (tied.sees.queue.only j q at);
+      names = tied.sees.queue.names;
+    };
     facts = tied.sees.facts;
     status = tied.sees.status;
     notes = tied.sees.notes;

@@ -120,17 +120,19 @@ module _ (past : List Fact) (device : Device) (core : Core) (how : CopyEnd) (nea
 
   sees_out : is_out c.step ≡ true → Sees past core_out v
   sees_out out = record {
-    requests = near.sees.requests;
-    a_step = λ d is row.
-        let same : c_out ≡ d = some_of c_out d is in
-        let s = near.sees.a_step c its.is_open (row_out out) in
-        subst (λ (x : Bringing). (q : Queued) × (v.queue x.place ≡ Some q) × SeesStep core_out x q) same
-        (s.0, s.1, record { lv = s.2.lv; first = s.2.first; count = s.2.count; write = s.2.write; step = s.2.step; hand = s.2.hand; failed = s.2.failed });
-    only = λ j q at. ⊎_elim
-        (λ (r : IsRequestAt core j). inl r)
-        (λ (r : IsStepAt core j). inr (record { copy = c_out; is_open = refl; row = or_true (is_out c.step) (is_running c_out && not (is_whole core c)) (inl out); its = ap (λ (x : Bringing). x.place) (sym (own r.copy r.is_open)) ∙ r.its }))
-        (near.sees.only j q at);
-    names = near.sees.names;
+    queue = record {
+      requests = near.sees.queue.requests;
+      a_step = λ d is row.
+          let same : c_out ≡ d = some_of c_out d is in
+          let s = near.sees.queue.a_step c its.is_open (row_out out) in
+          subst (λ (x : Bringing). (q : Queued) × (v.queue x.place ≡ Some q) × SeesStep core_out x q) same
+          (s.0, s.1, record { lv = s.2.lv; first = s.2.first; count = s.2.count; write = s.2.write; step = s.2.step; hand = s.2.hand; failed = s.2.failed });
+      only = λ j q at. ⊎_elim
+          (λ (r : IsRequestAt core j). inl r)
+          (λ (r : IsStepAt core j). inr (record { copy = c_out; is_open = refl; row = or_true (is_out c.step) (is_running c_out && not (is_whole core c)) (inl out); its = ap (λ (x : Bringing). x.place) (sym (own r.copy r.is_open)) ∙ r.its }))
+          (near.sees.queue.only j q at);
+      names = near.sees.queue.names;
+    };
     facts = near.sees.facts;
     status = near.sees.status;
     notes = near.sees.notes;
@@ -220,13 +222,15 @@ module _ (past : List Fact) (device : Device) (core : Core) (how : CopyEnd) (nea
   -- its step had left the queue, since all is copied
   left_before : is_out c.step ≡ false → has_row core c ≡ false → Sees past core_in v
   left_before out none_there = record {
-    requests = near.sees.requests;
-    a_step = λ d is row. absurd (no_row d is row);
-    only = λ j q at. ⊎_elim
-        (λ (r : IsRequestAt core j). inl r)
-        (λ (r : IsStepAt core j). clash (has_row core c) (ap (has_row core) (sym (own r.copy r.is_open)) ∙ r.row) none_there)
-        (near.sees.only j q at);
-    names = near.sees.names;
+    queue = record {
+      requests = near.sees.queue.requests;
+      a_step = λ d is row. absurd (no_row d is row);
+      only = λ j q at. ⊎_elim
+          (λ (r : IsRequestAt core j). inl r)
+          (λ (r : IsStepAt core j). clash (has_row core c) (ap (has_row core) (sym (own r.copy r.is_open)) ∙ r.row) none_there)
+          (near.sees.queue.only j q at);
+      names = near.sees.queue.names;
+    };
     facts = near.sees.facts;
     status = near.sees.status;
     notes = near.sees.notes;
@@ -240,13 +244,13 @@ module _ (past : List Fact) (device : Device) (core : Core) (how : CopyEnd) (nea
     i = c.place
 
     abbrev q : Queued
-    q = (near.sees.a_step c its.is_open row).0
+    q = (near.sees.queue.a_step c its.is_open row).0
 
     at : v.queue i ≡ Some q
-    at = (near.sees.a_step c its.is_open row).1
+    at = (near.sees.queue.a_step c its.is_open row).1
 
     sees_q : SeesStep core c q
-    sees_q = (near.sees.a_step c its.is_open row).2
+    sees_q = (near.sees.queue.a_step c its.is_open row).2
 
     abbrev landed : State
     landed = with_req v i (land q)
@@ -278,7 +282,7 @@ module _ (past : List Fact) (device : Device) (core : Core) (how : CopyEnd) (nea
     -- a request has another place
     apart : (place : ℕ) (o : Open) → slice_get core.requests place ≡ Some o → place_of o.request.id ≡ i → ⊥
     apart place o there e =
-        let r = near.sees.requests place o there in
+        let r = near.sees.queue.requests place o there in
         let same : r.0 ≡ q = some_of r.0 q (sym r.1 ∙ ap v.queue e ∙ at) in
         let no : ◌≡◌ {A = Bool} true false = sym sees_q.step ∙ ap (λ (x : Queued). x.step) (sym same) ∙ r.2.step in
         cc
@@ -291,16 +295,18 @@ module _ (past : List Fact) (device : Device) (core : Core) (how : CopyEnd) (nea
 
     sees_w : Sees past core_in w
     sees_w = record {
-      requests = λ place o there. let r = near.sees.requests place o there in (r.0, elsewhere (place_of o.request.id) (apart place o there) ∙ r.1, r.2);
-      a_step = λ d is there. absurd (no_row d is there);
-      only = λ j p here. elim (cases_eq j i) [
-        | inl e ↦ absurd (let no : None ≡ Some p = sym (gone j e) ∙ here in cc)
-        | inr ne ↦ ⊎_elim
-            (λ (r : IsRequestAt core j). inl r)
-            (λ (r : IsStepAt core j). absurd (ne (sym r.its ∙ ap (λ (x : Bringing). x.place) (own r.copy r.is_open))))
-            (near.sees.only j p (sym (elsewhere j ne) ∙ here))
-      ];
-      names = near.sees.names;
+      queue = record {
+        requests = λ place o there. let r = near.sees.queue.requests place o there in (r.0, elsewhere (place_of o.request.id) (apart place o there) ∙ r.1, r.2);
+        a_step = λ d is there. absurd (no_row d is there);
+        only = λ j p here. elim (cases_eq j i) [
+          | inl e ↦ absurd (let no : None ≡ Some p = sym (gone j e) ∙ here in cc)
+          | inr ne ↦ ⊎_elim
+              (λ (r : IsRequestAt core j). inl r)
+              (λ (r : IsStepAt core j). absurd (ne (sym r.its ∙ ap (λ (x : Bringing). x.place) (own r.copy r.is_open))))
+              (near.sees.queue.only j p (sym (elsewhere j ne) ∙ here))
+        ];
+        names = near.sees.queue.names;
+      };
       facts = ap (λ b. if b then v.facts else v.facts ++ Taken (v.name i) ∷ []) sees_q.step ∙ near.sees.facts;
       status = near.sees.status;
       notes = near.sees.notes;

@@ -48,25 +48,27 @@ module _ (past : List Fact) (core : Core) (v : State) (c : Bringing) (st : Step)
 
   apart : (k : ℕ) (p : Open) → slice_get core.requests k ≡ Some p → place_of p.request.id ≡ c.place → ⊥
   apart k p there e =
-      let a = sees.a_step c is row in
-      let b = sees.requests k p there in
+      let a = sees.queue.a_step c is row in
+      let b = sees.queue.requests k p there in
       let same : a.0 ≡ b.0 = (let x : Some a.0 ≡ Some b.0 = sym a.1 ∙ ap v.queue (sym e) ∙ b.1 in cc) in
       let no : ◌≡◌ {A = Bool} true false = sym a.2.step ∙ ap (λ (x : Queued). x.step) same ∙ b.2.step in
       cc
 
   pub sees_step_on : Sees past core2 w
   sees_step_on = record {
-    requests = λ k p at. let s = sees.requests k p at in (s.0, elsewhere (place_of p.request.id) (apart k p at) ∙ s.1, s.2);
-    a_step = λ d at r. let own : c2 ≡ d = (let e : Some c2 ≡ Some d = at in cc) in
-        (q2, ap (λ (x : Bringing). queue x.place) (sym own) ∙ here, subst (λ (x : Bringing). SeesStep core2 x q2) own its);
-    only = λ j q at. elim (cases_eq j c.place) [
-      | inl e ↦ inr (record { copy = c2; is_open = refl; row = row_now; its = sym e })
-      | inr ne ↦ ⊎_elim
-          (λ (r : IsRequestAt core j). inl r)
-          (λ (r : IsStepAt core j). let own : r.copy ≡ c = (let e : Some r.copy ≡ Some c = sym r.is_open ∙ is in cc) in absurd (ne (sym r.its ∙ ap (λ (x : Bringing). x.place) own)))
-          (sees.only j q (sym (elsewhere j ne) ∙ at))
-    ];
-    names = sees.names;
+    queue = record {
+      requests = λ k p at. let s = sees.queue.requests k p at in (s.0, elsewhere (place_of p.request.id) (apart k p at) ∙ s.1, s.2);
+      a_step = λ d at r. let own : c2 ≡ d = (let e : Some c2 ≡ Some d = at in cc) in
+          (q2, ap (λ (x : Bringing). queue x.place) (sym own) ∙ here, subst (λ (x : Bringing). SeesStep core2 x q2) own its);
+      only = λ j q at. elim (cases_eq j c.place) [
+        | inl e ↦ inr (record { copy = c2; is_open = refl; row = row_now; its = sym e })
+        | inr ne ↦ ⊎_elim
+            (λ (r : IsRequestAt core j). inl r)
+            (λ (r : IsStepAt core j). let own : r.copy ≡ c = (let e : Some r.copy ≡ Some c = sym r.is_open ∙ is in cc) in absurd (ne (sym r.its ∙ ap (λ (x : Bringing). x.place) own)))
+            (sees.queue.only j q (sym (elsewhere j ne) ∙ at))
+      ];
+      names = sees.queue.names;
+    };
     facts = sees.facts;
     status = sees.status;
     notes = sees.notes;

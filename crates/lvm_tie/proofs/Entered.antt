@@ -17,10 +17,12 @@ same_request facts f id aside =
 
 pub sees_entered : (past : List Fact) (core : Core) (v : State) (f : Fact) → begun_by f ≡ None → Sees past core v → Sees past (record core { history = with_fact core.history f }) (record v { facts = v.facts ++ f ∷ [] })
 sees_entered past core v f aside sees = record {
-  requests = sees.requests;
-  a_step = sees.a_step;
-  only = sees.only;
-  names = λ k p at. sees.names k p at ∙ sym (same_request core.history.facts f p.request.id aside);
+  queue = record {
+    requests = sees.queue.requests;
+    a_step = sees.queue.a_step;
+    only = sees.queue.only;
+    names = λ k p at. sees.queue.names k p at ∙ sym (same_request core.history.facts f p.request.id aside);
+  };
   facts = ap (λ (fs : List Fact). fs ++ f ∷ []) sees.facts ∙ append_assoc past core.history.facts (f ∷ []);
   status = sees.status;
   notes = sees.notes;

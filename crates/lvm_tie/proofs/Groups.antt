@@ -118,7 +118,7 @@ module _ (past : List Fact) (old new : Session) (at : ℕ) (tied : IsTied past o
     | inr ne ↦ ⊎_elim
         (λ (r : IsRequestAt core j). let lt = low r.place r.request r.there in let k = r.its in omega (arith, lt, k))
         (λ (r : IsStepAt core j). absurd (let own : r.copy ≡ c = (let k : Some r.copy ≡ Some c = sym r.is_open ∙ event.is_open in cc) in ne (sym r.its ∙ ap (λ (y : Bringing). y.place) own)))
-        (tied.sees.only j x (sym (gone_there v.queue c.place step_q j ne) ∙ at_j))
+        (tied.sees.queue.only j x (sym (gone_there v.queue c.place step_q j ne) ∙ at_j))
   ]
 
   may_enter : StepEnters was i next

@@ -86,7 +86,7 @@ module _ (past : List Fact) (old new : Session) (place : ℕ) (how : Outcome) (l
   told = Landed (v.name i) how (is_begun o.request.targets.items) (got_blocks (count_of o.request.ask) o.got)
 
   fact_is : told ≡ fact
-  fact_is = ap (λ (r : Asked). Landed r how (is_begun o.request.targets.items) (got_blocks (count_of o.request.ask) o.got)) (tied.sees.names place o lands.there)
+  fact_is = ap (λ (r : Asked). Landed r how (is_begun o.request.targets.items) (got_blocks (count_of o.request.ask) o.got)) (tied.sees.queue.names place o lands.there)
 
   abbrev done : Core
   done = after_landing core place o how
@@ -232,7 +232,7 @@ module _ (past : List Fact) (old new : Session) (place : ℕ) (how : Outcome) (l
   no_fresh_ties empty early orderly =
       let o : Open = lands.request in
       let v : State = tied.view in
-      let seen = tied.sees.requests place o lands.there in
+      let seen = tied.sees.queue.requests place o lands.there in
       let q : Queued = seen.0 in
       let i : ℕ = place_of o.request.id in
       let none : got_blocks (count_of o.request.ask) o.got ≡ [] = ap (got_blocks (count_of o.request.ask)) empty in

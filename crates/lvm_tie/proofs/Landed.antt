@@ -140,13 +140,13 @@ module _ (past : List Fact) (old new : Session) (at : ℕ) (row : Flown) (ok : B
 
   -- its step, as it stands in the queue
   abbrev pub q : Queued
-  q = (tied.sees.a_step c is_open row_there).0
+  q = (tied.sees.queue.a_step c is_open row_there).0
 
   pub at_q : v.queue c.place ≡ Some q
-  at_q = (tied.sees.a_step c is_open row_there).1
+  at_q = (tied.sees.queue.a_step c is_open row_there).1
 
   pub sees : SeesStep core c q
-  sees = (tied.sees.a_step c is_open row_there).2
+  sees = (tied.sees.queue.a_step c is_open row_there).2
 
   pub hand : (st : Step) → c.step ≡ st → SeesHand st q
   hand st is = subst (λ (x : Step). SeesHand x q) is sees.hand

@@ -208,10 +208,7 @@ module _ (past : List Fact) (old new : Session) (place disk : ℕ) (starts : Sta
 
   sees : Sees past next w
   sees = record {
-    requests = tied.sees.requests;
-    a_step = tied.sees.a_step;
-    only = tied.sees.only;
-    names = tied.sees.names;
+    queue = tied.sees.queue;
     facts = tied.sees.facts;
     status = tied.sees.status;
     notes = record {

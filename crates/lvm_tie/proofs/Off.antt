@@ -117,7 +117,7 @@ module _ (past : List Fact) (s : Session) (tied : IsTied past s) (lost : is_lost
   off_holds xs ys split =
       let places_are : places core.requests ≡ places xs ++ places ys = ap places split ∙ places_append xs ys in
       let off : GoesOff tied.votes w (places xs ++ places ys) has_started = subst (λ (l : List ℕ). GoesOff tied.votes w l has_started) places_are goes_off in
-      let named = are_named core w (rises_of past s tied) quiet.sees (λ i q at no. quiet.only i q at) (shaped_of past s tied) (over_of past s tied) core.history.facts tied.sees.names in
+      let named = are_named core w (rises_of past s tied) quiet.sees (λ i q at no. quiet.only i q at) (shaped_of past s tied) (over_of past s tied) core.history.facts tied.sees.queue.names in
       let same = same_landings outcome.Off refl core.history.facts w.name has_started xs
       (named_first core.history.facts w.name has_started xs ys (subst (λ (l : List Open). Rattle.lvm_tie.proofs.Waiting.AreNamed core.history.facts w.name has_started l) split named)) in
       let now : w.facts ++ landings outcome.Off w.name has_started (places xs) ≡ past ++ (core.history.facts ++ all_landings outcome.Off core.history.facts xs) =

@@ -63,10 +63,7 @@ after_pin_is c lv g = by (are_all_pinned c.entries lv g)
 
 sees_cache : (past : List Fact) (core : Core) (v : State) (entries : List CacheEntry) → Sees past core v → Sees past (record core { cache = record core.cache { entries = entries } }) (record v { cache = has_entry entries })
 sees_cache past core v entries sees = record {
-  requests = sees.requests;
-  a_step = sees.a_step;
-  only = sees.only;
-  names = sees.names;
+  queue = sees.queue;
   facts = sees.facts;
   status = sees.status;
   notes = record {
@@ -120,13 +117,13 @@ module _ (past : List Fact) (old new : Session) (place : ℕ) (event : Pins old 
   k = facts_of core o.request
 
   abbrev q : Queued
-  q = (tied.sees.requests place o event.there).0
+  q = (tied.sees.queue.requests place o event.there).0
 
   at : v.queue i ≡ Some q
-  at = (tied.sees.requests place o event.there).1
+  at = (tied.sees.queue.requests place o event.there).1
 
   sees : SeesRequest o q
-  sees = (tied.sees.requests place o event.there).2
+  sees = (tied.sees.queue.requests place o event.there).2
 
   abbrev q2 : Queued
   q2 = record q { phase = Ready }
@@ -201,17 +198,17 @@ module _ (past : List Fact) (old new : Session) (place : ℕ) (event : Pins old 
 
   keeps : (j : ℕ) (e : Queued) → v.queue j ≡ Some e → IsTrue e.write → IsTrue (is_pinning e.phase) → IsTrue (v.is_active e.lv) → IsTrue e.several
       → IsTrue (v.cache e.lv (track_group_of e.first)) → IsTrue (has_entry entries e.lv (track_group_of e.first))
-  keeps j e here write pinning active several was = ⊎_elim of_request of_step (tied.sees.only j e here)
+  keeps j e here write pinning active several was = ⊎_elim of_request of_step (tied.sees.queue.only j e here)
     where
       of_step : IsStepAt core j → IsTrue (has_entry entries e.lv (track_group_of e.first))
       of_step r =
-          let s = tied.sees.a_step r.copy r.is_open r.row in
+          let s = tied.sees.queue.a_step r.copy r.is_open r.row in
           let same : s.0 ≡ e = let x : Some s.0 ≡ Some e = sym s.1 ∙ ap v.queue r.its ∙ here in cc in
           absurd (let x : false ≡ true = sym s.2.write ∙ ap (λ (y : Queued). y.write) same ∙ write in cc)
 
       of_request : IsRequestAt core j → IsTrue (has_entry entries e.lv (track_group_of e.first))
       of_request r =
-          let s = tied.sees.requests r.place r.request r.there in
+          let s = tied.sees.queue.requests r.place r.request r.there in
           let same : s.0 ≡ e = let x : Some s.0 ≡ Some e = sym s.1 ∙ ap v.queue r.its ∙ here in cc in
           let its : SeesRequest r.request e = subst (SeesRequest r.request) same s.2 in
           let is : r.request.request.pinned ≡ true = has_pinned r.place r.request e r.there its write pinning active several in

@@ -105,19 +105,19 @@ module _ (past : List Fact) (s : Session) (tied : IsTied past s) where
   as_it_is none = record {
     queue = v.queue;
     good = tied.good;
-    sees = tied.sees.requests;
-    only = λ i q at. ⊎_elim (λ (r : IsRequestAt core i). r) (λ (st : IsStepAt core i). absurd (none i st)) (tied.sees.only i q at);
+    sees = tied.sees.queue.requests;
+    only = λ i q at. ⊎_elim (λ (r : IsRequestAt core i). r) (λ (st : IsStepAt core i). absurd (none i st)) (tied.sees.queue.only i q at);
   }
 
   module _ (c : Bringing) (is_open : core.copy ≡ Some c) (row : has_row core c ≡ true) where
     abbrev q : Queued
-    q = (tied.sees.a_step c is_open row).0
+    q = (tied.sees.queue.a_step c is_open row).0
 
     there : v.queue c.place ≡ Some q
-    there = (tied.sees.a_step c is_open row).1
+    there = (tied.sees.queue.a_step c is_open row).1
 
     its : SeesStep core c q
-    its = (tied.sees.a_step c is_open row).2
+    its = (tied.sees.queue.a_step c is_open row).2
 
     abbrev left : ℕ → Option Queued
     left = without (put v.queue c.place (land q)) c.place
@@ -140,7 +140,7 @@ module _ (past : List Fact) (s : Session) (tied : IsTied past s) where
     apart : (k : ℕ) (o : Open) → slice_get core.requests k ≡ Some o → (b : Bool) → (place_of o.request.id == c.place) ≡ b → b ≡ false
     apart k o at false is = refl
     apart k o at true is =
-        let r = tied.sees.requests k o at in
+        let r = tied.sees.queue.requests k o at in
         let same : r.0 ≡ q = same_row r.0 q (sym r.1 ∙ ap v.queue (eqb-true (place_of o.request.id) c.place is) ∙ there) in
         no_one (sym its.step ∙ ap (λ (x : Queued). x.step) (sym same) ∙ r.2.step)
 
@@ -148,7 +148,7 @@ module _ (past : List Fact) (s : Session) (tied : IsTied past s) where
     without_step = record {
       queue = left;
       good = good_left;
-      sees = λ k o at. let r = tied.sees.requests k o at in (r.0, elsewhere (place_of o.request.id) (apart k o at (place_of o.request.id == c.place) refl) ∙ r.1, r.2);
+      sees = λ k o at. let r = tied.sees.queue.requests k o at in (r.0, elsewhere (place_of o.request.id) (apart k o at (place_of o.request.id == c.place) refl) ∙ r.1, r.2);
       only = λ i x at. by i x at (i == c.place) refl;
     }
       where
@@ -159,7 +159,7 @@ module _ (past : List Fact) (s : Session) (tied : IsTied past s) where
             (λ (st : IsStepAt core i).
             let same : st.copy ≡ c = same_row st.copy c (sym st.is_open ∙ is_open) in
             no_one (sym (eq-eqb i c.place (sym st.its ∙ ap (λ (x : Bringing). x.place) same)) ∙ is))
-            (tied.sees.only i x (sym (elsewhere i is) ∙ at))
+            (tied.sees.queue.only i x (sym (elsewhere i is) ∙ at))
 
   pub quieted : Quieted
   quieted = by core.copy refl

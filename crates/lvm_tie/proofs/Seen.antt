@@ -233,18 +233,18 @@ module _ (past first : List Fact) (s : Session) (w : Faults) (tied : IsTied past
       (caused.tried one.0 one.1 one.2 (ap (has copy.tried) same ∙ tried))))
 
   failed_is : (i : ℕ) (q : Queued) (c : Pp) → v.queue i ≡ Some q → q.targets c ≡ Some Badly → Rose (w.asked i c.disk) (w.now c.disk)
-  failed_is i q c at bad = by (tied.sees.only i q at)
+  failed_is i q c at bad = by (tied.sees.queue.only i q at)
     where
       of_request : IsRequestAt core i → Rose (w.asked i c.disk) (w.now c.disk)
       of_request it =
-          let seen = tied.sees.requests it.place it.request it.there in
+          let seen = tied.sees.queue.requests it.place it.request it.there in
           let same : seen.0 ≡ q = (let e : Some seen.0 ≡ Some q = sym seen.1 ∙ ap v.queue it.its ∙ at in cc e) in
           let stage : stage_at it.request.request.targets.items c ≡ Some Badly = sym (seen.2.targets c) ∙ ap (λ (x : Queued). x.targets c) same ∙ bad in
           subst (λ (j : ℕ). Rose (w.asked j c.disk) (w.now c.disk)) it.its (request_failed it.place it.request it.there c (failed_on it.request.request.targets.items c stage))
 
       of_step : IsStepAt core i → Rose (w.asked i c.disk) (w.now c.disk)
       of_step it =
-          let seen = tied.sees.a_step it.copy it.is_open it.row in
+          let seen = tied.sees.queue.a_step it.copy it.is_open it.row in
           let same : seen.0 ≡ q = (let e : Some seen.0 ≡ Some q = sym seen.1 ∙ ap v.queue it.its ∙ at in cc e) in
           subst (λ (j : ℕ). Rose (w.asked j c.disk) (w.now c.disk)) it.its (tried_failed it.copy it.is_open c.disk (seen.2.failed c (ap (λ (x : Queued). x.targets c) same ∙ bad)))
 

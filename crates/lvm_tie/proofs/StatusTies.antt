@@ -222,10 +222,7 @@ module _ (past : List Fact) (old new : Session) (starts : StartsStatus old new) 
 
   sees : Sees past core2 w
   sees = record {
-    requests = tied.sees.requests;
-    a_step = tied.sees.a_step;
-    only = tied.sees.only;
-    names = tied.sees.names;
+    queue = tied.sees.queue;
     facts = tied.sees.facts;
     status = record {
       committed = tied.sees.status.committed ∙ ap marks_of (sym begun.committed);

@@ -186,10 +186,7 @@ module _ (past : List Fact) (old new : Session) (index disk : ℕ) (ok : Bool) (
     sees : (x : Option (Stamped Marks)) → x ≡ option_map as_marks (update_of status) → ((d : ℕ) → has status.writes.written d ≡ true → moved_view.media.status d ≡ x)
         → ((y : Stamped Status) → update_of status ≡ Some y → is_held (seen status) ≡ true → reviewed.committed ≡ as_marks y) → Sees past core2 (record (with_update_in x) { open_copy = v.open_copy })
     sees x flies stands held = record {
-      requests = tied.sees.requests;
-      a_step = tied.sees.a_step;
-      only = tied.sees.only;
-      names = tied.sees.names;
+      queue = tied.sees.queue;
       facts = tied.sees.facts;
       status = record {
         committed = reviewed.marks ∙ ap marks_of (sym (committed_new core.status stored status group disk ok t going.fitting.group going.status its.flies its.out.started learns.wants learns.ended learns.reviews.marks.rest));

@@ -65,16 +65,18 @@ module _ (past : List Fact) (core : Core) (v : State) (c d : Bringing) (pool : L
 
   pub sees_stepped : Sees past core2 w
   sees_stepped = record {
-    requests = λ k p at. let s = sees_v.requests k p at in (s.0, its.queue_still k p at ∙ s.1, s.2);
-    a_step = λ e there r. step_here e (let k : Some d ≡ Some e = there in cc) r;
-    only = λ j x at. ⊎_elim
-        (λ (was : (j ≡ c.place → ⊥) × (v.queue j ≡ Some x)). ⊎_elim
-        (λ (r : IsRequestAt core j). inl r)
-        (λ (r : IsStepAt core j). let own : r.copy ≡ c = (let e : Some r.copy ≡ Some c = sym r.is_open ∙ is in cc) in absurd (was.0 (sym r.its ∙ ap (λ (y : Bringing). y.place) own)))
-        (sees_v.only j x was.1))
-        (λ (here : (has_row core d ≡ true) × (d.place ≡ j)). inr (record { copy = d; is_open = refl; row = here.0; its = here.1 }))
-        (its.only j x at);
-    names = λ k p at. its.name_still k p at ∙ sees_v.names k p at;
+    queue = record {
+      requests = λ k p at. let s = sees_v.queue.requests k p at in (s.0, its.queue_still k p at ∙ s.1, s.2);
+      a_step = λ e there r. step_here e (let k : Some d ≡ Some e = there in cc) r;
+      only = λ j x at. ⊎_elim
+          (λ (was : (j ≡ c.place → ⊥) × (v.queue j ≡ Some x)). ⊎_elim
+          (λ (r : IsRequestAt core j). inl r)
+          (λ (r : IsStepAt core j). let own : r.copy ≡ c = (let e : Some r.copy ≡ Some c = sym r.is_open ∙ is in cc) in absurd (was.0 (sym r.its ∙ ap (λ (y : Bringing). y.place) own)))
+          (sees_v.queue.only j x was.1))
+          (λ (here : (has_row core d ≡ true) × (d.place ≡ j)). inr (record { copy = d; is_open = refl; row = here.0; its = here.1 }))
+          (its.only j x at);
+      names = λ k p at. its.name_still k p at ∙ sees_v.queue.names k p at;
+    };
     facts = sees_v.facts;
     status = sees_v.status;
     notes = sees_v.notes;
@@ -124,7 +126,7 @@ module _ (past : List Fact) (old new : Session) (at : ℕ) (row : Flown) (ok : B
   -- the places of requests aren't its
   pub apart : (k : ℕ) (p : Open) → slice_get old.core.requests k ≡ Some p → place_of p.request.id ≡ c.place → ⊥
   apart k p there e =
-      let b = tied.sees.requests k p there in
+      let b = tied.sees.queue.requests k p there in
       let same : step_q ≡ b.0 = (let x : Some step_q ≡ Some b.0 = sym (at_q past old new at row ok buf tied returns own c is_open) ∙ ap v.queue (sym e) ∙ b.1 in cc) in
       let no : ◌≡◌ {A = Bool} true false = sym sees_q.step ∙ ap (λ (x : Queued). x.step) same ∙ b.2.step in
       cc

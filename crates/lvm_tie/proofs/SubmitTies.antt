@@ -196,7 +196,7 @@ module _ (past : List Fact) (old : Session) (client : ℕ) (ask : Ask) (bytes : 
   newest j e at = ⊎_elim
       (λ (r : IsRequestAt core j). let less : r.request.request.id < id = (may.table r.place r.request r.there).0 in let its : 2 * r.request.request.id ≡ j = r.its in omega arith)
       (λ (r : IsStepAt core j). let less : r.copy.place < i = may.step r.copy r.is_open r.row in let its : r.copy.place ≡ j = r.its in omega arith)
-      (tied.sees.only j e at)
+      (tied.sees.queue.only j e at)
 
   counted : asks.id ≡ count_by (begins_in core.history.run) v.facts + 1
   counted = next_joined core.history.run past core.history.facts may.own ∙ sym (ap (λ (fs : List Fact). count_by (begins_in core.history.run) fs + 1) tied.sees.facts)
@@ -227,7 +227,7 @@ module _ (past : List Fact) (old : Session) (client : ℕ) (ask : Ask) (bytes : 
   name_there place p there =
       let lt = earlier place p there in
       let test : (place_of p.request.id == i) ≡ false = grind (arith, nat_tests) in
-      ap (λ b. if b then asks else v.name (place_of p.request.id)) test ∙ tied.sees.names place p there ∙ by (asked core.history.facts p.request.id) refl ((may.table place p there).1)
+      ap (λ b. if b then asks else v.name (place_of p.request.id)) test ∙ tied.sees.queue.names place p there ∙ by (asked core.history.facts p.request.id) refl ((may.table place p there).1)
     where
       by : (x : Option Asked) → asked core.history.facts p.request.id ≡ x → is_some (asked core.history.facts p.request.id) ≡ true → request_of core.history.facts p.request.id ≡ request_of (core.history.facts ++ Begun asks ∷ []) p.request.id
       by None is some2 = absurd (let e : false ≡ true = sym (ap (λ (y : Option Asked). is_some y) is) ∙ some2 in cc)
@@ -242,26 +242,28 @@ module _ (past : List Fact) (old : Session) (client : ℕ) (ask : Ask) (bytes : 
 
   sees : Sees past new w
   sees = record {
-    requests = λ k p at. ⊎_elim
-        (λ was. let s = tied.sees.requests k p was in (s.0, put_there (place_of p.request.id) (earlier k p was) ∙ s.1, s.2))
-        (λ is. (
-          q,
-          put_here (place_of p.request.id) (ap (λ (x : Open). place_of x.request.id) is.1),
-          subst (λ (x : Open). SeesRequest x q) (sym is.1) (record { lv = refl; first = refl; count = refl; write = refl; step = refl; phase = refl; several = refl; targets = λ c. refl; got = λ buf none. absurd cc }),
-        ))
-        (one_more core.requests o p k at);
-    a_step = λ c is has. let s = tied.sees.a_step c is has in (s.0, put_there c.place (may.step c is has) ∙ s.1, s.2);
-    only = λ j e at. elim (cases_eq j i) [
-      | inl is ↦ inl (record { place = length core.requests; request = o; there = last_there core.requests o; its = sym is })
-      | inr ne ↦ let test : (j == i) ≡ false = grind (arith, nat_tests) in ⊎_elim
-          (λ (r : IsRequestAt core j). inl (record { place = r.place; request = r.request; there = still_there core.requests o r.request r.place r.there; its = r.its }))
-          (λ (r : IsStepAt core j). inr r)
-          (tied.sees.only j e (sym (ap (λ b. if b then Some q else v.queue j) test) ∙ at))
-    ];
-    names = λ k p at. ⊎_elim
-        (λ was. name_there k p was)
-        (λ is. subst (λ (x : Open). w.name (place_of x.request.id) ≡ request_of new.history.facts x.request.id) (sym is.1) name_here)
-        (one_more core.requests o p k at);
+    queue = record {
+      requests = λ k p at. ⊎_elim
+          (λ was. let s = tied.sees.queue.requests k p was in (s.0, put_there (place_of p.request.id) (earlier k p was) ∙ s.1, s.2))
+          (λ is. (
+            q,
+            put_here (place_of p.request.id) (ap (λ (x : Open). place_of x.request.id) is.1),
+            subst (λ (x : Open). SeesRequest x q) (sym is.1) (record { lv = refl; first = refl; count = refl; write = refl; step = refl; phase = refl; several = refl; targets = λ c. refl; got = λ buf none. absurd cc }),
+          ))
+          (one_more core.requests o p k at);
+      a_step = λ c is has. let s = tied.sees.queue.a_step c is has in (s.0, put_there c.place (may.step c is has) ∙ s.1, s.2);
+      only = λ j e at. elim (cases_eq j i) [
+        | inl is ↦ inl (record { place = length core.requests; request = o; there = last_there core.requests o; its = sym is })
+        | inr ne ↦ let test : (j == i) ≡ false = grind (arith, nat_tests) in ⊎_elim
+            (λ (r : IsRequestAt core j). inl (record { place = r.place; request = r.request; there = still_there core.requests o r.request r.place r.there; its = r.its }))
+            (λ (r : IsStepAt core j). inr r)
+            (tied.sees.queue.only j e (sym (ap (λ b. if b then Some q else v.queue j) test) ∙ at))
+      ];
+      names = λ k p at. ⊎_elim
+          (λ was. name_there k p was)
+          (λ is. subst (λ (x : Open). w.name (place_of x.request.id) ≡ request_of new.history.facts x.request.id) (sym is.1) name_here)
+          (one_more core.requests o p k at);
+    };
     facts = ap (λ (fs : List Fact). fs ++ Begun asks ∷ []) tied.sees.facts ∙ append_assoc past core.history.facts (Begun asks ∷ []);
     status = tied.sees.status;
     notes = tied.sees.notes;

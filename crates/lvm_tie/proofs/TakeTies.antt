@@ -73,19 +73,19 @@ module _ (past : List Fact) (old : Session) (place : ℕ) (o : Open) (tied : IsT
   i = place_of o.request.id
 
   abbrev q : Queued
-  q = (tied.sees.requests place o there).0
+  q = (tied.sees.queue.requests place o there).0
 
   at : v.queue i ≡ Some q
-  at = (tied.sees.requests place o there).1
+  at = (tied.sees.queue.requests place o there).1
 
   sees : SeesRequest o q
-  sees = (tied.sees.requests place o there).2
+  sees = (tied.sees.queue.requests place o there).2
 
   abbrev fact : Fact
   fact = Taken (request_of core.history.facts o.request.id)
 
   fact_is : Taken (v.name i) ≡ fact
-  fact_is = ap (λ (r : Asked). Taken r) (tied.sees.names place o there)
+  fact_is = ap (λ (r : Asked). Taken r) (tied.sees.queue.names place o there)
 
   abbrev core1 : Core
   core1 = record core { requests = remove core.requests place }
@@ -107,23 +107,25 @@ module _ (past : List Fact) (old : Session) (place : ℕ) (o : Open) (tied : IsT
 
   step_apart : (c : Bringing) → core.copy ≡ Some c → has_row core c ≡ true → c.place ≡ i → ⊥
   step_apart c is row e =
-      let a = tied.sees.a_step c is row in
+      let a = tied.sees.queue.a_step c is row in
       let same : a.0 ≡ q = some_of a.0 q (sym a.1 ∙ ap v.queue e ∙ at) in
       let no : ◌≡◌ {A = Bool} true false = sym a.2.step ∙ ap (λ (x : Queued). x.step) same ∙ sees.step in
       absurd cc
 
   sees1 : Sees past core1 (record v { queue = left })
   sees1 = record {
-    requests = λ k p is. let r = was_there core.requests place k p is in let s = tied.sees.requests r.at p r.there in (s.0, elsewhere (place_of p.request.id) (apart r.at p r.there r.other) ∙ s.1, s.2);
-    a_step = λ c is row. let s = tied.sees.a_step c is row in (s.0, elsewhere c.place (step_apart c is row) ∙ s.1, s.2);
-    only = λ j e is. elim (cases_eq j i) [
-      | inl same ↦ absurd (let n : None ≡ Some e = sym (gone j same) ∙ is in cc)
-      | inr ne ↦ ⊎_elim
-          (λ (r : IsRequestAt core j). inl (let l = is_left core.requests place r.place r.request r.there (λ e2. ne (sym r.its ∙ ap (λ (x : Open). place_of x.request.id) (some_of r.request o (sym r.there ∙ ap (slice_get core.requests) e2 ∙ there)))) in record { place = l.0; request = r.request; there = l.1; its = r.its }))
-          (λ (r : IsStepAt core j). inr r)
-          (tied.sees.only j e (sym (elsewhere j ne) ∙ is))
-    ];
-    names = λ k p is. let r = was_there core.requests place k p is in tied.sees.names r.at p r.there;
+    queue = record {
+      requests = λ k p is. let r = was_there core.requests place k p is in let s = tied.sees.queue.requests r.at p r.there in (s.0, elsewhere (place_of p.request.id) (apart r.at p r.there r.other) ∙ s.1, s.2);
+      a_step = λ c is row. let s = tied.sees.queue.a_step c is row in (s.0, elsewhere c.place (step_apart c is row) ∙ s.1, s.2);
+      only = λ j e is. elim (cases_eq j i) [
+        | inl same ↦ absurd (let n : None ≡ Some e = sym (gone j same) ∙ is in cc)
+        | inr ne ↦ ⊎_elim
+            (λ (r : IsRequestAt core j). inl (let l = is_left core.requests place r.place r.request r.there (λ e2. ne (sym r.its ∙ ap (λ (x : Open). place_of x.request.id) (some_of r.request o (sym r.there ∙ ap (slice_get core.requests) e2 ∙ there)))) in record { place = l.0; request = r.request; there = l.1; its = r.its }))
+            (λ (r : IsStepAt core j). inr r)
+            (tied.sees.queue.only j e (sym (elsewhere j ne) ∙ is))
+      ];
+      names = λ k p is. let r = was_there core.requests place k p is in tied.sees.queue.names r.at p r.there;
+    };
     facts = tied.sees.facts;
     status = tied.sees.status;
     notes = tied.sees.notes;

@@ -85,7 +85,7 @@ module _ (past : List Fact) (s : Session) (tied : IsTied past s) where
       let begun : is_begun o.request.targets.items ≡ true = begun_by o.request.targets.items number out.aim out.aim_is (ap is_waiting out.flies) in
       let going : q.phase ≡ Going = its.phase ∙ ap (λ (p : RequestPhase). phase_seen p (is_begun o.request.targets.items)) out.moving ∙ ap (λ b. phase_seen phase.Data b) begun in
       let asked : Asked = request_of core.history.facts o.request.id in
-      let name : v.name i ≡ asked = tied.sees.names out.place o out.there in
+      let name : v.name i ≡ asked = tied.sees.queue.names out.place o out.there in
       let count : f.count ≡ count_of o.request.ask = out.moves.count in
       let q_count : q.count ≡ count_of o.request.ask = its.count in
       let long : length asked.blocks ≡ count_of o.request.ask = orderly.blocks writes in
@@ -112,7 +112,7 @@ module _ (past : List Fact) (s : Session) (tied : IsTied past s) where
 
   data_write : (f : Flight) (id number : ℕ) (out : IsDataOut core f id number) → is_write out.request.request.ask ≡ true → IsDataFlight v core.descriptor.mib f
   data_write f id number out writes =
-      let seen = tied.sees.requests out.place out.request out.there in
+      let seen = tied.sees.queue.requests out.place out.request out.there in
       let parts = data_parts f id number out seen.0 writes seen.1 seen.2 in
       record { place = place_of out.request.request.id; req = seen.0; started = parts.started; copy = out.aim.pp; flies = parts.flies; aimed = parts.aimed; transfer = parts.transfer }
 
@@ -164,7 +164,7 @@ module _ (past : List Fact) (s : Session) (tied : IsTied past s) where
       by (step.Reading source) is reads = inl reads.write_is
       by step.Writing is writes =
           let row : has_row core out.copy ≡ true = ap (λ (st : Step). is_out st || (is_running out.copy && not (is_whole core out.copy))) is in
-          let seen = tied.sees.a_step out.copy out.is_open row in
+          let seen = tied.sees.queue.a_step out.copy out.is_open row in
           let q : Queued = seen.0 in
           let hand = subst (λ (st : Step). SeesHand st q) is seen.2.hand in
           let theirs = carries out.copy q out.is_open is seen.1 in

@@ -74,10 +74,7 @@ module _ (old new : Stored) (rest : seen new ≡ record (seen old) { wanted = ne
 
   pub sees_wanted : (past : List Fact) (core : Core) (v : State) → core.status ≡ old → Sees past core v → Sees past (record core { status = new }) (record v { wanted = marks_of new.wanted })
   sees_wanted past core v its sees = record {
-    requests = sees.requests;
-    a_step = sees.a_step;
-    only = sees.only;
-    names = sees.names;
+    queue = sees.queue;
     facts = sees.facts;
     status = record {
       committed = sees.status.committed ∙ ap (λ (s : Stored). marks_of s.committed) its ∙ ap marks_of (sym committed_same);

@@ -179,13 +179,13 @@ module _ (past : List Fact) (old new : Session) (index : ℕ) (ends : Ends old n
   f = ended.flight
 
   abbrev q : Queued
-  q = (tied.sees.requests learns.place o learns.its.there).0
+  q = (tied.sees.queue.requests learns.place o learns.its.there).0
 
   at : v.queue i ≡ Some q
-  at = (tied.sees.requests learns.place o learns.its.there).1
+  at = (tied.sees.queue.requests learns.place o learns.its.there).1
 
   sees : SeesRequest o q
-  sees = (tied.sees.requests learns.place o learns.its.there).2
+  sees = (tied.sees.queue.requests learns.place o learns.its.there).2
 
   its_row : (next : Core) (u : State) → IsRow old.core next tied.write v u ended.removes.before ended.removes.after f old.core.flying index ends.row
   its_row next u = is_row old.core next tied.write v u ended.removes.before ended.removes.after f old.core.flying index ends.row

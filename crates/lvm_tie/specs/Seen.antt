@@ -8,7 +8,7 @@ use Rattle.lvm_num.specs.Buffer.{Buffer, Sector}
 use Rattle.lvm_num.specs.Disks.{Disks, has}
 use Rattle.lvm_num.specs.Record.{Stamped}
 use Rattle.arrayvec.specs.ArrayVec.{ArrayVec}
-use Rattle.lvm_vol.specs.Facts.{Fact}
+use Rattle.lvm_vol.specs.Facts.{Fact, Request}
 use Rattle.lvm_vol.specs.Log.{request_of}
 use Rattle.lvm_mwc.specs.declared.notes.DiskNotes.{DiskNotes}
 use Rattle.lvm_mwc.specs.Entries.{has_entry}
@@ -157,6 +157,13 @@ IsRequestAt core i = IsPlaceOfRequest core.requests i
 abbrev pub IsStepAt : Core → ℕ → Type 0
 IsStepAt core i = IsPlaceOfStep core.copy (λ (c : Bringing). has_row core c) i
 
+-- Its places are those of the requests of this table and of the step of the copy, each under the name that the history gives it.
+pub record SeesQueue (table : List Open) (open_copy : Option Bringing) (has_place : Bringing → Bool) (block : Bringing → ℕ) (history : List Fact) (places : ℕ → Option Queued) (name : ℕ → Request) : Type 0 where
+  pub requests : (place : ℕ) (o : Open) → slice_get table place ≡ Some o → (q : Queued) × (places (place_of o.request.id) ≡ Some q) × SeesRequest o q
+  pub a_step : (c : Bringing) → open_copy ≡ Some c → has_place c ≡ true → (q : Queued) × (places c.place ≡ Some q) × SeesReading (block c) c q
+  pub only : (i : ℕ) (q : Queued) → places i ≡ Some q → IsPlaceOfRequest table i ⊎ IsPlaceOfStep open_copy has_place i
+  pub names : (place : ℕ) (o : Open) → slice_get table place ≡ Some o → name (place_of o.request.id) ≡ request_of history o.request.id
+
 -- ---- the statuses
 
 -- the update in flight, under its stamp
@@ -183,13 +190,9 @@ pub record SeesNotes (kept : Cached) (there : Disks) (groups : Groups) (at_home 
 
 -- ---- all of it
 
--- After this earlier history the session is this state, but for what the disks show: its queue holds the requests of the table and the step of the copy, and its history
--- follows the earlier one.
+-- After this earlier history, which its own follows, the session is this state, but for what the disks show.
 pub record Sees (past : List Fact) (core : Core) (v : State) : Type 0 where
-  pub requests : (place : ℕ) (o : Open) → slice_get core.requests place ≡ Some o → (q : Queued) × (v.queue (place_of o.request.id) ≡ Some q) × SeesRequest o q
-  pub a_step : (c : Bringing) → core.copy ≡ Some c → has_row core c ≡ true → (q : Queued) × (v.queue c.place ≡ Some q) × SeesStep core c q
-  pub only : (i : ℕ) (q : Queued) → v.queue i ≡ Some q → IsRequestAt core i ⊎ IsStepAt core i
-  pub names : (place : ℕ) (o : Open) → slice_get core.requests place ≡ Some o → v.name (place_of o.request.id) ≡ request_of core.history.facts o.request.id
+  pub queue : SeesQueue core.requests core.copy (λ (c : Bringing). has_row core c) (λ (c : Bringing). block_at core c) core.history.facts v.queue v.name
   pub facts : v.facts ≡ past ++ core.history.facts
   pub status : SeesStatus core.status (is_there core) v.committed v.in_flight v.wanted v.status_flying v.media.status v.missing
   pub notes : SeesNotes core.cache (is_there core) v.cache v.home_note v.flying_note

@@ -88,7 +88,7 @@ module _ (past : List Fact) (s : Session) (tied : IsTied past s) (rests : IsRest
       empty i (Some q) is = ⊎_elim
           (λ (r : IsRequestAt core i). none_at core.requests r.place r.request rests.requests r.there)
           (λ (r : IsStepAt core i). some_is_none core.copy r.copy rests.copy r.is_open)
-          (tied.sees.only i q is)
+          (tied.sees.queue.only i q is)
 
   -- ---- the committed status
 

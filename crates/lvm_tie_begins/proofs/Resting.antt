@@ -161,10 +161,12 @@ module _ (past : List Fact) (s : Session) (media : Media) (sound : IsSound s) (p
 
   sees : Sees past core v
   sees = record {
-    requests = λ place o at. none_at core.requests place o rests.requests at;
-    a_step = λ b is row. some_is_none core.copy b rests.copy is;
-    only = λ i q at. some_is_none (v.queue i) q (idle.queue i) at;
-    names = λ place o at. none_at core.requests place o rests.requests at;
+    queue = record {
+      requests = λ place o at. none_at core.requests place o rests.requests at;
+      a_step = λ b is row. some_is_none core.copy b rests.copy is;
+      only = λ i q at. some_is_none (v.queue i) q (idle.queue i) at;
+      names = λ place o at. none_at core.requests place o rests.requests at;
+    };
     facts = facts_are;
     status = record {
       committed = ap (λ (m : Stamped Marks). m.value) seen_first.committed ∙ ap marks_of stands.held.shows.committed;

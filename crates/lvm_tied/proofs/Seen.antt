@@ -89,10 +89,12 @@ module _ (mode : Mode) (stale : Bool) where
 
   pub sees : Sees (making mode) (core_of mode stale) (seen_as mode stale)
   sees = record {
-    requests = λ place o is. none_at place o is;
-    a_step = λ c is row. absurd cc;
-    only = λ i q is. absurd cc;
-    names = λ place o is. none_at place o is;
+    queue = record {
+      requests = λ place o is. none_at place o is;
+      a_step = λ c is row. absurd cc;
+      only = λ i q is. absurd cc;
+      names = λ place o is. none_at place o is;
+    };
     facts = refl;
     status = record {
       committed = marks;
