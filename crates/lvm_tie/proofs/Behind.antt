@@ -88,10 +88,10 @@ module _ (core : Core) (v : State) (missing : ℕ → Bool) (how : Option CopyEn
   due p = is_entailed core p || marked_by_end core how p
 
   stale_seen : (p : Pp) → v.committed.value.stale p ≡ is_stale core p
-  stale_seen p = ap (λ (m : Marks). m.stale p) sees.status.committed
+  stale_seen p = ap (λ (m : Marks). m.stale p) sees.committed
 
   wanted_seen : (p : Pp) → v.wanted.stale p ≡ is_wanted_stale core p
-  wanted_seen p = ap (λ (m : Marks). m.stale p) sees.status.wanted
+  wanted_seen p = ap (λ (m : Marks). m.stale p) sees.wanted
 
   -- a copy of a volume is on a member
   on_member : (row : LvRow) (lp b : ℕ) (p : Pp) → IsOneOf group.lvs row → IsBlockOf group.mib row lp b → IsOneOf (copies_of row lp) p → is_member group p.disk ≡ true
@@ -240,7 +240,7 @@ module _ (core : Core) (v : State) (missing : ℕ → Bool) (how : Option CopyEn
   review_wants open_copy same there = record {
     missing_still = sees.still;
     still = λ p is. wants.stale p ∙ or_true (is_wanted_stale core p) (due p) (inl (sym (wanted_seen p) ∙ is));
-    still_dirty = λ lv is. ap (λ (ns : List ℕ). list_any (λ n. n == lv) ns) wants.dirty ∙ sym (ap (λ (m : Marks). m.dirty lv) sees.status.wanted) ∙ is;
+    still_dirty = λ lv is. ap (λ (ns : List ℕ). list_any (λ n. n == lv) ns) wants.dirty ∙ sym (ap (λ (m : Marks). m.dirty lv) sees.wanted) ∙ is;
     added = λ p is. ⊎_elim (λ old. inl (wanted_seen p ∙ old)) (λ its. inr (replaced p its)) (or_either (is_wanted_stale core p) (due p) (sym (wants.stale p) ∙ is));
     open_same = same;
     open_there = there;

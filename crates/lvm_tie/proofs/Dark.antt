@@ -88,7 +88,7 @@ module _ (past : List Fact) (s : Session) (tied : IsTied past s) where
     cut_holds xs ys split =
         let cut : List Fact = facts ++ Cut ∷ [] in
         let landed : List Fact = landings outcome.Dark v.name has_started (places xs) in
-        let same = same_landings outcome.Dark refl (facts ++ Cut ∷ []) v.name has_started xs (named_in (facts ++ Cut ∷ []) (sees_entered past core v Cut refl tied.sees).names xs ys split) in
+        let same = same_landings outcome.Dark refl (facts ++ Cut ∷ []) v.name has_started xs (named_in (facts ++ Cut ∷ []) (sees_entered past core v Cut refl tied.sees).queue.names xs ys split) in
         let now : (v.facts ++ Cut ∷ []) ++ landed ≡ past ++ (cut ++ all_landings outcome.Dark cut xs) =
         ap (λ (l : List Fact). (l ++ Cut ∷ []) ++ landed) tied.sees.facts ∙ ap (λ (l : List Fact). l ++ landed) (append_assoc past facts (Cut ∷ [])) ∙ append_assoc past cut landed
         ∙ ap (λ (l : List Fact). past ++ (cut ++ l)) (sym same) in

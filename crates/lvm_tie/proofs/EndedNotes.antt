@@ -51,7 +51,7 @@ some_passes test None is none = absurd (cc is)
 some_passes test (Some r) is none = cc none
 
 -- a disk that shows a descriptor has room for records
-shows_records : (image : Image) (id : ℕ) (d : ℕ) → passes (is_of id) ((contents_of image).descriptor d) ≡ true → has_records image d ≡ true
+pub shows_records : (image : Image) (id : ℕ) (d : ℕ) → passes (is_of id) ((contents_of image).descriptor d) ≡ true → has_records image d ≡ true
 unfolding descriptor_on
 shows_records image id d is = by (has_records image d) refl
   where

@@ -10,19 +10,17 @@ use Rattle.lvm_num.specs.declared.record.Kind.TheVariants as kind
 use Rattle.lvm_num.specs.declared.record.Stamp.{Stamp}
 use Rattle.lvm_num.specs.declared.status.Status.{Status}
 use Rattle.lvm_num.specs.Descriptor.{is_member}
-use Rattle.lvm_num.specs.DescriptorBytes.{descriptor_of}
 use Rattle.lvm_num.specs.Record.{Frames, Stamped, longest_content, stamp_lt}
 use Rattle.lvm_num.specs.Status.{IsValidStatus, calls_missing}
 use Rattle.lvm_num.specs.StatusBytes.{status_bytes, status_of}
 use Rattle.lvm_num.specs.Votes.{all_disks, is_enough_to_write, total_votes, votes_in, votes_of}
 use Rattle.lvm_vol.specs.Facts.{Fact}
 use Rattle.lvm_disk.specs.Device.{Image, image_of}
-use Rattle.lvm_rec.specs.Slots.{newest_on}
 use Rattle.lvm_rec.proofs.SlotLaws.{may_write}
 use Rattle.lvm_vgsa.proofs.RoundTrip.{is_read_again}
 use Rattle.lvm_commit.proofs.Sizes.{status_fits}
 use Rattle.lvm_commit.specs.Committed.{next_stamp}
-use Rattle.lvm_kept.specs.Contents.{Contents, contents_of, descriptor_on, has_records}
+use Rattle.lvm_kept.specs.Contents.{Contents, contents_of, has_records}
 use Rattle.lvm_kept.specs.Group.{is_of, is_status_of, members_in, passes}
 use Rattle.lvm_kept.proofs.Finding.{finding_reads}
 use Rattle.lvm_kept.specs.Torn.{MayWriteAll, RecordWrite, on_disk}
@@ -43,6 +41,7 @@ use Rattle.lvm_tie.specs.Out.{IsUpdateWrite, is_owed_on}
 use Rattle.lvm_tie.specs.Seen.{update_of}
 use Rattle.lvm_tie.specs.Tied.{IsTied}
 use Rattle.lvm_tie.proofs.Judged.{there_first}
+use Rattle.lvm_tie.proofs.EndedNotes.{shows_records}
 
 -- This record may go out: to slots that don't hold the newest, under a stamp later than all that stand; and no disk at all has votes enough to write.
 pub record MayBegin (v : State) (votes : Descriptor) (group : Descriptor) (image : Image) (w : RecordWrite) (u : Stamped Status) : Type 0 where
@@ -79,19 +78,6 @@ and_parts false b is = absurd (cc is)
 slot_below : (b : Bool) → (if b then 1 else 0) < 2
 slot_below true = omega arith
 slot_below false = omega arith
-
-some_passes : (test : Descriptor → Bool) (o : Option (Stamped Descriptor)) → passes test o ≡ true → o ≡ None → ⊥
-some_passes test None is none = absurd (cc is)
-some_passes test (Some r) is none = cc none
-
--- a disk that shows a descriptor has room for records
-shows_records : (image : Image) (id : ℕ) (d : ℕ) → passes (is_of id) ((contents_of image).descriptor d) ≡ true → has_records image d ≡ true
-unfolding descriptor_on
-shows_records image id d is = by (has_records image d) refl
-  where
-    by : (b : Bool) → has_records image d ≡ b → b ≡ true
-    by true there = refl
-    by false there = absurd (some_passes (is_of id) (descriptor_on image d) is (ap (λ b. if b then newest_on descriptor_of kind.Descriptor (image.sector d) else None) there))
 
 marks_of_some : (id : ℕ) (o : Option (Stamped Status)) (m : Stamped Marks) → marks_shown id o ≡ Some m → (r : Stamped Status) × (o ≡ Some r) × (as_marks r ≡ m)
 marks_of_some id None m is = absurd (cc is)

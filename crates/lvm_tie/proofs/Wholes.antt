@@ -47,7 +47,7 @@ use Rattle.lvm_tie.proofs.Judged.{IsOfItsPartition, stale_seen, wanted_seen}
 use Rattle.lvm_tie.proofs.Orderly.{valid_of}
 use Rattle.lvm_tie.proofs.StepBlocks.{groups_are}
 use Rattle.lvm_tie.proofs.Wanted.{next_same, records_wanted, sees_wanted, stamp_same, stays_open, update_same, write_same}
-use Rattle.lvm_tie.proofs.Words.{any_one, clash, not_true, or_either}
+use Rattle.lvm_tie.proofs.Words.{any_one, clash, not_true, or_either, and_false}
 use Rattle.lvm_tie.proofs.Leaving.{Stands, gone, gone_here, gone_there, quiet}
 use Rattle.lvm_tie.proofs.Landed.{HasLanded, ended, now, q, since}
 use Rattle.lvm_tie.proofs.Stepped.{IsStepped, apart, carry_none, sees_stepped}
@@ -63,10 +63,6 @@ fresh_rest p old new sound wants =
 and_true : (b : Bool) → b && true ≡ b
 and_true true = refl
 and_true false = refl
-
-and_false : (b : Bool) → b && false ≡ false
-and_false true = refl
-and_false false = refl
 
 -- what missing disks leave behind is fresh
 entailed_fresh : (core : Core) (p : Pp) → is_entailed core p ≡ true → is_stale core p ≡ false
