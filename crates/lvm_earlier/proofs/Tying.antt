@@ -76,7 +76,7 @@ module _ (past : List Fact) (s : Session) (tied : IsTied past s) (id : ℕ) (its
 
   once : TakenOnce v.facts q
   once = subst (λ (fs : List Fact). TakenOnce fs q) (sym tied.sees.facts) (unjoined past core.history.facts q
-      (fits_taken past core.history 1 id (legal_prefix past core.history.facts (subst Legal tied.sees.facts tied.good.told.legal)) tied.own sound.told.ordered its))
+      (fits_taken past core.history 1 id (legal_prefix past core.history.facts (subst Legal tied.sees.facts tied.good.told.legal)) tied.setting.own sound.told.ordered its))
 
   other_request : (i : ℕ) (r : Queued) → IsRequestAt core i → IsFalse (same_request (v.name i) q)
   other_request i r at =
@@ -124,21 +124,17 @@ module _ (past : List Fact) (s : Session) (tied : IsTied past s) (id : ℕ) (its
   pub tied_beside : IsTied past (state s.device entered)
   tied_beside = record {
     votes = tied.votes;
-    are_votes = tied.are_votes;
     media = tied.media;
-    told = tied.told;
+    setting = tied.setting;
     view = w;
     sees = sees;
     good = each_keeps tied.votes (TakeEarlier q) v w (takes_it, refl) tied.good;
     describes = quiet_lasts tied.votes (TakeEarlier q) v w core.descriptor (update_of core.status) (contents_of (image_of s.device.sizes tied.media)) (takes_it, refl) tied.good tt tied.describes refl refl refl;
     write = tied.write;
     since = tied.since;
+    recorded = tied.recorded;
     orderly = record { sound = one_keeps s sound id its gone; on = tied.orderly.on; update = tied.orderly.update };
     copy_aimed = tied.copy_aimed;
     carry = carry_so s.device.flights core.flying tied.carry;
-    members = tied.members;
-    records = tied.records;
-    next = tied.next;
     notes = tied.notes;
-    own = tied.own;
   }

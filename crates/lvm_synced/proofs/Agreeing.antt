@@ -86,7 +86,7 @@ module _ (past : List Fact) (s : Session) (tied : IsTied past s) where
         let parts = and_both (is_member group c.disk) (not (is_missing core c.disk)) it.there in
         record {
           copy = it.copy;
-          shows = tied.members c.disk parts.0 (there_first past s tied c.disk (not_true (is_missing core c.disk) parts.1));
+          shows = tied.recorded.members c.disk parts.0 (there_first past s tied c.disk (not_true (is_missing core c.disk) parts.1));
           fresh = ap (λ t. t && calls_stale (unwrap_or core.status.in_flight core.status.committed) c) it.fresh;
         }
 

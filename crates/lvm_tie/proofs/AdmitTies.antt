@@ -365,9 +365,8 @@ module _ (past : List Fact) (old new : Session) (place : ℕ) (admits : Admits o
       tied_same : IsOrderly (state old.device core2) tied.write → IsTied past (state old.device core2)
       tied_same its = record {
         votes = tied.votes;
-        are_votes = tied.are_votes;
         media = tied.media;
-        told = tied.told;
+        setting = tied.setting;
         view = w;
         sees = sees_w;
         good = good_w;
@@ -375,13 +374,10 @@ module _ (past : List Fact) (old new : Session) (place : ℕ) (admits : Admits o
         write = tied.write;
         orderly = its;
         since = tied.since;
-        next = tied.next;
+        recorded = tied.recorded;
         notes = tied.notes;
         copy_aimed = tied.copy_aimed;
         carry = carry_on core core2 v w old.device.flights core.flying carries tied.carry;
-        members = tied.members;
-        records = tied.records;
-        own = tied.own;
       }
 
   -- its volume is wanted dirty
@@ -425,9 +421,8 @@ module _ (past : List Fact) (old new : Session) (place : ℕ) (admits : Admits o
     pub marked : IsTied past new
     marked = subst (IsTied past) (sym whole) (record {
       votes = tied.votes;
-      are_votes = tied.are_votes;
       media = tied.media;
-      told = tied.told;
+      setting = tied.setting;
       view = w2;
       sees = sees_wanted core.status stored wanted_rest wants.wants.missing past core2 w refl sees_w;
       good = each_keeps tied.votes (Want (marks_of stored.wanted) w.missing w.open_copy) w w2 want_step good_w;
@@ -436,13 +431,14 @@ module _ (past : List Fact) (old new : Session) (place : ℕ) (admits : Admits o
       write = tied.write;
       orderly = orderly (write_same core.status stored wanted_rest wants.wants.missing core.homes tied.write tied.orderly.update);
       since = subst (OnlyUpdateSince old.device tied.write) (sym (update_same core.status stored wanted_rest wants.wants.missing)) tied.since;
-      next = next_same core.status stored wanted_rest wants.wants.missing core.descriptor core.homes (image_of old.device.sizes tied.media) tied.next;
+      recorded = record {
+        next = next_same core.status stored wanted_rest wants.wants.missing core.descriptor core.homes (image_of old.device.sizes tied.media) tied.recorded.next;
+        members = tied.recorded.members;
+        records = records_wanted core.status stored wanted_rest wants.wants.missing core.descriptor (contents_of (image_of old.device.sizes tied.media)) tied.recorded.records;
+      };
       notes = λ d items flies. subst (λ st. IsNote (record { stamp = st.epoch; entries = items.items })) (sym (stamp_same core.status stored wanted_rest wants.wants.missing)) (tied.notes d items flies);
       copy_aimed = tied.copy_aimed;
       carry = carry_on core core2 v w old.device.flights core.flying carries tied.carry;
-      members = tied.members;
-      records = records_wanted core.status stored wanted_rest wants.wants.missing core.descriptor (contents_of (image_of old.device.sizes tied.media)) tied.records;
-      own = tied.own;
     })
 
   pub tied_after : IsTied past new

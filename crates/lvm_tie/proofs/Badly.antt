@@ -162,7 +162,7 @@ module _ (past : List Fact) (old new : Session) (at disk : ℕ) (row : Flown) (b
   members = members_there (contents_of was) group
 
   shows : (d : ℕ) → IsTrue (is_there core2 d) → IsTrue (members d)
-  shows d there = let w = was_there d there in tied.members d w.member (there_first past old tied d w.there)
+  shows d there = let w = was_there d there in tied.recorded.members d w.member (there_first past old tied d w.there)
 
   -- as the status was, with one disk less
   committed_lost : lost.committed ≡ core.status.committed
@@ -210,7 +210,7 @@ module _ (past : List Fact) (old new : Session) (at disk : ℕ) (row : Flown) (b
 
   matches1 : Matches v1 v1.facts group (update_of core.status) old.device tied.media
   matches1 = record {
-    told = tied.told;
+    told = tied.setting.told;
     describes = describes1;
     out = losing.wanted_out v (marks_of status.wanted) missing (open_after how v.open_copy) group (update_of core.status) old.device tied.media (tied_matches past old tied).out;
   }
@@ -375,11 +375,11 @@ module _ (past : List Fact) (old new : Session) (at disk : ℕ) (row : Flown) (b
 
   next_before : MayUpdate group status core.homes was
   next_before = record {
-    some_epoch = subst (λ (st : Stamp). st.epoch ≢ 0) (sym stamp_same) tied.next.some_epoch;
-    epoch = subst (λ (st : Stamp). st.epoch < 2 ^ 64) (sym stamp_same) tied.next.epoch;
-    whole = tied.next.whole;
-    before = subst (λ (st : Stamp). StampsBefore (next_stamp st) was) (sym stamp_same) tied.next.before;
-    spare = λ d there owed. let w = was_out d there in tied.next.spare d (was_in d (sym (there_same d) ∙ there)) (losing.owed_was core.status lost status disk group going.fitting.group going.status loses rest d w.member w.other owed);
+    some_epoch = subst (λ (st : Stamp). st.epoch ≢ 0) (sym stamp_same) tied.recorded.next.some_epoch;
+    epoch = subst (λ (st : Stamp). st.epoch < 2 ^ 64) (sym stamp_same) tied.recorded.next.epoch;
+    whole = tied.recorded.next.whole;
+    before = subst (λ (st : Stamp). StampsBefore (next_stamp st) was) (sym stamp_same) tied.recorded.next.before;
+    spare = λ d there owed. let w = was_out d there in tied.recorded.next.spare d (was_in d (sym (there_same d) ∙ there)) (losing.owed_was core.status lost status disk group going.fitting.group going.status loses rest d w.member w.other owed);
   }
 
   next_now : MayUpdate group status core.homes is
@@ -426,11 +426,11 @@ module _ (past : List Fact) (old new : Session) (at disk : ℕ) (row : Flown) (b
   still_shows : over ≡ false → status.in_flight ≡ None → ShowsStatus group status (contents_of is)
   still_shows goes_on none =
       let still : core.status.in_flight ≡ None = sym (ap (λ b. if b then None else core.status.in_flight) goes_on) ∙ sym (losing.in_flight_is core.status lost status disk group going.fitting.group going.status loses rest) ∙ none in
-      status_lasts group core.status status (contents_of was) (contents_of is) (tied.records.settled still) no_more (losing.committed_same core.status lost status disk group going.fitting.group going.status loses rest)
+      status_lasts group core.status status (contents_of was) (contents_of is) (tied.recorded.records.settled still) no_more (losing.committed_same core.status lost status disk group going.fitting.group going.status loses rest)
       (same_statuses tied.votes v1 group (update_of core.status) old.device new.device.flights tied.media its_end.media f false good1 matches1 its_end.removes own1 its_end.lands (no_update_of core.status still))
 
   records_now : ShowsRecords group status (contents_of is)
-  records_now = records_last group core.status status (contents_of was) (contents_of is) tied.records no_more
+  records_now = records_last group core.status status (contents_of was) (contents_of is) tied.recorded.records no_more
       (same_descriptors tied.votes v1 group (update_of core.status) old.device new.device.flights tied.media its_end.media f false good1 matches1 its_end.removes own1 its_end.lands)
       (λ none. by over refl none)
     where
@@ -443,9 +443,12 @@ module _ (past : List Fact) (old new : Session) (at disk : ℕ) (row : Flown) (b
   near : IsNear past new.device core3 how
   near = record {
     votes = tied.votes;
-    are_votes = tied.are_votes;
     media = its_end.media;
-    told = its_end.told;
+    setting = record {
+      are_votes = tied.setting.are_votes;
+      told = its_end.told;
+      own = tied.setting.own;
+    };
     view = v3;
     open_copy = v.open_copy;
     sees = sees;
@@ -454,14 +457,15 @@ module _ (past : List Fact) (old new : Session) (at disk : ℕ) (row : Flown) (b
     describes = subst (λ (sizes : List ℕ). Describes v3 v3.facts group (update_of status) (contents_of (image_of sizes its_end.media))) (sym its_end.sizes) after.1;
     write = write_by over;
     since = since_now;
-    next = subst (λ (sizes : List ℕ). MayUpdate group status core.homes (image_of sizes its_end.media)) (sym its_end.sizes) next_now;
+    recorded = record {
+      next = subst (λ (sizes : List ℕ). MayUpdate group status core.homes (image_of sizes its_end.media)) (sym its_end.sizes) next_now;
+      members = λ d member first. subst (λ (sizes : List ℕ). IsTrue (members_there (contents_of (image_of sizes its_end.media)) group d)) (sym its_end.sizes) (members_now d ∙ tied.recorded.members d member first);
+      records = subst (λ (sizes : List ℕ). ShowsRecords group status (contents_of (image_of sizes its_end.media))) (sym its_end.sizes) records_now;
+    };
     notes = notes_fit;
     copy_aimed = tied.copy_aimed;
     carry = subst (λ (fs : List Flight). CarryTheirs core3 v3 fs (remove core.flying at)) (sym its_end.removes.is)
         ((its_row past old new at disk false row buf its_owner returns tied core3 v3).carry carries (subst (λ (fs : List Flight). CarryTheirs core v fs core.flying) its_end.removes.was tied.carry));
-    members = λ d member first. subst (λ (sizes : List ℕ). IsTrue (members_there (contents_of (image_of sizes its_end.media)) group d)) (sym its_end.sizes) (members_now d ∙ tied.members d member first);
-    own = tied.own;
-    records = subst (λ (sizes : List ℕ). ShowsRecords group status (contents_of (image_of sizes its_end.media))) (sym its_end.sizes) records_now;
   }
 
   new_is : new.core ≡ with_end core3 how

@@ -101,9 +101,8 @@ module _ (past : List Fact) (s : Session) (tied : IsTied past s) (ended : (curso
   pub closed_ties : IsTied past (state s.device (closed core))
   closed_ties = record {
     votes = tied.votes;
-    are_votes = tied.are_votes;
     media = tied.media;
-    told = tied.told;
+    setting = tied.setting;
     view = v;
     sees = sees;
     good = tied.good;
@@ -111,13 +110,10 @@ module _ (past : List Fact) (s : Session) (tied : IsTied past s) (ended : (curso
     write = tied.write;
     orderly = orderly_same s (state s.device (closed core)) tied.write tied.orderly sound refl refl refl;
     since = tied.since;
-    next = tied.next;
+    recorded = tied.recorded;
     notes = tied.notes;
     copy_aimed = λ c is. absurd (cc is);
     carry = carry_none s.device.flights core.flying;
-    members = tied.members;
-    records = tied.records;
-    own = tied.own;
   }
 
 pub close_ties : CloseTies

@@ -151,9 +151,8 @@ module _ (past : List Fact) (device : Device) (core : Core) (how : CopyEnd) (nea
   tied_out : is_out c.step ≡ true → IsOrderly (state device core_out) near.write → IsTied past (state device core_out)
   tied_out out orderly = record {
     votes = near.votes;
-    are_votes = near.are_votes;
     media = near.media;
-    told = near.told;
+    setting = near.setting;
     view = v;
     sees = sees_out out;
     good = near.good;
@@ -161,14 +160,11 @@ module _ (past : List Fact) (device : Device) (core : Core) (how : CopyEnd) (nea
     write = near.write;
     orderly = orderly;
     since = near.since;
-    next = near.next;
+    recorded = near.recorded;
     notes = near.notes;
     copy_aimed = λ d is row.
         subst (λ (x : Bringing). IsTrue (v.is_copy x.lv (block_at core x) x.pp) × ((source : Pp) → x.step ≡ step.Reading source → IsTrue (v.is_copy x.lv (block_at core x) source))) (some_of c_out d is) (near.copy_aimed c its.is_open (row_out out));
     carry = carry_on core core_out v v device.flights core.flying carries_out near.carry;
-    members = near.members;
-    records = near.records;
-    own = near.own;
   }
 
   -- ---- where it isn't
@@ -200,9 +196,8 @@ module _ (past : List Fact) (device : Device) (core : Core) (how : CopyEnd) (nea
   tied_in : (w : State) → Sees past core_in w → Good near.votes w → Describes w w.facts core.descriptor (update_of core.status) (contents_of (image_of device.sizes near.media)) → IsOrderly (state device core_in) near.write → IsTied past (state device core_in)
   tied_in w sees good describes orderly = record {
     votes = near.votes;
-    are_votes = near.are_votes;
     media = near.media;
-    told = near.told;
+    setting = near.setting;
     view = w;
     sees = sees;
     good = good;
@@ -210,13 +205,10 @@ module _ (past : List Fact) (device : Device) (core : Core) (how : CopyEnd) (nea
     write = near.write;
     orderly = orderly;
     since = near.since;
-    next = near.next;
+    recorded = near.recorded;
     notes = near.notes;
     copy_aimed = λ d is row. absurd (no_row d is row);
     carry = carry_on core core_in v w device.flights core.flying (carries_in w) near.carry;
-    members = near.members;
-    records = near.records;
-    own = near.own;
   }
 
   -- its step had left the queue, since all is copied
@@ -326,9 +318,8 @@ module _ (past : List Fact) (device : Device) (core : Core) (how : CopyEnd) (nea
 pub near_ties : NearTies
 near_ties past device core None near runs orderly = record {
   votes = near.votes;
-  are_votes = near.are_votes;
   media = near.media;
-  told = near.told;
+  setting = near.setting;
   view = near.view;
   sees = subst (λ (o : Option OpenCopy). Sees past core (record near.view { open_copy = o })) (sym near.ended) near.sees;
   good = near.good;
@@ -336,12 +327,9 @@ near_ties past device core None near runs orderly = record {
   write = near.write;
   orderly = orderly;
   since = near.since;
-  next = near.next;
+  recorded = near.recorded;
   notes = near.notes;
   copy_aimed = near.copy_aimed;
   carry = near.carry;
-  members = near.members;
-  records = near.records;
-  own = near.own;
 }
 near_ties past device core (Some how) near runs orderly = ended_ties past device core how near (runs how refl) orderly

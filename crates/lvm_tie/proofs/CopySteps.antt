@@ -111,9 +111,12 @@ module _ (past : List Fact) (old : Session) (device : Device) (c : Bringing) (st
         → ((source : Pp) → st ≡ step.Reading source → IsTrue (w.is_copy c.lv (block_at old.core c) source)) → IsSound (state device new) → IsTied past (state device new)
     copy_started sees good describes same_copies source_aimed sound = record {
       votes = tied.votes;
-      are_votes = tied.are_votes;
       media = tied.media;
-      told = ap (λ (d : Device). d.media) starts.new_is ∙ tied.told;
+      setting = record {
+        are_votes = tied.setting.are_votes;
+        told = ap (λ (d : Device). d.media) starts.new_is ∙ tied.setting.told;
+        own = tied.setting.own;
+      };
       view = w;
       sees = sees;
       good = good;
@@ -121,13 +124,14 @@ module _ (past : List Fact) (old : Session) (device : Device) (c : Bringing) (st
       write = tied.write;
       orderly = orderly_same old (state device new) tied.write tied.orderly sound refl refl refl;
       since = since_start old.device device f tied.write (update_of old.core.status) starts low tied.since;
-      next = subst (λ (sizes : List ℕ). MayUpdate old.core.descriptor old.core.status old.core.homes (image_of sizes tied.media)) (sym sizes_is) tied.next;
+      recorded = record {
+        next = subst (λ (sizes : List ℕ). MayUpdate old.core.descriptor old.core.status old.core.homes (image_of sizes tied.media)) (sym sizes_is) tied.recorded.next;
+        members = λ d member first. subst (λ (sizes : List ℕ). IsTrue (members_there (contents_of (image_of sizes tied.media)) old.core.descriptor d)) (sym sizes_is) (tied.recorded.members d member first);
+        records = subst (λ (sizes : List ℕ). ShowsRecords old.core.descriptor old.core.status (contents_of (image_of sizes tied.media))) (sym sizes_is) tied.recorded.records;
+      };
       notes = tied.notes;
       copy_aimed = λ d at r. let own : record c { step = st } ≡ d = (let e : Some (record c { step = st }) ≡ Some d = at in cc) in
           subst (λ (x : Bringing). IsTrue (w.is_copy x.lv (block_at old.core x) x.pp) × ((source : Pp) → x.step ≡ step.Reading source → IsTrue (w.is_copy x.lv (block_at old.core x) source))) own
           ((λ t. same_copies t c.lv (block_at old.core c) c.pp) ∙ (tied.copy_aimed c is row).0, source_aimed);
       carry = subst (λ (fs : List Flight). CarryTheirs new w fs (old.core.flying ++ flown_row ∷ [])) (sym (ap (λ (d : Device). d.flights) starts.new_is)) (carry_on old.device.flights old.core.flying (out_of old tied.write tied.orderly tied.notes));
-      members = λ d member first. subst (λ (sizes : List ℕ). IsTrue (members_there (contents_of (image_of sizes tied.media)) old.core.descriptor d)) (sym sizes_is) (tied.members d member first);
-      own = tied.own;
-      records = subst (λ (sizes : List ℕ). ShowsRecords old.core.descriptor old.core.status (contents_of (image_of sizes tied.media))) (sym sizes_is) tied.records;
     }

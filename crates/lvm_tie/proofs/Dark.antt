@@ -95,7 +95,7 @@ module _ (past : List Fact) (s : Session) (tied : IsTied past s) where
         record {
           legal = subst Legal now (cut_keeps tied.votes v (places xs) (places ys) has_started (open_in xs ys split) tied.good).legal;
           kept = λ image may. subst (Kept (contents_of image)) now
-              (cut_kept tied.votes v core.descriptor (update_of core.status) s.device tied.media image (places xs) (places ys) has_started tied.are_votes tied.good (open_in xs ys split) (tied_matches past s tied)
+              (cut_kept tied.votes v core.descriptor (update_of core.status) s.device tied.media image (places xs) (places ys) has_started tied.setting.are_votes tied.good (open_in xs ys split) (tied_matches past s tied)
               (leaves image may));
         }
 
@@ -158,7 +158,7 @@ module _ (past : List Fact) (s : Session) (tied : IsTied past s) where
           record {
             legal = subst Legal now way.legal;
             kept = λ image may. subst (Kept (contents_of image)) now
-                (way.kept (contents_of image) (images_kept tied.votes v core.descriptor (update_of core.status) s.device tied.media image tied.are_votes tied.good (tied_matches past s tied) (leaves image may)));
+                (way.kept (contents_of image) (images_kept tied.votes v core.descriptor (update_of core.status) s.device tied.media image tied.setting.are_votes tied.good (tied_matches past s tied) (leaves image may)));
           }
 
 -- ---- the span

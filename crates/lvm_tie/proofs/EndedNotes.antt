@@ -67,7 +67,7 @@ module _ (past : List Fact) (old new : Session) (at disk : ℕ) (ok : Bool) (row
   v = tied.view
 
   pub ended : HasEnded old.device new.device row.ticket ok buf tied.media
-  ended = has_ended old.device new.device row.ticket ok buf tied.media returns.ends tied.told
+  ended = has_ended old.device new.device row.ticket ok buf tied.media returns.ends tied.setting.told
 
   abbrev f : Flight
   f = ended.flight
@@ -153,7 +153,7 @@ module _ (past : List Fact) (old new : Session) (at disk : ℕ) (ok : Bool) (row
   pub room : IsFalse (v.missing f.disk) → has_records was f.disk ≡ true
   room there =
       let here : is_missing core disk ≡ false = sym (missing_seen past old tied disk member) ∙ ap v.missing (sym out.disk_is) ∙ there in
-      let shown : IsTrue (members_there (contents_of was) core.descriptor disk) = tied.members disk member (there_first past old tied disk here) in
+      let shown : IsTrue (members_there (contents_of was) core.descriptor disk) = tied.recorded.members disk member (there_first past old tied disk here) in
       ap (has_records was) out.disk_is ∙ shows_records was core.descriptor.id disk (and_both (passes (is_of core.descriptor.id) ((contents_of was).descriptor disk)) (has_room (contents_of was) disk core.descriptor) shown).0
 
   pub since_ended : (x : Option RecordWrite) (u : Option (Stamped Status)) → OnlyUpdateSince old.device x u → OnlyUpdateSince new.device x u

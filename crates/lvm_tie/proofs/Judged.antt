@@ -179,11 +179,11 @@ module _ (past : List Fact) (s : Session) (tied : IsTied past s) where
 
     -- a copy on a disk that isn't missing is one that the state sees
     pub there_is_copy : (p : Pp) → IsOneOf (copies_for core ask) p → is_missing core p.disk ≡ false → IsTrue (v.is_copy (lv_of ask) (at_of ask) p)
-    there_is_copy p one there = one_is_copy p one (tied.members p.disk (on_member p one) (there_first p.disk there))
+    there_is_copy p one there = one_is_copy p one (tied.recorded.members p.disk (on_member p one) (there_first p.disk there))
 
     -- so is a target of the request
     pub target_is_copy : (t : Target) → IsTarget core ask t → IsTrue (v.is_copy (lv_of ask) (at_of ask) t.pp)
-    target_is_copy t its = let one = among_one (copies_for core ask) t.pp its.copy in one_is_copy t.pp one (tied.members t.pp.disk (on_member t.pp one) its.there)
+    target_is_copy t its = let one = among_one (copies_for core ask) t.pp its.copy in one_is_copy t.pp one (tied.recorded.members t.pp.disk (on_member t.pp one) its.there)
 
     -- its track group, counted in its volume
     groups : groups_of core ≡ 8 * group.mib

@@ -127,23 +127,19 @@ module _ (past : List Fact) (old new : Session) (place : ℕ) (how : Outcome) (l
   pub lands_tied : GoodStep tied.votes event v w → AsksOf core.descriptor event → IsOrderly new tied.write → IsTied past new
   lands_tied step asks orderly = subst (IsTied past) (sym whole) (record {
     votes = tied.votes;
-    are_votes = tied.are_votes;
     media = tied.media;
-    told = tied.told;
+    setting = tied.setting;
     view = w;
     sees = sees_all;
     good = each_keeps tied.votes event v w step tied.good;
     describes = quiet_lasts tied.votes event v w core.descriptor (update_of core.status) (contents_of (image_of old.device.sizes tied.media)) step tied.good asks tied.describes refl refl refl;
     write = tied.write;
     since = tied.since;
+    recorded = tied.recorded;
     orderly = subst (λ (x : Session). IsOrderly x tied.write) whole orderly;
     copy_aimed = tied.copy_aimed;
     carry = carry_on core core2 v w old.device.flights core.flying carries tied.carry;
-    members = tied.members;
-    records = tied.records;
-    next = tied.next;
     notes = tied.notes;
-    own = tied.own;
   })
 
 -- ---- without a usable copy

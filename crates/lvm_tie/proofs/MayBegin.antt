@@ -116,8 +116,8 @@ module _ (past : List Fact) (old new : Session) (tied : IsTied past old) (sound 
 
   frames : Frames kind.Status fresh_write.framed
   frames = record {
-    some_epoch = subst (λ (s : Stamp). s.epoch ≢ 0) (sym stamp_is) tied.next.some_epoch;
-    epoch = subst (λ (s : Stamp). s.epoch < 2 ^ 64) (sym stamp_is) tied.next.epoch;
+    some_epoch = subst (λ (s : Stamp). s.epoch ≢ 0) (sym stamp_is) tied.recorded.next.some_epoch;
+    epoch = subst (λ (s : Stamp). s.epoch < 2 ^ 64) (sym stamp_is) tied.recorded.next.epoch;
     some_seq = subst (λ (s : Stamp). s.seq ≢ 0) (sym stamp_is) (λ e. omega (arith, e));
     seq = let low = (sound.on on_then).going.numbers in omega (arith, low);
     content = subst (λ (x : Status). length (status_bytes x) ≤ longest_content kind.Status) (sym value_is) (status_fits core.status.wanted valid);
@@ -132,7 +132,7 @@ module _ (past : List Fact) (old new : Session) (tied : IsTied past old) (sound 
   shows : (d : ℕ) → IsTrue (is_there core d) → IsTrue (members_there c core.descriptor d)
   shows d there =
       let parts = and_parts (is_member core.descriptor d) (not (calls_missing core.status.wanted d)) there in
-      tied.members d parts.0 (there_first past old tied d (not_true_is (calls_missing core.status.wanted d) parts.1))
+      tied.recorded.members d parts.0 (there_first past old tied d (not_true_is (calls_missing core.status.wanted d) parts.1))
     where
       not_true_is : (b : Bool) → not b ≡ true → b ≡ false
       not_true_is true h = absurd (cc h)
@@ -146,7 +146,7 @@ module _ (past : List Fact) (old new : Session) (tied : IsTied past old) (sound 
 
   -- of the stamps that stand all are before its own
   all_before : ShowsBefore (next_stamp core.status.stamp) c
-  all_before = shown_is_before (next_stamp core.status.stamp) image tied.next.whole tied.next.before
+  all_before = shown_is_before (next_stamp core.status.stamp) image tied.recorded.next.whole tied.recorded.next.before
 
   lower : (d : ℕ) (r : Stamped Status) → c.status d ≡ Some r → stamp_lt r.stamp u.stamp ≡ true
   lower d r at = ap (stamp_lt r.stamp) stamp_is ∙ all_before.statuses d r at
@@ -162,7 +162,7 @@ module _ (past : List Fact) (old new : Session) (tied : IsTied past old) (sound 
       later_by : (f : Found tied.votes v) → stamp_lt v.committed.stamp u.stamp ≡ true
       later_by f =
           let reads = finding_reads c all_disks core.descriptor.id core.descriptor tied.describes.stands.found in
-          let meets = tied.votes.meet (members_in c all_disks core.descriptor.id core.descriptor) f.set (tied.are_votes.reads (members_in c all_disks core.descriptor.id core.descriptor) ∙ reads.reads.enough) f.enough in
+          let meets = tied.votes.meet (members_in c all_disks core.descriptor.id core.descriptor) f.set (tied.setting.are_votes.reads (members_in c all_disks core.descriptor.id core.descriptor) ∙ reads.reads.enough) f.enough in
           let disk = meets.0 in
           let shown : v.media.status disk ≡ Some v.committed = ⊎_elim (λ (same : v.media.status disk ≡ Some v.committed). same)
           (λ (x : (y : Stamped Marks) × (v.in_flight ≡ Some y) × (v.media.status disk ≡ Some y)). absurd (let e : None ≡ Some x.0 = sym (tied.sees.status.in_flight ∙ no_update) ∙ x.1 in cc)) (f.have disk meets.2) in
@@ -177,8 +177,8 @@ module _ (past : List Fact) (old new : Session) (tied : IsTied past old) (sound 
       frames = frames;
       slots = λ d. slot_below (second_slots kind.Status core.homes d);
       there = records_there;
-      each = λ d there. may_write Status status_of (on_disk fresh_write d) starts.status (image.sector d) frames reads (tied.next.spare d there (not_owed d))
-          (later_may_go fresh_write (next_stamp core.status.stamp) image d tied.next.whole tied.next.before (ap (λ (s : Stamp). stamp_lt s (next_stamp core.status.stamp)) stamp_is ∙ not_itself (next_stamp core.status.stamp)) (records_there d there));
+      each = λ d there. may_write Status status_of (on_disk fresh_write d) starts.status (image.sector d) frames reads (tied.recorded.next.spare d there (not_owed d))
+          (later_may_go fresh_write (next_stamp core.status.stamp) image d tied.recorded.next.whole tied.recorded.next.before (ap (λ (s : Stamp). stamp_lt s (next_stamp core.status.stamp)) stamp_is ∙ not_itself (next_stamp core.status.stamp)) (records_there d there));
     };
     none_has = not_enough core.status.group;
     own = ap (λ (x : Status). x.id) value_is ∙ tied.orderly.sound.fitting.id;

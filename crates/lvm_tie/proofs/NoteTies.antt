@@ -242,7 +242,7 @@ module _ (past : List Fact) (old new : Session) (place disk : ℕ) (starts : Sta
         let own : flight_on next.cache d ≡ Some (record { items = note_of core.cache.entries }) = ap (flight_on next.cache) e ∙ ap (λ (o : Option DiskNotes). option_and_then (λ (n : DiskNotes). n.flight) o) has_notes.is in
         let same : record { items = note_of core.cache.entries } ≡ items = some_of (record { items = note_of core.cache.entries }) items (sym own ∙ flies) in
         subst (λ (x : ArrayVec NoteEntry). IsNote (record { stamp = core.status.stamp.epoch; entries = x.items })) same (record {
-          stamp = tied.next.epoch;
+          stamp = tied.recorded.next.epoch;
           count = let n : length (note_of core.cache.entries) ≡ length core.cache.entries = length-map core.cache.entries (λ (e : CacheEntry). let named : NoteEntry = record { lv = e.lv; group = e.group } in named) in let most = tied.orderly.sound.fitting.entries.most in omega (arith, n, most);
           entries = tied.orderly.sound.fitting.entries.counting;
         })
@@ -258,9 +258,12 @@ module _ (past : List Fact) (old new : Session) (place disk : ℕ) (starts : Sta
   pub note_tied : IsTied past new
   note_tied = subst (IsTied past) (sym starts.is) (let its : IsTied past (state new.device next) = record {
     votes = tied.votes;
-    are_votes = tied.are_votes;
     media = tied.media;
-    told = ap (λ (d : Device). d.media) starts.launches.starts.new_is ∙ tied.told;
+    setting = record {
+      are_votes = tied.setting.are_votes;
+      told = ap (λ (d : Device). d.media) starts.launches.starts.new_is ∙ tied.setting.told;
+      own = tied.setting.own;
+    };
     view = w;
     sees = sees;
     good = each_keeps tied.votes (StartNote flying) v w (may, refl) tied.good;
@@ -268,15 +271,16 @@ module _ (past : List Fact) (old new : Session) (place disk : ℕ) (starts : Sta
         (quiet_lasts tied.votes (StartNote flying) v w core.descriptor (update_of core.status) (contents_of (image_of old.device.sizes tied.media)) (may, refl) tied.good tt tied.describes refl refl refl);
     write = tied.write;
     since = since_note old.device new.device f tied.write (update_of core.status) starts.launches.starts starts.writes.first starts.writes.count tied.since;
+    recorded = record {
+      next = subst (λ (sizes : List ℕ). MayUpdate core.descriptor core.status core.homes (image_of sizes tied.media)) (sym sizes_is) tied.recorded.next;
+      members = λ d member first. subst (λ (sizes : List ℕ). IsTrue (members_there (contents_of (image_of sizes tied.media)) core.descriptor d)) (sym sizes_is) (tied.recorded.members d member first);
+      records = subst (λ (sizes : List ℕ). ShowsRecords core.descriptor core.status (contents_of (image_of sizes tied.media))) (sym sizes_is) tied.recorded.records;
+    };
     orderly = subst (λ (x : Session). IsOrderly x tied.write) starts.is orderly_now;
     copy_aimed = tied.copy_aimed;
     carry = subst (λ (fs : List Flight). CarryTheirs next w fs (core.flying ++ row ∷ [])) (sym (ap (λ (d : Device). d.flights) starts.launches.starts.new_is))
         (carry_more core next v w old.device.flights core.flying tied.write f row (out_of old tied.write tied.orderly tied.notes) carries tt tied.carry);
-    next = subst (λ (sizes : List ℕ). MayUpdate core.descriptor core.status core.homes (image_of sizes tied.media)) (sym sizes_is) tied.next;
     notes = notes_fit;
-    members = λ d member first. subst (λ (sizes : List ℕ). IsTrue (members_there (contents_of (image_of sizes tied.media)) core.descriptor d)) (sym sizes_is) (tied.members d member first);
-    own = tied.own;
-    records = subst (λ (sizes : List ℕ). ShowsRecords core.descriptor core.status (contents_of (image_of sizes tied.media))) (sym sizes_is) tied.records;
   } in its)
 
 pub note_start_ties : NoteStartTies

@@ -78,7 +78,7 @@ module _ (past : List Fact) (s : Session) (tied : IsTied past s) (lost : is_lost
   few =
       let each : (d : ℕ) → not (v.missing d) ≡ is_there core d = λ d. ap not (tied.sees.status.missing d) ∙ not_not (is_there core d) in
       let same : (λ (d : ℕ). not (v.missing d)) ≡ is_there core = λ t d. each d t in
-      tied.are_votes.writes (λ d. not (v.missing d)) ∙ ap (λ (set : Disks). is_enough_to_write core.descriptor (votes_in core.descriptor set)) same
+      tied.setting.are_votes.writes (λ d. not (v.missing d)) ∙ ap (λ (set : Disks). is_enough_to_write core.descriptor (votes_in core.descriptor set)) same
       ∙ not_true (is_enough_to_write core.descriptor (votes_in core.descriptor (is_there core))) lost
 
   no_note : (d : ℕ) → w.flying_note d ≡ None
@@ -126,7 +126,7 @@ module _ (past : List Fact) (s : Session) (tied : IsTied past s) (lost : is_lost
       record {
         legal = subst Legal now (off_keeps tied.votes w (places xs) (places ys) has_started off quiet.good).legal;
         kept = λ image may. subst (Kept (contents_of image)) now
-            (off_kept tied.votes w core.descriptor (update_of core.status) s.device tied.media image (places xs) (places ys) has_started tied.are_votes quiet.good off (quiet_matches past s tied quiet.queue idle) may);
+            (off_kept tied.votes w core.descriptor (update_of core.status) s.device tied.media image (places xs) (places ys) has_started tied.setting.are_votes quiet.good off (quiet_matches past s tied quiet.queue idle) may);
       }
 
 pub off_goes_on : OffGoesOn

@@ -262,9 +262,8 @@ module _ (past : List Fact) (s : Session) (new : Core) (counts : Counts) (lv lp 
   pub opened_ties : IsTied past (state s.device core2)
   opened_ties = record {
     votes = tied.votes;
-    are_votes = tied.are_votes;
     media = tied.media;
-    told = tied.told;
+    setting = tied.setting;
     view = w;
     sees = sees;
     good = each_keeps tied.votes (EnterStep i no_request q) v1 w enter_step good1;
@@ -272,15 +271,12 @@ module _ (past : List Fact) (s : Session) (new : Core) (counts : Counts) (lv lp 
     write = tied.write;
     orderly = orderly_same s (state s.device core2) tied.write tied.orderly sound2 refl refl refl;
     since = tied.since;
-    next = tied.next;
+    recorded = tied.recorded;
     notes = tied.notes;
     copy_aimed = λ d is row. let same : c ≡ d = (let e : Some c ≡ Some d = is in cc) in
         subst (λ (x : Bringing). IsTrue (v.is_copy x.lv (block_at core x) x.pp) × ((source : Pp) → x.step ≡ step.Reading source → IsTrue (v.is_copy x.lv (block_at core x) source))) same
         (one_is_copy_of past s tied c its some_groups opens.pp its.among member (there_first past s tied opens.pp.disk may.there), λ source reads. absurd (let e : step.Idle ≡ step.Reading source = reads in cc));
     carry = carry_so s.device.flights core.flying;
-    members = tied.members;
-    records = tied.records;
-    own = tied.own;
   }
 
 pub open_ties : OpenTies

@@ -247,9 +247,8 @@ module _ (past : List Fact) (old new : Session) (place : ℕ) (event : Pins old 
   pub pin_tied : IsTied past new
   pin_tied = subst (IsTied past) (sym whole) (record {
     votes = tied.votes;
-    are_votes = tied.are_votes;
     media = tied.media;
-    told = tied.told;
+    setting = tied.setting;
     view = w;
     sees = sees_all;
     good = each_keeps tied.votes (Pin i q (has_entry entries)) v w step_is tied.good;
@@ -257,13 +256,10 @@ module _ (past : List Fact) (old new : Session) (place : ℕ) (event : Pins old 
     write = tied.write;
     orderly = orderly;
     since = tied.since;
-    next = tied.next;
+    recorded = tied.recorded;
     notes = tied.notes;
     copy_aimed = tied.copy_aimed;
     carry = carry_on core core2 v w old.device.flights core.flying carries tied.carry;
-    members = tied.members;
-    records = tied.records;
-    own = tied.own;
   })
 
 pub pin_ties : PinTies

@@ -158,7 +158,7 @@ module _ (past : List Fact) (old new : Session) (index disk : ℕ) (ok : Bool) (
   shows : (d : ℕ) → IsTrue (is_there core1 d) → IsTrue (members d)
   shows d there =
       let parts = and_both (is_member group d) (not (is_missing core d)) (was_there d there) in
-      ap (λ (c : Contents). members_there c group d) (kept past old new index disk ok row buf its_owner returns tied).rest ∙ tied.members d parts.0 (there_first past old tied d (not_true_is (is_missing core d) parts.1))
+      ap (λ (c : Contents). members_there c group d) (kept past old new index disk ok row buf its_owner returns tied).rest ∙ tied.recorded.members d parts.0 (there_first past old tied d (not_true_is (is_missing core d) parts.1))
 
   owners : HasOwners v
   owners = tied.good.sound.tied.owner
@@ -388,7 +388,7 @@ module _ (past : List Fact) (old new : Session) (index disk : ℕ) (ok : Bool) (
     may_commit : Commit tied.votes v1 (as_marks u) has_it done (marks_of status.wanted) (open_after how v.open_copy)
     may_commit = record {
       commits = commits_so;
-      enough = tied.are_votes.writes has_it ∙ enough core.status stored status group disk ok t going.fitting.group going.status its.flies its.out.started learns.wants learns.ended review.marks.rest commit;
+      enough = tied.setting.are_votes.writes has_it ∙ enough core.status stored status group disk ok t going.fitting.group going.status its.flies its.out.started learns.wants learns.ended review.marks.rest commit;
       have = have;
       marks = wants_done;
     }

@@ -92,7 +92,7 @@ opened past s tied c is runs =
     let both = and_both (is_member core.descriptor c.pp.disk) (not (is_missing core c.pp.disk)) there in
     let gone = not_true (is_missing core c.pp.disk) both.1 in
     let b = first_block core.descriptor (valid_of s tied.write tied.orderly) its.row c.lp its.lp in
-    let shown = tied.members c.pp.disk both.0 (there_first past s tied c.pp.disk gone) in (
+    let shown = tied.recorded.members c.pp.disk both.0 (there_first past s tied c.pp.disk gone) in (
       record {
         target = λ o at_o. ap (λ (x : OpenCopy). x.target) (some_of o sees.copy (sym at_o ∙ sees.is_open)) ∙ sees.target;
         member = both.0;

@@ -59,9 +59,8 @@ same_since device counts orders (Some w) (Some u) since =
 pub shelf_noted : (past : List Fact) (s : Session) (counts : Counts) (orders : Orders) → IsTied past s → IsSound (state (record s.device { counts = counts; orders = orders }) s.core) → IsTied past (state (record s.device { counts = counts; orders = orders }) s.core)
 shelf_noted past s counts orders tied sound = record {
   votes = tied.votes;
-  are_votes = tied.are_votes;
   media = tied.media;
-  told = tied.told;
+  setting = tied.setting;
   view = tied.view;
   sees = tied.sees;
   good = tied.good;
@@ -69,13 +68,10 @@ shelf_noted past s counts orders tied sound = record {
   write = tied.write;
   orderly = record { sound = sound; on = tied.orderly.on; update = tied.orderly.update };
   since = same_since s.device counts orders tied.write (update_of s.core.status) tied.since;
-  next = tied.next;
+  recorded = tied.recorded;
   notes = tied.notes;
   copy_aimed = tied.copy_aimed;
   carry = tied.carry;
-  members = tied.members;
-  own = tied.own;
-  records = tied.records;
 }
 
 pub counted : (past : List Fact) (s : Session) (counts : Counts) → IsTied past s → IsSound (state (record s.device { counts = counts }) s.core) → IsTied past (state (record s.device { counts = counts }) s.core)

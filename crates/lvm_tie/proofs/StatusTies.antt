@@ -156,7 +156,7 @@ module _ (past : List Fact) (old new : Session) (starts : StartsStatus old new) 
           record {
             good = first.0;
             describes = first.1;
-            since = record { is_status = its.is_status; stamp = its.stamp; began = image_of old.device.sizes tied.media; may = its.may; way = plan_begins (IsOtherOrRecord write) old.device tied.media tied.told (nothing_out past old tied write its.is_status no_write) };
+            since = record { is_status = its.is_status; stamp = its.stamp; began = image_of old.device.sizes tied.media; may = its.may; way = plan_begins (IsOtherOrRecord write) old.device tied.media tied.setting.told (nothing_out past old tied write its.is_status no_write) };
             committed = ap (λ (x : Updates). x.committed) is;
             wanted = ap (λ (x : Updates). x.wanted) is;
             written = λ d had. clash (has status.writes.written d) had (ap (λ (x : Updates). x.written d) is);
@@ -251,11 +251,11 @@ module _ (past : List Fact) (old new : Session) (starts : StartsStatus old new) 
   -- what stands is before the update after this one, and where nothing is owed the slot is still the other one
   next2 : MayUpdate group status old.core.homes (image_of old.device.sizes tied.media)
   next2 = record {
-    some_epoch = subst (λ (n : ℕ). n ≢ 0) (sym epoch_is) tied.next.some_epoch;
-    epoch = subst (λ (n : ℕ). n < 2 ^ 64) (sym epoch_is) tied.next.epoch;
-    whole = tied.next.whole;
-    before = later_is_after_too (next_stamp old.core.status.stamp) (next_stamp status.stamp) (image_of old.device.sizes tied.media) later tied.next.before;
-    spare = λ d there owed. tied.next.spare d (sym (missing_new d) ∙ there) (was_owed d (sym (missing_new d) ∙ there) owed);
+    some_epoch = subst (λ (n : ℕ). n ≢ 0) (sym epoch_is) tied.recorded.next.some_epoch;
+    epoch = subst (λ (n : ℕ). n < 2 ^ 64) (sym epoch_is) tied.recorded.next.epoch;
+    whole = tied.recorded.next.whole;
+    before = later_is_after_too (next_stamp old.core.status.stamp) (next_stamp status.stamp) (image_of old.device.sizes tied.media) later tied.recorded.next.before;
+    spare = λ d there owed. tied.recorded.next.spare d (sym (missing_new d) ∙ there) (was_owed d (sym (missing_new d) ∙ there) owed);
   }
     where
       later : IsNoLater (next_stamp old.core.status.stamp) (next_stamp status.stamp)
@@ -288,9 +288,12 @@ module _ (past : List Fact) (old new : Session) (starts : StartsStatus old new) 
   pub started : IsTied past new
   started = subst (IsTied past) (sym whole) (record {
     votes = tied.votes;
-    are_votes = tied.are_votes;
     media = tied.media;
-    told = ap (λ (d : Device). d.media) starts.launches.starts.new_is ∙ tied.told;
+    setting = record {
+      are_votes = tied.setting.are_votes;
+      told = ap (λ (d : Device). d.media) starts.launches.starts.new_is ∙ tied.setting.told;
+      own = tied.setting.own;
+    };
     view = w;
     sees = sees;
     good = each_keeps tied.votes (MoveStatus (as_marks u) v0.media.status flying) v0 w (record { flies = refl; each = λ d. inl refl }, refl) begun.good;
@@ -299,17 +302,18 @@ module _ (past : List Fact) (old new : Session) (starts : StartsStatus old new) 
         (quiet_lasts tied.votes (MoveStatus (as_marks u) v0.media.status flying) v0 w group (Some u) (contents_of (image_of old.device.sizes tied.media)) (record { flies = refl; each = λ d. inl refl }, refl) begun.good tt begun.describes refl refl refl));
     write = Some write;
     since = subst (λ (o : Option (Stamped Status)). OnlyUpdateSince new.device (Some write) o) (sym update_now) (update_goes_on write u old.device new.device (Started f starts.launches.starts) planned begun.since);
+    recorded = record {
+      next = subst (λ (sizes : List ℕ). MayUpdate group status old.core.homes (image_of sizes tied.media)) (sym sizes_are) next2;
+      members = λ d member first. subst (λ (sizes : List ℕ). IsTrue (members_there (contents_of (image_of sizes tied.media)) group d)) (sym sizes_are) (tied.recorded.members d member first);
+      records = subst (λ (sizes : List ℕ). ShowsRecords group status (contents_of (image_of sizes tied.media))) (sym sizes_are)
+          (records_last group old.core.status status (contents_of (image_of old.device.sizes tied.media)) (contents_of (image_of old.device.sizes tied.media)) tied.recorded.records (λ d there. sym (missing_new d) ∙ there) (λ d. refl)
+          (λ none. absurd (let e : None ≡ Some starts.status = sym none ∙ starts.flies in cc)));
+    };
     orderly = orderly2;
     copy_aimed = tied.copy_aimed;
     carry = subst (λ (fs : List Flight). CarryTheirs core2 w fs (old.core.flying ++ row ∷ [])) (sym flights_are)
         (carry_more old.core core2 v w old.device.flights old.core.flying tied.write f row (out_of old tied.write tied.orderly tied.notes) carries tt tied.carry);
-    next = subst (λ (sizes : List ℕ). MayUpdate group status old.core.homes (image_of sizes tied.media)) (sym sizes_are) next2;
     notes = notes2;
-    members = λ d member first. subst (λ (sizes : List ℕ). IsTrue (members_there (contents_of (image_of sizes tied.media)) group d)) (sym sizes_are) (tied.members d member first);
-    own = tied.own;
-    records = subst (λ (sizes : List ℕ). ShowsRecords group status (contents_of (image_of sizes tied.media))) (sym sizes_are)
-        (records_last group old.core.status status (contents_of (image_of old.device.sizes tied.media)) (contents_of (image_of old.device.sizes tied.media)) tied.records (λ d there. sym (missing_new d) ∙ there) (λ d. refl)
-        (λ none. absurd (let e : None ≡ Some starts.status = sym none ∙ starts.flies in cc)));
   })
 
 -- ---- of a sound session

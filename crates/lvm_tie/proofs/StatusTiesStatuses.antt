@@ -172,7 +172,7 @@ module _ (past : List Fact) (old new : Session) (index disk : ℕ) (ok : Bool) (
       by true well had = ⊎_elim before_it (here well) (or_either (has core.status.writes.written d) (d == disk) had)
 
   recorded : (status.in_flight ≡ None → ShowsStatus group status now) → ShowsRecords group status now
-  recorded settled = records_last group core.status status (contents_of (image_of old.device.sizes tied.media)) now tied.records was_here
+  recorded settled = records_last group core.status status (contents_of (image_of old.device.sizes tied.media)) now tied.recorded.records was_here
       (λ d. ap (λ (c : Contents). c.descriptor d) (kept past old new index disk ok row buf its_owner returns tied).rest) settled
 
   module _ (reviewed : IsReviewed past old new index disk ok row buf its_owner returns tied learns) where
@@ -221,9 +221,12 @@ module _ (past : List Fact) (old new : Session) (index disk : ℕ) (ok : Bool) (
         → (status.in_flight ≡ None → ShowsStatus group status now) → IsTied past new
     tied_with x write sees_it good_it describes_it since update settled = subst (IsTied past) (sym whole) (near_ties past new.device core2 end (record {
       votes = tied.votes;
-      are_votes = tied.are_votes;
       media = back.media;
-      told = back.told;
+      setting = record {
+        are_votes = tied.setting.are_votes;
+        told = back.told;
+        own = tied.setting.own;
+      };
       view = with_update_in x;
       open_copy = v.open_copy;
       sees = sees_it;
@@ -232,15 +235,16 @@ module _ (past : List Fact) (old new : Session) (index disk : ℕ) (ok : Bool) (
       describes = subst (λ (sizes : List ℕ). Describes (with_update_in x) v.facts group (update_of status) (contents_of (image_of sizes back.media))) (sym back.sizes) describes_it;
       write = write;
       since = since;
-      next = subst (λ (sizes : List ℕ). MayUpdate group status learns.homes (image_of sizes back.media)) (sym back.sizes) next;
+      recorded = record {
+        next = subst (λ (sizes : List ℕ). MayUpdate group status learns.homes (image_of sizes back.media)) (sym back.sizes) next;
+        members = λ d member first. subst (λ (sizes : List ℕ). IsTrue (members_there (contents_of (image_of sizes back.media)) group d)) (sym back.sizes)
+            (ap (λ (c : Contents). members_there c group d) (kept past old new index disk ok row buf its_owner returns tied).rest ∙ tied.recorded.members d member first);
+        records = subst (λ (sizes : List ℕ). ShowsRecords group status (contents_of (image_of sizes back.media))) (sym back.sizes) (recorded settled);
+      };
       notes = notes;
       copy_aimed = tied.copy_aimed;
       carry = subst (λ (fs : List Flight). CarryTheirs core2 (with_update_in x) fs (remove core.flying index)) (sym back.removes.is)
           ((its_row past old new index disk ok row buf its_owner returns tied core2 (with_update_in x)).carry (carries (with_update_in x) (λ j. refl)) (subst (λ (fs : List Flight). CarryTheirs core v fs core.flying) back.removes.was tied.carry));
-      members = λ d member first. subst (λ (sizes : List ℕ). IsTrue (members_there (contents_of (image_of sizes back.media)) group d)) (sym back.sizes)
-          (ap (λ (c : Contents). members_there c group d) (kept past old new index disk ok row buf its_owner returns tied).rest ∙ tied.members d member first);
-      own = tied.own;
-      records = subst (λ (sizes : List ℕ). ShowsRecords group status (contents_of (image_of sizes back.media))) (sym back.sizes) (recorded settled);
     }) runs (orderly write update))
 
     flies : v.in_flight ≡ Some (as_marks u)

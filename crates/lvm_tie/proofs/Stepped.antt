@@ -161,9 +161,12 @@ module _ (past : List Fact) (old new : Session) (at : ℕ) (row : Flown) (ok : B
         → (has_row old.core d ≡ true → IsTrue (tied.view.is_copy d.lv (block_at old.core d) d.pp)) → IsSound (state new.device new_core) → IsTied past (state new.device new_core)
     stepped_ties oc landed open_copy queue name its stands aimed sound = record {
       votes = tied.votes;
-      are_votes = tied.are_votes;
       media = its_ended.media;
-      told = its_ended.told;
+      setting = record {
+        are_votes = tied.setting.are_votes;
+        told = its_ended.told;
+        own = tied.setting.own;
+      };
       view = record (copied v landed.block open_copy None) { queue = queue; name = name };
       sees = sees_stepped past core v c d pool (remove core.flying at) waiting queue name landed.block open_copy tied.sees is_open its;
       good = stands.good;
@@ -171,15 +174,16 @@ module _ (past : List Fact) (old new : Session) (at : ℕ) (row : Flown) (ok : B
       write = tied.write;
       orderly = orderly_same old (state new.device new_core) tied.write tied.orderly sound refl refl refl;
       since = since past old new at row ok buf tied returns own c is_open tied.write (update_of core.status) tied.since;
-      next = landed.next;
+      recorded = record {
+        next = landed.next;
+        members = landed.members;
+        records = landed.records;
+      };
       notes = tied.notes;
       copy_aimed = λ e there r. let same : d ≡ e = (let k : Some d ≡ Some e = there in cc) in
           subst (λ (x : Bringing). IsTrue (v.is_copy x.lv (block_at core x) x.pp) × ((source : Pp) → x.step ≡ step.Reading source → IsTrue (v.is_copy x.lv (block_at core x) source))) same
           (aimed ((λ t. has_row core (same t)) ∙ r), λ source reads. absurd (let k : true ≡ false = sym (ap is_out reads) ∙ its.rests in cc));
       carry = carry_none new_core (record (copied v landed.block open_copy None) { queue = queue; name = name }) d new.device.flights (remove core.flying at) refl its.rests;
-      members = landed.members;
-      records = landed.records;
-      own = tied.own;
     }
 
     -- It has ended, or ends with this: its step leaves the queue.

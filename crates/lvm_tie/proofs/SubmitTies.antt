@@ -281,9 +281,8 @@ module _ (past : List Fact) (old : Session) (client : ℕ) (ask : Ask) (bytes : 
   pub tied_after : IsOrderly (state old.device new) tied.write → IsTied past (state old.device new)
   tied_after orderly = record {
     votes = tied.votes;
-    are_votes = tied.are_votes;
     media = tied.media;
-    told = tied.told;
+    setting = tied.setting;
     view = w;
     sees = sees;
     good = each_keeps tied.votes event v w (submits, refl) tied.good;
@@ -291,14 +290,11 @@ module _ (past : List Fact) (old : Session) (client : ℕ) (ask : Ask) (bytes : 
         (ap (λ (x : Option LvRow). is_some x) may.inside.volume) tied.describes refl refl refl;
     write = tied.write;
     since = tied.since;
+    recorded = tied.recorded;
     orderly = orderly;
     copy_aimed = tied.copy_aimed;
     carry = carry_on core new v w old.device.flights core.flying carries tied.carry;
-    members = tied.members;
-    records = tied.records;
-    next = tied.next;
     notes = tied.notes;
-    own = tied.own;
   }
 
 -- ---- of a sound session
@@ -341,7 +337,7 @@ module _ (past : List Fact) (s : Session) (client : ℕ) (ask : Ask) (bytes : Op
     inside = within;
     group = asking.group.group;
     given = asking.write;
-    own = tied.own;
+    own = tied.setting.own;
     next = none_yet;
     table = λ k o there. (low k o there, ap (λ (m : Option Asked). is_some m) (asked_one s tied.write tied.orderly k o there).told);
     step = λ c is row. let its = (copy_is past s tied c is).place in let less : its.0 < next = its.1 in let e : c.place ≡ 2 * its.0 + 1 = its.2 in omega arith;

@@ -155,23 +155,19 @@ module _ (past : List Fact) (old : Session) (place : ℕ) (o : Open) (tied : IsT
   pub tied_after : IsOrderly (state old.device core2) tied.write → IsTied past (state old.device core2)
   tied_after orderly = record {
     votes = tied.votes;
-    are_votes = tied.are_votes;
     media = tied.media;
-    told = tied.told;
+    setting = tied.setting;
     view = w;
     sees = sees2;
     good = each_keeps tied.votes (Take i q) v w (takes, w_is) tied.good;
     describes = quiet_lasts tied.votes (Take i q) v w core.descriptor (update_of core.status) (contents_of (image_of old.device.sizes tied.media)) (takes, w_is) tied.good tt tied.describes refl refl refl;
     write = tied.write;
     since = tied.since;
+    recorded = tied.recorded;
     orderly = orderly;
     copy_aimed = tied.copy_aimed;
     carry = carry_on core core2 v w old.device.flights core.flying carries tied.carry;
-    members = tied.members;
-    records = tied.records;
-    next = tied.next;
     notes = tied.notes;
-    own = tied.own;
   }
 
 -- ---- of a sound session

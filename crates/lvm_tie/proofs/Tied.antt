@@ -206,7 +206,7 @@ tied_owns past s tied = all_owned past s tied s.device.flights s.core.flying (ou
 
 pub tied_matches : (past : List Fact) (s : Session) (tied : IsTied past s) → Matches tied.view tied.view.facts s.core.descriptor (update_of s.core.status) s.device tied.media
 tied_matches past s tied = record {
-  told = tied.told;
+  told = tied.setting.told;
   describes = tied.describes;
   out = owners_have_out tied.view tied.view.facts s.core.descriptor tied.write (update_of s.core.status) s.device tied.media (valid_of s tied.write tied.orderly) tied.good.sound.tied tied.describes.volumes (tied_owns past s tied) tied.since;
 }
@@ -215,7 +215,7 @@ tied_holds : (past : List Fact) (s : Session) → IsTied past s → Holds past (
 tied_holds past s tied = record {
   legal = subst Legal tied.sees.facts tied.good.told.legal;
   kept = λ image may. subst (Kept (contents_of image)) tied.sees.facts
-      (images_kept tied.votes tied.view s.core.descriptor (update_of s.core.status) s.device tied.media image tied.are_votes tied.good (tied_matches past s tied) may);
+      (images_kept tied.votes tied.view s.core.descriptor (update_of s.core.status) s.device tied.media image tied.setting.are_votes tied.good (tied_matches past s tied) may);
 }
 
 pub good_upholds : GoodUpholds

@@ -123,9 +123,12 @@ module _ (past : List Fact) (old : Session) (device : Device) (place number : �
   pub started_ties : (event : Event) → GoodStep tied.votes event v w → AsksOf old.core.descriptor event → IsOrderly (state device new) tied.write → IsTied past (state device new)
   started_ties event step asks orderly = record {
     votes = tied.votes;
-    are_votes = tied.are_votes;
     media = tied.media;
-    told = ap (λ (d : Device). d.media) starts.new_is ∙ tied.told;
+    setting = record {
+      are_votes = tied.setting.are_votes;
+      told = ap (λ (d : Device). d.media) starts.new_is ∙ tied.setting.told;
+      own = tied.setting.own;
+    };
     view = w;
     sees = sees_changed past old.core v place o o2 q2 pool (old.core.flying ++ row ∷ []) old.core.last old.core.queue old.core.cache.entries v.media.block tied.sees numbers there refl sees2 (λ lv g. refl);
     good = each_keeps tied.votes event v w step tied.good;
@@ -133,13 +136,14 @@ module _ (past : List Fact) (old : Session) (device : Device) (place number : �
         (quiet_lasts tied.votes event v w old.core.descriptor (update_of old.core.status) (contents_of (image_of old.device.sizes tied.media)) step tied.good asks tied.describes refl refl refl);
     write = tied.write;
     since = since_start old.device device f tied.write (update_of old.core.status) starts low tied.since;
+    recorded = record {
+      next = subst (λ (sizes : List ℕ). MayUpdate old.core.descriptor old.core.status old.core.homes (image_of sizes tied.media)) (sym sizes_is) tied.recorded.next;
+      members = λ d member first. subst (λ (sizes : List ℕ). IsTrue (members_there (contents_of (image_of sizes tied.media)) old.core.descriptor d)) (sym sizes_is) (tied.recorded.members d member first);
+      records = subst (λ (sizes : List ℕ). ShowsRecords old.core.descriptor old.core.status (contents_of (image_of sizes tied.media))) (sym sizes_is) tied.recorded.records;
+    };
     orderly = orderly;
     copy_aimed = tied.copy_aimed;
     carry = subst (λ (fs : List Flight). CarryTheirs new w fs (old.core.flying ++ row ∷ [])) (sym (ap (λ (d : Device). d.flights) starts.new_is))
         (carry_more old.core new v w old.device.flights old.core.flying tied.write f row (out_of old tied.write tied.orderly tied.notes) carries tt tied.carry);
-    next = subst (λ (sizes : List ℕ). MayUpdate old.core.descriptor old.core.status old.core.homes (image_of sizes tied.media)) (sym sizes_is) tied.next;
     notes = tied.notes;
-    members = λ d member first. subst (λ (sizes : List ℕ). IsTrue (members_there (contents_of (image_of sizes tied.media)) old.core.descriptor d)) (sym sizes_is) (tied.members d member first);
-    own = tied.own;
-    records = subst (λ (sizes : List ℕ). ShowsRecords old.core.descriptor old.core.status (contents_of (image_of sizes tied.media))) (sym sizes_is) tied.records;
   }

@@ -139,20 +139,23 @@ module _ (past : List Fact) (old new : Session) (at disk : ℕ) (row : Flown) (b
   members_now d = same_members tied.votes v core.descriptor (update_of core.status) old.device new.device.flights tied.media its_end.media f true tied.good (tied_matches past old tied) its_end.removes its_own its_end.lands d
 
   next_now : MayUpdate core.descriptor core.status core.homes is
-  next_now = update_may tied.votes v core.descriptor (update_of core.status) old.device new.device.flights tied.media its_end.media f true tied.good (tied_matches past old tied) its_end.removes its_own its_end.lands core.status core.homes (own_sector past old new at disk true row buf its_owner returns tied) tied.next
+  next_now = update_may tied.votes v core.descriptor (update_of core.status) old.device new.device.flights tied.media its_end.media f true tied.good (tied_matches past old tied) its_end.removes its_own its_end.lands core.status core.homes (own_sector past old new at disk true row buf its_owner returns tied) tied.recorded.next
 
   records_now : ShowsRecords core.descriptor core.status (contents_of is)
-  records_now = records_last core.descriptor core.status core.status (contents_of was) (contents_of is) tied.records (λ d there. there)
+  records_now = records_last core.descriptor core.status core.status (contents_of was) (contents_of is) tied.recorded.records (λ d there. there)
       (same_descriptors tied.votes v core.descriptor (update_of core.status) old.device new.device.flights tied.media its_end.media f true tied.good (tied_matches past old tied) its_end.removes its_own its_end.lands)
-      (λ none. status_lasts core.descriptor core.status core.status (contents_of was) (contents_of is) (tied.records.settled none) (λ d there. there) refl
+      (λ none. status_lasts core.descriptor core.status core.status (contents_of was) (contents_of is) (tied.recorded.records.settled none) (λ d there. there) refl
       (same_statuses tied.votes v core.descriptor (update_of core.status) old.device new.device.flights tied.media its_end.media f true tied.good (tied_matches past old tied) its_end.removes its_own its_end.lands (no_update_of core.status none)))
 
   pub note_tied : IsTied past new
   note_tied = subst (IsTied past) (sym whole) (let tie : IsTied past (state new.device next) = record {
     votes = tied.votes;
-    are_votes = tied.are_votes;
     media = its_end.media;
-    told = its_end.told;
+    setting = record {
+      are_votes = tied.setting.are_votes;
+      told = its_end.told;
+      own = tied.setting.own;
+    };
     view = w;
     sees = sees;
     good = each_keeps tied.votes (EndNote f.disk landed.names landed.home (flying_after v f.disk)) v w (landed.may, refl) tied.good;
@@ -160,12 +163,13 @@ module _ (past : List Fact) (old new : Session) (at disk : ℕ) (row : Flown) (b
     write = tied.write;
     orderly = orderly_same old (state new.device next) tied.write tied.orderly (subst IsSound whole sound) refl refl refl;
     since = since_ended past old new at disk true row buf its_owner returns tied tied.write (update_of core.status) tied.since;
-    next = subst (λ (sizes : List ℕ). MayUpdate core.descriptor core.status core.homes (image_of sizes its_end.media)) (sym its_end.sizes) next_now;
+    recorded = record {
+      next = subst (λ (sizes : List ℕ). MayUpdate core.descriptor core.status core.homes (image_of sizes its_end.media)) (sym its_end.sizes) next_now;
+      members = λ d member first. subst (λ (sizes : List ℕ). IsTrue (members_there (contents_of (image_of sizes its_end.media)) core.descriptor d)) (sym its_end.sizes) (members_now d ∙ tied.recorded.members d member first);
+      records = subst (λ (sizes : List ℕ). ShowsRecords core.descriptor core.status (contents_of (image_of sizes its_end.media))) (sym its_end.sizes) records_now;
+    };
     notes = notes_fit;
     copy_aimed = tied.copy_aimed;
     carry = subst (λ (fs : List Flight). CarryTheirs next w fs (remove core.flying at)) (sym its_end.removes.is)
         ((its_row past old new at disk true row buf its_owner returns tied next w).carry carries (subst (λ (fs : List Flight). CarryTheirs core v fs core.flying) its_end.removes.was tied.carry));
-    members = λ d member first. subst (λ (sizes : List ℕ). IsTrue (members_there (contents_of (image_of sizes its_end.media)) core.descriptor d)) (sym its_end.sizes) (members_now d ∙ tied.members d member first);
-    own = tied.own;
-    records = subst (λ (sizes : List ℕ). ShowsRecords core.descriptor core.status (contents_of (image_of sizes its_end.media))) (sym its_end.sizes) records_now;
   } in tie)

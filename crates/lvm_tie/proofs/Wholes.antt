@@ -278,9 +278,12 @@ module _ (past : List Fact) (old new : Session) (at : ℕ) (tied : IsTied past o
   on_tied : IsSound (state new.device on) → IsTied past (state new.device on)
   on_tied sound_on = record {
     votes = tied.votes;
-    are_votes = tied.are_votes;
     media = (ended past old new at event.row true event.buf tied event.returns event.own c event.is_open).media;
-    told = (ended past old new at event.row true event.buf tied event.returns event.own c event.is_open).told;
+    setting = record {
+      are_votes = tied.setting.are_votes;
+      told = (ended past old new at event.row true event.buf tied event.returns event.own c event.is_open).told;
+      own = tied.setting.own;
+    };
     view = w;
     sees = sees_wanted core.status status rest same_missing past core2 was refl sees_was;
     good = stands.good;
@@ -288,13 +291,14 @@ module _ (past : List Fact) (old new : Session) (at : ℕ) (tied : IsTied past o
     write = tied.write;
     orderly = record { sound = sound_on; on = tied.orderly.on; update = write_same core.status status rest same_missing core.homes tied.write tied.orderly.update };
     since = subst (OnlyUpdateSince new.device tied.write) (sym (update_same core.status status rest same_missing)) (since past old new at event.row true event.buf tied event.returns event.own c event.is_open tied.write (update_of core.status) tied.since);
-    next = next_same core.status status rest same_missing core.descriptor core.homes (image_of new.device.sizes (ended past old new at event.row true event.buf tied event.returns event.own c event.is_open).media) its_landed.next;
+    recorded = record {
+      next = next_same core.status status rest same_missing core.descriptor core.homes (image_of new.device.sizes (ended past old new at event.row true event.buf tied event.returns event.own c event.is_open).media) its_landed.next;
+      members = its_landed.members;
+      records = records_wanted core.status status rest same_missing core.descriptor (now past old new at event.row true event.buf tied event.returns event.own c event.is_open) its_landed.records;
+    };
     notes = λ disk items flies. subst (λ st. IsNote (record { stamp = st.epoch; entries = items.items })) (sym (stamp_same core.status status rest same_missing)) (tied.notes disk items flies);
     copy_aimed = λ x at_x r. absurd (let same_x : e ≡ x = (let k : Some e ≡ Some x = at_x in cc) in let k : true ≡ false = sym r ∙ (λ t. has_row core (sym same_x t)) ∙ no_row in cc);
     carry = carry_none on w e new.device.flights (Rattle.std.specs.List.remove core.flying at) refl refl;
-    members = its_landed.members;
-    records = records_wanted core.status status rest same_missing core.descriptor (now past old new at event.row true event.buf tied event.returns event.own c event.is_open) its_landed.records;
-    own = tied.own;
   }
 
   pub whole_tied : IsTied past new

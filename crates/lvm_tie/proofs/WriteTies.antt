@@ -173,7 +173,7 @@ module _ (past : List Fact) (old new : Session) (index : ℕ) (ends : Ends old n
   learned_is = ap (λ b. let x : Open = record o { request = with_end o.request number ends.ok; got = if b then Some ends.buf else o.got } in x) no_buffer
 
   ended : HasEnded old.device new.device ends.row.ticket ends.ok ends.buf tied.media
-  ended = has_ended old.device new.device ends.row.ticket ends.ok ends.buf tied.media ends.returns.ends tied.told
+  ended = has_ended old.device new.device ends.row.ticket ends.ok ends.buf tied.media ends.returns.ends tied.setting.told
 
   abbrev f : Flight
   f = ended.flight
@@ -307,7 +307,7 @@ module _ (past : List Fact) (old new : Session) (index : ℕ) (ends : Ends old n
   good_w = each_keeps tied.votes (Transfer i q t.pp (stage_of ends.ok) block) v w (wrote.may, refl) tied.good
 
   next_w : MayUpdate old.core.descriptor old.core.status old.core.homes (image_of old.device.sizes ended.media)
-  next_w = next_by_data old.core.descriptor old.core.status old.core.homes (image_of old.device.sizes tied.media) (image_of old.device.sizes ended.media) (subst (λ (sizes : List ℕ). AreSectors sizes ended.media) ended.sizes whole) same_records tied.next
+  next_w = next_by_data old.core.descriptor old.core.status old.core.homes (image_of old.device.sizes tied.media) (image_of old.device.sizes ended.media) (subst (λ (sizes : List ℕ). AreSectors sizes ended.media) ended.sizes whole) same_records tied.recorded.next
 
   -- ---- what becomes wanted stale
 
@@ -513,9 +513,12 @@ module _ (past : List Fact) (old new : Session) (index : ℕ) (ends : Ends old n
     abbrev near : IsNear past new.device core3 how
     near = record {
       votes = tied.votes;
-      are_votes = tied.are_votes;
       media = ended.media;
-      told = ended.told;
+      setting = record {
+        are_votes = tied.setting.are_votes;
+        told = ended.told;
+        own = tied.setting.own;
+      };
       view = w1;
       open_copy = v.open_copy;
       sees = sees_wanted core2.status status wants.rest wants.missing past core2 w refl sees_w;
@@ -524,18 +527,19 @@ module _ (past : List Fact) (old new : Session) (index : ℕ) (ends : Ends old n
       describes = subst (λ (sizes : List ℕ). Describes w1 w1.facts old.core.descriptor (update_of status) (contents_of (image_of sizes ended.media))) (sym ended.sizes) describes1;
       write = tied.write;
       since = subst (OnlyUpdateSince new.device tied.write) (sym (update_same core2.status status wants.rest wants.missing)) (since_ended tied.write (update_of old.core.status) tied.since);
-      next = subst (λ (sizes : List ℕ). MayUpdate old.core.descriptor status old.core.homes (image_of sizes ended.media)) (sym ended.sizes)
-          (next_same core2.status status wants.rest wants.missing old.core.descriptor old.core.homes (image_of old.device.sizes ended.media) next_w);
+      recorded = record {
+        next = subst (λ (sizes : List ℕ). MayUpdate old.core.descriptor status old.core.homes (image_of sizes ended.media)) (sym ended.sizes)
+            (next_same core2.status status wants.rest wants.missing old.core.descriptor old.core.homes (image_of old.device.sizes ended.media) next_w);
+        members = λ d member first. subst (λ (sizes : List ℕ). IsTrue (members_there (contents_of (image_of sizes ended.media)) old.core.descriptor d)) (sym ended.sizes)
+            (ap (λ (c : Contents). members_there c old.core.descriptor d) group_same.rest ∙ tied.recorded.members d member first);
+        records = subst (λ (sizes : List ℕ). ShowsRecords old.core.descriptor status (contents_of (image_of sizes ended.media))) (sym ended.sizes)
+            (records_wanted core2.status status wants.rest wants.missing old.core.descriptor now
+            (records_kept old.core.descriptor old.core.status (image_of old.device.sizes tied.media) (image_of old.device.sizes ended.media) same_records tied.recorded.records));
+      };
       notes = λ d items flies. subst (λ (st : Stamp). IsNote (record { stamp = st.epoch; entries = items.items })) (sym (stamp_same core2.status status wants.rest wants.missing)) (tied.notes d items flies);
       copy_aimed = tied.copy_aimed;
       carry = subst (λ (fs : List Flight). CarryTheirs core3 w1 fs (remove old.core.flying index)) (sym ended.removes.is)
           ((its_row core3 w1).carry (carries status w1 refl) (subst (λ (fs : List Flight). CarryTheirs old.core v fs old.core.flying) ended.removes.was tied.carry));
-      members = λ d member first. subst (λ (sizes : List ℕ). IsTrue (members_there (contents_of (image_of sizes ended.media)) old.core.descriptor d)) (sym ended.sizes)
-          (ap (λ (c : Contents). members_there c old.core.descriptor d) group_same.rest ∙ tied.members d member first);
-      own = tied.own;
-      records = subst (λ (sizes : List ℕ). ShowsRecords old.core.descriptor status (contents_of (image_of sizes ended.media))) (sym ended.sizes)
-          (records_wanted core2.status status wants.rest wants.missing old.core.descriptor now
-          (records_kept old.core.descriptor old.core.status (image_of old.device.sizes tied.media) (image_of old.device.sizes ended.media) same_records tied.records));
     }
 
     runs : (h : CopyEnd) → how ≡ Some h → IsRunning core3

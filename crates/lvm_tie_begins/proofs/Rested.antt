@@ -103,7 +103,7 @@ module _ (past : List Fact) (s : Session) (tied : IsTied past s) (rests : IsRest
       of : Found tied.votes v → HasCommitted
       of f =
           let reads = finding_reads c all_disks group.id group tied.describes.stands.found in
-          let meets = tied.votes.meet (members_in c all_disks group.id group) f.set (tied.are_votes.reads (members_in c all_disks group.id group) ∙ reads.reads.enough) f.enough in
+          let meets = tied.votes.meet (members_in c all_disks group.id group) f.set (tied.setting.are_votes.reads (members_in c all_disks group.id group) ∙ reads.reads.enough) f.enough in
           record {
             disk = meets.0;
             shown = ⊎_elim (λ (same : v.media.status meets.0 ≡ Some v.committed). same)
@@ -114,7 +114,7 @@ module _ (past : List Fact) (s : Session) (tied : IsTied past s) (rests : IsRest
   -- ---- what the disks show
 
   abbrev records : ShowsRecords group core.status c
-  records = tied.records
+  records = tied.recorded.records
 
   found_all : Finds c all_disks group.id group
   found_all = tied.describes.stands.found
@@ -140,7 +140,7 @@ module _ (past : List Fact) (s : Session) (tied : IsTied past s) (rests : IsRest
   room : (d : ℕ) → IsTrue (is_there core d) → IsTrue (has_room c d group)
   room d there =
       let parts = and_both (is_member group d) (not (calls_missing core.status.wanted d)) there in
-      (parts_of c all_disks group.id group d (tied.members d parts.0 (there_first past s tied d (not_true (calls_missing core.status.wanted d) parts.1)))).2
+      (parts_of c all_disks group.id group d (tied.recorded.members d parts.0 (there_first past s tied d (not_true (calls_missing core.status.wanted d) parts.1)))).2
 
   its_status : ShowsStatus group core.status c
   its_status = records.settled rests.in_flight
@@ -202,7 +202,7 @@ module _ (past : List Fact) (s : Session) (tied : IsTied past s) (rests : IsRest
   }
 
   rest : IsAtRest c v.facts group (Some shows.stands) (is_there core)
-  rest = good_is_rest tied.votes v group core.status.committed (is_there core) c tied.are_votes (valid_of s tied.write tied.orderly) (images_within image) shows idle sees tied.good
+  rest = good_is_rest tied.votes v group core.status.committed (is_there core) c tied.setting.are_votes (valid_of s tied.write tied.orderly) (images_within image) shows idle sees tied.good
       (subst (λ (u : Option (Stamped Status)). Describes v v.facts group u c) no_update tied.describes)
 
   home : AreNotesHome core c
@@ -225,7 +225,7 @@ pub tied_rests : TiedRests
 tied_rests past s tied rests enough = (
   shows past s tied rests enough,
   record {
-    told = tied.told;
+    told = tied.setting.told;
     rest = subst (λ (facts : List Fact). IsAtRest (shown_to s tied.media) facts s.core.descriptor (Some (shows past s tied rests enough).stands) (is_there s.core)) tied.sees.facts (rest past s tied rests enough);
     notes = home past s tied rests enough;
   },

@@ -194,9 +194,12 @@ module _ (past : List Fact) (s : Session) (media : Media) (sound : IsSound s) (p
   pub rest_tied : MembersShow s media → IsTied past s
   rest_tied members = record {
     votes = votes;
-    are_votes = are_votes;
     media = media;
-    told = stands.told;
+    setting = record {
+      are_votes = are_votes;
+      told = stands.told;
+      own = follows.own;
+    };
     view = v;
     sees = sees;
     good = good.0;
@@ -204,25 +207,26 @@ module _ (past : List Fact) (s : Session) (media : Media) (sound : IsSound s) (p
     write = None;
     orderly = record { sound = sound; on = power_is; update = subst (λ (o : Option Status). IsWriteOf core.status core.homes o None) (sym rests.in_flight) tt };
     since = subst (OnlyUpdateSince s.device None) (sym no_update) tt;
-    next = record {
-      some_epoch = stands.some_epoch;
-      epoch = stands.epoch;
-      whole = stands.sectors;
-      before = stands.held.stamps;
-      spare = λ d there owed. (stands.held.homes d there).status;
+    recorded = record {
+      next = record {
+        some_epoch = stands.some_epoch;
+        epoch = stands.epoch;
+        whole = stands.sectors;
+        before = stands.held.stamps;
+        spare = λ d there owed. (stands.held.homes d there).status;
+      };
+      members = members;
+      records = record {
+        descriptor = stands.held.shows.descriptor;
+        value = stands.held.shows.value;
+        described = stands.held.shows.described;
+        latest = stands.held.shows.latest;
+        settled = λ none. record { stands = stated; committed = stands.held.shows.committed; stated = stands.held.shows.stated; last = stands.held.shows.last };
+      };
     };
     notes = λ d items flies. some_is_none (flight_on core.cache d) items (rests.notes d) flies;
     copy_aimed = λ b is row. some_is_none core.copy b rests.copy is;
     carry = none_carried core.flying s.device.flights rests.flying;
-    members = members;
-    own = follows.own;
-    records = record {
-      descriptor = stands.held.shows.descriptor;
-      value = stands.held.shows.value;
-      described = stands.held.shows.described;
-      latest = stands.held.shows.latest;
-      settled = λ none. record { stands = stated; committed = stands.held.shows.committed; stated = stands.held.shows.stated; last = stands.held.shows.last };
-    };
   }
 
 pub rest_ties : RestTies
