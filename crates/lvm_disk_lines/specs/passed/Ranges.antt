@@ -3,3 +3,4 @@ pub use Rattle.lvm_stage.specs.passed.Ranges.{AllMoved, AnyFailed, AreApart, Are
 pub use Rattle.lvm_stage.specs.passed.Ranges.{Finished, HasEndedWell, HaveLanded, IsAskedFor, IsRead, IsUnfinished, KeepsEarlier, KeepsOthers}
 pub use Rattle.lvm_stage.specs.passed.Ranges.{KeepsTable, LastEnded, Moves, NoMove, OneMove, RangeCause, StepEnds, Stuck, TakesRange, TurnsFor}
 pub use Rattle.lvm_stage.specs.passed.Ranges.{WasStuck, range_fault}
+pub use Rattle.lvm_stage.specs.passed.Ranges.{AwaitCosts, FinishCosts}

@@ -3,3 +3,4 @@ pub use Rattle.lvm_tie_copies.specs.passed.Ranges.{AllMoved, AnyFailed, AreApart
 pub use Rattle.lvm_tie_copies.specs.passed.Ranges.{Finished, HasEndedWell, HaveLanded, IsAskedFor, IsRead, IsUnfinished, KeepsEarlier, KeepsOthers}
 pub use Rattle.lvm_tie_copies.specs.passed.Ranges.{KeepsTable, LastEnded, Moves, NoMove, OneMove, RangeCause, StepEnds, Stuck, TakesRange, TurnsFor}
 pub use Rattle.lvm_tie_copies.specs.passed.Ranges.{WasStuck, range_fault}
+pub use Rattle.lvm_tie_copies.specs.passed.Ranges.{AwaitCosts, FinishCosts}
