@@ -242,14 +242,14 @@ known log room (Ok (Some (command.Lsvg volumes name))) why old new between (Grou
 known log room (Ok (Some (command.Lsvg volumes name))) why old new between (GroupThatIsOn core some (ListsGroup its shows), same) = of_shows _ _ why old new tt shows
 known log room (Ok (Some (command.Mklv name copies mode policy group lps))) why old new between (NoGroupForMklv none is) = by_reply _ why refusal.NoGroup old new is.0 (easy _ refusal.NoGroup old new tt (λ e. cc) (λ h t e. cc))
 known log room (Ok (Some (command.Mklv name copies mode policy group lps))) why old new between (BusyMklv on busy is) = by_reply _ why refusal.Busy old new is.0 (easy _ refusal.Busy old new tt (λ e. cc) (λ h t e. cc))
-known log room (Ok (Some (command.Mklv name copies mode policy group lps))) why old new between (UndrainedMklv core fault some on ends) = undrained (Ok (Some (command.Mklv name copies mode policy group lps))) why old new core fault tt between some ends
+known log room (Ok (Some (command.Mklv name copies mode policy group lps))) why old new between (UndrainedMklv core fault some on ends) = undrained (Ok (Some (command.Mklv name copies mode policy group lps))) old new core tt between some why fault ends
 known log room (Ok (Some (command.Mklv name copies mode policy group lps))) why old new between (MakesVolume core left mid number some on drains done is) = absurd (cc (is))
 known log room (Ok (Some (command.Mklv name copies mode policy group lps))) why old new between (MklvFails core left mid reason some on drains done is) =
     by_reply _ why (refusal_for reason) old new is
     (known_group (Ok (Some (command.Mklv name copies mode policy group lps))) tt (λ d a b rose. rose) reason old new core left mid done.left some drains (mklv_facts (wanted name copies mode policy lps) left mid done.left drains.settled.power (Err reason) done.gives) done.leaves)
 known log room (Ok (Some (command.Rmlv name))) why old new between (NoGroupForRmlv none is) = by_reply _ why refusal.NoGroup old new is.0 (easy _ refusal.NoGroup old new tt (λ e. cc) (λ h t e. cc))
 known log room (Ok (Some (command.Rmlv name))) why old new between (BusyRmlv busy is) = by_reply _ why refusal.Busy old new is.0 (easy _ refusal.Busy old new tt (λ e. cc) (λ h t e. cc))
-known log room (Ok (Some (command.Rmlv name))) why old new between (UndrainedRmlv core fault some ends) = undrained (Ok (Some (command.Rmlv name))) why old new core fault tt between some ends
+known log room (Ok (Some (command.Rmlv name))) why old new between (UndrainedRmlv core fault some ends) = undrained (Ok (Some (command.Rmlv name))) old new core tt between some why fault ends
 known log room (Ok (Some (command.Rmlv name))) why old new between (NoVolumeForRmlv core left mid some drains none stays clock is) = by_reply _ why refusal.NoVolume old new is (easy _ refusal.NoVolume old new tt (λ e. cc) (λ h t e. cc))
 known log room (Ok (Some (command.Rmlv name))) why old new between (RemovesVolume core left mid lv some drains its done is) = absurd (cc (is))
 known log room (Ok (Some (command.Rmlv name))) why old new between (RmlvFails core left mid lv reason some drains its done is) =
@@ -257,7 +257,7 @@ known log room (Ok (Some (command.Rmlv name))) why old new between (RmlvFails co
     (known_group (Ok (Some (command.Rmlv name))) tt (λ d a b rose. rose) reason old new core left mid done.left some drains (rmlv_facts lv left mid done.left drains.settled.power (Err reason) done.gives) done.leaves)
 known log room (Ok (Some (command.Mklvcopy name copies))) why old new between (NoGroupForMklvcopy none is) = by_reply _ why refusal.NoGroup old new is.0 (easy _ refusal.NoGroup old new tt (λ e. cc) (λ h t e. cc))
 known log room (Ok (Some (command.Mklvcopy name copies))) why old new between (BusyMklvcopy busy is) = by_reply _ why refusal.Busy old new is.0 (easy _ refusal.Busy old new tt (λ e. cc) (λ h t e. cc))
-known log room (Ok (Some (command.Mklvcopy name copies))) why old new between (UndrainedMklvcopy core fault some ends) = undrained (Ok (Some (command.Mklvcopy name copies))) why old new core fault tt between some ends
+known log room (Ok (Some (command.Mklvcopy name copies))) why old new between (UndrainedMklvcopy core fault some ends) = undrained (Ok (Some (command.Mklvcopy name copies))) old new core tt between some why fault ends
 known log room (Ok (Some (command.Mklvcopy name copies))) why old new between (NoVolumeForMklvcopy core left mid some drains none stays clock is) = by_reply _ why refusal.NoVolume old new is (easy _ refusal.NoVolume old new tt (λ e. cc) (λ h t e. cc))
 known log room (Ok (Some (command.Mklvcopy name copies))) why old new between (AddsCopies core left mid lv added some drains its done is) = absurd (cc (is))
 known log room (Ok (Some (command.Mklvcopy name copies))) why old new between (MklvcopyFails core left mid lv reason some drains its done is) =
@@ -265,7 +265,7 @@ known log room (Ok (Some (command.Mklvcopy name copies))) why old new between (M
     (known_group (Ok (Some (command.Mklvcopy name copies))) tt (λ d a b rose. rose) reason old new core left mid done.left some drains (mklvcopy_facts lv copies left mid done.left drains.settled.power (Err reason) done.gives) done.leaves)
 known log room (Ok (Some (command.Rmlvcopy name copies))) why old new between (NoGroupForRmlvcopy none is) = by_reply _ why refusal.NoGroup old new is.0 (easy _ refusal.NoGroup old new tt (λ e. cc) (λ h t e. cc))
 known log room (Ok (Some (command.Rmlvcopy name copies))) why old new between (BusyRmlvcopy busy is) = by_reply _ why refusal.Busy old new is.0 (easy _ refusal.Busy old new tt (λ e. cc) (λ h t e. cc))
-known log room (Ok (Some (command.Rmlvcopy name copies))) why old new between (UndrainedRmlvcopy core fault some ends) = undrained (Ok (Some (command.Rmlvcopy name copies))) why old new core fault tt between some ends
+known log room (Ok (Some (command.Rmlvcopy name copies))) why old new between (UndrainedRmlvcopy core fault some ends) = undrained (Ok (Some (command.Rmlvcopy name copies))) old new core tt between some why fault ends
 known log room (Ok (Some (command.Rmlvcopy name copies))) why old new between (NoVolumeForRmlvcopy core left mid some drains none stays clock is) = by_reply _ why refusal.NoVolume old new is (easy _ refusal.NoVolume old new tt (λ e. cc) (λ h t e. cc))
 known log room (Ok (Some (command.Rmlvcopy name copies))) why old new between (RemovesCopies core left mid lv some drains its done is) = absurd (cc (is))
 known log room (Ok (Some (command.Rmlvcopy name copies))) why old new between (RmlvcopyFails core left mid lv reason some drains its done is) =

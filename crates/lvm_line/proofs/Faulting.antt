@@ -14,9 +14,9 @@ use Rattle.lvm_session.specs.State.{Core, State as Session}
 use Rattle.lvm_line.specs.Causes.{HasCause, HasFailed, HasLost, IsDrained}
 use Rattle.lvm_write.proofs.Transfers.{rose_then}
 use Rattle.lvm_disk.proofs.Rising.{rose_before}
-use Rattle.lvm_copy_lines.specs.passed.Driver.{DrainFault, FailsSo}
+use Rattle.lvm_copy_lines.specs.passed.Driver.{DrainFault}
 use Rattle.lvm_copy_lines.specs.passed.DrainFaultVariants as drain_fault
-use Rattle.lvm_copy_lines.specs.passed.Stage.{IsBetween, Refusal, patience_of_line, State}
+use Rattle.lvm_copy_lines.specs.passed.Stage.{IsBetween, Refusal, Reply, patience_of_line, State}
 use Rattle.lvm_copy_lines.specs.passed.RefusalVariants as refusal
 use Rattle.lvm_copy_lines.specs.passed.ReplyVariants as reply
 use Rattle.lvm_copy_lines.specs.passed.VolumeLines.{Drains, IsLeft, IsUndrained, drain_refusal, ends_session, refusal_for}
@@ -50,25 +50,23 @@ not_counted why (drain_fault.WentOff left all) have total says is = cc (says, is
 not_counted why drain_fault.Stuck have total says is = cc (says, is)
 
 -- the turns before the command have ended for what happened then
-pub undrained : (read : Result (Option Command) Misfit) (why : Refusal) (old new : State) (core : Core) (fault : DrainFault) → IsOther read → IsBetween old.moment old.session old.posts → old.session ≡ Some core → IsUndrained core old new fault (reply.Refused why)
-    → Known read why old new
-undrained read why old new core fault other between some ends = record {
-  cause = subst (λ (r : Refusal). HasCause read r old new) (let is = ends.says in cc (is)) (by fault ends.fails);
-  off = λ is. ends.over.session;
-  unwritten = λ have total is. absurd (not_counted why fault have total ends.says is);
-}
-  where
-    counts : new.moment.device.counts ≡ ends.end.device.counts
-    counts = ap (λ (d : Device). d.counts) ends.over.lit
+module _ (read : Result (Option Command) Misfit) (old new : State) (core : Core) (other : IsOther read) (between : IsBetween old.moment old.session old.posts) (some : old.session ≡ Some core) where
+  why_undrained : (fault : DrainFault) → IsUndrained core old new fault (reply.Refused (drain_refusal fault)) → HasCause read (drain_refusal fault) old new
+  why_undrained drain_fault.Dark ends = has_by read refusal.Dark old new other (dark_cause old new core ends.end between ends.runs.leaves ends.sound (ap (λ (d : Device). d.counts) ends.over.lit) ends.fails)
+  why_undrained (drain_fault.WentOff have total) ends =
+      let votes = off_votes ends.end ends.sound ends.fails.power_is in
+      let few : 2 * have ≤ total = subst (λ (n : ℕ). 2 * have ≤ n) (sym ends.fails.total_is) (subst (λ (n : ℕ). 2 * n ≤ total_votes ends.end.core.descriptor) (sym ends.fails.have_is) votes.0) in
+      let since = off_cause old new core ends.end between ends.runs.leaves ends.sound (ap (λ (d : Device). d.counts) ends.over.lit) have total some (few, votes.1) in
+      has_by read (refusal.WentOff have total) old new other (since.0, inr (record { core = core; fault = drain_fault.WentOff have total; on = some; ends = ends }, since.1))
+  why_undrained drain_fault.Stuck ends =
+      has_by read refusal.Stuck old new other (stuck_cause old new core ends.end between ends.runs.leaves ends.sound (ap (λ (d : Device). d.counts) ends.over.lit) ends.left ends.fails ends.waited)
 
-    by : (f : DrainFault) → FailsSo ends.left ends.end f → HasCause read (drain_refusal f) old new
-    by drain_fault.Dark dark = has_by read refusal.Dark old new other (dark_cause old new core ends.end between ends.runs.leaves ends.sound counts dark)
-    by (drain_fault.WentOff have total) lost =
-        let votes = off_votes ends.end ends.sound lost.power_is in
-        let few : 2 * have ≤ total = subst (λ (n : ℕ). 2 * have ≤ n) (sym lost.total_is) (subst (λ (n : ℕ). 2 * n ≤ total_votes ends.end.core.descriptor) (sym lost.have_is) votes.0) in
-        let since = off_cause old new core ends.end between ends.runs.leaves ends.sound counts have total some (few, votes.1) in
-        has_by read (refusal.WentOff have total) old new other (since.0, inr since.1)
-    by drain_fault.Stuck none = has_by read refusal.Stuck old new other (stuck_cause old new core ends.end between ends.runs.leaves ends.sound counts ends.left none ends.waited)
+  pub undrained : (why : Refusal) (fault : DrainFault) → IsUndrained core old new fault (reply.Refused why) → Known read why old new
+  undrained why fault ends = record {
+    cause = subst (λ (r : Refusal). HasCause read r old new) (let is = ends.says in cc (is)) (why_undrained fault (subst (λ (a : Reply). IsUndrained core old new fault a) ends.says ends));
+    off = λ is. ends.over.session;
+    unwritten = λ have total is. absurd (not_counted why fault have total ends.says is);
+  }
 
 -- patience that went before, and then
 rose_in_line : (left a b c : ℕ) → left ≤ patience_of_line → RoseBy (patience_of_line - left) a b → RoseBy left b c → RoseBy patience_of_line a c

@@ -14,7 +14,7 @@ use Rattle.lvm_copy_lines.specs.passed.Ranges.{AnyFailed}
 use Rattle.lvm_copy_lines.specs.passed.RangeLines.{FailsIf, IsOverWith, LeavesBy}
 use Rattle.lvm_copy_lines.specs.passed.Running.{LeavesSession}
 use Rattle.lvm_copy_lines.specs.passed.Stage.{IsBetween, IsClosed, State, patience_of_line}
-use Rattle.lvm_line.specs.Causes.{HasFailedSince}
+use Rattle.lvm_line.specs.Causes.{HasFailedInSession}
 
 -- ---- what is left has the counts of the shelf
 
@@ -53,15 +53,17 @@ module _ (old new : State) (core : Core) (end : Session) (between : IsBetween ol
   stuck_cause left none waited =
       subst (λ (n : Counts). RoseBy patience_of_line old.moment.device.counts.waits n.waits) (sym counts) (subst (λ (n : ℕ). RoseBy (patience_of_line - n) old.moment.device.counts.waits end.device.counts.waits) none waited)
 
-  pub off_cause : (have total : ℕ) → old.session ≡ Some core → (2 * have ≤ total) × AnyFailedSince end → (2 * have ≤ total) × HasFailedSince old new.moment.device.counts
+  pub off_cause : (have total : ℕ) → old.session ≡ Some core → (2 * have ≤ total) × AnyFailedSince end → (2 * have ≤ total) × HasFailedInSession old new
   off_cause have total some is = (
     is.0,
     record {
       core = core;
       on = some;
-      disk = is.1.0;
-      failed = subst (λ (n : Counts). Rose (slice_index_or core.origin.faults is.1.0 0) (n.faults is.1.0)) (sym counts)
-          (subst (λ (o : Origin). Rose (slice_index_or o.faults is.1.0 0) (end.device.counts.faults is.1.0)) leaves.keeps.origin is.1.1);
+      failed = (
+        is.1.0,
+        subst (λ (n : Counts). Rose (slice_index_or core.origin.faults is.1.0 0) (n.faults is.1.0)) (sym counts)
+            (subst (λ (o : Origin). Rose (slice_index_or o.faults is.1.0 0) (end.device.counts.faults is.1.0)) leaves.keeps.origin is.1.1),
+      );
     },
   )
 

@@ -8,15 +8,17 @@ use Rattle.lvm_parse.specs.Grammar.{line_of}
 use Rattle.lvm_vol.specs.Log.{Log}
 use Rattle.lvm_commit.specs.Settling.{there}
 use Rattle.lvm_core.specs.declared.parts.Room.{Room}
-use Rattle.lvm_session.specs.Causes.{faults_at_first}
+use Rattle.lvm_session.specs.Causes.{AnyFailedSince}
 use Rattle.lvm_session.specs.State.{Core, state}
 use Rattle.lvm_num.specs.declared.descriptor.Descriptor.{Descriptor}
 use Rattle.lvm_disk.specs.Device.{Device}
 use Rattle.lvm_copy_lines.specs.passed.Recover.{HasNoPassive}
 use Rattle.lvm_copy_lines.specs.passed.Varyon.{IsRestated, IsRecovered}
 use Rattle.lvm_copy_lines.specs.passed.Quiesce.{Quiesces}
+use Rattle.lvm_copy_lines.specs.passed.Driver.{DrainFault}
 use Rattle.lvm_copy_lines.specs.passed.Ranges.{AnyFailed}
 use Rattle.lvm_copy_lines.specs.passed.Resync.{AnyFails}
+use Rattle.lvm_copy_lines.specs.passed.VolumeLines.{IsUndrained}
 use Rattle.lvm_copy_lines.specs.passed.Stage.{patience_of_line, IsAtRest, State, IsTimely, Refusal}
 use Rattle.lvm_line.specs.Lines.{IsLine}
 use Rattle.lvm_copy_lines.specs.passed.RefusalVariants as refusal
@@ -55,26 +57,36 @@ pub record HasLost (old : State) (new : Counts) : Type 0 where
   pub was : IsTrue (there mid.status disk)
   pub failed : Rose (old.moment.device.counts.faults disk) (new.faults disk)
 
--- a transfer of some disk has failed since the session began that was on
-pub record HasFailedSince (old : State) (new : Counts) : Type 0 where
+-- The turns before the command ended for that.
+pub record WasUndrained (why : Refusal) (old new : State) : Type 0 where
+  pub core : Core
+  pub fault : DrainFault
+  pub on : old.session ≡ Some core
+  pub ends : IsUndrained core old new fault (reply.Refused why)
+
+-- a transfer has failed since the session began that was on
+pub record HasFailedInSession (old new : State) : Type 0 where
   pub core : Core
   pub on : old.session ≡ Some core
-  pub disk : ℕ
-  pub failed : Rose (faults_at_first core disk) (new.faults disk)
+  pub failed : AnyFailedSince (state new.moment.device core)
 
--- a transfer of some disk has failed; of one that isn't on the shelf, since the session began that was on
-pub record HasFailedInSight (old new : State) : Type 0 where
+-- the votes were lost with a transfer that failed in the line, or by the turns before the command, and a transfer has failed since the session began
+abbrev pub WereLost : Refusal → State → State → Type 0
+WereLost why old new = HasLost old new.moment.device.counts ⊎ (WasUndrained why old new × HasFailedInSession old new)
+
+-- a transfer has failed in the line; of a disk that isn't on the shelf, which a session can't count, since the session began that was on
+pub record HasFailedAsCounted (old new : State) : Type 0 where
   pub core : Core
   pub on : old.session ≡ Some core
   pub failed : AnyFails (state old.moment.device core) (state new.moment.device core)
 
--- Transfers of the line's disk have failed; the votes that are left are at most half, and a transfer of a member has failed, or one has since the session began;
--- the power was cut; the shelf waited a million times; transfers of the disk that is named have failed; or the clock's moment isn't later than the one that is
--- told. For the other refusals nothing has to have happened.
+-- Transfers of the line's disk have failed; the votes that are left are at most half, and a transfer of a member has failed, or one has since the session began
+-- where the turns before the command ended for that; the power was cut; the shelf waited a million times; transfers of the disk that is named have failed; or
+-- the clock's moment isn't later than the one that is told. For the other refusals nothing has to have happened.
 abbrev pub CauseOf : Result (Option Command) Misfit → Refusal → State → State → Type 0
 CauseOf read refusal.Lost old new = RoseOn (disk_of read) old.moment.device.counts.faults new.moment.device.counts.faults
 CauseOf read refusal.ReadFailed old new = RoseOn (disk_of read) old.moment.device.counts.faults new.moment.device.counts.faults
-CauseOf read (refusal.WentOff have total) old new = (2 * have ≤ total) × (HasLost old new.moment.device.counts ⊎ HasFailedSince old new.moment.device.counts)
+CauseOf read (refusal.WentOff have total) old new = (2 * have ≤ total) × WereLost (refusal.WentOff have total) old new
 CauseOf read refusal.Dark old new = Rose old.moment.device.counts.cuts new.moment.device.counts.cuts
 CauseOf read refusal.Stuck old new = RoseBy patience_of_line old.moment.device.counts.waits new.moment.device.counts.waits
 CauseOf read (refusal.DiskFailed disk) old new = HasFailed read disk old.moment.device.counts new.moment.device.counts
@@ -87,10 +99,10 @@ CauseOf read other old new = Unit {0}
 abbrev pub TurnCause : Refusal → State → State → Type 0
 TurnCause refusal.Dark old new = Rose old.moment.device.counts.cuts new.moment.device.counts.cuts
 TurnCause refusal.Stuck old new = RoseBy patience_of_line old.moment.device.counts.waits new.moment.device.counts.waits
-TurnCause (refusal.WentOff have total) old new = (2 * have ≤ total) × HasFailedSince old new.moment.device.counts
+TurnCause (refusal.WentOff have total) old new = (2 * have ≤ total) × HasFailedInSession old new
 TurnCause refusal.Lost old new = AnyFailed old.moment.device new.moment.device
 TurnCause refusal.ReadFailed old new = AnyFailed old.moment.device new.moment.device
-TurnCause (refusal.SyncFailed disk) old new = HasFailedInSight old new
+TurnCause (refusal.SyncFailed disk) old new = HasFailedAsCounted old new
 TurnCause (refusal.DiskFailed disk) old new = ⊥
 TurnCause other old new = Unit {0}
 

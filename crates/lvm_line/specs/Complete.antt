@@ -17,13 +17,13 @@ pub record NoneRose (old new : Counts) : Type 0 where
   pub cuts : Rose old.cuts new.cuts → ⊥
   pub waits : RoseBy patience_of_line old.waits new.waits → ⊥
 
--- so it is between two states, and of a disk that isn't on the shelf no transfer has failed since the session began that was on
+-- So it is between two states; and of a disk that isn't on the shelf, which a session can't count, no transfer has failed since that began which was on.
 pub record NothingFailed (old new : State) : Type 0 where
   pub none : NoneRose old.moment.device.counts new.moment.device.counts
   pub seen : IfSome old.session (λ (core : Core). AnyFails (state old.moment.device core) (state new.moment.device core) → ⊥)
 
--- A refusal by what is asked for, by the records and the session that are there or for want of memory, and not for what a shelf did: that the votes are lost counts here,
--- where those that are left are at most half.
+-- A refusal by what is asked for, by the records and the session that are there, or for want of memory, and for nothing that a shelf did; so it counts here
+-- that the votes are lost, those that are left being at most half.
 abbrev pub IsOwn : Refusal → Type 0
 IsOwn refusal.Dark = ⊥
 IsOwn refusal.Stuck = ⊥
@@ -36,4 +36,5 @@ IsOwn other = Unit {0}
 
 -- Each line in which nothing failed is refused so alone, if it is.
 abbrev pub CompleteLaw : Type 0
-CompleteLaw = (log : Log) (room : Room) (line : List ℕ) (why : Refusal) (old new : State) → IsLine log room line (reply.Refused why) old new → NothingFailed old new → IsOwn why
+CompleteLaw = (log : Log) (room : Room) (line : List ℕ) (why : Refusal) (old new : State) → IsLine log room line (reply.Refused why) old new
+    → NothingFailed old new → IsOwn why

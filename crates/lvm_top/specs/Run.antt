@@ -17,7 +17,7 @@ use Rattle.lvm_line.specs.passed.ReplyVariants as reply
 use Rattle.lvm_line.specs.passed.Stage.{IsAlone, OfRequests, Reply, State}
 use Rattle.lvm_line.specs.passed.Varyon.{IsRecovered}
 use Rattle.lvm_top.specs.Ending.{Concludes}
-use Rattle.lvm_top.specs.Refused.{AreCaused, EndsCaused}
+use Rattle.lvm_top.specs.Refused.{AreForCause, EndsForCause}
 use Rattle.lvm_top.specs.Script.{Passage, AreDone, AreAllRead, IsLineLeft, EndsHeard, EndsStuck, StaysAlone, EndsAlone, MakeRequests, empty_log, entry_state, facts_of, run_of}
 use Rattle.lvm_top.specs.Statuses.{at_end, IsAtEnd}
 use Rattle.lvm_top.specs.declared.status.ExitStatus.{ExitStatus}
@@ -96,7 +96,7 @@ WhereAlone r Holds = (ran : IsRun r) → RanAlone ran → Holds
 
 -- each line of the run that was refused has its cause
 abbrev pub HaveCauses : {r : Run} → IsRun r → Type 0
-HaveCauses ran = AreCaused ran.lines.script × EndsCaused ran.lines.ends
+HaveCauses ran = AreForCause ran.lines.script × EndsForCause ran.lines.ends
 
 -- the run did this line alone, and it was answered so
 abbrev pub DidOnly : {r : Run} → IsRun r → List ℕ → Reply → Type 0
