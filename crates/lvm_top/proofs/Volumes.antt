@@ -78,7 +78,7 @@ module _ (run : ℕ) (old new : State) (leaves : LeavesDescriptors old.moment.de
               let some_volume : core.descriptor.lvs ≡ [] → ⊥ = λ none. let e = sym has ∙ none in cc e in
               let tied : IsTied past mid = good (λ on before begun. (after before (subst (λ (n : ℕ). Begins n before first) (of_session (λ (c : Core). c.history.run ≡ run) core some named) begun)).tied some_volume) in (
                 tied_holds past mid tied (rests mid tied.orderly.sound drains.settled) drains.settled.votes ((drains.runs.leaves.descriptors leaves).spares ((after past begins).spares some_volume)),
-                λ told. subst IsSome (sym tied.told) refl,
+                λ told. subst IsSome (sym tied.setting.told) refl,
               )
 
   pub held_mid : (core : Core) (left : ℕ) (mid : Session) → old.session ≡ Some core → Drains core old left mid → IsHeld mid.device mid.core
