@@ -15,7 +15,6 @@ use Rattle.lvm_line.specs.passed.ReplyVariants as reply
 use Rattle.lvm_line.proofs.Causing.{has_cause}
 use Rattle.lvm_top.specs.Laws.{IsDoneOrShort, RunsEndInTime}
 use Rattle.lvm_top.specs.Refused.{EndsInTime}
-use Rattle.lvm_top.specs.Run.{IsRun, Run}
 use Rattle.lvm_top.specs.Script.{AtLine, Ends, EndsStuck, InLine}
 use Rattle.lvm_top.specs.declared.status.ExitStatus.{ExitStatus}
 use Rattle.lvm_top.specs.declared.status.ExitStatus.TheVariants as ended
