@@ -21,5 +21,6 @@ pub mod Modes
 pub mod Scripts
 mod Recovering
 pub mod Refusing
+mod Endings
 pub mod OneGroup
 pub mod Turning

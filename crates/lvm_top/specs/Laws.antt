@@ -2,6 +2,7 @@
 use Rattle.std.specs.Prelude.{◌≡◌, ◌⊎◌, ◌++◌, ◌∷◌, ℕ, [], List, Some, None, Ok, IsSomeAnd}
 use Rattle.lvm_num.specs.declared.descriptor.Descriptor.{Descriptor}
 use Rattle.lvm_disk.specs.Device.{Device, IsReady}
+use Rattle.lvm_io.specs.Count.{Rose}
 use Rattle.lvm_vol.specs.Facts.{Fact, Cut}
 use Rattle.lvm_vol.specs.Log.{Log}
 use Rattle.lvm_parse.specs.declared.command.Command.TheVariants as command
@@ -17,7 +18,9 @@ use Rattle.lvm_line.specs.passed.Quiesce.{Quiesces}
 use Rattle.lvm_line.specs.passed.Stage.{IsStuck, State, IsTimely, Reply}
 use Rattle.lvm_line.specs.passed.Tie.{LeavesDescriptors}
 use Rattle.lvm_line.specs.passed.ReplyVariants as reply
+use Rattle.lvm_top.specs.declared.status.ExitStatus.{ExitStatus}
 use Rattle.lvm_top.specs.declared.status.ExitStatus.TheVariants as ended
+use Rattle.lvm_top.specs.Refused.{EndsInTime}
 use Rattle.lvm_top.specs.Run.{Run, IsRun, RanAlone}
 use Rattle.lvm_top.specs.Script.{Script, StaysAlone, entry_state}
 use Rattle.lvm_top.specs.Standing.{MayHaveCommitted, MayStand, MayStandAtEnd, HasFewDisks, StoodBefore}
@@ -71,3 +74,19 @@ VaryonsRecover =
     (log : Log) (room : Room) (first : State) (lines : List (List ℕ)) (replies : List Reply) (last : State) → Script log room first lines replies last → IsTimely log.run first
     → (line name : List ℕ) (new : State) → line_of line ≡ Ok (Some (command.Varyon name)) → IsLine log room line reply.Ok last new
     → (core : Core) × (new.session ≡ Some core) × ((quiet : Device) × Quiesces last.moment.device quiet × IsBroughtBack quiet new.moment.device core.descriptor)
+
+-- 0, 1, 5 and 7: the script was done, no memory was found, or it was too long
+abbrev pub IsDoneOrShort : ExitStatus → Type 0
+IsDoneOrShort ended.Well = Unit {0}
+IsDoneOrShort ended.Refusals = Unit {0}
+IsDoneOrShort ended.Usage = ⊥
+IsDoneOrShort ended.SourceFault = ⊥
+IsDoneOrShort ended.SinkFault = ⊥
+IsDoneOrShort ended.Memory = Unit {0}
+IsDoneOrShort ended.Stuck = ⊥
+IsDoneOrShort ended.TooLong = Unit {0}
+
+-- So each run ends whose source and sink don't fail, and whose shelf doesn't wait a million times in one line.
+abbrev pub RunsEndInTime : Type 0
+RunsEndInTime = (r : Run) (ran : IsRun r)
+    → (Rose r.input.before.faults r.input.after.faults → ⊥) → (Rose r.output.before.faults r.output.after.faults → ⊥) → EndsInTime ran.lines.ends → IsDoneOrShort r.status

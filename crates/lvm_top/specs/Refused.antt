@@ -1,11 +1,12 @@
 -- Why the lines of a script are refused.
 use Rattle.std.specs.Prelude.{ℕ, List}
+use Rattle.lvm_disk.specs.Counts.{RoseBy}
 use Rattle.lvm_vol.specs.Log.{Log}
 use Rattle.lvm_core.specs.declared.parts.Room.{Room}
 use Rattle.lvm_parse.specs.Grammar.{line_of}
 use Rattle.lvm_line.specs.Causes.{HasCause}
 use Rattle.lvm_line.specs.Complete.{IsOwn, NothingFailed}
-use Rattle.lvm_line.specs.passed.Stage.{Reply, State}
+use Rattle.lvm_line.specs.passed.Stage.{Reply, State, patience_of_line}
 use Rattle.lvm_line.specs.passed.ReplyVariants as reply
 use Rattle.lvm_top.specs.Script.{AtLine, Ends, InLine, NextLine, NoLine, Script}
 
@@ -25,6 +26,12 @@ abbrev pub EndsForCause : {log : Log} {room : Room} {mid last : State} {done : L
     → Ends log room mid last done said front → Type 0
 EndsForCause (AtLine same) = Unit {0}
 EndsForCause {mid = mid} {last = last} (InLine line answer said front rest says split does) = IsForCause line answer mid last
+
+-- in the line after which no more were done, if there is one, the shelf didn't wait a million times
+abbrev pub EndsInTime : {log : Log} {room : Room} {mid last : State} {done : List (List ℕ)} {said : List Reply} {front : List ℕ}
+    → Ends log room mid last done said front → Type 0
+EndsInTime (AtLine same) = Unit {0}
+EndsInTime {mid = mid} {last = last} (InLine line answer said front rest says split does) = RoseBy patience_of_line mid.moment.device.counts.waits last.moment.device.counts.waits → ⊥
 
 -- a line is refused for nothing that the shelf did, if it is; how each post was answered is no refusal of the `wait` that tells it
 abbrev pub IsWell : Reply → Type 0

@@ -1,5 +1,5 @@
 //! Laws of runs. Each call does nothing: its contract is the law.
-ghost use Rattle.lvm_top.specs.Laws.{VaryonsRecover};
+ghost use Rattle.lvm_top.specs.Laws.{RunsEndInTime, VaryonsRecover};
 ghost use Rattle.lvm_top.specs.Refused.{ScriptsAreComplete};
 ghost use Rattle.lvm_top.specs.Runs.{NextMayBegin, TwoRunsUphold};
 
@@ -20,4 +20,9 @@ pub fn varyons_recover()
 /// is, by a rule of its own, for want of memory, or since the votes are lost.
 pub fn scripts_are_complete()
     ensures { ScriptsAreComplete }
+{}
+
+/// A run whose source and sink don't fail, and whose shelf doesn't wait a million times in one line, ends with status 0, 1, 5 or 7.
+pub fn runs_end_in_time()
+    ensures { RunsEndInTime }
 {}
