@@ -5,8 +5,9 @@ ghost use Rattle.lvm_session.specs.Fields.{core_of};
 ghost use Rattle.lvm_session.specs.Judging.{IsWithin};
 ghost use Rattle.lvm_firsts.specs.Might.{might_admit, might_land, might_pin, might_start};
 
-use lvm_facts::{has_usable, is_changed, is_unbegun};
+use lvm_facts::{has_names, has_usable, is_changed, is_unbegun};
 use lvm_path::{Phase, Request};
+use lvm_sched::TargetState;
 use lvm_session::Session;
 
 // Whether it might land: no copy is usable of one that hasn't started its data, or its transfers may have ended.
@@ -50,9 +51,16 @@ pub fn might_pin(request: &Request) -> bool
     matches!(request.phase, Phase::WantEntry) && !request.pinned
 }
 
-// Whether a transfer of it might be started: it waits for its record, or its data may go.
-pub fn might_start(request: &Request) -> bool
-    ensures { result ≡ might_start request.now }
+// Whether a transfer of it might be started: its targets' notes name its track group, or its data may go.
+pub fn might_start(session: &Session, request: &Request) -> bool
 {
-    matches!(request.phase, Phase::WantRecord | Phase::Data)
+    match request.phase {
+        Phase::WantRecord => has_names(session, request),
+        Phase::Data => is_unstarted(request),
+        Phase::Held | Phase::WantEntry | Phase::WantStatus | Phase::Landed => false,
+    }
+}
+
+fn is_unstarted(request: &Request) -> bool {
+    request.targets.iter().any(|target| matches!(target.state, TargetState::Waiting))
 }

@@ -54,6 +54,15 @@ fn generate<'a>(alloc: Global) -> Result<Command<'a>, AllocError>
     with_number(job, alloc, "COUNT", 0, 100_000)
 }
 
+// `weave DISKS MIB CLIENTS REQUESTS SEED`
+fn weave<'a>(alloc: Global) -> Result<Command<'a>, AllocError> {
+    let job = with_number(Command::new(alloc, "weave"), alloc, "DISKS", 1, 8)?;
+    let job = with_number(job, alloc, "MIB", 8, 64)?;
+    let job = with_number(job, alloc, "CLIENTS", 1, 64)?;
+    let job = with_number(job, alloc, "REQUESTS", 0, 50_000)?;
+    with_number(job, alloc, "SEED", 0, u64::MAX)
+}
+
 // `image N MIB`
 fn image<'a>(alloc: Global) -> Result<Command<'a>, AllocError>
     ensures app { IfOk result (λ job. app_of job ≡ image_app) }
@@ -99,6 +108,7 @@ fn command_line<'a>(alloc: Global) -> Result<Command<'a>, AllocError>
     let program = with_script(without_jobs(alloc), alloc)?;
     let program = with_job(program, sim(alloc))?;
     let program = with_job(program, generate(alloc))?;
+    let program = with_job(program, weave(alloc))?;
     with_job(program, image(alloc))
 }
 

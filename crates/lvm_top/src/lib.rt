@@ -8,6 +8,7 @@ mod program;
 mod run;
 mod script;
 mod status;
+mod woven;
 
 pub use generate::run_gen;
 pub use image::run_image;

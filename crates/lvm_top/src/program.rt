@@ -12,9 +12,11 @@ use crate::generate::run_gen;
 use crate::image::run_image;
 use crate::run::{Ended, run_script};
 use crate::status::ExitStatus;
+use crate::woven::run_weave;
 use lvm_core::Room;
 use lvm_disk::Shelf;
 use lvm_io::{Clock, Images, Sink, SinkFault, Source, write_all};
+use lvm_load::Workload;
 use lvm_memory::MemShelf;
 use lvm_num::{Memory, Rows, Text};
 use lvm_words::{Job, WordsFault, read_words};
@@ -154,6 +156,32 @@ pub fn run_words<I: Source, O: Sink, E: Sink, C: Clock, S: Shelf, P: Images>(
             Err(Memory) => unrun(ExitStatus::Memory, files),
         },
         Ok(Job::Gen { seed, count }) => unrun(run_gen(alloc, seed, count, out), files),
+        Ok(
+            Job::Weave {
+                disks,
+                mib,
+                clients,
+                requests,
+                seed,
+            },
+        ) => match blank_shelf(alloc, disks, mib) {
+            Ok(shelf) => {
+                let workload = Workload {
+                    clients,
+                    requests,
+                    seed,
+                };
+                let ended = run_weave(alloc, disks, mib, workload, out, shelf, clock, full_room());
+                Ended {
+                    status: ended.status,
+                    refused: ended.refused,
+                    history: ended.history,
+                    shelf: files,
+                    sim: Some(ended.shelf),
+                }
+            }
+            Err(Memory) => unrun(ExitStatus::Memory, files),
+        },
         Ok(Job::Image { disk, mib }) => unrun(make_image(disk, mib, images), files),
         Ok(Job::Help) => unrun(tell_help(out), files),
         Ok(Job::Version) => unrun(tell_version(out), files),

@@ -50,6 +50,14 @@ fn job_named(name: &str, found: &ArgMatches<'_>) -> Option<Job>
             seed: seed(found)?,
             count: requests(found)?,
         })
+    } else if name == "weave" {
+        Some(Job::Weave {
+            disks: count(found, "DISKS")?,
+            mib: size(found)?,
+            clients: found.get_one::<u32>("CLIENTS")?,
+            requests: found.get_one::<u32>("REQUESTS")?,
+            seed: seed(found)?,
+        })
     } else if name == "image" {
         Some(Job::Image {
             disk: count(found, "N")?,
