@@ -30,6 +30,7 @@ use crate::closed::{Closed, without_freed};
 use lvm_calls::{close_copy, copy_state, take};
 use lvm_copy_open::open_copy;
 use lvm_disk::{Arrange, Shelf};
+use lvm_firsts::Due;
 use lvm_history::History;
 use lvm_homes::Homes;
 use lvm_num::{Descriptor, Stamp};
@@ -51,6 +52,7 @@ use std::marker::Model;
 pub struct Driver<S: Shelf> {
     shelf: S,
     session: Session,
+    due: Due,
 }
 
 impl<S: Shelf> Model for Driver<S> {
@@ -78,7 +80,8 @@ impl<S: Shelf> Driver<S> {
         ensures causes { HasCausesSince result.1.history.facts (state_of S.device result) }
     {
         let session = begin_session(parts, &shelf, history, stamp, homes);
-        Driver { shelf, session }
+        let due = Due::all(session.requests.len());
+        Driver { shelf, session, due }
     }
 
     /// A session over its shelf, from another driver.
@@ -88,7 +91,8 @@ impl<S: Shelf> Driver<S> {
         ensures shelf { result.0 ≡ shelf }
         ensures core { result.1 ≡ core_of session }
     {
-        Driver { shelf, session }
+        let due = Due::all(session.requests.len());
+        Driver { shelf, session, due }
     }
 
     /// Its shelf and its session, for another driver.
@@ -115,7 +119,11 @@ impl<S: Shelf> Driver<S> {
         ensures off { IsOffSince (state_of S.device self.old) }
         ensures runs { RunsOn (state_of S.device self.old) (state_of S.device self.new) }
     {
-        submit_request(&mut self.session, client, ask, bytes)
+        let answer = submit_request(&mut self.session, client, ask, bytes);
+        if answer.is_ok() {
+            self.due.add(self.session.requests.len() - 1);
+        }
+        answer
     }
 
     /// Makes one turn. The first event that may be made is: a request lands, is admitted or pins its track group, or
@@ -129,7 +137,7 @@ impl<S: Shelf> Driver<S> {
         ensures got { GetsItsBlocks (state_of S.device self.old) (state_of S.device self.new) }
     {
         statuses_are_valid(&self.session);
-        turn(&mut self.session, &mut self.shelf)
+        turn(&mut self.session, &mut self.shelf, &mut self.due)
     }
 
     /// Takes the answer of a client's request of this number, which goes with it. `NotYet` where it hasn't landed,
@@ -141,7 +149,12 @@ impl<S: Shelf> Driver<S> {
         ensures caused { IsCausedFor (state_of S.device self.old) client id }
         ensures runs { RunsOn (state_of S.device self.old) (state_of S.device self.new) }
     {
-        take(&mut self.session, client, id)
+        let answer = take(&mut self.session, client, id);
+        match answer {
+            Taken::NotYet | Taken::Unknown => {}
+            _ => self.due.leave(self.session.requests.len()),
+        }
+        answer
     }
 
     /// How much work is left: each turn that has moved leaves less, and nothing is left once the session is over.
@@ -164,6 +177,7 @@ impl<S: Shelf> Driver<S> {
         ensures off { IsOffSince (state_of S.device self.old) }
         ensures leaves { LeavesSession (state_of S.device self.old) (state_of S.device self.new) }
     {
+        self.due = Due::all(self.session.requests.len());
         open_copy(&mut self.session, &self.shelf, lv, lp, number)
     }
 
@@ -183,6 +197,7 @@ impl<S: Shelf> Driver<S> {
         ensures closed { self.new.1 ≡ closed self.old.1 }
         ensures runs { RunsOn (state_of S.device self.old) (state_of S.device self.new) }
     {
+        self.due = Due::all(self.session.requests.len());
         close_copy(&mut self.session)
     }
 
@@ -193,6 +208,7 @@ impl<S: Shelf> Driver<S> {
         ensures gives { Arranges (state_of S.device self.old) (state_of S.device self.new) what result }
         ensures leaves { LeavesSession (state_of S.device self.old) (state_of S.device self.new) }
     {
+        self.due = Due::all(self.session.requests.len());
         arrange(&mut self.session, &mut self.shelf, what)
     }
 
@@ -295,7 +311,7 @@ impl<S: Shelf> Driver<S> {
         // Where no request waited, each that the history tells of has landed.
         ensures landed { list_any is_waiting self.1.requests ≡ false → (id : ℕ) → is_open result.history.facts id ≡ false }
     {
-        let Driver { shelf, session } = self;
+        let Driver { shelf, session, due: _ } = self;
         Closed {
             shelf: without_freed(shelf),
             history: session.history,

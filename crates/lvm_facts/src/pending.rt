@@ -9,7 +9,7 @@ ghost use Rattle.lvm_session.specs.Fields.{core_of};
 ghost use Rattle.lvm_session.specs.Judging.{IsWithin, counts_failed, is_beside, is_failing, is_pending, is_settled, is_waiting, is_wanted_stale};
 
 use crate::judged::counts_failed;
-use lvm_copies::{copies_for, is_settled, is_wanted_stale, lp_of};
+use lvm_copies::{copies_for, is_settled, is_wanted_stale, lp_of, partition_blocks};
 use lvm_num::Pp;
 use lvm_path::{Ask, Request, Target};
 use lvm_session::{Open, Session};
@@ -43,12 +43,10 @@ fn any_is_unsettled(session: &Session, pps: &[Pp]) -> bool
     pps.iter().any(|pp| is_wanted_stale(session, *pp) && !is_settled(session, *pp))
 }
 
-// Whether two requests lie in one logical partition.
-fn is_beside(session: &Session, a: &Ask, b: &Ask) -> bool
-    requires { IsValid session.now.descriptor }
-    ensures { result ≡ is_beside (core_of session.now) a.now b.now }
+// Whether it begins in the volume at a block of these.
+fn is_between(ask: &Ask, lv: u16, first: u64, end: u64) -> bool
 {
-    a.lv() == b.lv() && lp_of(session, a) == lp_of(session, b)
+    ask.lv() == lv && first <= ask.at() && ask.at() < end
 }
 
 // Whether another write in its logical partition is failing.
@@ -56,10 +54,12 @@ fn any_fails_beside(session: &Session, request: &Request) -> bool
     requires { IsValid session.now.descriptor }
     ensures { result ≡ list_any (λ (e : Open). not (e.request.id == request.now.id) && is_beside (core_of session.now) e.request.ask request.now.ask && is_failing (core_of session.now) e) session.now.requests.items }
 {
+    let blocks = partition_blocks(session.descriptor.mib);
+    let first = lp_of(session, &request.ask) * blocks;
     for other in &session.requests {
-        if is_failing(session, other)
+        if is_between(&other.request.ask, request.ask.lv(), first, first + blocks)
             && other.request.id != request.id
-            && is_beside(session, &other.request.ask, &request.ask)
+            && is_failing(session, other)
         {
             return true;
         }

@@ -13,7 +13,7 @@ ghost use Rattle.lvm_finish.specs.Finishing.{Rests};
 use lvm_copy_learn::end_step;
 use lvm_disk::Shelf;
 use lvm_ends::{end_data, end_note, end_status};
-use lvm_firsts::is_lost;
+use lvm_firsts::{Due, is_calm, is_lost};
 use lvm_num::Pbuf;
 use lvm_over::{darken, go_off};
 use lvm_reap::{Back, reap_row};
@@ -34,7 +34,7 @@ fn learn(session: &mut Session, at: usize, owner: Owner, ok: bool, buf: Pbuf)
 }
 
 // Where some transfer is out one ends, or none has ended, or the power is off.
-fn end_one<S: Shelf>(session: &mut Session, shelf: &mut S) -> Turned
+fn end_one<S: Shelf>(session: &mut Session, shelf: &mut S, due: &mut Due) -> Turned
     requires sound { IsSound (state (S.device shelf.old) (core_of session.old)) }
     requires on { session.old.power ≡ power.On }
     requires out { 0 < length (S.device shelf.old).flights }
@@ -44,7 +44,13 @@ fn end_one<S: Shelf>(session: &mut Session, shelf: &mut S) -> Turned
     match reap_row(session, shelf) {
         Back::Empty => Turned::Idle,
         Back::Ended { at, row, ok, buf } => {
+            let calm = is_calm(session);
             learn(session, at, row.owner, ok, buf);
+            match row.owner {
+                Owner::Data { id, .. } => due.ended(session, id, ok, calm),
+                Owner::Note { .. } => due.noted(session, ok),
+                Owner::Status { .. } | Owner::Copy => *due = Due::all(session.requests.len()),
+            }
             Turned::Moved
         }
         Back::Dark => {
@@ -71,7 +77,7 @@ fn rest(session: &mut Session) -> Turned
 /// What a turn makes that finds no event. One of the transfers that are out ends, and its owner learns how; nothing
 /// happens where none has ended, or none is out; and the session ends where none is out and its votes are lost, or
 /// the power is found off.
-pub fn finish<S: Shelf>(session: &mut Session, shelf: &mut S) -> Turned
+pub fn finish<S: Shelf>(session: &mut Session, shelf: &mut S, due: &mut Due) -> Turned
     requires sound { IsSound (state (S.device shelf.old) (core_of session.old)) }
     requires on { session.old.power ≡ power.On }
     ensures makes { FinishMakes (state (S.device shelf.old) (core_of session.old)) (state (S.device shelf.new) (core_of session.new)) result }
@@ -80,6 +86,6 @@ pub fn finish<S: Shelf>(session: &mut Session, shelf: &mut S) -> Turned
     if session.flying.as_slice().is_empty() {
         rest(session)
     } else {
-        end_one(session, shelf)
+        end_one(session, shelf, due)
     }
 }

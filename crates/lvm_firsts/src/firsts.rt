@@ -5,6 +5,7 @@ ghost use Rattle.lvm_session.specs.Fields.{core_of};
 ghost use Rattle.lvm_session.specs.Enabled.{admission, admission_at, data_at, first_from, landing, landing_at};
 ghost use Rattle.lvm_session.specs.Sound.{IsGoing};
 
+use crate::due::Span;
 use crate::next::next_at;
 use crate::phases::{might_admit, might_land, might_start};
 use lvm_path::Next;
@@ -25,15 +26,16 @@ fn landing_at(session: &Session, place: usize) -> Option<Event>
 }
 
 /// The first request that may land, with its outcome.
-pub fn first_landing(session: &Session) -> Option<Event>
+pub fn first_landing(session: &Session, span: &mut Span) -> Option<Event>
     requires { IsGoing (core_of session.now) }
     ensures { result ≡ landing (core_of session.now) }
 {
-    for place in 0..session.requests.len() {
-        let landing = landing_at(session, place);
+    while span.from < span.to {
+        let landing = landing_at(session, span.from);
         if landing.is_some() {
             return landing;
         }
+        span.from += 1;
     }
     None
 }
@@ -53,15 +55,16 @@ fn admission_at(session: &Session, place: usize) -> Option<Event>
 }
 
 /// The first request that may be admitted.
-pub fn first_admission(session: &Session) -> Option<Event>
+pub fn first_admission(session: &Session, span: &mut Span) -> Option<Event>
     requires { IsGoing (core_of session.now) }
     ensures { result ≡ admission (core_of session.now) }
 {
-    for place in 0..session.requests.len() {
-        let admission = admission_at(session, place);
+    while span.from < span.to {
+        let admission = admission_at(session, span.from);
         if admission.is_some() {
             return admission;
         }
+        span.from += 1;
     }
     None
 }
@@ -81,15 +84,16 @@ fn data_at(session: &Session, place: usize) -> Option<Event>
 }
 
 /// The first transfer of a request that is due, whether or not a buffer is there for it.
-pub fn first_data(session: &Session) -> Option<Event>
+pub fn first_data(session: &Session, span: &mut Span) -> Option<Event>
     requires { IsGoing (core_of session.now) }
     ensures { result ≡ first_from (data_at (core_of session.now)) 0 session.now.requests.items }
 {
-    for place in 0..session.requests.len() {
-        let data = data_at(session, place);
+    while span.from < span.to {
+        let data = data_at(session, span.from);
         if data.is_some() {
             return data;
         }
+        span.from += 1;
     }
     None
 }

@@ -13,13 +13,31 @@ fn is_taken(flights: &[Flying], ticket: u64) -> bool
     flights.iter().any(|flying| flying.ticket == ticket)
 }
 
+// Which of the first tickets some transfer has.
+fn taken_of(flights: &[Flying]) -> [bool; 64]
+{
+    let mut taken = [false; 64];
+    for flying in flights {
+        if flying.ticket < 64 {
+            taken[flying.ticket as usize] = true;
+        }
+    }
+    taken
+}
+
 /// The least ticket that no transfer has.
 pub fn free_ticket(flights: &[Flying]) -> u64
     requires few { length flights.now < 1024 }
     ensures least { IsLeastFree result (flights_of flights.now) }
     ensures few { result ≤ length flights.now }
 {
-    let mut ticket = 0;
+    let taken = taken_of(flights);
+    for k in 0..64 {
+        if !taken[k] {
+            return k as u64;
+        }
+    }
+    let mut ticket = 64;
     while is_taken(flights, ticket) {
         ticket += 1;
     }

@@ -12,6 +12,7 @@ use lvm_disk::Shelf;
 use lvm_draws::draw_request;
 use lvm_driver::Driver;
 use lvm_session::{AskFault, Taken, Turned};
+use lvm_vol::Entry;
 use rand_pcg::Lcg64Xsh32;
 
 // Between the words of a client's requests.
@@ -74,8 +75,20 @@ pub(crate) fn turn<S: Shelf>(driver: &mut Driver<S>, clients: &mut [Client], idl
     let before = driver.history().len();
     let answer = driver.turn();
     *idle = idle_after(answer, *idle);
-    if driver.history().len() > before {
-        take_landed(driver, clients);
+    let after = driver.history().len();
+    for k in before..after {
+        if let Entry::Landed { id, .. } = driver.history().entry(k) {
+            take_of(driver, clients, id);
+        }
+    }
+}
+
+fn take_of<S: Shelf>(driver: &mut Driver<S>, clients: &mut [Client], id: u64)
+{
+    for k in 0..clients.len() as u32 {
+        if clients[k as usize].request == Some(id) {
+            take(driver, clients, k);
+        }
     }
 }
 

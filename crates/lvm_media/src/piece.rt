@@ -79,7 +79,14 @@ impl Piece {
         ensures set { self.new ≡ slice_set self.old at sector.now }
         ensures whole { IsSector sector.now }
     {
-        reach(&mut self.front, at + 1);
-        self.front[at as usize] = *sector;
+        if at == self.front.len() as u64 {
+            match self.front.push(*sector) {
+                Ok(()) => {}
+                Err(_) => unreachable!(),
+            }
+        } else {
+            reach(&mut self.front, at + 1);
+            self.front[at as usize] = *sector;
+        }
     }
 }

@@ -3,7 +3,7 @@ ghost use Rattle.std.specs.Prelude.{◌≡◌, ◌≢◌, ◌+◌, ◌<◌, ◌^
 ghost use Rattle.lvm_num.specs.Note.{IsEntry};
 
 use crate::entries::{CacheEntry, entry_of, make_room, note_of, place_of};
-use crate::notes::{self, DiskNotes, both_name, common, is_in_flight, row_of};
+use crate::notes::{self, DiskNotes, both_name, common, is_in_flight, marks_of, row_of};
 use arrayvec::ArrayVec;
 use lvm_num::{DiskSet, Memory, NoteEntry};
 use std::alloc::Global;
@@ -24,6 +24,7 @@ pub enum Pin {
 pub struct Cache {
     entries: ArrayVec<CacheEntry, 62>,
     notes: Vec<DiskNotes>,
+    marks: Vec<[bool; 512]>,
 }
 
 impl Model for Cache {
@@ -47,6 +48,7 @@ impl Cache {
         ensures { IfOk result (IsNew disks) }
     {
         let mut notes = Vec::new(alloc);
+        let mut marks = Vec::new(alloc);
         for disk in 0..128 {
             if disks.has(disk) {
                 notes.push(DiskNotes {
@@ -54,11 +56,13 @@ impl Cache {
                     written: ArrayVec::new(),
                     flight: None,
                 })?;
+                marks.push([false; 512])?;
             }
         }
         Ok(Cache {
             entries: ArrayVec::new(),
             notes,
+            marks,
         })
     }
 
@@ -159,6 +163,7 @@ impl Cache {
                 } else {
                     common(&row.written, &flight)
                 };
+                self.marks[place] = marks_of(&row.written);
             }
         }
     }
@@ -168,9 +173,9 @@ impl Cache {
     pub fn is_named(&self, disk: u16, lv: u16, group: u32) -> bool
         ensures { result ≡ is_named self.now disk lv group }
     {
-        match row_of(&self.notes, disk) {
+        match notes::place_of(&self.notes, disk) {
             None => false,
-            Some(row) => both_name(row, lv, group),
+            Some(place) => self.marks[place][group as usize % 512] && both_name(&self.notes[place], lv, group),
         }
     }
 

@@ -39,6 +39,15 @@ fn names_group(note: &[NoteEntry], lv: u16, group: u32) -> bool
         .any(|entry| entry.lv == lv && entry.group == group)
 }
 
+pub fn marks_of(note: &[NoteEntry]) -> [bool; 512]
+{
+    let mut marks = [false; 512];
+    for entry in note {
+        marks[entry.group as usize % 512] = true;
+    }
+    marks
+}
+
 // Whether the note that was written and the one in flight name a track group.
 pub fn both_name(notes: &DiskNotes, lv: u16, group: u32) -> bool
     ensures { result ≡ both_name lv group notes.now }

@@ -10,7 +10,7 @@ ghost use Rattle.lvm_session.specs.Sound.{IsGoing};
 ghost use Rattle.lvm_pins.specs.Pinning.{PinGives, PinsAt};
 
 use lvm_copies::group_of;
-use lvm_firsts::{might_pin, next_at};
+use lvm_firsts::{Due, might_pin, next_at};
 use lvm_mwc::Pin;
 use lvm_path::Next;
 use lvm_session::{Open, Session};
@@ -58,15 +58,18 @@ fn pin_at(session: &mut Session, place: usize) -> bool
 
 /// The first request whose track group may be pinned pins it. Answers whether there is one; where there is
 /// none nothing changes.
-pub fn pin_first(session: &mut Session) -> bool
+pub fn pin_first(session: &mut Session, due: &mut Due) -> bool
     requires { IsGoing (core_of session.old) }
     ensures gives { PinGives (core_of session.old) (core_of session.new) result }
     ensures rooms { SameRooms session.old session.new }
 {
-    for place in 0..session.requests.len() {
+    while due.pinning.from < due.pinning.to {
+        let place = due.pinning.from;
         if pin_at(session, place) {
+            due.pinned(session, place);
             return true;
         }
+        due.pinning.from += 1;
     }
     false
 }

@@ -12,13 +12,13 @@ ghost use Rattle.lvm_session_turn.specs.Taking.{FirstMakes};
 
 use lvm_disk::Shelf;
 use lvm_enabled::first_start;
-use lvm_firsts::is_lost;
+use lvm_firsts::{Due, is_lost};
 use lvm_moves::{land_first, move_first};
 use lvm_session::{Session, Turned};
 use lvm_starts::make_start;
 
 // The first transfer that may be started is.
-fn start_first<S: Shelf>(session: &mut Session, shelf: &mut S) -> Option<Turned>
+fn start_first<S: Shelf>(session: &mut Session, shelf: &mut S, due: &mut Due) -> Option<Turned>
     requires sound { IsSound (state (S.device shelf.old) (core_of session.old)) }
     requires on { session.old.power ≡ power.On }
     requires votes { is_lost (core_of session.old) ≡ false }
@@ -26,14 +26,18 @@ fn start_first<S: Shelf>(session: &mut Session, shelf: &mut S) -> Option<Turned>
     ensures starts { StartsFirst (state (S.device shelf.old) (core_of session.old)) (state (S.device shelf.new) (core_of session.new)) result }
     ensures rooms { SameRooms session.old session.new }
 {
-    match first_start(session) {
+    match first_start(session, due) {
         None => None,
-        Some(event) => Some(make_start(session, shelf, event)),
+        Some(event) => {
+            let answer = make_start(session, shelf, event);
+            due.started(session, event);
+            Some(answer)
+        }
     }
 }
 
 // While the votes are there.
-fn settle_or_start<S: Shelf>(session: &mut Session, shelf: &mut S) -> Option<Turned>
+fn settle_or_start<S: Shelf>(session: &mut Session, shelf: &mut S, due: &mut Due) -> Option<Turned>
     requires sound { IsSound (state (S.device shelf.old) (core_of session.old)) }
     requires on { session.old.power ≡ power.On }
     requires votes { is_lost (core_of session.old) ≡ false }
@@ -41,22 +45,22 @@ fn settle_or_start<S: Shelf>(session: &mut Session, shelf: &mut S) -> Option<Tur
     ensures makes { FirstMakes (state (S.device shelf.old) (core_of session.old)) (state (S.device shelf.new) (core_of session.new)) result }
     ensures rooms { SameRooms session.old session.new }
 {
-    if move_first(session, shelf) {
+    if move_first(session, shelf, due) {
         Some(Turned::Moved)
     } else {
-        start_first(session, shelf)
+        start_first(session, shelf, due)
     }
 }
 
 // Once they are lost.
-fn land_only(session: &mut Session) -> Option<Turned>
+fn land_only(session: &mut Session, due: &mut Due) -> Option<Turned>
     requires going { IsGoing (core_of session.old) }
     requires lost { is_lost (core_of session.old) ≡ true }
     requires rooms { HasRooms session.old }
     ensures makes { (device : Device) → FirstMakes (state device (core_of session.old)) (state device (core_of session.new)) result }
     ensures rooms { SameRooms session.old session.new }
 {
-    if land_first(session) {
+    if land_first(session, due) {
         Some(Turned::Moved)
     } else {
         None
@@ -65,7 +69,7 @@ fn land_only(session: &mut Session) -> Option<Turned>
 
 /// The first event of a turn that may be made is. Answers `Moved`, or `Dark` where it starts a transfer and the
 /// power is found off; None where there is none, and nothing has changed.
-pub fn make_first<S: Shelf>(session: &mut Session, shelf: &mut S) -> Option<Turned>
+pub fn make_first<S: Shelf>(session: &mut Session, shelf: &mut S, due: &mut Due) -> Option<Turned>
     requires sound { IsSound (state (S.device shelf.old) (core_of session.old)) }
     requires on { session.old.power ≡ power.On }
     requires rooms { HasRooms session.old }
@@ -73,8 +77,8 @@ pub fn make_first<S: Shelf>(session: &mut Session, shelf: &mut S) -> Option<Turn
     ensures rooms { SameRooms session.old session.new }
 {
     if is_lost(session) {
-        land_only(session)
+        land_only(session, due)
     } else {
-        settle_or_start(session, shelf)
+        settle_or_start(session, shelf, due)
     }
 }
