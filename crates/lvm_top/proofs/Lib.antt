@@ -22,3 +22,4 @@ pub mod Scripts
 mod Recovering
 pub mod OneGroup
 pub mod Turning
+pub mod Woven

@@ -10,3 +10,4 @@ pub mod Turn
 pub mod Standing
 pub mod Laws
 pub mod OneGroup
+pub mod Woven
