@@ -30,7 +30,7 @@ use Rattle.lvm_session.specs.Turns.{Finds, FindsNothing, TurnMakes}
 use Rattle.lvm_keeps.proofs.Small.{not_so}
 use Rattle.lvm_keeps_turn.specs.Turning.{is_last}
 use Rattle.lvm_keeps_events.proofs.Standing.{never_stands_still}
-use Rattle.lvm_turn_answers.specs.Telling.{TurnTells, power_by}
+use Rattle.lvm_turn_answers.specs.Telling.{IsStill, TurnTells, power_by}
 use Rattle.lvm_turn_answers.proofs.Stepping.{turn_counts}
 use Rattle.lvm_turn_answers.proofs.Telling.{turn_tells}
 use Rattle.lvm_load.specs.declared.client.Client.{Client}
@@ -132,6 +132,10 @@ leads_then a b old mid new one two = record {
   over = λ ended. two.over (one.over ended);
 }
 
+-- with none more
+no_more : (a : ℕ) (old new : State) → Leads (a + 0) old new → Leads a old new
+no_more a old new leads = let same : a + 0 ≡ a = omega arith in subst (λ n. Leads n old new) same leads
+
 precedes : (n : ℕ) (old new : State) → Leads n old new → Precedes old new
 precedes n old new leads = (leads.gains.more, leads.gains.is)
 
@@ -182,35 +186,33 @@ module _ (first old new : State) (clients after : List Client) (idle idle1 : ℕ
   tells : TurnTells old made.mid made.answer
   tells = turn_tells old made.mid made.sound made.answer made.made
 
-  then : Behind made.mid new after
-  then = behind old made.mid new clients after made.answer so_far.waiting made.made (may_land old made.mid made.answer) refl made.takes
+  taken_so : Behind made.mid new after
+  taken_so = behind old made.mid new clients after made.answer so_far.waiting made.made (may_land old made.mid made.answer) refl made.takes
 
   counted : first.device.counts.waits ≤ made.mid.device.counts.waits
   counted = let le = so_far.later in let more = (turn_counts old made.mid made.answer made.made).waits in omega (arith, le, more)
 
   still_over : (answer : Turned) → made.answer ≡ answer → is_over new.core.power ≡ is_last answer
-  still_over answer is = ap is_over (then.power ∙ tells.power_is ∙ ap power_by is) ∙ over_by answer
+  still_over answer is = ap is_over (taken_so.power ∙ tells.power_is ∙ ap power_by is) ∙ over_by answer
 
   rose : (answer : Turned) → made.answer ≡ answer → is_over new.core.power ≡ false → RoseBy (idle_after answer idle) first.device.counts.waits made.mid.device.counts.waits
   rose turned.Moved is goes = rose_by_after (rose_by_none first.device.counts.waits) counted
-  rose turned.Idle is goes = by still.still
+  rose turned.Idle is goes = by (tells.idle.0 is) (tells.idle.0 is).still
     where
-      still = tells.idle.0 is
-
-      by : Finds old made.mid ⊎ FindsNothing old made.mid → RoseBy (idle + 1) first.device.counts.waits made.mid.device.counts.waits
-      by (inl finds) = rose_by_more (so_far.on (ap is_over still.on)) finds.waits.waits
-      by (inr nothing) = not_so (sym (never_stands_still old made.sound still.on nothing.votes still.none nothing.idle).0 ∙ some)
+      by : IsStill old made.mid → Finds old made.mid ⊎ FindsNothing old made.mid → RoseBy (idle + 1) first.device.counts.waits made.mid.device.counts.waits
+      by still (inl finds) = rose_by_more (so_far.on (ap is_over still.on)) finds.waits.waits
+      by still (inr nothing) = not_so (sym (never_stands_still old made.sound still.on nothing.votes still.none nothing.idle).0 ∙ some)
   rose turned.Dark is goes = not_so (sym goes ∙ still_over turned.Dark is)
   rose turned.Off is goes = not_so (sym goes ∙ still_over turned.Off is)
 
   -- a turn is made while a client waits
   turns_hear : Hears first new after idle1
   turns_hear = record {
-    waiting = then.waiting;
-    later = subst (λ (d : Device). first.device.counts.waits ≤ d.counts.waits) (sym then.device) counted;
+    waiting = taken_so.waiting;
+    later = subst (λ (d : Device). first.device.counts.waits ≤ d.counts.waits) (sym taken_so.device) counted;
     on = λ goes. subst (λ n. RoseBy n first.device.counts.waits new.device.counts.waits) (sym made.idle_is)
-        (subst (λ (d : Device). RoseBy (idle_after made.answer idle) first.device.counts.waits d.counts.waits) (sym then.device) (rose made.answer refl goes));
-    over = λ ended. then.any ∙ none_waits made.mid.core.requests (tells.over (sym (still_over made.answer refl) ∙ ended)).landed;
+        (subst (λ (d : Device). RoseBy (idle_after made.answer idle) first.device.counts.waits d.counts.waits) (sym taken_so.device) (rose made.answer refl goes));
+    over = λ ended. taken_so.any ∙ none_waits made.mid.core.requests (tells.over (sym (still_over made.answer refl) ∙ ended)).landed;
   }
 
   -- the session wasn't over
@@ -221,7 +223,7 @@ module _ (first old new : State) (clients after : List Client) (idle idle1 : ℕ
   turns_lead : Leads 0 old new
   turns_lead = record {
     gains = turns_gain old new clients after idle idle1 made;
-    counted = subst (λ (d : Device). old.device.counts.waits ≤ d.counts.waits) (sym then.device) (turn_counts old made.mid made.answer made.made).waits;
+    counted = subst (λ (d : Device). old.device.counts.waits ≤ d.counts.waits) (sym taken_so.device) (turn_counts old made.mid made.answer made.made).waits;
     over = λ ended. not_so (sym (was_on (is_over old.core.power) refl) ∙ ended);
   }
 
@@ -270,7 +272,7 @@ module _ (lv blocks k : ℕ) (g : Lcg) (first old new : State) (clients after : 
     over = λ ended. not_so (sym (ap (λ (c : Core). is_over c.power) same ∙ going) ∙ ended);
   }
     where
-      behind_them : (client id : ℕ) → list_any (waits_for client id) new.core.requests ≡ (list_any (waits_for client id) old.core.requests || (((k + 1) == client) && (next_id old.core.history == id) && true) || false)
+      behind_them : (client id : ℕ) → list_any (waits_for client id) new.core.requests ≡ (list_any (waits_for client id) old.core.requests || (((((k + 1) == client) && (next_id old.core.history == id)) && true) || false))
       behind_them client id = ap (λ (c : Core). list_any (waits_for client id) c.requests) same ∙ list_any-append (waits_for client id) old.core.requests _
 
       by : (j id : ℕ) → open_of after j ≡ Some id → (b : Bool) → (j == k) ≡ b → list_any (waits_for (j + 1) id) new.core.requests ≡ true
@@ -279,12 +281,12 @@ module _ (lv blocks k : ℕ) (g : Lcg) (first old new : State) (clients after : 
           let e : Some (next_id old.core.history) ≡ Some id = sym (here ∙ ap (opened_by asks.client.request) is) ∙ subst (λ n. open_of after n ≡ Some id) it has in
           let number : next_id old.core.history ≡ id = cc e in
           behind_them (j + 1) id
-          ∙ ap (λ b. list_any (waits_for (j + 1) id) old.core.requests || (b && (next_id old.core.history == id) && true) || false) (eq-eqb (k + 1) (j + 1) (omega (arith, it)))
-          ∙ ap (λ b. list_any (waits_for (j + 1) id) old.core.requests || (b && true) || false) (eq-eqb (next_id old.core.history) id number)
+          ∙ ap (λ b. list_any (waits_for (j + 1) id) old.core.requests || (((b && (next_id old.core.history == id)) && true) || false)) (eq-eqb (k + 1) (j + 1) (omega (arith, it)))
+          ∙ ap (λ b. list_any (waits_for (j + 1) id) old.core.requests || ((b && true) || false)) (eq-eqb (next_id old.core.history) id number)
           ∙ or_true (list_any (waits_for (j + 1) id) old.core.requests)
       by j id has false at =
           behind_them (j + 1) id
-          ∙ ap (λ b. b || (((k + 1) == (j + 1)) && (next_id old.core.history == id) && true) || false) (so_far.waiting j id (sym (beside j (eqb-false j k at)) ∙ has))
+          ∙ ap (λ b. b || (((((k + 1) == (j + 1)) && (next_id old.core.history == id)) && true) || false)) (so_far.waiting j id (sym (beside j (eqb-false j k at)) ∙ has))
 
   -- a client that has none open asks
   asks_hear : Hears first new after idle
@@ -365,7 +367,7 @@ module _ (lv blocks : ℕ) (first : State) (old named new : Weaving) (n k : ℕ)
   leads_named : Leads so_far.gained first named.session
   leads_named =
       let to_mid = leads_then so_far.gained 0 first old.session names.mid.session so_far.leads (passes_lead first old names.mid so_far.hears names.passes) in
-      subst (λ (w : Weaving). Leads so_far.gained first w.session) (sym names.is) (subst (λ m. Leads m first names.mid.session) (omega arith) to_mid)
+      subst (λ (w : Weaving). Leads so_far.gained first w.session) (sym names.is) (no_more so_far.gained first names.mid.session to_mid)
 
   named_mid : Leads 0 old.session named.session
   named_mid = subst (λ (w : Weaving). Leads 0 old.session w.session) (sym names.is) (passes_lead first old names.mid so_far.hears names.passes)
@@ -396,7 +398,7 @@ module _ (lv blocks : ℕ) (first : State) (old named new : Weaving) (n k : ℕ)
       by (Err why) is = record {
         hears = hears_new;
         gained = so_far.gained;
-        leads = subst (λ m. Leads m first new.session) (omega arith) (leads_then so_far.gained 0 first named.session new.session leads_named (its_lead (Err why) is));
+        leads = no_more so_far.gained first new.session (leads_then so_far.gained 0 first named.session new.session leads_named (its_lead (Err why) is));
         few = let few = so_far.few in omega (arith, few);
         cause = inr (Refused (record {
           at = named.session;
@@ -411,14 +413,14 @@ module _ (lv blocks : ℕ) (first : State) (old named new : Weaving) (n k : ℕ)
 drew : (lv blocks : ℕ) (start : Weaving) → Hears start.session start.session start.clients start.idle → (n : ℕ) (more : Bool) (now : Weaving) → Draws lv blocks start n more now → Drew lv blocks n start.session more now
 drew lv blocks start hears n more now NoneDrawn = record { hears = hears; gained = 0; leads = leads_none start.session; few = omega arith; cause = inl (refl, refl) }
 drew lv blocks start hears n more now (OneDrawn {n = m} {old = old} before named k goes names asks rng idle_is) =
-    drew_one lv blocks start.session old named now m k more (drew lv blocks start hears m true old before) names asks idle_is
+    drew_one lv blocks start.session old named now m k goes (drew lv blocks start hears m true old before) names asks idle_is
 drew lv blocks start hears n more now (Unheard {old = old} before passes unheard) =
     let so_far = drew lv blocks start hears n true old before in
     let hears_now = passes_hear start.session old now so_far.hears passes in
     record {
       hears = hears_now;
       gained = so_far.gained;
-      leads = subst (λ m. Leads m start.session now.session) (omega arith) (leads_then so_far.gained 0 start.session old.session now.session so_far.leads (passes_lead start.session old now so_far.hears passes));
+      leads = no_more so_far.gained start.session now.session (leads_then so_far.gained 0 start.session old.session now.session so_far.leads (passes_lead start.session old now so_far.hears passes));
       few = so_far.few;
       cause = inr (unheard_cause lv blocks start.session now hears_now unheard);
     }

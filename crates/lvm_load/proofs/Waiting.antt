@@ -190,7 +190,7 @@ module _ (k : ℕ) (old new : State) (clients after : List Client) where
         where
           by_test : (b : Bool) → (o.request.client == (j + 1)) ≡ b → o.request.client ≡ k + 1 → waits_for (j + 1) id1 o ≡ false
           by_test true is client = absurd (beside (let own = eqb-true o.request.client (j + 1) is in omega (arith, own, client)))
-          by_test false is client = ap (λ b. b && o.request.id == id1 && is_waiting o) is
+          by_test false is client = ap (λ b. (b && (o.request.id == id1)) && is_waiting o) is
 
       at_place : (place : ℕ) (o : Open) → position (is_asked (k + 1) id) old.core.requests ≡ Some place → slice_get old.core.requests place ≡ Some o → (l : Option Outcome) → o.landed ≡ l → TakesLanded old.core new.core place o how l → LeftBy k old new clients after
       at_place place o at here None waits takes = absurd (other takes.0)

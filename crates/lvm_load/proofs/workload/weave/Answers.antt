@@ -1,9 +1,11 @@
-use Rattle.std.proofs.Common.{List, ap₂, subst}
+use Rattle.std.proofs.Common.{ℕ, List, length, ◌∙◌, ap, ap₂, subst}
 use Rattle.std.proofs.lemmas.List.{take-replicate}
 use Rattle.rand_pcg.specs.Lcg.{Lcg}
 use Rattle.lvm_driver.specs.Answers.{state_of}
 use Rattle.lvm_running.proofs.Running.{runs_both}
 use Rattle.lvm_load.specs.declared.client.Client.{Client}
+use Rattle.lvm_vol.specs.Log.{Log}
+use Rattle.lvm_load.specs.Totals.{entries_since, totals_of}
 use Rattle.lvm_load.specs.Weaving.{DrawsAll, Weaving, fresh_client, weaving}
 use Rattle.lvm_load.proofs.Causes.{has_causes}
 use Rattle.lvm_load.proofs.workload.weave.Goals as goal
@@ -21,6 +23,11 @@ returns-clause-weaves g c =
       finishes = c.finish.ensures.finishes;
       waits_is = c.is_waiting-waiting.ensures;
     }
+
+pub returns-clause-totals : goal.returns-clause-totals
+returns-clause-totals g c =
+    c.totals_since.ensures
+    ∙ ap₂ (λ (n : ℕ) (l : Log). totals_of c.args.workload.now.requests (entries_since n l.facts)) (c.len-from.ensures ∙ ap (λ (l : Log). length l.facts) c.history.ensures) c.history-2.ensures
 
 pub returns-clause-causes : goal.returns-clause-causes
 returns-clause-causes g c =
