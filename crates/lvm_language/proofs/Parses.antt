@@ -15,7 +15,7 @@ use Rattle.clap.specs.declared.parser.matches.ValueSource.TheVariants.{CommandLi
 use Rattle.clap.proofs.OnLiterals.{clap_on_literals}
 use Rattle.clap.proofs.FaultLemmas.{stopped_fault}
 use Rattle.clap.proofs.WalkLemmas.{walk_stopped}
-use Rattle.lvm_language.specs.CommandLine.{is_signed, lvm_app, script_app, sim_app, gen_app, image_app}
+use Rattle.lvm_language.specs.CommandLine.{is_signed, lvm_app, script_app, sim_app, gen_app, image_app, weave_app}
 
 pub is_free : is_simple_and_free lvm_app ≡ true
 unfolding clap_on_literals
