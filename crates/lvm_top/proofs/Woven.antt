@@ -8,7 +8,7 @@ use Rattle.lvm_vol.specs.Facts.{Fact, joined}
 use Rattle.lvm_vol.specs.Legal.{Legal}
 use Rattle.lvm_vol.specs.Log.{Log}
 use Rattle.lvm_kept.specs.Moments.{Moment}
-use Rattle.lvm_steps.specs.Moments.{ImagesKept, IsUpheld, Keeps}
+use Rattle.lvm_steps.specs.Moments.{ImagesKept, IsEarlier, IsUpheld, Keeps}
 use Rattle.lvm_steps.proofs.Spans.{keeps_still, span_upholds}
 use Rattle.lvm_stamps.specs.Behind.{IsAhead, IsBehind}
 use Rattle.lvm_core.specs.declared.parts.Room.{Room}
@@ -31,11 +31,12 @@ use Rattle.lvm_top.specs.declared.run.Ended.{Ended}
 use Rattle.lvm_top.specs.declared.status.ExitStatus.{ExitStatus}
 use Rattle.lvm_top.specs.declared.status.ExitStatus.TheVariants as ended
 use Rattle.lvm_top.specs.Ending.{Concludes}
+use Rattle.lvm_top.specs.Program.{PromisesWovenBlank}
 use Rattle.lvm_top.specs.Run.{Run, exit_state, ran}
 use Rattle.lvm_top.specs.Script.{Passage, Stream, empty_log, entry_state, facts_of}
-use Rattle.lvm_top.specs.Sim.{IsToldBlank}
+use Rattle.lvm_top.specs.Sim.{IsToldBlank, full_room, sim_device}
 use Rattle.lvm_top.specs.Woven.{AreMadeAlone, Drawn, EndsWoven, GoesWoven, HasGroup, IsDrawn, IsMade, IsRefused, IsServed, IsWoven, IsWovenAlone, NoGroup, NotMade, NotServed, PromisesWoven, exit_moment, exit_of, mklv_line, mkvg_line, untold}
-use Rattle.lvm_top.proofs.Blanks.{told_behind, told_earlier}
+use Rattle.lvm_top.proofs.Blanks.{sim_behind, sim_earlier, told_behind, told_earlier}
 use Rattle.lvm_top.proofs.Concluding.{Concluded, concluded, entry_between, off_still}
 use Rattle.lvm_top.proofs.Lining.{stuck_is_off}
 use Rattle.lvm_top.proofs.Scripting.{begins_timely}
@@ -235,3 +236,18 @@ module _ {S : Type 0} (device : S → Device) (disks mib : ℕ) (load : Workload
           → PromisesWoven disks mib load asked (ran room entry (device end.shelf) untold out last h end.status end.refused)
       by None kept ends = absurd kept
       by (Some log) kept ends = some_promises end.shelf log end.status end.refused out ends kept
+
+-- over disks in memory
+pub sim_weaves : (disks mib : ℕ) (load : Workload) (asked : ℕ) (r : Run) (d m : ℕ) → r.entry ≡ sim_device d m → r.room ≡ full_room → PromisesWoven disks mib load asked r → PromisesWovenBlank disks mib load asked (record r { entry = sim_device d m; room = full_room })
+sim_weaves disks mib load asked r d m is room_is promises =
+    subst (λ (e : Device). PromisesWovenBlank disks mib load asked (record r { entry = e; room = full_room })) is
+    (subst (λ (room : Room). PromisesWovenBlank disks mib load asked (record r { room = room })) room_is blank)
+  where
+    upheld : (goes : GoesWoven disks mib load r) → IsWovenAlone goes → IsUpheld r.named r.entry r.exit (facts_of r.history)
+    upheld goes alone = promises.upheld goes alone (subst (IsBehind r.named) (sym is) (sim_behind r.named d m))
+
+    earlier : IsEarlier r.named r.entry []
+    earlier = subst (λ (e : Device). IsEarlier r.named e []) (sym is) (sim_earlier r.named d m)
+
+    blank : PromisesWovenBlank disks mib load asked r
+    blank = record { promises = promises; upheld = upheld; first = λ goes alone. ((upheld goes alone).legal [] earlier, (upheld goes alone).kept [] earlier) }
