@@ -28,7 +28,8 @@ use Rattle.lvm_load.specs.declared.totals.Kind.TheVariants as kind
 use Rattle.lvm_load.specs.Totals.{entries_since, is_of}
 use Rattle.lvm_load.specs.Weaving.{NextClient, NoClient, NoneOpen, Takes, TakesEach, TakesFor, TakesWhere, Turns, Waits, may_land}
 
-begins : Fact → Bool
+-- a request begins by it
+abbrev pub begins : Fact → Bool
 begins (Begun r) = true
 begins (Making lv blocks m) = false
 begins (Made lv) = false

@@ -224,30 +224,30 @@ pub record LeftByEach (n : ℕ) (first new : State) (clients after : List Client
   pub power : new.core.power ≡ first.core.power
   pub device : new.device ≡ first.device
 
+-- one client more
+module _ (first old new : State) (clients before after : List Client) (k : ℕ) (earlier : LeftByEach k first old clients before) (last : LeftBy k old new before after) where
+  its_own : (j id : ℕ) → j < k + 1 → open_of after j ≡ Some id → (b : Bool) → (j == k) ≡ b → list_any (waits_for (j + 1) id) new.core.requests ≡ true
+  its_own j id less has true is =
+      let same : k ≡ j = sym (eqb-true j k is) in
+      subst (λ m. open_of after m ≡ Some id → list_any (waits_for (m + 1) id) new.core.requests ≡ true) same (last.own id) has
+  its_own j id less has false is =
+      let beside : j ≡ k → ⊥ = eqb-false j k is in
+      let below : j < k = ⊎_elim (λ lt. lt) (λ le. absurd (beside (omega (arith, less, le)))) (cases_lt j k) in
+      last.waiting j id beside ∙ earlier.own j id below (sym (last.others j beside) ∙ has)
+
+  left_by_more : LeftByEach (k + 1) first new clients after
+  left_by_more = record {
+    own = λ j id less has. its_own j id less has (j == k) refl;
+    others = λ j le. last.others j (λ e. omega (arith, e, le)) ∙ earlier.others j (omega (arith, le));
+    any = last.any ∙ earlier.any;
+    power = last.power ∙ earlier.power;
+    device = last.device ∙ earlier.device;
+  }
+
 pub left_by_each : (first : State) (clients : List Client) (n : ℕ) (new : State) (after : List Client) → TakesEach first clients n new after → LeftByEach n first new clients after
 left_by_each first clients n new after NoClient = record { own = λ j id less has. absurd (omega (arith, less)); others = λ j le. refl; any = refl; power = refl; device = refl }
-left_by_each first clients n new after (NextClient {k = k} {old = old} {before = before} so_far takes) = record {
-  own = λ j id less has. by j id less has (j == k) refl;
-  others = λ j le. last.others j (λ e. omega (arith, e, le)) ∙ earlier.others j (omega (arith, le));
-  any = last.any ∙ earlier.any;
-  power = last.power ∙ earlier.power;
-  device = last.device ∙ earlier.device;
-}
-  where
-    earlier : LeftByEach k first old clients before
-    earlier = left_by_each first clients k old before so_far
-
-    last : LeftBy k old new before after
-    last = left_by k old new before after takes
-
-    by : (j id : ℕ) → j < k + 1 → open_of after j ≡ Some id → (b : Bool) → (j == k) ≡ b → list_any (waits_for (j + 1) id) new.core.requests ≡ true
-    by j id less has true is =
-        let same : k ≡ j = sym (eqb-true j k is) in
-        subst (λ m. open_of after m ≡ Some id → list_any (waits_for (m + 1) id) new.core.requests ≡ true) same (last.own id) has
-    by j id less has false is =
-        let beside : j ≡ k → ⊥ = eqb-false j k is in
-        let below : j < k = ⊎_elim (λ lt. lt) (λ le. absurd (beside (omega (arith, less, le)))) (cases_lt j k) in
-        last.waiting j id beside ∙ earlier.own j id below (sym (last.others j beside) ∙ has)
+left_by_each first clients n new after (NextClient {k = k} {old = old} {before = before} so_far takes) =
+    left_by_more first old new clients before after k (left_by_each first clients k old before so_far) (left_by k old new before after takes)
 
 -- once all are taken, each client that has one open waits
 pub all_waiting : (first new : State) (clients after : List Client) → LeftByEach (length clients) first new clients after → AreWaiting new.core after
