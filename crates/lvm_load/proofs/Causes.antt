@@ -467,7 +467,7 @@ module _ (lv blocks requests seed clients : ℕ) (first last : State) (woven : W
     waiting = λ waits. ⊎_elim
         (λ none. absurd (let e : true ≡ false = sym waits ∙ weaves.waits_is ∙ none in cc e))
         (λ unheard.
-            let busy = some_open weaves.after (sym weaves.waits_is ∙ waits) in
-            as_many first.device.counts.waits last.device.counts.waits weaves.idle (leb-true 1000000 weaves.idle unheard) (finished.0.on (not_over first last weaves.after weaves.idle busy.0 busy.1.0 finished.0 busy.1.1)))
+        let busy = some_open weaves.after (sym weaves.waits_is ∙ waits) in
+        as_many first.device.counts.waits last.device.counts.waits weaves.idle (leb-true 1000000 weaves.idle unheard) (finished.0.on (not_over first last weaves.after weaves.idle busy.0 busy.1.0 finished.0 busy.1.1)))
         weaves.finishes.ends;
   }

@@ -159,12 +159,12 @@ module _ (k : ℕ) (old new : State) (clients after : List Client) where
       at_place place o at there None waits takes =
           same_left k old new clients after takes.1 shelf
           (λ id1 has.
-              let same : Some id ≡ Some id1 = sym is ∙ ap (λ (cs : List Client). open_of cs k) (sym still) ∙ has in
-              let it : id ≡ id1 = cc same in
-              let asks = found (k + 1) id old.core.requests place o at there in
-              let so : waits_for (k + 1) id o ≡ true = ap (λ b. b && is_waiting o) asks ∙ ap is_none waits in
-              subst (λ n. list_any (waits_for (k + 1) n) new.core.requests ≡ true) it
-              (ap (λ (c : Core). list_any (waits_for (k + 1) id) c.requests) takes.1 ∙ any_there (waits_for (k + 1) id) old.core.requests place o there so))
+          let same : Some id ≡ Some id1 = sym is ∙ ap (λ (cs : List Client). open_of cs k) (sym still) ∙ has in
+          let it : id ≡ id1 = cc same in
+          let asks = found (k + 1) id old.core.requests place o at there in
+          let so : waits_for (k + 1) id o ≡ true = ap (λ b. b && is_waiting o) asks ∙ ap is_none waits in
+          subst (λ n. list_any (waits_for (k + 1) n) new.core.requests ≡ true) it
+          (ap (λ (c : Core). list_any (waits_for (k + 1) id) c.requests) takes.1 ∙ any_there (waits_for (k + 1) id) old.core.requests place o there so))
           (λ j other. ap (λ (cs : List Client). open_of cs j) still)
       at_place place o at there (Some how) landed takes = absurd (never_yet how o.place (count_of o.request.ask) takes.0)
 

@@ -1,5 +1,5 @@
 -- Runs that the words of the command line ask for.
-use Rattle.std.proofs.Common.{◌≡◌, ℕ, Option, None, Result, Ok, Err, inl, inr, refl, sym, subst}
+use Rattle.std.proofs.Common.{◌≡◌, ℕ, Option, None, Result, Ok, Err, inr, refl, sym, subst}
 use Rattle.std.specs.Prelude.{IfNone, IfSome}
 use Rattle.lvm_disk.specs.Device.{Device, IsReady}
 use Rattle.lvm_core.specs.declared.parts.Room.{Room}

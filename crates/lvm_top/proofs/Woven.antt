@@ -1,9 +1,11 @@
 -- Runs of a workload.
-use Rattle.std.proofs.Common.{◌≡◌, ◌≢◌, ◌⊎◌, inl, inr, ⊎_elim, ◌≤◌, ◌<◌, ◌+◌, ◌-◌, ◌*◌, ℕ, List, [], Option, Some, None, IfSome, length, true, refl, sym, ◌∙◌, ap, subst, arith}
-use Rattle.std.specs.Prelude.{IfNone, IsSomeAnd}
-use Rattle.std.specs.Global.{Vec}
+use Rattle.std.proofs.Common.{◌≡◌, ◌≢◌, ◌⊎◌, inl, inr, ⊎_elim, ◌≤◌, ◌+◌, ◌-◌, ◌*◌, ◌++◌, ℕ, List, [], Option, Some, None, IfSome, length, true, refl, sym, ◌∙◌, ap, subst, arith}
+use Rattle.std.specs.Prelude.{IsSomeAnd}
+use Rattle.std.proofs.lemmas.List.{append-nil}
 use Rattle.lvm_disk.specs.Device.{Device, IsReady}
 use Rattle.lvm_io.specs.Count.{Rose}
+use Rattle.lvm_io.specs.Stream.{WhereTold, WritesFront}
+use Rattle.lvm_io.proofs.Told.{told_same}
 use Rattle.lvm_vol.specs.Facts.{Fact, joined}
 use Rattle.lvm_vol.specs.Legal.{Legal}
 use Rattle.lvm_vol.specs.Log.{Log}
@@ -21,23 +23,22 @@ use Rattle.lvm_session.specs.State.{Core, State as Session, state}
 use Rattle.lvm_turn_answers.specs.Telling.{power_by}
 use Rattle.lvm_load.specs.declared.workload.Workload.{Workload}
 use Rattle.lvm_load.specs.declared.workload.Woven.{Woven}
-use Rattle.lvm_line.specs.Lines.{IsLine, role_of}
+use Rattle.lvm_line.specs.passed.HolderVariants as holder
 use Rattle.lvm_line.specs.passed.RefusalVariants as refusal
+use Rattle.lvm_line.specs.passed.Running.{RunsOn}
 use Rattle.lvm_line.specs.passed.ReplyVariants as reply
-use Rattle.lvm_line.specs.passed.Stage.{ArePosted, GoesOn, IsAlone, IsBetween, IsStuck, IsTimely, OfRequests, Reply, Stage, StandsBy, State, history_in, moment_in, session_in, state_in, without_facts}
+use Rattle.lvm_line.specs.passed.Stage.{ArePosted, GoesOn, Holder, IsBetween, IsOfKind, IsStuck, IsTimely, OfRequests, Reply, Stage, StandsBy, State, history_in, history_of, moment_in, most_refusals, session_in, session_of, shelf_of, state_in, without_facts}
 use Rattle.lvm_line.proofs.passed.Stage.{over_goes}
-use Rattle.lvm_parse.specs.Grammar.{line_of}
 use Rattle.lvm_top.specs.declared.run.Ended.{Ended}
 use Rattle.lvm_top.specs.declared.status.ExitStatus.{ExitStatus}
 use Rattle.lvm_top.specs.declared.status.ExitStatus.TheVariants as ended
-use Rattle.lvm_top.specs.Ending.{Concludes}
 use Rattle.lvm_top.specs.Program.{PromisesWovenBlank}
-use Rattle.lvm_top.specs.Run.{Run, exit_state, ran}
-use Rattle.lvm_top.specs.Script.{Passage, Stream, empty_log, entry_state, facts_of}
+use Rattle.lvm_top.specs.Run.{Run, ran}
+use Rattle.lvm_top.specs.Script.{Passage, Stream, empty_log, entry_state, facts_of, stream}
 use Rattle.lvm_top.specs.Sim.{IsToldBlank, full_room, sim_device}
-use Rattle.lvm_top.specs.Woven.{AreMadeAlone, Drawn, EndsWoven, GoesWoven, HasGroup, IsDrawn, IsMade, IsRefused, IsServed, IsWoven, IsWovenAlone, NoGroup, NotMade, NotServed, PromisesWoven, exit_moment, exit_of, mklv_line, mkvg_line, untold}
+use Rattle.lvm_top.specs.Woven.{AreMadeAlone, Drawn, EndsWoven, GoesWoven, HasGroup, IsDrawn, IsMade, IsRefused, IsServed, IsWoven, IsWovenAlone, NoGroup, NotMade, NotServed, PromisesWoven, TellsWoven, exit_moment, exit_of, mklv_line, mkvg_line, status_woven, untold, woven_text}
 use Rattle.lvm_top.proofs.Blanks.{sim_behind, sim_earlier, told_behind, told_earlier}
-use Rattle.lvm_top.proofs.Concluding.{Concluded, concluded, entry_between, off_still}
+use Rattle.lvm_top.proofs.Concluding.{Concluded, concluded, off_still}
 use Rattle.lvm_top.proofs.Lining.{stuck_is_off}
 use Rattle.lvm_top.proofs.Scripting.{begins_timely}
 use Rattle.lvm_top.proofs.Stopping.{how_stopped}
@@ -105,6 +106,104 @@ module _ (end : State) (exit : Moment) (between : IsBetween end.moment end.sessi
   drawn_concluded run named blocks load woven drawn =
       let goes : GoesOn run OfRequests (reply.Refused refusal.Stuck) end behind = subst (λ n. GoesOn n OfRequests (reply.Refused refusal.Stuck) end behind) named (drawn_goes blocks load woven drawn) in
       record { keeps = λ timely alone first span stands. (goes.keeps timely alone first span stands).0; left = λ timely. goes.left timely; power = goes.power }
+
+-- turns and calls don't leave a session stuck that was on
+pub runs_unstuck : (old new : Session) → RunsOn old new → old.core.power ≡ power.On → new.core.power ≡ power.Stuck → ⊥
+runs_unstuck old new runs on stuck = by runs.leaves.keeps.power
+  where
+    by : (new.core.power ≡ old.core.power) ⊎ (new.core.power ≡ power.Dark) ⊎ ((old.core.power ≡ power.On) × (new.core.power ≡ power.Off)) → ⊥
+    by (inl same) = let e = sym on ∙ sym same ∙ stuck in cc e
+    by (inr (inl dark)) = let e = sym dark ∙ stuck in cc e
+    by (inr (inr off)) = let e = sym off.1 ∙ stuck in cc e
+
+-- the lines answer at most two refusals
+pub made_few : (log : Log) (room : Room) (group volume : List ℕ) (first : State) (answer : Reply) (last : State) → IsMade log room group volume first answer last → first.posts ≡ [] → most_refusals answer ≤ 2
+made_few log room group volume first answer last (NoGroup not it) none =
+    let few = it.goes.few in let zero : length first.posts ≡ 0 = ap (λ (l : List Post). length l) none in omega (arith, few, zero)
+made_few log room group volume first answer last (HasGroup mid makes it) none =
+    let first_few = makes.goes.few in let few = it.goes.few in let zero : length first.posts ≡ 0 = ap (λ (l : List Post). length l) none in omega (arith, first_few, few, zero)
+
+-- ---- what is told
+
+abbrev through : Option (List ℕ) → ℕ → Option (List ℕ) → ℕ → Passage
+through a f b g = record { before = stream a f; after = stream b g }
+
+pub told_none : (woven : Woven) (requests : ℕ) (status : ExitStatus) → status ≡ status_woven woven requests (Some ended.Memory) → (held : Option (List ℕ)) (faults : ℕ) → TellsWoven woven requests status (through held faults held faults)
+told_none woven requests status is held faults = record {
+  failed = Some ended.Memory;
+  only = inr refl;
+  status_is = is;
+  front = [];
+  rest = woven_text woven;
+  split = refl;
+  written = told_same held (λ a b. b ≡ a ++ []) (λ a. sym (append-nil a));
+  whole = λ e. absurd (cc e);
+  sink = λ e. absurd (cc e);
+}
+
+pub told_all : (woven : Woven) (requests : ℕ) (status : ExitStatus) → status ≡ status_woven woven requests None → (before after : Option (List ℕ)) (faults later : ℕ) → WhereTold before after (λ a b. b ≡ a ++ woven_text woven)
+    → TellsWoven woven requests status (through before faults after later)
+told_all woven requests status is before after faults later whole = record {
+  failed = None;
+  only = tt;
+  status_is = is;
+  front = woven_text woven;
+  rest = [];
+  split = sym (append-nil (woven_text woven));
+  written = whole;
+  whole = λ e. refl;
+  sink = λ e. absurd (cc e);
+}
+
+pub told_some : (woven : Woven) (requests : ℕ) (status : ExitStatus) → status ≡ status_woven woven requests (Some ended.SinkFault) → (before after : Option (List ℕ)) (faults later : ℕ)
+    → WhereTold before after (λ a b. WritesFront (woven_text woven) a b) → Rose faults later → TellsWoven woven requests status (through before faults after later)
+told_some woven requests status is before after faults later part rose = by before after part
+  where
+    failed_with : (front rest : List ℕ) (before after : Option (List ℕ)) → woven_text woven ≡ front ++ rest → WhereTold before after (λ a b. b ≡ a ++ front) → TellsWoven woven requests status (through before faults after later)
+    failed_with front rest before after split written = record {
+      failed = Some ended.SinkFault;
+      only = inl refl;
+      status_is = is;
+      front = front;
+      rest = rest;
+      split = split;
+      written = written;
+      whole = λ e. absurd (cc e);
+      sink = λ e. rose;
+    }
+
+    by : (before after : Option (List ℕ)) → WhereTold before after (λ a b. WritesFront (woven_text woven) a b) → TellsWoven woven requests status (through before faults after later)
+    by None None part = failed_with [] (woven_text woven) None None refl tt
+    by (Some a) (Some b) part = failed_with part.front part.rest (Some a) (Some b) part.split part.written
+    by None (Some b) part = absurd part
+    by (Some a) None part = absurd part
+
+-- ---- what holds the shelf
+
+module _ {S : Type 0} (device : S → Device) (blocks : ℕ) (load : Workload) (answer : Reply) (exit : Moment) (status : ExitStatus) (refused : ℕ) (out : Passage) (ok : answer ≡ reply.Ok) where
+  abbrev EndsAt : Holder S → Type 0
+  EndsAt h = EndsWoven blocks load answer (history_of h).run (record { device = device (shelf_of h); facts = (history_of h).facts }) (session_of h) exit status refused out
+
+  abbrev RefusedAt : Holder S → Type 0
+  RefusedAt h = IsRefused (reply.Refused refusal.NoVolume) (history_of h).run (record { device = device (shelf_of h); facts = (history_of h).facts }) (session_of h) exit status refused out
+
+  pub serving_ends : (driver : S × Core) (h : Holder S) → h ≡ holder.Serving driver → IsOfKind h → IsServed blocks load (state (device driver.0) driver.1) exit status refused out → EndsAt h
+  serving_ends driver h is kind served = subst (λ (k : Holder S). IsOfKind k → EndsAt k) (sym is) (λ vols. Drawn ok driver.1 refl vols refl refl served) kind
+
+  pub empty_ends : (driver : S × Core) (h : Holder S) → h ≡ holder.Empty driver → IsOfKind h → RefusedAt (holder.Empty driver) → EndsAt h
+  empty_ends driver h is kind none = subst (λ (k : Holder S). IsOfKind k → EndsAt k) (sym is) (λ empty. NotServed ok empty none) kind
+
+  pub off_ends : (shelf : S) (history : Log) (h : Holder S) → h ≡ holder.Off shelf history → RefusedAt (holder.Off shelf history) → EndsAt h
+  off_ends shelf history h is none = subst EndsAt (sym is) (NotServed ok tt none)
+
+-- a session that serves requests is on between two lines
+pub serving_on : {S : Type 0} (device : S → Device) (posts : List Post) (driver : S × Core) (h : Holder S) → h ≡ holder.Serving driver
+    → (session_of h ≡ None) ⊎ IsBetween (record { device = device (shelf_of h); facts = (history_of h).facts }) (session_of h) posts → driver.1.power ≡ power.On
+serving_on {S} device posts driver h is between = its (subst (λ (k : Holder S). (session_of k ≡ None) ⊎ IsBetween (record { device = device (shelf_of k); facts = (history_of k).facts }) (session_of k) posts) is between)
+  where
+    its : (session_of (holder.Serving driver) ≡ None) ⊎ IsBetween (record { device = device driver.0; facts = driver.1.history.facts }) (Some driver.1) posts → driver.1.power ≡ power.On
+    its (inl none) = absurd (cc none)
+    its (inr between) = between.session.power
 
 -- ---- the end
 

@@ -1,5 +1,5 @@
 -- A run of a workload over a group of its own.
-use Rattle.std.specs.Prelude.{◌≡◌, ◌≢◌, ◌⊎◌, ◌↔◌, ◌≤◌, ◌+◌, ◌-◌, ◌*◌, ◌++◌, ◌==◌, ℕ, [], List, length, take, Bool, true, false, Option, Some, None, IfSome, IfNone, IsTrue, if◌then◌else◌, codes}
+use Rattle.std.specs.Prelude.{◌≡◌, ◌≢◌, ◌⊎◌, ◌≤◌, ◌+◌, ◌-◌, ◌*◌, ◌++◌, ◌==◌, ℕ, [], List, length, take, Bool, true, Option, Some, None, IfSome, IfNone, if◌then◌else◌, codes}
 use Rattle.std.specs.Fmt.{decimal}
 use Rattle.lvm_disk.specs.Device.{Device, IsReady}
 use Rattle.lvm_io.specs.Count.{Rose}
@@ -33,7 +33,7 @@ use Rattle.lvm_top.specs.Ending.{Concludes, MakesTurns}
 use Rattle.lvm_top.specs.Run.{Run, exit_state}
 use Rattle.lvm_top.specs.Script.{Passage, empty_log, entry_state, facts_of, stream}
 use Rattle.lvm_top.specs.Sim.{IsToldBlank}
-use Rattle.lvm_top.specs.Statuses.{IsAtEnd, status_of}
+use Rattle.lvm_top.specs.Statuses.{status_of}
 use Rattle.lvm_top.specs.Turn.{Tells}
 
 -- ---- its group and volume

@@ -163,11 +163,10 @@ fn tell_woven<O: Sink>(alloc: Global, out: &mut O, woven: &Woven, requests: u32)
     let Ok(text) = woven_text(alloc, woven) else {
         return status_woven(woven, requests, Some(ExitStatus::Memory));
     };
-    let failed = match write_all(out, text.as_bytes()) {
-        Ok(()) => None,
-        Err(_) => Some(ExitStatus::SinkFault),
-    };
-    status_woven(woven, requests, failed)
+    match write_all(out, text.as_bytes()) {
+        Ok(()) => status_woven(woven, requests, None),
+        Err(_) => status_woven(woven, requests, Some(ExitStatus::SinkFault)),
+    }
 }
 
 // How many refusals were printed.

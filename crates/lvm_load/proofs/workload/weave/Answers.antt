@@ -32,7 +32,7 @@ returns-clause-totals g c =
 pub returns-clause-causes : goal.returns-clause-causes
 returns-clause-causes g c =
     let device = g.S.Shelf.device in
-    has_causes c.args.lv c.args.blocks c.args.workload.now.requests c.args.workload.now.seed c.args.workload.now.clients (state_of device c.args.driver.now) (state_of device c.finish.new.driver) c.result c.is_sound.ensures (returns-clause-weaves g c) (returns-clause-totals g c)
+    has_causes c.args.lv c.args.blocks c.args.workload.now.requests c.args.workload.now.seed c.args.workload.now.clients (state_of device c.args.driver.now) (state_of device c.finish.new.driver) (record { totals = c.totals_since.result; waiting = c.is_waiting-waiting.result }) c.is_sound.ensures (returns-clause-weaves g c) (returns-clause-totals g c)
 
 pub returns-clause-runs : goal.returns-clause-runs
 returns-clause-runs g c =
