@@ -8,7 +8,7 @@ mod program;
 mod run;
 mod script;
 mod status;
-mod woven;
+mod workload;
 
 pub use generate::run_gen;
 pub use image::run_image;
@@ -20,7 +20,7 @@ pub use lvm_words::{Job, WordsFault, read_words};
 pub use program::run_words;
 pub use run::{Ended, run_script};
 pub use status::ExitStatus;
-pub use woven::run_weave;
+pub use workload::run_weave;
 
 mod found_laws;
 

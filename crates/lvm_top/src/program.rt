@@ -13,7 +13,7 @@ use crate::generate::run_gen;
 use crate::image::run_image;
 use crate::run::{Ended, run_script};
 use crate::status::ExitStatus;
-use crate::woven::run_weave;
+use crate::workload::run_weave;
 use lvm_core::Room;
 use lvm_disk::Shelf;
 use lvm_io::{Clock, Images, Sink, SinkFault, Source, write_all};

@@ -1,5 +1,5 @@
 use Rattle.std.proofs.Common.{arith}
-use Rattle.lvm_top.proofs.woven.refuse.Goals as goal
+use Rattle.lvm_top.proofs.workload.refuse.Goals as goal
 
 pub write_reply-refused-requires : goal.write_reply-refused-requires
 write_reply-refused-requires g c = let few = c.requires.few in omega (arith, few)

@@ -4,7 +4,7 @@ use Rattle.lvm_line.specs.passed.Driver.{state_of}
 use Rattle.lvm_line.specs.passed.Stage.{without_facts}
 use Rattle.lvm_line.proofs.passed.Running.{runs_both}
 use Rattle.lvm_top.proofs.Woven.{runs_unstuck}
-use Rattle.lvm_top.proofs.woven.serve.Goals as goal
+use Rattle.lvm_top.proofs.workload.serve.Goals as goal
 
 pub weave-woven-requires-clause-unstuck : goal.weave-woven-requires-clause-unstuck
 weave-woven-requires-clause-unstuck g c = λ stuck. let e = sym c.requires.on ∙ stuck in cc e

@@ -4,7 +4,7 @@ use Rattle.lvm_line.specs.passed.Stage.{IsStuck, Reply, history_in, state_in, wi
 use Rattle.lvm_line.specs.passed.ReplyVariants as reply
 use Rattle.lvm_top.specs.Woven.{HasGroup, NoGroup}
 use Rattle.lvm_top.proofs.Lining.{renamed}
-use Rattle.lvm_top.proofs.woven.make_volume.Goals as goal
+use Rattle.lvm_top.proofs.workload.make_volume.Goals as goal
 
 pub do_line-made-in-Ok-requires-clause-between : goal.do_line-made-in-Ok-requires-clause-between
 do_line-made-in-Ok-requires-clause-between g c = c.do_line-made.ensures.line.goes.between (λ stuck. let e : IsStuck reply.Ok = sym c.in-Ok.is ∙ stuck in cc e)

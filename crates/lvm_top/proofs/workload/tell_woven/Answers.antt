@@ -1,5 +1,5 @@
 use Rattle.lvm_top.proofs.Woven.{told_all, told_none, told_some}
-use Rattle.lvm_top.proofs.woven.tell_woven.Goals as goal
+use Rattle.lvm_top.proofs.workload.tell_woven.Goals as goal
 
 pub returns-in_default : goal.returns-in_default
 returns-in_default g c = told_none c.args.woven.now c.args.requests c.status_woven.result c.status_woven.ensures (g.O.Sink.held c.args.out.now) (g.O.Sink.faults c.args.out.now)

@@ -1,5 +1,5 @@
 use Rattle.lvm_top.proofs.Woven.{unwoven}
-use Rattle.lvm_top.proofs.woven.run_weave.Goals as goal
+use Rattle.lvm_top.proofs.workload.run_weave.Goals as goal
 
 pub returns-in_default-clause-run : goal.returns-in_default-clause-run
 returns-in_default-clause-run g c =
