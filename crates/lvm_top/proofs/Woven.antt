@@ -141,23 +141,23 @@ told_none woven requests status is held faults = record {
   sink = λ e. absurd (cc e);
 }
 
-pub told_all : (woven : Woven) (requests : ℕ) (status : ExitStatus) → status ≡ status_woven woven requests None → (before after : Option (List ℕ)) (faults later : ℕ) → WhereTold before after (λ a b. b ≡ a ++ woven_text woven)
+pub told_all : (woven : Woven) (requests : ℕ) (status : ExitStatus) → status ≡ status_woven woven requests None → (before after : Option (List ℕ)) (faults later : ℕ) (text : List ℕ) → text ≡ woven_text woven → WhereTold before after (λ a b. b ≡ a ++ text)
     → TellsWoven woven requests status (through before faults after later)
-told_all woven requests status is before after faults later whole = record {
+told_all woven requests status is before after faults later text same whole = record {
   failed = None;
   only = tt;
   status_is = is;
   front = woven_text woven;
   rest = [];
   split = sym (append-nil (woven_text woven));
-  written = whole;
+  written = subst (λ (t : List ℕ). WhereTold before after (λ a b. b ≡ a ++ t)) same whole;
   whole = λ e. refl;
   sink = λ e. absurd (cc e);
 }
 
-pub told_some : (woven : Woven) (requests : ℕ) (status : ExitStatus) → status ≡ status_woven woven requests (Some ended.SinkFault) → (before after : Option (List ℕ)) (faults later : ℕ)
-    → WhereTold before after (λ a b. WritesFront (woven_text woven) a b) → Rose faults later → TellsWoven woven requests status (through before faults after later)
-told_some woven requests status is before after faults later part rose = by before after part
+pub told_some : (woven : Woven) (requests : ℕ) (status : ExitStatus) → status ≡ status_woven woven requests (Some ended.SinkFault) → (before after : Option (List ℕ)) (faults later : ℕ) (text : List ℕ)
+    → text ≡ woven_text woven → WhereTold before after (λ a b. WritesFront text a b) → Rose faults later → TellsWoven woven requests status (through before faults after later)
+told_some woven requests status is before after faults later text same part rose = by before after (subst (λ (t : List ℕ). WhereTold before after (λ a b. WritesFront t a b)) same part)
   where
     failed_with : (front rest : List ℕ) (before after : Option (List ℕ)) → woven_text woven ≡ front ++ rest → WhereTold before after (λ a b. b ≡ a ++ front) → TellsWoven woven requests status (through before faults after later)
     failed_with front rest before after split written = record {

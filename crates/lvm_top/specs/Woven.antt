@@ -42,9 +42,13 @@ use Rattle.lvm_top.specs.Turn.{Tells}
 abbrev pub mkvg_line : ℕ → List ℕ
 mkvg_line disks = take (20 + 7 * disks) (codes "mkvg -y weavevg -s 1 hdisk0 hdisk1 hdisk2 hdisk3 hdisk4 hdisk5 hdisk6 hdisk7")
 
--- the line that makes the volume: two copies, or one where there is one disk, of all partitions but two of a disk
+-- a copy on each of two disks, or one where there is one disk
+abbrev pub copies_for : ℕ → ℕ
+copies_for disks = if disks == 1 then 1 else 2
+
+-- the line that makes the volume, of all partitions but two of a disk
 abbrev pub mklv_line : ℕ → ℕ → List ℕ
-mklv_line disks mib = codes "mklv -y weavelv -c " ++ decimal (if disks == 1 then 1 else 2) ++ codes " -w a weavevg " ++ decimal (mib - 2)
+mklv_line disks mib = codes "mklv -y weavelv -c " ++ decimal (copies_for disks) ++ codes " -w a weavevg " ++ decimal (mib - 2)
 
 -- The two lines were done, or the first alone where it wasn't answered by `ok`; and the last of them was answered so.
 pub data IsMade (log : Log) (room : Room) (group volume : List ℕ) (first : State) (answer : Reply) (last : State) : Type 0 where
@@ -83,9 +87,13 @@ totals_text t =
     codes "begun " ++ decimal t.begun ++ codes "\ndone " ++ decimal t.done ++ codes "\ngot " ++ decimal t.got ++ codes "\nlost " ++ decimal t.lost
     ++ codes "\nrefused " ++ decimal t.refused ++ codes "\nunbegun " ++ decimal t.unbegun ++ codes "\n"
 
--- the totals, behind a refusal where nothing was heard of a transfer
+-- the refusal where nothing was heard of a transfer
+abbrev pub refusal_text : Woven → List ℕ
+refusal_text woven = if woven.waiting then codes "refused 24 Stuck\n" else []
+
+-- and the totals behind it
 abbrev pub woven_text : Woven → List ℕ
-woven_text woven = if woven.waiting then codes "refused 24 Stuck\n" ++ totals_text woven.totals else totals_text woven.totals
+woven_text woven = refusal_text woven ++ totals_text woven.totals
 
 -- so many refusals are written
 abbrev pub refusals_of : Woven → ℕ

@@ -8,7 +8,7 @@ ghost use Rattle.lvm_line.specs.passed.Driver.{state_of};
 ghost use Rattle.lvm_line.specs.passed.Stage.{IsBetweenStage, IsFitting, history_in, moment_in, most_refusals, session_in, state_in, without_facts};
 ghost use Rattle.lvm_top.specs.Run.{ran};
 ghost use Rattle.lvm_top.specs.Script.{passage};
-ghost use Rattle.lvm_top.specs.Woven.{EndsWoven, IsDrawable, IsDrawn, IsMade, IsRefused, IsServed, PromisesWoven, TellsWoven, exit_of, is_whole, mkvg_line, mklv_line, refusals_of, status_woven, untold, woven_text};
+ghost use Rattle.lvm_top.specs.Woven.{EndsWoven, IsDrawable, IsDrawn, IsMade, IsRefused, IsServed, PromisesWoven, TellsWoven, copies_for, exit_of, is_whole, mkvg_line, mklv_line, refusal_text, refusals_of, status_woven, untold, woven_text};
 
 use crate::run::{Ended, close_ended, conclude, run_on, status_of, unbegun};
 use crate::script::write_reply;
@@ -40,12 +40,19 @@ fn mkvg_line(disks: u16) -> &'static [u8]
     &MKVG[..DISKS_AT + DISK * disks as usize]
 }
 
+// How many copies it has: one on each of two disks, or one where there is one disk.
+fn copies_for(disks: u16) -> u32
+    ensures { result ≡ copies_for disks }
+{
+    if disks == 1 { 1 } else { 2 }
+}
+
 // The line that makes its volume: two copies, or one where there is one disk, of all partitions but two of a disk.
 fn mklv_line(alloc: Global, disks: u16, mib: u32) -> Result<String, AllocError>
     requires { 2 ≤ mib }
     ensures { IfOk result (λ text. string_bytes text ≡ mklv_line disks mib) }
 {
-    let copies = if disks == 1 { 1_u32 } else { 2_u32 };
+    let copies = copies_for(disks);
     let lps = mib - 2;
     format!(in alloc; "mklv -y weavelv -c {copies} -w a weavevg {lps}")
 }
@@ -120,11 +127,18 @@ fn serve<S: Shelf>(
     }
 }
 
+// The refusal of a workload of which a client still waits, and no text else.
+fn refusal_text(woven: &Woven) -> &'static str
+    ensures { result.now ≡ refusal_text woven.now }
+{
+    if woven.waiting { "refused 24 Stuck\n" } else { "" }
+}
+
 // The totals, behind the refusal where nothing was heard of a transfer.
 fn woven_text(alloc: Global, woven: &Woven) -> Result<String, AllocError>
     ensures { IfOk result (λ text. string_bytes text ≡ woven_text woven.now) }
 {
-    let head = if woven.waiting { "refused 24 Stuck\n" } else { "" };
+    let head = refusal_text(woven);
     let begun = woven.totals.begun;
     let done = woven.totals.done;
     let got = woven.totals.got;
