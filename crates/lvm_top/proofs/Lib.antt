@@ -23,3 +23,4 @@ mod Recovering
 pub mod Refusing
 pub mod OneGroup
 pub mod Turning
+pub mod Woven

@@ -143,8 +143,8 @@ fn with_refusals(refused: u32, reply: &Reply) -> u32
     }
 }
 
-// Writes the reply to a line. Answers how many lines are refused with it, and why the run ends with it, if so.
-fn write_reply<O: Sink>(
+/// Writes the reply to a line. Answers how many lines are refused with it, and why the run ends with it, if so.
+pub(crate) fn write_reply<O: Sink>(
     alloc: Global,
     out: &mut O,
     answer: Reply,
