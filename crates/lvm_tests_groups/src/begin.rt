@@ -110,25 +110,32 @@ fn make(rt: &(impl Abort + AllocGlobal), shelf: &mut MemShelf, id: u64) -> (Begi
     (end, shelf.calls())
 }
 
+// Whether all disks have these records, and the name chooses the whole group under this epoch.
+fn shows<S: Shelf>(
+    rt: &(impl Abort + AllocGlobal),
+    shelf: &mut S,
+    shown: Shown,
+    epoch: u64,
+) -> bool {
+    let wanted = Look {
+        shown: [shown; 3],
+        chosen: Chosen::Whole([true; 3], epoch),
+    };
+    see(rt, shelf) == wanted
+}
+
 #[test]
 fn a_new_group_is_found_and_comes_on_again(rt: HostRuntime) {
     let mut shelf = blank_shelf(&rt, &SIZES, &[]);
     let made = make(&rt, &mut shelf, GROUP);
     check(&rt, made == (Begin::Ended, 18), "made");
-    let first = see(&rt, &mut shelf);
-    let wanted = Look {
-        shown: [MADE; 3],
-        chosen: Chosen::Whole([true; 3], 50),
-    };
-    check(&rt, first == wanted, "the new records");
-    let on = come_on(&rt, &mut shelf, 60);
-    check(&rt, on == Begin::Ended, "on again");
-    let again = see(&rt, &mut shelf);
-    let wanted = Look {
-        shown: [AGAIN; 3],
-        chosen: Chosen::Whole([true; 3], 60),
-    };
-    check(&rt, again == wanted, "the next records");
+    comes_on_again(&rt, &mut shelf);
+}
+
+fn comes_on_again<S: Shelf>(rt: &(impl Abort + AllocGlobal), shelf: &mut S) {
+    check(rt, shows(rt, shelf, MADE, 50), "the new records");
+    check(rt, come_on(rt, shelf, 60) == Begin::Ended, "on again");
+    check(rt, shows(rt, shelf, AGAIN, 60), "the next records");
 }
 
 fn come_on<S: Shelf>(rt: &(impl Abort + AllocGlobal), shelf: &mut S, epoch: u64) -> Begin {
