@@ -39,12 +39,6 @@ enum Chosen {
     Not(ChooseFault),
 }
 
-#[derive(Clone, Copy, PartialEq, Eq)]
-struct Look {
-    shown: [Shown; 3],
-    chosen: Chosen,
-}
-
 const MADE: Shown = Shown {
     descriptor: Stamp { epoch: 50, seq: 2 },
     status: Stamp { epoch: 50, seq: 1 },
@@ -92,7 +86,7 @@ fn told(rt: &(impl Abort + AllocGlobal), choice: &Choice) -> Chosen {
     }
 }
 
-fn see<S: Shelf>(rt: &(impl Abort + AllocGlobal), shelf: &mut S) -> Look {
+fn see<S: Shelf>(rt: &(impl Abort + AllocGlobal), shelf: &mut S) -> ([Shown; 3], Chosen) {
     let survey = survey(rt, shelf);
     let shown = shown_in(rt, &survey);
     let name = name_of(rt, b"datavg");
@@ -100,7 +94,7 @@ fn see<S: Shelf>(rt: &(impl Abort + AllocGlobal), shelf: &mut S) -> Look {
         Ok(choice) => told(rt, &choice),
         Err(why) => Chosen::Not(why),
     };
-    Look { shown, chosen }
+    (shown, chosen)
 }
 
 // Makes a group of all disks, and says how that ended, after how many calls.
@@ -117,11 +111,7 @@ fn shows<S: Shelf>(
     shown: Shown,
     epoch: u64,
 ) -> bool {
-    let wanted = Look {
-        shown: [shown; 3],
-        chosen: Chosen::Whole([true; 3], epoch),
-    };
-    see(rt, shelf) == wanted
+    see(rt, shelf) == ([shown; 3], Chosen::Whole([true; 3], epoch))
 }
 
 #[test]
@@ -224,7 +214,7 @@ fn group_images(rt: &(impl Abort + AllocGlobal), id: u64) -> Vec<Vec<u8>> {
 
 fn chosen_of(rt: &(impl Abort + AllocGlobal), images: &[Vec<u8>]) -> Chosen {
     let mut shelf = image_shelf(rt, images, &[]);
-    see(rt, &mut shelf).chosen
+    see(rt, &mut shelf).1
 }
 
 #[test]
