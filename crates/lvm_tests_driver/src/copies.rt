@@ -1,6 +1,6 @@
 //! A copy that is brought up.
 use crate::fixtures::{MIRROR, MODES, Setup, begin, check, close, close_copy, is_stale, turn};
-use crate::steps::{Step, ends, play};
+use crate::steps::{Step, break_off, play, play_out};
 use lvm_disk::{Arrange, Shelf};
 use lvm_faults::{Act, Planned};
 use lvm_num::Mode;
@@ -61,7 +61,7 @@ fn bring_up<S: Shelf + Drop>(rt: &impl Abort, driver: Driver<S>) {
     write_all(rt, &mut driver);
     play(rt, &mut driver, &UP);
     are_there(rt, &mut driver);
-    ends(rt, driver, &BEFORE);
+    play_out(rt, driver, &BEFORE);
 }
 
 #[test]
@@ -96,8 +96,7 @@ const REFUSED: [(&str, Step); 7] = [
 
 #[test]
 fn copies_are_refused_in_their_order(rt: HostRuntime) {
-    let mut driver = begin(&rt, &STALE, &[]);
-    play(&rt, &mut driver, &REFUSED);
+    break_off(&rt, begin(&rt, &STALE, &[]), &REFUSED);
 }
 
 const DRAINED: [(&str, Step); 2] = [
@@ -105,7 +104,7 @@ const DRAINED: [(&str, Step); 2] = [
     ("all is done", Step::Drain(Ok(()))),
 ];
 
-// How the second copy ends, and whether it is stale then.
+// How the second copy play_out, and whether it is stale then.
 fn end_of<S: Shelf + Drop>(rt: &impl Abort, driver: Driver<S>) -> (CopyState, bool) {
     let mut driver = driver;
     play(rt, &mut driver, &DRAINED);

@@ -4,7 +4,7 @@ ghost use Rattle.std.specs.Prelude.{◌≤◌, ◌<◌};
 use crate::fixtures::{
     MIRROR, MODES, POLICIES, Setup, begin, check, close, is_stale, turn, written,
 };
-use crate::steps::{Step, ends, play};
+use crate::steps::{Step, play, play_out};
 use lvm_disk::{Arrange, Shelf};
 use lvm_faults::{Act, Planned};
 use lvm_num::{Mode, Policy};
@@ -58,7 +58,7 @@ fn is_stale_after<S: Shelf + Drop>(rt: &impl Abort, driver: Driver<S>, disk: u16
         ("the other fails", Step::Order(Arrange::Fail(other))),
         ("it is read from the one copy", Step::Got(3, alone)),
     ];
-    ends(rt, driver, &steps);
+    play_out(rt, driver, &steps);
     stale
 }
 
@@ -121,7 +121,7 @@ fn is_lost<S: Shelf + Drop>(rt: &impl Abort, driver: Driver<S>, copies: u8, stan
         ("old or new", Step::Got(5, Ok(stands))),
         ("and it stays so", Step::Got(5, Ok(stands))),
     ];
-    ends(rt, driver, &steps);
+    play_out(rt, driver, &steps);
 }
 
 #[test]
@@ -176,7 +176,7 @@ fn without_a_fresh_copy_nothing_is_done(rt: HostRuntime) {
         mode: Mode::Off,
         ..MIRROR
     };
-    ends(&rt, begin(&rt, &setup, &BOTH), &NO_FRESH);
+    play_out(&rt, begin(&rt, &setup, &BOTH), &NO_FRESH);
 }
 
 const WENT_OFF: [(&str, Step); 8] = [
@@ -203,7 +203,7 @@ fn without_its_votes_the_session_is_over(rt: HostRuntime) {
         copies: 3,
         ..MIRROR
     };
-    ends(&rt, begin(&rt, &setup, &[]), &WENT_OFF);
+    play_out(&rt, begin(&rt, &setup, &[]), &WENT_OFF);
 }
 
 const IN_THE_DARK: [(&str, Step); 2] = [
@@ -211,17 +211,15 @@ const IN_THE_DARK: [(&str, Step); 2] = [
     ("nothing is made", Step::Drain(Err(DrainFault::Dark))),
 ];
 
-// How a write ends, and how the session does then.
+// How a write play_out, and how the session does then.
 fn ending<S: Shelf + Drop>(rt: &impl Abort, driver: Driver<S>) -> (Taken, Turned) {
     let mut driver = driver;
     let taken = written(rt, &mut driver, 5, 9);
     let ended = turn(rt, &mut driver);
-    let steps: &[(&str, Step)] = if ended == Turned::Dark {
-        &IN_THE_DARK
-    } else {
-        &[]
-    };
-    ends(rt, driver, steps);
+    if ended == Turned::Dark {
+        play(rt, &mut driver, &IN_THE_DARK);
+    }
+    close(rt, driver);
     (taken, ended)
 }
 

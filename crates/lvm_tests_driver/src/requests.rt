@@ -1,6 +1,6 @@
 //! Requests that nothing disturbs, and how many may be under way.
 use crate::fixtures::{MIRROR, MODES, POLICIES, Setup, begin, check, close, write};
-use crate::steps::{Step, ends, play};
+use crate::steps::{Step, break_off, play, play_out};
 use lvm_disk::Shelf;
 use lvm_num::Mode;
 use lvm_ranges::below::driver::Driver;
@@ -25,7 +25,7 @@ fn what_is_written_is_read(rt: HostRuntime) {
                     copies,
                     ..MIRROR
                 };
-                ends(&rt, begin(&rt, &setup, &[]), &READ);
+                play_out(&rt, begin(&rt, &setup, &[]), &READ);
             }
         }
     }
@@ -59,7 +59,7 @@ fn one_buffer_is_enough(rt: HostRuntime) {
                 pool,
                 ..MIRROR
             };
-            ends(&rt, begin(&rt, &setup, &[]), &IN_ORDER);
+            play_out(&rt, begin(&rt, &setup, &[]), &IN_ORDER);
         }
     }
 }
@@ -84,8 +84,7 @@ fn a_full_table_takes_no_more(rt: HostRuntime) {
         table: 2,
         ..MIRROR
     };
-    let mut driver = begin(&rt, &setup, &[]);
-    play(&rt, &mut driver, &FILLED);
+    break_off(&rt, begin(&rt, &setup, &[]), &FILLED);
 }
 
 // How many writes are taken before the history is full, each of which is done before the next.
@@ -111,7 +110,7 @@ const FULL_TOO: [(&str, Step); 1] = [(
 fn fill_history<S: Shelf + Drop>(rt: &impl Abort, driver: Driver<S>) -> u64 {
     let mut driver = driver;
     let taken = fill(rt, &mut driver);
-    ends(rt, driver, &FULL_TOO);
+    play_out(rt, driver, &FULL_TOO);
     taken
 }
 

@@ -57,10 +57,17 @@ pub fn play<S: Shelf>(rt: &impl Abort, driver: &mut Driver<S>, steps: &[(&str, S
 }
 
 /// Does the steps, behind which each request was taken, and ends the session.
-pub fn ends<S: Shelf + Drop>(rt: &impl Abort, driver: Driver<S>, steps: &[(&str, Step)]) {
+pub fn play_out<S: Shelf + Drop>(rt: &impl Abort, driver: Driver<S>, steps: &[(&str, Step)]) {
     let mut driver = driver;
     play(rt, &mut driver, steps);
     close(rt, driver);
+}
+
+/// Does the steps, behind which requests may be open, and ends the session.
+pub fn break_off<S: Shelf + Drop>(rt: &impl Abort, driver: Driver<S>, steps: &[(&str, Step)]) {
+    let mut driver = driver;
+    play(rt, &mut driver, steps);
+    driver.close();
 }
 
 fn comes<S: Shelf>(rt: &impl Abort, driver: &mut Driver<S>, step: &Step) -> bool {

@@ -1,6 +1,6 @@
 //! Writes that wait for an entry of the cache, or for a note.
 use crate::fixtures::{MIRROR, Setup, begin, check, close, turn, write};
-use crate::steps::{Step, ends, play};
+use crate::steps::{Step, play, play_out};
 use lvm_disk::Shelf;
 use lvm_faults::{Act, Planned};
 use lvm_ranges::below::driver::Driver;
@@ -143,5 +143,5 @@ const NOTED: [(&str, Step); 3] = [
 fn wait_for_note<S: Shelf + Drop>(rt: &impl Abort, driver: Driver<S>) {
     let mut driver = driver;
     play(rt, &mut driver, &NOTE);
-    ends(rt, driver, &NOTED);
+    play_out(rt, driver, &NOTED);
 }
