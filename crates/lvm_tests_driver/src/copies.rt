@@ -104,7 +104,7 @@ const DRAINED: [(&str, Step); 2] = [
     ("all is done", Step::Drain(Ok(()))),
 ];
 
-// How the second copy play_out, and whether it is stale then.
+// How the second copy ends, and whether it is stale then.
 fn end_of<S: Shelf + Drop>(rt: &impl Abort, driver: Driver<S>) -> (CopyState, bool) {
     let mut driver = driver;
     play(rt, &mut driver, &DRAINED);

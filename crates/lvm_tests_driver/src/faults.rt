@@ -211,7 +211,7 @@ const IN_THE_DARK: [(&str, Step); 2] = [
     ("nothing is made", Step::Drain(Err(DrainFault::Dark))),
 ];
 
-// How a write play_out, and how the session does then.
+// How a write ends, and how the session does then.
 fn ending<S: Shelf + Drop>(rt: &impl Abort, driver: Driver<S>) -> (Taken, Turned) {
     let mut driver = driver;
     let taken = written(rt, &mut driver, 5, 9);
