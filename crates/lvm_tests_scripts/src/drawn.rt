@@ -1,13 +1,12 @@
 // A script that is drawn, and a run of it.
 
-use crate::outside::{check, files, run, sink};
+use crate::outside::{check, files, sink, status_of};
 use lvm_io::MemSink;
 use std::process::Abort;
 
 // How the words end, with a script as their input, and what they write.
 fn told(rt: &(impl Abort + AllocGlobal), words: &[&str], script: &[u8]) -> (u8, MemSink) {
-    let (ended, out) = run(rt, words, script, 7, files(rt), &mut sink(rt, 0));
-    (ended.status.code(), out)
+    status_of(rt, words, script, 7, files(rt), &mut sink(rt, 0))
 }
 
 #[test]

@@ -1,6 +1,6 @@
 // The program over image files of the folder in which the test runs.
 
-use crate::outside::{check, run, sink};
+use crate::outside::{check, sink, status_of};
 use lvm_image::ImageSink;
 use lvm_io::MemSink;
 use lvm_lane::FileShelf;
@@ -23,8 +23,7 @@ fn told<R: Files<File = File> + AllocGlobal + Abort>(
     moment: u64,
 ) -> (u8, MemSink) {
     let files = FileShelf::open(rt, rt.alloc(), &mut sink(rt, 64)).expect(rt, "files");
-    let (ended, out) = run(rt, words, script, moment, files, &mut ImageSink::new(rt));
-    (ended.status.code(), out)
+    status_of(rt, words, script, moment, files, &mut ImageSink::new(rt))
 }
 
 // Expects the words to end with this status and to write this.

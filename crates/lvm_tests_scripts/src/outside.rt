@@ -43,7 +43,73 @@ pub fn files(rt: &(impl Abort + AllocGlobal)) -> MemShelf
     MemShelf::new(alloc, &[4_100], Rows::empty(alloc), 8).expect(rt, "files")
 }
 
-/// How the words end, with a script as their input and a clock that answers this moment first, and what they write.
+/// What a run tells when it has ended.
+#[derive(Clone, Copy)]
+pub struct Told {
+    pub status: u8,
+    pub refused: u32,
+    /// Of its history the run and how many entries it has.
+    pub history: Option<(u64, u32)>,
+    /// Whether it made disks for itself, and the last byte of the first data sector of the first of these.
+    pub has_disks: bool,
+    pub on_disks: Option<u8>,
+}
+
+/// The last byte of the first data sector of a shelf's first disk.
+pub fn last_byte(shelf: &MemShelf) -> Option<u8> {
+    if shelf.disks() == 0 || shelf.sectors(0) <= 4_096 {
+        return None;
+    }
+    shelf.sector(0, 4_096).last().copied()
+}
+
+fn told_by<S>(ended: &Ended<S>) -> Told {
+    Told {
+        status: ended.status.code(),
+        refused: ended.refused,
+        history: ended
+            .history
+            .as_ref()
+            .map(|history| (history.run(), history.len())),
+        has_disks: ended.sim.is_some(),
+        on_disks: ended.sim.as_ref().and_then(last_byte),
+    }
+}
+
+// The files, and what the run tells.
+fn split<S: Drop>(ended: Ended<S>) -> (S, Told) {
+    let told = told_by(&ended);
+    (ended.shelf, told)
+}
+
+// Does what the words ask for, with a clock that answers this moment first.
+fn run_at<S: Shelf, P: Images>(
+    rt: &impl AllocGlobal,
+    texts: &[Text],
+    input: &mut MemSource,
+    out: &mut MemSink,
+    err: &mut MemSink,
+    moment: u64,
+    files: S,
+    images: &mut P,
+) -> Ended<S>
+    requires { IsReady (S.device files) }
+{
+    let mut clock = MemClock::new(moment.max(1));
+    run_words(
+        rt.alloc(),
+        texts,
+        input,
+        out,
+        err,
+        &mut clock,
+        files,
+        images,
+    )
+}
+
+/// Does what the words ask for, with a script as their input and a clock that answers this moment first: the files, what
+/// the run tells, and what it writes.
 pub fn run<S: Shelf + Drop, P: Images>(
     rt: &(impl Abort + AllocGlobal),
     words: &[&str],
@@ -51,23 +117,31 @@ pub fn run<S: Shelf + Drop, P: Images>(
     moment: u64,
     files: S,
     images: &mut P,
-) -> (Ended<S>, MemSink)
+) -> (S, Told, MemSink)
     requires { IsReady (S.device files) }
 {
     let texts = texts(rt, words);
     let mut input = source(rt, script);
     let mut out = sink(rt, 1_048_576);
     let mut err = sink(rt, 64);
-    let mut clock = MemClock::new(moment.max(1));
-    let ended = run_words(
-        rt.alloc(),
-        &texts,
-        &mut input,
-        &mut out,
-        &mut err,
-        &mut clock,
-        files,
-        images,
+    let ended = run_at(
+        rt, &texts, &mut input, &mut out, &mut err, moment, files, images,
     );
-    (ended, out)
+    let (files, told) = split(ended);
+    (files, told, out)
+}
+
+/// The status with which they end, and what they write.
+pub fn status_of<S: Shelf + Drop, P: Images>(
+    rt: &(impl Abort + AllocGlobal),
+    words: &[&str],
+    script: &[u8],
+    moment: u64,
+    files: S,
+    images: &mut P,
+) -> (u8, MemSink)
+    requires { IsReady (S.device files) }
+{
+    let (_, told, out) = run(rt, words, script, moment, files, images);
+    (told.status, out)
 }
