@@ -67,7 +67,7 @@ unread_promises asked clock entry exit same ready room input output end unrun =
 -- and nothing that is drawn was written
 pub unread_draws : {S : Type 0} (asked : Result Job WordsFault) (output : Stream) (end : Ended S) (P : MemShelf → ℕ → ℕ → Workload → Type 0) (Same : Type 0) → Same → IsUnrun end ended.Memory
     → OnDrawn asked (λ seed count. IsUnrun end end.status × IsGenerated seed count end.status (record { before = output; after = output }))
-        (λ disks mib load. IfSome end.sim (λ shelf. P shelf disks mib load) × IfNone end.sim (IsUnrun end ended.Memory × Same))
+    (λ disks mib load. IfSome end.sim (λ shelf. P shelf disks mib load) × IfNone end.sim (IsUnrun end ended.Memory × Same))
 unread_draws asked output end P Same same unrun = on_drawn asked _ _ (λ seed count. (
   record { status_is = refl; refused_is = unrun.refused_is; history_is = unrun.history_is; sim_is = unrun.sim_is },
   subst (λ (s : ExitStatus). IsGenerated seed count s (record { before = output; after = output })) (sym unrun.status_is) (none seed count),

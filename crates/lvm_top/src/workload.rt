@@ -26,7 +26,9 @@ use std::alloc::{AllocError, Global};
 
 // The line that makes a group of eight disks; so many bytes of it stand before them, and as many are each.
 const MKVG: &[u8] = b"mkvg -y weavevg -s 1 hdisk0 hdisk1 hdisk2 hdisk3 hdisk4 hdisk5 hdisk6 hdisk7";
+
 const DISKS_AT: usize = 20;
+
 const DISK: usize = 7;
 
 // The blocks of a partition.
@@ -124,7 +126,11 @@ fn serve<S: Shelf>(
 fn woven_text(alloc: Global, woven: &Woven) -> Result<String, AllocError>
     ensures { IfOk result (λ text. string_bytes text ≡ woven_text woven.now) }
 {
-    let head = if woven.waiting { "refused 24 Stuck\n" } else { "" };
+    let head = if woven.waiting {
+        "refused 24 Stuck\n"
+    } else {
+        ""
+    };
     let begun = woven.totals.begun;
     let done = woven.totals.done;
     let got = woven.totals.got;
@@ -263,11 +269,29 @@ fn end_woven<S: Shelf, O: Sink>(
         Holder::Serving { driver } => draw(alloc, out, driver, posts, bytes, blocks, load),
         Holder::Empty { driver } => {
             let holder = Holder::Empty { driver };
-            refuse(alloc, out, Stage { holder, posts, bytes }, Reply::Refused(Refusal::NoVolume))
+            refuse(
+                alloc,
+                out,
+                Stage {
+                    holder,
+                    posts,
+                    bytes,
+                },
+                Reply::Refused(Refusal::NoVolume),
+            )
         }
         Holder::Off { shelf, history } => {
             let holder = Holder::Off { shelf, history };
-            refuse(alloc, out, Stage { holder, posts, bytes }, Reply::Refused(Refusal::NoVolume))
+            refuse(
+                alloc,
+                out,
+                Stage {
+                    holder,
+                    posts,
+                    bytes,
+                },
+                Reply::Refused(Refusal::NoVolume),
+            )
         }
     }
 }
@@ -307,6 +331,13 @@ pub fn run_weave<S: Shelf, O: Sink, C: Clock>(
         posts,
         bytes,
     };
-    let made = make_volume(alloc, stage, clock, room, mkvg_line(disks), volume.as_bytes());
+    let made = make_volume(
+        alloc,
+        stage,
+        clock,
+        room,
+        mkvg_line(disks),
+        volume.as_bytes(),
+    );
     end_woven(alloc, out, made, PARTITION * u64::from(mib - 2), load)
 }
