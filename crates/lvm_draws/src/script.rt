@@ -108,6 +108,7 @@ pub fn write_script<O: Sink>(
     ensures later { O.faults out.old ≤ O.faults out.new }
     ensures cause { result ≡ Err ScriptFault.Sink → Rose (O.faults out.old) (O.faults out.new) }
     ensures well { OnOk result (O.faults out.new ≡ O.faults out.old) }
+    ensures memory { result ≡ Err ScriptFault.Memory → O.faults out.new ≡ O.faults out.old }
 {
     let Ok(mut text) = String::from_str(alloc, HEAD) else {
         return Err(ScriptFault::Memory);

@@ -1,9 +1,10 @@
 -- Copies that are made one after another.
-use Rattle.std.proofs.Common.{◌≡◌, inl, inr, ⊎_elim, ℕ, zero, suc, ◌+◌, ◌<◌, ◌≤◌, Some, length, slice_get, slice_index_or, IsTrue, refl, sym, ◌∙◌, ap, subst, arith}
-use Rattle.std.specs.Prelude.{◌⊎◌, List, [], ◌∷◌}
+use Rattle.std.proofs.Common.{◌≡◌, inl, inr, ⊎_elim, ℕ, zero, suc, ◌+◌, ◌<◌, ◌≤◌, Some, length, slice_get, slice_index_or, IsTrue, refl, sym, ◌∙◌, ap, subst, arith, add-one}
+use Rattle.std.specs.Prelude.{List, [], ◌∷◌, ◌++◌, take, drop}
 use Rattle.std.proofs.lemmas.Bool.{cases_lt}
+use Rattle.std.proofs.lemmas.List.{append-nil, map-append, take_all}
 use Rattle.lvm_num.specs.Buffer.{Buffer, Sector}
-use Rattle.lvm_disk.specs.Device.{Media, Device, IsReady, image_of}
+use Rattle.lvm_disk.specs.Device.{Media, Range, Device, IsReady, image_of}
 use Rattle.lvm_disk.specs.Paths.{Here}
 use Rattle.lvm_kept.specs.Plans.{ChangesBy}
 use Rattle.lvm_kept.specs.Group.{IsOneOf}
@@ -14,8 +15,8 @@ use Rattle.lvm_begin.specs.declared.begin.Begun.TheVariants as begun
 use Rattle.lvm_begin.specs.Ends.{HasNoFault}
 use Rattle.lvm_write.specs.Writes.{DiskWritesLeave, IsBack}
 use Rattle.lvm_recovery.specs.declared.copying.Recopy.{Recopy}
-use Rattle.lvm_recovery.proofs.Logged.{only_none, only_then, only_wider}
-use Rattle.lvm_recovery.specs.Copying.{IsInRun, IsInOneRun, LogsOnly, IsFull, is_of_copy, IsOfCopy, IsCopied, CopyGives, sources_and_targets, IsOfCopies, AreApart, AllGive}
+use Rattle.lvm_recovery.proofs.Logged.{just_none, just_then, only_none, only_then, only_wider}
+use Rattle.lvm_recovery.specs.Copying.{IsInRun, IsInOneRun, LogsJust, LogsOnly, StopsAtOne, StopsInCopy, run_at, runs_into, IsFull, is_of_copy, IsOfCopy, IsCopied, CopyGives, sources_and_targets, IsOfCopies, AreApart, AllGive}
 use Rattle.lvm_recovery.proofs.Copied.{does_wider, does_then, back_then, well_then, failed_then, cut_then, left_then, or_first, or_second}
 
 -- ---- the list
@@ -35,6 +36,25 @@ at_index [] k d low = absurd (omega (arith, low))
 at_index (x ∷ l) zero d low = refl
 at_index (x ∷ l) (suc k) d low = at_index l k d (omega (arith, low))
 
+-- one more of the front
+take_one_more : {X : Type 0} (l : List X) (k : ℕ) (x : X) → slice_get l k ≡ Some x → take (suc k) l ≡ take k l ++ x ∷ []
+take_one_more {X = X} [] k x is = absurd (cc (is))
+take_one_more {X = X} (y ∷ l) zero x is = let e : y ≡ x = cc (is) in ap (λ (z : X). z ∷ []) e
+take_one_more {X = X} (y ∷ l) (suc k) x is = ap (λ (m : List X). y ∷ m) (take_one_more l k x is)
+
+-- the front, one, and those behind it
+split_at_one : {X : Type 0} (l : List X) (k : ℕ) (x : X) → slice_get l k ≡ Some x → l ≡ take k l ++ x ∷ drop (suc k) l
+split_at_one {X = X} [] k x is = absurd (cc (is))
+split_at_one {X = X} (y ∷ l) zero x is = let e : y ≡ x = cc (is) in ap (λ (z : X). z ∷ l) e
+split_at_one {X = X} (y ∷ l) (suc k) x is = ap (λ (m : List X). y ∷ m) (split_at_one l k x is)
+
+-- where one of the front stands
+place_in_front : {X : Type 0} (l : List X) (k : ℕ) (x : X) → IsOneOf (take k l) x → (i : ℕ) × (i < k) × (slice_get l i ≡ Some x)
+place_in_front l zero x one = absurd one
+place_in_front [] (suc k) x one = absurd one
+place_in_front (y ∷ l) (suc k) x (inl same) = (0, omega arith, ap Some (sym same))
+place_in_front (y ∷ l) (suc k) x (inr one) = let it = place_in_front l k x one in let low = it.1 in (suc it.0, omega (arith, low), it.2)
+
 disks_among : (copies : List Recopy) (one : Recopy) (d : ℕ) → IsOneOf copies one → IsTrue (is_of_copy one d) → IsTrue (sources_and_targets copies d)
 disks_among [] one d among is = absurd among
 disks_among (c ∷ copies) one d (inl same) is = or_first (is_of_copy c d) (sources_and_targets copies d) (subst (λ (x : Recopy). IsTrue (is_of_copy x d)) same is)
@@ -44,6 +64,7 @@ disks_among (c ∷ copies) one d (inr among) is = or_second (is_of_copy c d) (so
 
 pub record SoFar (copies : List Recopy) (number p q : ℕ) (old now : Device) (buf : Buffer) (k : ℕ) : Type 0 where
   pub does : DiskWritesLeave (sources_and_targets copies) (IsOfCopies old copies) p q old now
+  pub writes : LogsJust (runs_into (take k copies)) old.wrote now.wrote
   pub ranges : LogsOnly (IsInOneRun copies) old.wrote now.wrote
   pub back : IsBack number old now buf
   pub full : IsFull buf
@@ -53,6 +74,7 @@ pub record SoFar (copies : List Recopy) (number p q : ℕ) (old now : Device) (b
 pub none_so_far : (copies : List Recopy) (p : ℕ) (old : Device) (buf : Buffer) → IsReady old → IsFull buf → SoFar copies buf.number p p old old buf 0
 none_so_far copies p old buf ready full = record {
   does = record { keeps = keeps_here (sources_and_targets copies) (IsOfCopies old copies) old; spends = spends_none p old; moments = Here (writing_here (IsOfCopies old copies) old ready.flights) };
+  writes = just_none old.wrote old.wrote refl;
   ranges = only_none (IsInOneRun copies) old.wrote;
   back = record { ready = ready; cuts = refl; number_is = refl };
   full = full;
@@ -136,9 +158,31 @@ module _ (copies : List Recopy) (apart : AreApart copies) (number p q : ℕ) (ol
         subst (λ (x : Media). x one.into.disk (one.into.sector + i) ≡ m one.from.disk (one.from.sector + i)) (sym same)
         (last.2 i inside ∙ source_stays copies apart old m mid.0 now.sizes was mid.2 one i among inside))
 
+    -- their second runs were written in their order
+    runs_more : runs_into (take k copies) ++ run_at one.into ∷ [] ≡ runs_into (take (k + 1) copies)
+    runs_more = sym (ap runs_into (ap (λ (n : ℕ). take n copies) (add-one k) ∙ take_one_more copies k one at) ∙ map-append (λ (c : Recopy). run_at c.into) (take k copies) (one ∷ []))
+
+    more_write : LogsJust (run_at one.into ∷ []) now.wrote new.wrote → LogsJust (runs_into (take (k + 1) copies)) old.wrote new.wrote
+    more_write told = subst (λ (l : List Range). LogsJust l old.wrote new.wrote) runs_more (just_then (runs_into (take k copies)) (run_at one.into ∷ []) old.wrote now.wrote new.wrote so_far.writes told)
+
+    stops_in : (At : ℕ → Type 0) → StopsInCopy [] one now.wrote new.wrote At → StopsInCopy (runs_into (take k copies)) one old.wrote new.wrote At
+    stops_in At (inl first) = inl (subst (λ (l : List Range). LogsJust l old.wrote new.wrote) (append-nil (runs_into (take k copies))) (just_then (runs_into (take k copies)) [] old.wrote now.wrote new.wrote so_far.writes first.0), first.1)
+    stops_in At (inr last) = inr (just_then (runs_into (take k copies)) (run_at one.into ∷ []) old.wrote now.wrote new.wrote so_far.writes last.0, last.1)
+
+    stops_at : DiskWritesLeave (is_of_copy one) (IsOfCopy now one) q r now new → (At : ℕ → Type 0) → StopsInCopy [] one now.wrote new.wrote At → StopsAtOne copies old new At
+    stops_at does At stops = record {
+      made = take k copies;
+      one = one;
+      left = drop (suc k) copies;
+      order = split_at_one copies k one at;
+      copied = λ other front. let it = place_in_front copies k other front in stays does other (one_at copies it.0 other it.2) (so_far.copied it.0 other it.1 it.2);
+      writes = stops_in At stops;
+    }
+
     pub one_more : (last : Buffer) → CopyGives one buf.number q r now new (begun.Ended last) → SoFar copies number p r old new last (k + 1)
     one_more last gives = record {
       does = all_do gives.does;
+      writes = more_write gives.writes;
       ranges = all_log gives.ranges;
       back = back_then number old now buf so_far.back so_far.well new last gives.how.back;
       full = gives.how.full;
@@ -156,15 +200,17 @@ module _ (copies : List Recopy) (apart : AreApart copies) (number p q : ℕ) (ol
     stopped_here (begun.Ended b) never gives = absurd (never b refl)
     stopped_here (begun.DiskFailed disk b) never gives = record {
       does = all_do gives.does;
+      writes = stops_at gives.does (λ d. disk ≡ d) gives.writes;
       ranges = all_log gives.ranges;
       how = (disks_among copies one disk among gives.how.0, failed_then number old now buf so_far.back so_far.well new disk b gives.how.1);
     }
-    stopped_here begun.Dark never gives = record { does = all_do gives.does; ranges = all_log gives.ranges; how = cut_then number old now buf so_far.back so_far.well new gives.how }
-    stopped_here begun.Stuck never gives = record { does = all_do gives.does; ranges = all_log gives.ranges; how = left_then number old now buf so_far.back so_far.well p q new so_far.does.spends gives.how }
+    stopped_here begun.Dark never gives = record { does = all_do gives.does; writes = stops_at gives.does (λ d. Unit {0}) gives.writes; ranges = all_log gives.ranges; how = cut_then number old now buf so_far.back so_far.well new gives.how }
+    stopped_here begun.Stuck never gives = record { does = all_do gives.does; writes = stops_at gives.does (λ d. Unit {0}) gives.writes; ranges = all_log gives.ranges; how = left_then number old now buf so_far.back so_far.well p q new so_far.does.spends gives.how }
 
 pub all_so_far : (copies : List Recopy) (number p q : ℕ) (old now : Device) (buf : Buffer) (k : ℕ) → length copies ≤ k → SoFar copies number p q old now buf k → AllGive copies number p q old now (begun.Ended buf)
 all_so_far copies number p q old now buf k all so_far = record {
   does = so_far.does;
+  writes = subst (λ (l : List Recopy). LogsJust (runs_into l) old.wrote now.wrote) (take_all k copies all) so_far.writes;
   ranges = so_far.ranges;
   how = record {
     back = so_far.back;

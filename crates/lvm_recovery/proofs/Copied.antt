@@ -1,10 +1,10 @@
 -- A copy by a read and a write, and one copy after another.
-use Rattle.std.proofs.Common.{◌≡◌, ℕ, ◌+◌, ◌-◌, ◌<◌, Bool, true, false, IsTrue, IsFalse, refl, ◌∙◌, subst, arith, eq-eqb}
-use Rattle.std.specs.Prelude.{◌==◌, ◌||◌}
+use Rattle.std.proofs.Common.{◌≡◌, inl, inr, ℕ, ◌+◌, ◌<◌, Bool, true, false, IsTrue, IsFalse, refl, ◌∙◌, subst, eq-eqb}
+use Rattle.std.specs.Prelude.{◌==◌, ◌||◌, ◌⊎◌, List, [], ◌∷◌}
 use Rattle.lvm_num.specs.Buffer.{Buffer, Sector}
 use Rattle.lvm_num.specs.Disks.{Disks}
 use Rattle.lvm_disk.specs.Counts.{Rose}
-use Rattle.lvm_disk.specs.Device.{Device, image_of}
+use Rattle.lvm_disk.specs.Device.{Device, Range, image_of}
 use Rattle.lvm_kept.specs.Plans.{Plan, ChangesBy}
 use Rattle.lvm_area.specs.Reading.{IsCutOff}
 use Rattle.lvm_write.specs.Parts.{Spends}
@@ -16,8 +16,8 @@ use Rattle.lvm_begin.specs.declared.begin.Begun.TheVariants as begun
 use Rattle.lvm_begin.specs.Ends.{HasNoFault}
 use Rattle.lvm_write.specs.Writes.{DiskWritesLeave, IsBack}
 use Rattle.lvm_recovery.specs.declared.copying.Recopy.{Recopy}
-use Rattle.lvm_recovery.proofs.Logged.{in_run, only_planned, only_then}
-use Rattle.lvm_recovery.specs.Copying.{IsInRun, LogsOnly, IsLeftOut, HasFailed, IsOfStep, HoldsRun, RunHolds, StepGives, is_of_copy, IsOfCopy, CopyGives}
+use Rattle.lvm_recovery.proofs.Logged.{in_run, just_first, only_planned, only_then}
+use Rattle.lvm_recovery.specs.Copying.{IsInRun, LogsJust, LogsOnly, StopsInCopy, run_at, IsLeftOut, HasFailed, IsOfStep, HoldsRun, RunHolds, StepGives, is_of_copy, IsOfCopy, CopyGives}
 
 -- ---- what is done is done by more, too
 
@@ -102,16 +102,21 @@ module _ (one : Recopy) (buf : Buffer) (p q : ℕ) (old mid : Device) where
   read_logs : DiskWritesLeave (λ d. d == one.from.disk) (IsOfStep false one.from buf) p q old mid → LogsOnly (IsInRun one.into) old.wrote mid.wrote
   read_logs does = only_planned (IsOfStep false one.from buf) (IsInRun one.into) old.wrote mid.wrote (λ range inside. absurd (let e : false ≡ true = (in_run false one.from buf range inside).0 in cc)) does.keeps.wrote
 
+  either : LogsJust [] old.wrote mid.wrote ⊎ LogsJust [] old.wrote mid.wrote → LogsJust [] old.wrote mid.wrote
+  either (inl none) = none
+  either (inr none) = none
+
   -- it was not read
   pub not_read : (how : Begun) → ((b : Buffer) → how ≡ begun.Ended b → ⊥) → StepGives false one.from buf p q old mid how → CopyGives one buf.number p q old mid how
   not_read (begun.Ended b) never gives = absurd (never b refl)
   not_read (begun.DiskFailed disk b) never gives = record {
     does = read_does gives.does;
+    writes = inl (gives.writes, gives.how.0);
     ranges = read_logs gives.does;
     how = (or_first (disk == one.from.disk) (disk == one.into.disk) (eq-eqb disk one.from.disk gives.how.0), gives.how.1);
   }
-  not_read begun.Dark never gives = record { does = read_does gives.does; ranges = read_logs gives.does; how = gives.how }
-  not_read begun.Stuck never gives = record { does = read_does gives.does; ranges = read_logs gives.does; how = gives.how }
+  not_read begun.Dark never gives = record { does = read_does gives.does; writes = inl (either gives.writes, tt); ranges = read_logs gives.does; how = gives.how }
+  not_read begun.Stuck never gives = record { does = read_does gives.does; writes = inl (gives.writes, tt); ranges = read_logs gives.does; how = gives.how }
 
   module _ (back : Buffer) (read : StepGives false one.from buf p q old mid (begun.Ended back)) where
     -- what the write brings
@@ -135,12 +140,21 @@ module _ (one : Recopy) (buf : Buffer) (p q : ℕ) (old mid : Device) where
       both_log does = only_then (IsInRun one.into) old.wrote mid.wrote new.wrote (read_logs read.does)
           (only_planned (IsOfStep true one.into back) (IsInRun one.into) mid.wrote new.wrote (λ range inside. (in_run true one.into back range inside).1) does.keeps.wrote)
 
+      -- of the read nothing is told, so that what the write told is all
+      all_told : (more : List Range) → LogsJust more mid.wrote new.wrote → LogsJust more old.wrote new.wrote
+      all_told more told = just_first more old.wrote mid.wrote new.wrote read.writes told
+
+      cut_told : LogsJust [] mid.wrote new.wrote ⊎ LogsJust (run_at one.into ∷ []) mid.wrote new.wrote → StopsInCopy [] one old.wrote new.wrote (λ d. Unit {0})
+      cut_told (inl none) = inl (all_told [] none, tt)
+      cut_told (inr one_more) = inr (all_told (run_at one.into ∷ []) one_more, tt)
+
       -- then it was written, well or not
       pub then_written : (how : Begun) → StepGives true one.into back q r mid new how → CopyGives one buf.number p r old new how
       then_written (begun.Ended last) gives =
           let does = both_do gives.does in
           record {
             does = does;
+            writes = all_told (run_at one.into ∷ []) gives.writes;
             ranges = both_log gives.does;
             how = record {
               back = back_then buf.number old mid back read.how.rested read.how.well new last gives.how.rested;
@@ -155,8 +169,9 @@ module _ (one : Recopy) (buf : Buffer) (p q : ℕ) (old mid : Device) where
           }
       then_written (begun.DiskFailed disk last) gives = record {
         does = both_do gives.does;
+        writes = inr (all_told (run_at one.into ∷ []) gives.writes, gives.how.0);
         ranges = both_log gives.does;
         how = (or_second (disk == one.from.disk) (disk == one.into.disk) (eq-eqb disk one.into.disk gives.how.0), failed_then buf.number old mid back read.how.rested read.how.well new disk last gives.how.1);
       }
-      then_written begun.Dark gives = record { does = both_do gives.does; ranges = both_log gives.does; how = cut_then buf.number old mid back read.how.rested read.how.well new gives.how }
-      then_written begun.Stuck gives = record { does = both_do gives.does; ranges = both_log gives.does; how = left_then buf.number old mid back read.how.rested read.how.well p q new read.does.spends gives.how }
+      then_written begun.Dark gives = record { does = both_do gives.does; writes = cut_told gives.writes; ranges = both_log gives.does; how = cut_then buf.number old mid back read.how.rested read.how.well new gives.how }
+      then_written begun.Stuck gives = record { does = both_do gives.does; writes = inr (all_told (run_at one.into ∷ []) gives.writes, tt); ranges = both_log gives.does; how = left_then buf.number old mid back read.how.rested read.how.well p q new read.does.spends gives.how }

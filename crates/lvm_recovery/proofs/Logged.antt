@@ -1,13 +1,15 @@
 -- Ranges that are told, one transfer after another.
-use Rattle.std.proofs.Common.{◌≡◌, ◌+◌, ◌-◌, Bool, true, List, [], ◌++◌, Option, Some, None, sym, ap, subst, ◌∙◌, append_assoc, arith, All}
+use Rattle.std.proofs.Common.{◌≡◌, ◌+◌, ◌-◌, Bool, true, false, List, [], ◌++◌, Option, Some, None, sym, ap, subst, ◌∙◌, append_assoc, arith, All}
 use Rattle.std.proofs.lemmas.List.{append_cancel_left, append-nil}
+use Rattle.std.specs.Bool.{MatchBool}
 use Rattle.std.proofs.lemmas.List.Elements.{All-nil, All-weaker, All-append}
 use Rattle.lvm_num.specs.declared.place.Place.{Place}
 use Rattle.lvm_num.specs.Buffer.{Buffer}
 use Rattle.lvm_disk.specs.Device.{Range}
+use Rattle.lvm_disk.specs.Steps.{Logs}
 use Rattle.lvm_kept.specs.Plans.{Plan}
 use Rattle.lvm_write.specs.Written.{IsInPlan, LogsPlan}
-use Rattle.lvm_recovery.specs.Copying.{IsInRun, IsOfStep, LogsOnly}
+use Rattle.lvm_recovery.specs.Copying.{IsInRun, IsOfStep, LogsJust, LogsOnly, run_at, step_ranges}
 
 -- what a step may bring is told as a part of its run, and of a read nothing is
 pub in_run : (write : Bool) (place : Place) (buf : Buffer) (range : Range) → IsInPlan (IsOfStep write place buf) range → (write ≡ true) × IsInRun place range
@@ -54,3 +56,31 @@ only_told Q (Some x) (Some y) first more e f logs =
     let all : y ≡ first ++ more = cc in
     let it : logs.0 ≡ more = append_cancel_left first logs.0 more (ap (λ (z : List Range). z ++ logs.0) (sym same) ∙ sym logs.1 ∙ all) in
     subst (All Q) it logs.2
+
+-- ---- just these ranges
+
+pub just_none : (a b : Option (List Range)) → b ≡ a → LogsJust [] a b
+just_none None None same = tt
+just_none None (Some b) same = absurd cc
+just_none (Some a) None same = tt
+just_none (Some a) (Some b) same = let e : b ≡ a = cc in e ∙ sym (append-nil a)
+
+pub just_step : (write : Bool) (place : Place) (a b : Option (List Range)) → MatchBool write (Logs a (run_at place) b) (b ≡ a) → LogsJust (step_ranges write place) a b
+just_step true place None None one = tt
+just_step true place None (Some b) one = absurd one
+just_step true place (Some a) None one = tt
+just_step true place (Some a) (Some b) one = one
+just_step false place a b one = just_none a b one
+
+pub just_then : (x y : List Range) (a b c : Option (List Range)) → LogsJust x a b → LogsJust y b c → LogsJust (x ++ y) a c
+just_then x y None None None one two = tt
+just_then x y None None (Some c) one two = absurd two
+just_then x y None (Some b) c one two = absurd one
+just_then x y (Some a) None None one two = tt
+just_then x y (Some a) None (Some c) one two = absurd two
+just_then x y (Some a) (Some b) None one two = tt
+just_then x y (Some a) (Some b) (Some c) one two = two ∙ ap (λ (l : List Range). l ++ y) one ∙ append_assoc a x y
+
+-- behind nothing
+pub just_first : (y : List Range) (a b c : Option (List Range)) → LogsJust [] a b → LogsJust y b c → LogsJust y a c
+just_first y a b c one two = just_then [] y a b c one two

@@ -24,7 +24,8 @@ use Rattle.lvm_write.specs.Written.{IsWriting, IsInPlan}
 use Rattle.lvm_write.proofs.Writing.{logs_one, logs_same, both_map, adds_writing, media_written, stand_told}
 use Rattle.lvm_begin.specs.declared.begin.Begun.{Begun}
 use Rattle.lvm_begin.specs.declared.begin.Begun.TheVariants as begun
-use Rattle.lvm_recovery.specs.Copying.{IsFull, IsOfStep, RunHolds, HasMoved, HowStep, StepGives}
+use Rattle.lvm_recovery.specs.Copying.{IsFull, IsOfStep, RunHolds, HasMoved, HowStep, StepGives, StepWrites}
+use Rattle.lvm_recovery.proofs.Logged.{just_none, just_step}
 
 -- the disk is on one side alone
 clash : {X : Type 0} (t : Bool) → IsTrue t → IsFalse t → X
@@ -141,6 +142,7 @@ put_holds ticket place buf m k puts i value inside is =
 
 record Effect (write : Bool) (place : Place) (buf : Buffer) (before : ℕ) (old new : Device) (how : Moved) : Type 0 where
   wrote : MatchBool write (Logs old.wrote (record { disk = place.disk; first = place.sector; count = 256 }) new.wrote) (new.wrote ≡ old.wrote) ⊎ (new.wrote ≡ old.wrote)
+  writes : StepWrites write place old.wrote new.wrote (begun_of place.disk how)
   sizes : new.sizes ≡ old.sizes
   arranges : new.arranges ≡ old.arranges
   orders : new.orders ≡ old.orders
@@ -176,6 +178,7 @@ module _ (write : Bool) (place : Place) (buf : Buffer) (before ticket : ℕ) (ol
       let effects = done_effect before old new f back ready.flights (now, out, ends) in
       record {
         wrote = inl (logged write range old.wrote out.begun.wrote new.wrote (sym (ap (λ (d : Device). d.wrote) ends.new_is ∙ facts.wrote)) out.starts.wrote);
+        writes = just_step write place old.wrote new.wrote (logged write range old.wrote out.begun.wrote new.wrote (sym (ap (λ (d : Device). d.wrote) ends.new_is ∙ facts.wrote)) out.starts.wrote);
         sizes = ap (λ (d : Device). d.sizes) ends.new_is ∙ facts.sizes;
         arranges = ap (λ (d : Device). d.arranges) ends.new_is ∙ facts.arranges;
         orders = ap (λ (d : Device). d.orders) ends.new_is ∙ facts.orders;
@@ -197,6 +200,7 @@ module _ (write : Bool) (place : Place) (buf : Buffer) (before ticket : ℕ) (ol
       let elsewhere : (d : ℕ) → (d ≡ place.disk → ⊥) → new.counts.faults d ≡ old.counts.faults d = λ d differ. fault.faults.elsewhere d differ ∙ ap (λ (h : ℕ → ℕ). h d) facts.faults in
       record {
         wrote = inl (logged write range old.wrote out.begun.wrote new.wrote (sym (ap (λ (d : Device). d.wrote) ends.new_is ∙ facts.wrote)) out.starts.wrote);
+        writes = just_step write place old.wrote new.wrote (logged write range old.wrote out.begun.wrote new.wrote (sym (ap (λ (d : Device). d.wrote) ends.new_is ∙ facts.wrote)) out.starts.wrote);
         sizes = ap (λ (d : Device). d.sizes) ends.new_is ∙ facts.sizes;
         arranges = ap (λ (d : Device). d.arranges) ends.new_is ∙ facts.arranges;
         orders = ap (λ (d : Device). d.orders) ends.new_is ∙ facts.orders;
@@ -217,6 +221,7 @@ module _ (write : Bool) (place : Place) (buf : Buffer) (before ticket : ℕ) (ol
       let facts = out_facts old now f out in
       record {
         wrote = inl (logged write range old.wrote out.begun.wrote new.wrote (sym (ap (λ (d : Device). d.wrote) cuts.new_is ∙ facts.wrote)) out.starts.wrote);
+        writes = inr (just_step write place old.wrote new.wrote (logged write range old.wrote out.begun.wrote new.wrote (sym (ap (λ (d : Device). d.wrote) cuts.new_is ∙ facts.wrote)) out.starts.wrote));
         sizes = ap (λ (d : Device). d.sizes) cuts.new_is ∙ facts.sizes;
         arranges = ap (λ (d : Device). d.arranges) cuts.new_is ∙ facts.arranges;
         orders = ap (λ (d : Device). d.orders) cuts.new_is ∙ facts.orders;
@@ -232,6 +237,7 @@ module _ (write : Bool) (place : Place) (buf : Buffer) (before ticket : ℕ) (ol
       }
   effect (moved.Dark false) cuts rests = record {
     wrote = inr (ap (λ (d : Device). d.wrote) cuts.new_is);
+    writes = inl (just_none old.wrote new.wrote (ap (λ (d : Device). d.wrote) cuts.new_is));
     sizes = ap (λ (d : Device). d.sizes) cuts.new_is;
     arranges = ap (λ (d : Device). d.arranges) cuts.new_is;
     orders = ap (λ (d : Device). d.orders) cuts.new_is;
@@ -249,6 +255,7 @@ module _ (write : Bool) (place : Place) (buf : Buffer) (before ticket : ℕ) (ol
       let facts = out_facts old new f out in
       record {
         wrote = inl (logged write range old.wrote out.begun.wrote new.wrote (sym facts.wrote) out.starts.wrote);
+        writes = just_step write place old.wrote new.wrote (logged write range old.wrote out.begun.wrote new.wrote (sym facts.wrote) out.starts.wrote);
         sizes = facts.sizes;
         arranges = facts.arranges;
         orders = facts.orders;
@@ -293,5 +300,6 @@ module _ (write : Bool) (place : Place) (buf : Buffer) (before ticket : ℕ) (ol
           spends = record { falls = falls; waits = waits };
           moments = moments;
         };
+        writes = done.writes;
         how = done.how_is;
       }

@@ -1,5 +1,5 @@
 -- Runs of 256 sectors that are copied between disks.
-use Rattle.std.specs.Prelude.{◌≡◌, ℕ, ◌+◌, ◌<◌, ◌≤◌, ◌==◌, ◌||◌, Bool, true, false, List, [], ◌∷◌, length, Some, slice_get, IsTrue, IfSome, All, Option, None, ◌++◌}
+use Rattle.std.specs.Prelude.{◌≡◌, ◌⊎◌, ℕ, ◌+◌, ◌<◌, ◌≤◌, ◌==◌, ◌||◌, Bool, true, false, List, [], ◌∷◌, length, map, Some, slice_get, IsTrue, IfSome, All, Option, None, ◌++◌}
 use Rattle.std.specs.List.{list_any}
 use Rattle.lvm_num.specs.declared.place.Place.{Place}
 use Rattle.lvm_num.specs.Buffer.{Buffer, Sector}
@@ -68,6 +68,17 @@ LogsOnly Q None (Some new) = ⊥
 LogsOnly Q (Some old) None = Unit {0}
 LogsOnly Q (Some old) (Some new) = (more : List Range) × (new ≡ old ++ more) × All Q more
 
+-- Just these ranges were told beside those that were told before, in this order; or they are told no more.
+abbrev pub LogsJust : List Range → Option (List Range) → Option (List Range) → Type 0
+LogsJust more None None = Unit {0}
+LogsJust more None (Some new) = ⊥
+LogsJust more (Some old) None = Unit {0}
+LogsJust more (Some old) (Some new) = new ≡ old ++ more
+
+-- the 256 sectors from this place on
+abbrev pub run_at : Place → Range
+run_at place = record { disk = place.disk; first = place.sector; count = 256 }
+
 -- ---- one transfer
 
 -- what it may bring: a read nothing, a write what the buffer holds
@@ -102,8 +113,19 @@ HowStep write place buf before old new (begun.DiskFailed disk back) = (disk ≡ 
 HowStep write place buf before old new begun.Dark = IsCutOff old new
 HowStep write place buf before old new begun.Stuck = IsLeftOut buf.number before old new
 
+-- the ranges that it writes
+abbrev pub step_ranges : Bool → Place → List Range
+step_ranges true place = run_at place ∷ []
+step_ranges false place = []
+
+-- it wrote these, or the power was cut before it was started
+abbrev pub StepWrites : Bool → Place → Option (List Range) → Option (List Range) → Begun → Type 0
+StepWrites write place old new begun.Dark = LogsJust [] old new ⊎ LogsJust (step_ranges write place) old new
+StepWrites write place old new other = LogsJust (step_ranges write place) old new
+
 pub record StepGives (write : Bool) (place : Place) (buf : Buffer) (before after : ℕ) (old new : Device) (result : Begun) : Type 0 where
   pub does : DiskWritesLeave (λ d. d == place.disk) (IsOfStep write place buf) before after old new
+  pub writes : StepWrites write place old.wrote new.wrote result
   pub how : HowStep write place buf before old new result
 
 -- ---- one copy
@@ -134,8 +156,20 @@ HowCopy one number before old new (begun.DiskFailed disk buf) = IsTrue (is_of_co
 HowCopy one number before old new begun.Dark = IsCutOff old new
 HowCopy one number before old new begun.Stuck = IsLeftOut number before old new
 
+-- Behind writes of these ranges the copy was begun and stopped: at the disk that it reads, or once it was written, at the other.
+abbrev pub StopsInCopy : List Range → Recopy → Option (List Range) → Option (List Range) → (ℕ → Type 0) → Type 0
+StopsInCopy front one old new At = (LogsJust front old new × At one.from.disk) ⊎ (LogsJust (front ++ run_at one.into ∷ []) old new × At one.into.disk)
+
+-- what it wrote: its second run, once, where it ended well
+abbrev pub CopyWrites : Recopy → Option (List Range) → Option (List Range) → Begun → Type 0
+CopyWrites one old new (begun.Ended buf) = LogsJust (run_at one.into ∷ []) old new
+CopyWrites one old new (begun.DiskFailed disk buf) = StopsInCopy [] one old new (λ d. disk ≡ d)
+CopyWrites one old new begun.Dark = StopsInCopy [] one old new (λ d. Unit {0})
+CopyWrites one old new begun.Stuck = StopsInCopy [] one old new (λ d. Unit {0})
+
 pub record CopyGives (one : Recopy) (number before after : ℕ) (old new : Device) (result : Begun) : Type 0 where
   pub does : DiskWritesLeave (is_of_copy one) (IsOfCopy old one) before after old new
+  pub writes : CopyWrites one old.wrote new.wrote result
   pub ranges : LogsOnly (IsInRun one.into) old.wrote new.wrote
   pub how : HowCopy one number before old new result
 
@@ -172,8 +206,29 @@ HowAll copies number before old new (begun.DiskFailed disk buf) = IsTrue (source
 HowAll copies number before old new begun.Dark = IsCutOff old new
 HowAll copies number before old new begun.Stuck = IsLeftOut number before old new
 
+-- the second run of each, in their order
+abbrev pub runs_into : List Recopy → List Range
+runs_into copies = map (λ one. run_at one.into) copies
+
+-- A front of the copies was made, each once, in their order and well; the next one was begun and stopped, and none behind it was begun.
+pub record StopsAtOne (copies : List Recopy) (old new : Device) (At : ℕ → Type 0) : Type 0 where
+  pub made : List Recopy
+  pub one : Recopy
+  pub left : List Recopy
+  pub order : copies ≡ made ++ one ∷ left
+  pub copied : (other : Recopy) → IsOneOf made other → IsCopied old new other
+  pub writes : StopsInCopy (runs_into made) one old.wrote new.wrote At
+
+-- what they wrote: each its second run, once, in their order, up to the first that didn't end well
+abbrev pub AllWrite : List Recopy → Device → Device → Begun → Type 0
+AllWrite copies old new (begun.Ended buf) = LogsJust (runs_into copies) old.wrote new.wrote
+AllWrite copies old new (begun.DiskFailed disk buf) = StopsAtOne copies old new (λ d. disk ≡ d)
+AllWrite copies old new begun.Dark = StopsAtOne copies old new (λ d. Unit {0})
+AllWrite copies old new begun.Stuck = StopsAtOne copies old new (λ d. Unit {0})
+
 -- how copies ended, in this order: whatever came of them, only they were made
 pub record AllGive (copies : List Recopy) (number before after : ℕ) (old new : Device) (result : Begun) : Type 0 where
   pub does : DiskWritesLeave (sources_and_targets copies) (IsOfCopies old copies) before after old new
+  pub writes : AllWrite copies old new result
   pub ranges : LogsOnly (IsInOneRun copies) old.wrote new.wrote
   pub how : HowAll copies number before old new result

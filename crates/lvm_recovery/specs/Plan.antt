@@ -57,6 +57,13 @@ copies_in mib status disks g (Some row) = copies_of_group mib status disks row g
 abbrev pub copies_named : Descriptor → Status → Disks → TrackGroup → List Recopy
 copies_named group status disks one = copies_in group.mib status disks one.group (volume_of group one.volume)
 
+-- What the notes of these disks name is planned volume by volume, in each by places, each once, and of each from its first usable copy to the further ones in their order.
+pub record ArePlannedInOrder (c : Contents) (group : Descriptor) (status : Status) (there : Disks) (copies : List Recopy) : Type 0 where
+  pub named : List TrackGroup
+  pub exactly : AreNamed c there named
+  pub rising : AreRising named
+  pub are : copies ≡ flat_map (copies_named group status there) named
+
 -- ---- law
 
 -- Where all that is named is planned so, exactly the planned copies are.

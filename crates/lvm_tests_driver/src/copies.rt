@@ -1,8 +1,6 @@
 //! A copy that is brought up.
-use crate::fixtures::{
-    MIRROR, MODES, Setup, begin, check, close, close_copy, drain, got, is_stale, open_copy, order,
-    turn, write, written,
-};
+use crate::fixtures::{MIRROR, MODES, Setup, begin, check, close, close_copy, is_stale, turn};
+use crate::steps::{Step, break_off, play, play_out};
 use lvm_disk::{Arrange, Shelf};
 use lvm_faults::{Act, Planned};
 use lvm_num::Mode;
@@ -18,51 +16,52 @@ const STALE: Setup = Setup {
 // Writes a block of each track group, with some turns between.
 fn write_all<S: Shelf>(rt: &impl Abort, driver: &mut Driver<S>) {
     for k in 0..8 {
-        check(rt, write(rt, driver, 256 * k, 21 + k) == Ok(k + 2), "taken");
+        play(
+            rt,
+            driver,
+            &[("taken", Step::Write(256 * k, 21 + k, Ok(k + 2)))],
+        );
         for _ in 0..5 {
             turn(rt, driver);
         }
     }
 }
 
-fn are_there<S: Shelf>(rt: &impl Abort, driver: &mut Driver<S>) -> bool {
-    let mut there = true;
+fn are_there<S: Shelf>(rt: &impl Abort, driver: &mut Driver<S>) {
     for k in 0..8 {
-        there = driver.take(1, k + 2) == Taken::Done && there;
+        play(rt, driver, &[("written", Step::Take(k + 2, Taken::Done))]);
     }
     for k in 0..8 {
-        there = got(rt, driver, 256 * k) == Ok(21 + k) && there;
+        play(rt, driver, &[("stands", Step::Got(256 * k, Ok(21 + k)))]);
     }
-    there
 }
 
-// The second copy is brought up.
+const FIRST: [(&str, Step); 3] = [
+    ("on one copy", Step::Written(255, 7, Taken::Done)),
+    ("opened", Step::Open(1, 0, 2, Ok(()))),
+    (
+        "it is at the first",
+        Step::Copy(CopyState::Running { cursor: 0 }),
+    ),
+];
+
+const UP: [(&str, Step); 4] = [
+    ("all is done", Step::Drain(Ok(()))),
+    ("brought up", Step::Close(CopyState::Done)),
+    ("fresh", Step::Stale(1, false)),
+    ("the other fails", Step::Order(Arrange::Fail(0))),
+];
+
+const BEFORE: [(&str, Step); 1] = [("what stood before", Step::Got(255, Ok(7)))];
+
+// The second copy is brought up, and has what was written and what stood before.
 fn bring_up<S: Shelf + Drop>(rt: &impl Abort, driver: Driver<S>) {
     let mut driver = driver;
-    check(
-        rt,
-        written(rt, &mut driver, 255, 7) == Taken::Done,
-        "on one copy",
-    );
-    check(rt, open_copy(rt, &mut driver, 1, 0, 2) == Ok(()), "opened");
-    let first = CopyState::Running { cursor: 0 };
-    check(rt, driver.copy_state() == first, "it is at the first");
+    play(rt, &mut driver, &FIRST);
     write_all(rt, &mut driver);
-    check(rt, drain(rt, &mut driver) == Ok(()), "all is done");
-    check(rt, close_copy(&mut driver) == CopyState::Done, "brought up");
-    check(rt, !is_stale(&driver, 1), "fresh");
-    order(rt, &mut driver, Arrange::Fail(0));
-    check(
-        rt,
-        are_there(rt, &mut driver),
-        "what was written stands on it",
-    );
-    check(
-        rt,
-        got(rt, &mut driver, 255) == Ok(7),
-        "what stood before too",
-    );
-    close(rt, driver);
+    play(rt, &mut driver, &UP);
+    are_there(rt, &mut driver);
+    play_out(rt, driver, &BEFORE);
 }
 
 #[test]
@@ -79,41 +78,36 @@ fn a_copy_is_brought_up_beside_writes(rt: HostRuntime) {
     }
 }
 
-fn is_refused<S: Shelf>(
-    rt: &impl Abort,
-    driver: &mut Driver<S>,
-    copy: (u16, u32, u8),
-    why: CopyFault,
-) {
-    let (lv, lp, number) = copy;
-    check(
-        rt,
-        open_copy(rt, driver, lv, lp, number) == Err(why),
-        "refused",
-    );
-}
-
-fn are_refused<S: Shelf + Drop>(rt: &impl Abort, driver: Driver<S>) {
-    let mut driver = driver;
-    is_refused(rt, &mut driver, (2, 0, 2), CopyFault::NoVolume);
-    is_refused(rt, &mut driver, (1, 1, 2), CopyFault::OutOfRange);
-    is_refused(rt, &mut driver, (1, 0, 0), CopyFault::OutOfRange);
-    is_refused(rt, &mut driver, (1, 0, 3), CopyFault::OutOfRange);
-    is_refused(rt, &mut driver, (1, 0, 1), CopyFault::AlreadyFresh);
-    check(rt, open_copy(rt, &mut driver, 1, 0, 2) == Ok(()), "opened");
-    is_refused(rt, &mut driver, (2, 0, 2), CopyFault::Busy);
-}
+const REFUSED: [(&str, Step); 7] = [
+    (
+        "no such volume",
+        Step::Open(2, 0, 2, Err(CopyFault::NoVolume)),
+    ),
+    (
+        "no such partition",
+        Step::Open(1, 1, 2, Err(CopyFault::OutOfRange)),
+    ),
+    ("no copy 0", Step::Open(1, 0, 0, Err(CopyFault::OutOfRange))),
+    ("no copy 3", Step::Open(1, 0, 3, Err(CopyFault::OutOfRange))),
+    ("fresh", Step::Open(1, 0, 1, Err(CopyFault::AlreadyFresh))),
+    ("opened", Step::Open(1, 0, 2, Ok(()))),
+    ("another is open", Step::Open(2, 0, 2, Err(CopyFault::Busy))),
+];
 
 #[test]
 fn copies_are_refused_in_their_order(rt: HostRuntime) {
-    are_refused(&rt, begin(&rt, &STALE, &[]));
+    break_off(&rt, begin(&rt, &STALE, &[]), &REFUSED);
 }
+
+const DRAINED: [(&str, Step); 2] = [
+    ("opened", Step::Open(1, 0, 2, Ok(()))),
+    ("all is done", Step::Drain(Ok(()))),
+];
 
 // How the second copy ends, and whether it is stale then.
 fn end_of<S: Shelf + Drop>(rt: &impl Abort, driver: Driver<S>) -> (CopyState, bool) {
     let mut driver = driver;
-    check(rt, open_copy(rt, &mut driver, 1, 0, 2) == Ok(()), "opened");
-    check(rt, drain(rt, &mut driver) == Ok(()), "all is done");
+    play(rt, &mut driver, &DRAINED);
     let state = close_copy(&mut driver);
     let stale = is_stale(&driver, 1);
     close(rt, driver);

@@ -2,9 +2,9 @@
 ghost use Rattle.std.specs.Prelude.{◌≤◌, ◌<◌};
 
 use crate::fixtures::{
-    MIRROR, MODES, POLICIES, Setup, begin, check, close, drain, got, is_stale, open_copy, order,
-    turn, write, written,
+    MIRROR, MODES, POLICIES, Setup, begin, check, close, is_stale, turn, written,
 };
+use crate::steps::{Step, play, play_out};
 use lvm_disk::{Arrange, Shelf};
 use lvm_faults::{Act, Planned};
 use lvm_num::{Mode, Policy};
@@ -44,19 +44,21 @@ fn is_stale_after<S: Shelf + Drop>(rt: &impl Abort, driver: Driver<S>, disk: u16
     requires { disk < 2 }
 {
     let mut driver = driver;
-    let done = written(rt, &mut driver, 3, 9) == Taken::Done;
+    let other = 1 - disk;
+    let done = [
+        ("it is done", Step::Written(3, 9, Taken::Done)),
+        ("on the other", Step::Stale(other, false)),
+    ];
+    play(rt, &mut driver, &done);
     let stale = is_stale(&driver, disk);
-    check(rt, done && !is_stale(&driver, 1 - disk), "it is done");
-    check(rt, got(rt, &mut driver, 3) == Ok(9), "it is read");
-    order(rt, &mut driver, Arrange::Heal(disk));
-    order(rt, &mut driver, Arrange::Fail(1 - disk));
     let alone = if stale { Err(Taken::ReadFailed) } else { Ok(9) };
-    check(
-        rt,
-        got(rt, &mut driver, 3) == alone,
-        "it is read from the one copy",
-    );
-    close(rt, driver);
+    let steps = [
+        ("it is read", Step::Got(3, Ok(9))),
+        ("it heals", Step::Order(Arrange::Heal(disk))),
+        ("the other fails", Step::Order(Arrange::Fail(other))),
+        ("it is read from the one copy", Step::Got(3, alone)),
+    ];
+    play_out(rt, driver, &steps);
     stale
 }
 
@@ -111,22 +113,15 @@ fn all_fail(copies: u8, word: u64) -> [Planned; 7] {
 
 // A write that all of so many copies fail, on which this stands afterwards.
 fn is_lost<S: Shelf + Drop>(rt: &impl Abort, driver: Driver<S>, copies: u8, stands: u64) {
-    let mut driver = driver;
-    check(rt, written(rt, &mut driver, 5, 9) == Taken::Lost, "lost");
-    check(rt, !is_stale(&driver, 0), "the first copy stays fresh");
-    check(
-        rt,
-        is_stale(&driver, 1) == (copies > 1),
-        "the second doesn't",
-    );
-    check(
-        rt,
-        is_stale(&driver, 2) == (copies > 2),
-        "nor does the third",
-    );
-    check(rt, got(rt, &mut driver, 5) == Ok(stands), "old or new");
-    check(rt, got(rt, &mut driver, 5) == Ok(stands), "and it stays so");
-    close(rt, driver);
+    let steps = [
+        ("lost", Step::Written(5, 9, Taken::Lost)),
+        ("the first copy stays fresh", Step::Stale(0, false)),
+        ("the second doesn't", Step::Stale(1, copies > 1)),
+        ("nor does the third", Step::Stale(2, copies > 2)),
+        ("old or new", Step::Got(5, Ok(stands))),
+        ("and it stays so", Step::Got(5, Ok(stands))),
+    ];
+    play_out(rt, driver, &steps);
 }
 
 #[test]
@@ -161,21 +156,19 @@ const BOTH: [Planned; 3] = [
     },
 ];
 
-fn has_no_fresh<S: Shelf + Drop>(rt: &impl Abort, driver: Driver<S>) {
-    let mut driver = driver;
-    check(rt, written(rt, &mut driver, 5, 9) == Taken::Done, "done");
-    check(rt, driver.votes() == (2, 3), "the first disk is missing");
-    check(rt, is_stale(&driver, 1), "the second copy is stale");
-    let none = Err(Taken::NoFresh);
-    check(rt, got(rt, &mut driver, 5) == none, "nothing is read");
-    order(rt, &mut driver, Arrange::Heal(0));
-    check(rt, got(rt, &mut driver, 5) == none, "it stays missing");
-    let landed = written(rt, &mut driver, 5, 9);
-    check(rt, landed == Taken::NoFresh, "nothing is written");
-    let opened = open_copy(rt, &mut driver, 1, 0, 2);
-    check(rt, opened == Err(CopyFault::NoFresh), "nor brought up");
-    close(rt, driver);
-}
+const NO_FRESH: [(&str, Step); 8] = [
+    ("done", Step::Written(5, 9, Taken::Done)),
+    ("the first disk is missing", Step::Votes(2, 3)),
+    ("the second copy is stale", Step::Stale(1, true)),
+    ("nothing is read", Step::Got(5, Err(Taken::NoFresh))),
+    ("it heals", Step::Order(Arrange::Heal(0))),
+    ("it stays missing", Step::Got(5, Err(Taken::NoFresh))),
+    ("nothing is written", Step::Written(5, 9, Taken::NoFresh)),
+    (
+        "nor brought up",
+        Step::Open(1, 0, 2, Err(CopyFault::NoFresh)),
+    ),
+];
 
 #[test]
 fn without_a_fresh_copy_nothing_is_done(rt: HostRuntime) {
@@ -183,30 +176,25 @@ fn without_a_fresh_copy_nothing_is_done(rt: HostRuntime) {
         mode: Mode::Off,
         ..MIRROR
     };
-    has_no_fresh(&rt, begin(&rt, &setup, &BOTH));
+    play_out(&rt, begin(&rt, &setup, &BOTH), &NO_FRESH);
 }
 
-fn goes_off<S: Shelf + Drop>(rt: &impl Abort, driver: Driver<S>) {
-    let mut driver = driver;
-    order(rt, &mut driver, Arrange::Fail(0));
-    order(rt, &mut driver, Arrange::Fail(1));
-    check(rt, written(rt, &mut driver, 0, 1) == Taken::Off, "off");
-    check(rt, driver.votes() == (1, 3), "one vote of three");
-    let off = Err(DrainFault::WentOff { have: 1, total: 3 });
-    check(rt, drain(rt, &mut driver) == off, "it went off");
-    check(rt, turn(rt, &mut driver) == Turned::Off, "nothing is made");
-    check(
-        rt,
-        write(rt, &mut driver, 0, 1) == Err(AskFault::Off),
-        "nothing is taken",
-    );
-    check(
-        rt,
-        open_copy(rt, &mut driver, 1, 0, 1) == Err(CopyFault::Off),
+const WENT_OFF: [(&str, Step); 8] = [
+    ("a disk fails", Step::Order(Arrange::Fail(0))),
+    ("another fails", Step::Order(Arrange::Fail(1))),
+    ("off", Step::Written(0, 1, Taken::Off)),
+    ("one vote of three", Step::Votes(1, 3)),
+    (
+        "it went off",
+        Step::Drain(Err(DrainFault::WentOff { have: 1, total: 3 })),
+    ),
+    ("nothing is made", Step::Turn(Turned::Off)),
+    ("nothing is taken", Step::Write(0, 1, Err(AskFault::Off))),
+    (
         "nothing is opened",
-    );
-    close(rt, driver);
-}
+        Step::Open(1, 0, 1, Err(CopyFault::Off)),
+    ),
+];
 
 #[test]
 fn without_its_votes_the_session_is_over(rt: HostRuntime) {
@@ -215,8 +203,13 @@ fn without_its_votes_the_session_is_over(rt: HostRuntime) {
         copies: 3,
         ..MIRROR
     };
-    goes_off(&rt, begin(&rt, &setup, &[]));
+    play_out(&rt, begin(&rt, &setup, &[]), &WENT_OFF);
 }
+
+const IN_THE_DARK: [(&str, Step); 2] = [
+    ("nothing is taken", Step::Write(5, 9, Err(AskFault::Dark))),
+    ("nothing is made", Step::Drain(Err(DrainFault::Dark))),
+];
 
 // How a write ends, and how the session does then.
 fn ending<S: Shelf + Drop>(rt: &impl Abort, driver: Driver<S>) -> (Taken, Turned) {
@@ -224,16 +217,7 @@ fn ending<S: Shelf + Drop>(rt: &impl Abort, driver: Driver<S>) -> (Taken, Turned
     let taken = written(rt, &mut driver, 5, 9);
     let ended = turn(rt, &mut driver);
     if ended == Turned::Dark {
-        check(
-            rt,
-            write(rt, &mut driver, 5, 9) == Err(AskFault::Dark),
-            "nothing is taken",
-        );
-        check(
-            rt,
-            drain(rt, &mut driver) == Err(DrainFault::Dark),
-            "nothing is made",
-        );
+        play(rt, &mut driver, &IN_THE_DARK);
     }
     close(rt, driver);
     (taken, ended)

@@ -263,10 +263,9 @@ pub fn write<S: Shelf>(
     driver: &mut Driver<S>,
     at: u64,
     word: u64,
-) -> Result<u64, AskFault>
-    requires { at < 2 ^ 40 }
-{
+) -> Result<u64, AskFault> {
     goes_on(rt, driver);
+    assert!(rt; at < 1_099_511_627_776);
     let ask = Ask::Write {
         lv: 1,
         at,
@@ -276,10 +275,9 @@ pub fn write<S: Shelf>(
 }
 
 /// Submits a read of a block of the volume.
-pub fn read<S: Shelf>(rt: &impl Abort, driver: &mut Driver<S>, at: u64) -> Result<u64, AskFault>
-    requires { at < 2 ^ 40 }
-{
+pub fn read<S: Shelf>(rt: &impl Abort, driver: &mut Driver<S>, at: u64) -> Result<u64, AskFault> {
     goes_on(rt, driver);
+    assert!(rt; at < 1_099_511_627_776);
     let ask = Ask::Read {
         lv: 1,
         at,
@@ -345,18 +343,14 @@ pub fn answer<S: Shelf>(rt: &impl Abort, driver: &mut Driver<S>, id: u64) -> Res
 }
 
 /// A write that has landed, and how.
-pub fn written<S: Shelf>(rt: &impl Abort, driver: &mut Driver<S>, at: u64, word: u64) -> Taken
-    requires { at < 2 ^ 40 }
-{
+pub fn written<S: Shelf>(rt: &impl Abort, driver: &mut Driver<S>, at: u64, word: u64) -> Taken {
     let id = write(rt, driver, at, word).expect(rt, "it is taken");
     let _ = drain(rt, driver);
     driver.take(1, id)
 }
 
 /// A read that has landed: the word of the block, or how it failed.
-pub fn got<S: Shelf>(rt: &impl Abort, driver: &mut Driver<S>, at: u64) -> Result<u64, Taken>
-    requires { at < 2 ^ 40 }
-{
+pub fn got<S: Shelf>(rt: &impl Abort, driver: &mut Driver<S>, at: u64) -> Result<u64, Taken> {
     let id = read(rt, driver, at).expect(rt, "it is taken");
     let _ = drain(rt, driver);
     answer(rt, driver, id)

@@ -12,4 +12,6 @@ mod ranges;
 #[cfg(test)]
 mod requests;
 #[cfg(test)]
+mod steps;
+#[cfg(test)]
 mod waits;

@@ -5,6 +5,7 @@ ghost use Rattle.lvm_posts.specs.Posts.{AreHeld};
 ghost use Rattle.lvm_ranges.specs.Reading.{HasEndedWell, IsRead};
 
 use crate::fixtures::{MIRROR, Setup, begin, check, close, goes_on, order};
+use crate::steps::{Step, play};
 use lvm_disk::{Arrange, Shelf};
 use lvm_faults::{Act, Planned};
 use lvm_num::{Mode, word_of};
@@ -60,6 +61,16 @@ fn written<S: Shelf>(
     finish(rt, driver, &asked)
 }
 
+fn are_words(blocks: &[[u8; 512]], word: u64) -> bool {
+    let mut same = true;
+    let mut next = word;
+    for block in blocks {
+        same = same && word_of(block) == Some(next);
+        next = next.wrapping_add(1);
+    }
+    same
+}
+
 // Whether the blocks of a range have this word, the next one, and so on.
 fn reads<S: Shelf>(
     rt: &(impl Abort + AllocGlobal),
@@ -75,13 +86,7 @@ fn reads<S: Shelf>(
             let blocks = read_blocks(rt.alloc(), driver.history(), &asked, count).expect(
                 rt, "memory",
             );
-            let mut same = true;
-            let mut next = word;
-            for block in blocks.as_slice() {
-                same = same && word_of(block) == Some(next);
-                next = next.wrapping_add(1);
-            }
-            Ok(same)
+            Ok(are_words(blocks.as_slice(), word))
         }
         Err(why) => Err(why),
     }
@@ -94,22 +99,25 @@ const WIDE: Setup = Setup {
     ..MIRROR
 };
 
+// A range of the volume, and the first of the words that it has.
+type Range = (u64, u32, u64);
+
 // Block 255 is a piece of its own.
+const READ: [(&str, Range); 3] = [
+    ("are read", (255, 300, u64::MAX)),
+    ("to the last", (554, 1, 298)),
+    ("alone", (555, 1, 0)),
+];
+
 fn ends<S: Shelf + Drop>(rt: &(impl Abort + AllocGlobal), driver: Driver<S>) {
     let mut driver = driver;
     let done = written(rt, &mut driver, 255, 300, u64::MAX);
     check(rt, done == Ok(()), "three pieces");
-    check(
-        rt,
-        reads(rt, &mut driver, 255, 300, u64::MAX) == Ok(true),
-        "are read",
-    );
-    check(
-        rt,
-        reads(rt, &mut driver, 554, 1, 298) == Ok(true),
-        "to the last",
-    );
-    check(rt, reads(rt, &mut driver, 555, 1, 0) == Ok(true), "alone");
+    for (name, range) in &READ {
+        let (at, count, word) = *range;
+        let read = reads(rt, &mut driver, at, count, word);
+        check(rt, read == Ok(true), name);
+    }
     close(rt, driver);
 }
 
@@ -122,23 +130,25 @@ fn what_is_written_in_several_pieces_is_read(rt: HostRuntime) {
 fn beside<S: Shelf + Drop>(rt: &(impl Abort + AllocGlobal), driver: Driver<S>) {
     let mut driver = driver;
     let first = ask(rt, &mut driver, 1, 0, 2, Some(7)).expect(rt, "it is asked for");
-    check(
-        rt,
-        reads(rt, &mut driver, 1, 2, 8) == Ok(false),
-        "one behind it",
-    );
+    let behind = reads(rt, &mut driver, 1, 2, 8);
+    check(rt, behind == Ok(false), "one behind it");
     check(rt, driver.open() == 1, "waits for its answer");
+    let done = [("which is there", Step::Take(first.first, Taken::Done))];
+    play(rt, &mut driver, &done);
     check(
         rt,
-        driver.take(1, first.first) == Taken::Done,
-        "which is there",
+        made(rt, &mut driver, 0) == (0, Turned::Moved),
+        "no turn",
     );
-    goes_on(rt, &driver);
-    check(rt, step(&mut driver, 0) == (0, Turned::Moved), "no turn");
-    goes_on(rt, &driver);
-    let (_, how) = step(&mut driver, 1_000);
+    let (_, how) = made(rt, &mut driver, 1_000);
     check(rt, how == Turned::Idle, "and all there are");
     close(rt, driver);
+}
+
+// At most so many turns.
+fn made<S: Shelf>(rt: &impl Abort, driver: &mut Driver<S>, turns: u32) -> (u32, Turned) {
+    goes_on(rt, driver);
+    step(driver, turns)
 }
 
 #[test]
@@ -197,45 +207,67 @@ fn a_session_that_is_over_has_answered(rt: HostRuntime) {
 
 // ---- what refuses them
 
-// A range that is refused for this leaves nothing.
-fn refuses<S: Shelf>(
-    rt: &(impl Abort + AllocGlobal),
-    driver: &mut Driver<S>,
+// A range, and why it is refused.
+#[derive(Clone, Copy)]
+struct Refused {
     lv: u16,
     at: u64,
     count: u32,
     why: AskRangeFault,
-) {
+}
+
+// A range that is refused for this leaves nothing.
+fn refuses<S: Shelf>(rt: &(impl Abort + AllocGlobal), driver: &mut Driver<S>, refused: &Refused) {
     let (open, entries) = (driver.open(), driver.history().len());
-    check(
-        rt,
-        ask(rt, driver, lv, at, count, None) == Err(why),
-        "refused",
-    );
+    let asked = ask(rt, driver, refused.lv, refused.at, refused.count, None);
+    check(rt, asked == Err(refused.why), "refused");
     check(rt, driver.open() == open, "no piece of it is open");
     check(rt, driver.history().len() == entries, "or told");
 }
 
+const IN_ORDER: [Refused; 4] = [
+    Refused {
+        lv: 2,
+        at: 2047,
+        count: 2,
+        why: AskRangeFault::NoVolume,
+    },
+    Refused {
+        lv: 1,
+        at: 1535,
+        count: 514,
+        why: AskRangeFault::OutOfRange { blocks: 2048 },
+    },
+    Refused {
+        lv: 1,
+        at: 255,
+        count: 258,
+        why: AskRangeFault::TableFull { held: 0 },
+    },
+    Refused {
+        lv: 1,
+        at: 0,
+        count: 3,
+        why: AskRangeFault::HistoryFull,
+    },
+];
+
+// Once two pieces are told of.
+const LATER: Refused = Refused {
+    lv: 1,
+    at: 0,
+    count: 1,
+    why: AskRangeFault::HistoryFull,
+};
+
 fn in_order<S: Shelf + Drop>(rt: &(impl Abort + AllocGlobal), driver: Driver<S>) {
     let mut driver = driver;
-    let full = AskRangeFault::TableFull { held: 0 };
-    refuses(rt, &mut driver, 2, 2047, 2, AskRangeFault::NoVolume);
-    refuses(
-        rt,
-        &mut driver,
-        1,
-        1535,
-        514,
-        AskRangeFault::OutOfRange { blocks: 2048 },
-    );
-    refuses(rt, &mut driver, 1, 255, 258, full);
-    refuses(rt, &mut driver, 1, 0, 3, AskRangeFault::HistoryFull);
-    check(
-        rt,
-        written(rt, &mut driver, 255, 2, 1) == Ok(()),
-        "two pieces",
-    );
-    refuses(rt, &mut driver, 1, 0, 1, AskRangeFault::HistoryFull);
+    for refused in &IN_ORDER {
+        refuses(rt, &mut driver, refused);
+    }
+    let done = written(rt, &mut driver, 255, 2, 1);
+    check(rt, done == Ok(()), "two pieces");
+    refuses(rt, &mut driver, &LATER);
     close(rt, driver);
 }
 

@@ -1,25 +1,18 @@
 //! Requests that nothing disturbs, and how many may be under way.
-use crate::fixtures::{
-    MIRROR, MODES, POLICIES, Setup, answer, begin, check, close, drain, got, read, write, written,
-};
+use crate::fixtures::{MIRROR, MODES, POLICIES, Setup, begin, check, close, write};
+use crate::steps::{Step, break_off, play, play_out};
 use lvm_disk::Shelf;
 use lvm_num::Mode;
 use lvm_ranges::below::driver::Driver;
 use lvm_session::{AskFault, Taken};
 use std::process::Abort;
 
-fn ends<S: Shelf + Drop>(rt: &impl Abort, driver: Driver<S>) {
-    let mut driver = driver;
-    check(
-        rt,
-        written(rt, &mut driver, 255, 9) == Taken::Done,
-        "written",
-    );
-    check(rt, got(rt, &mut driver, 255) == Ok(9), "and read");
-    check(rt, got(rt, &mut driver, 254) == Ok(0), "alone");
-    check(rt, driver.take(1, 1) == Taken::Unknown, "taken once");
-    close(rt, driver);
-}
+const READ: [(&str, Step); 4] = [
+    ("written", Step::Written(255, 9, Taken::Done)),
+    ("and read", Step::Got(255, Ok(9))),
+    ("alone", Step::Got(254, Ok(0))),
+    ("taken once", Step::Take(1, Taken::Unknown)),
+];
 
 #[test]
 fn what_is_written_is_read(rt: HostRuntime) {
@@ -32,41 +25,30 @@ fn what_is_written_is_read(rt: HostRuntime) {
                     copies,
                     ..MIRROR
                 };
-                ends(&rt, begin(&rt, &setup, &[]));
+                play_out(&rt, begin(&rt, &setup, &[]), &READ);
             }
         }
     }
 }
 
 // Of two writes of a block and a read between them each sees what came before it.
-fn in_order<S: Shelf + Drop>(rt: &impl Abort, driver: Driver<S>) {
-    let mut driver = driver;
-    let first = write(rt, &mut driver, 7, 1).expect(rt, "it is taken");
-    let between = read(rt, &mut driver, 7).expect(rt, "it is taken");
-    let last = write(rt, &mut driver, 7, 2).expect(rt, "it is taken");
-    let other = write(rt, &mut driver, 256, 3).expect(rt, "it is taken");
-    check(
-        rt,
-        driver.take(1, first) == Taken::NotYet,
-        "nothing is done yet",
-    );
-    check(
-        rt,
-        driver.take(2, first) == Taken::Unknown,
+const IN_ORDER: [(&str, Step); 12] = [
+    ("the first", Step::Write(7, 1, Ok(1))),
+    ("the one between", Step::Read(7, Ok(2))),
+    ("the last", Step::Write(7, 2, Ok(3))),
+    ("another", Step::Write(256, 3, Ok(4))),
+    ("nothing is done yet", Step::Take(1, Taken::NotYet)),
+    (
         "it is another client's",
-    );
-    check(rt, drain(rt, &mut driver) == Ok(()), "all is done");
-    check(rt, driver.take(1, first) == Taken::Done, "the first");
-    check(
-        rt,
-        answer(rt, &mut driver, between) == Ok(1),
-        "the one between",
-    );
-    check(rt, driver.take(1, last) == Taken::Done, "the last");
-    check(rt, driver.take(1, other) == Taken::Done, "another");
-    check(rt, got(rt, &mut driver, 7) == Ok(2), "the last stands");
-    close(rt, driver);
-}
+        Step::TakeForAnother(1, Taken::Unknown),
+    ),
+    ("all is done", Step::Drain(Ok(()))),
+    ("the first is done", Step::Take(1, Taken::Done)),
+    ("the one between sees it", Step::Answer(2, Ok(1))),
+    ("the last is done", Step::Take(3, Taken::Done)),
+    ("another is", Step::Take(4, Taken::Done)),
+    ("the last stands", Step::Got(7, Ok(2))),
+];
 
 #[test]
 fn one_buffer_is_enough(rt: HostRuntime) {
@@ -77,27 +59,23 @@ fn one_buffer_is_enough(rt: HostRuntime) {
                 pool,
                 ..MIRROR
             };
-            in_order(&rt, begin(&rt, &setup, &[]));
+            play_out(&rt, begin(&rt, &setup, &[]), &IN_ORDER);
         }
     }
 }
 
 // There is room for two requests.
-fn fill_table<S: Shelf + Drop>(rt: &impl Abort, driver: Driver<S>) {
-    let mut driver = driver;
-    let full = Err(AskFault::TableFull { held: 2 });
-    check(rt, write(rt, &mut driver, 1, 1) == Ok(1), "numbered from 1");
-    check(rt, write(rt, &mut driver, 2, 2) == Ok(2), "in their order");
-    check(rt, write(rt, &mut driver, 3, 3) == full, "full");
-    check(rt, drain(rt, &mut driver) == Ok(()), "both are done");
-    check(
-        rt,
-        read(rt, &mut driver, 3) == full,
-        "until an answer is taken",
-    );
-    check(rt, driver.take(1, 1) == Taken::Done, "taken");
-    check(rt, read(rt, &mut driver, 3) == Ok(3), "there is room again");
-}
+const FULL: Result<u64, AskFault> = Err(AskFault::TableFull { held: 2 });
+
+const FILLED: [(&str, Step); 7] = [
+    ("numbered from 1", Step::Write(1, 1, Ok(1))),
+    ("in their order", Step::Write(2, 2, Ok(2))),
+    ("full", Step::Write(3, 3, FULL)),
+    ("both are done", Step::Drain(Ok(()))),
+    ("until an answer is taken", Step::Read(3, FULL)),
+    ("taken", Step::Take(1, Taken::Done)),
+    ("there is room again", Step::Read(3, Ok(3))),
+];
 
 #[test]
 fn a_full_table_takes_no_more(rt: HostRuntime) {
@@ -106,23 +84,34 @@ fn a_full_table_takes_no_more(rt: HostRuntime) {
         table: 2,
         ..MIRROR
     };
-    fill_table(&rt, begin(&rt, &setup, &[]));
+    break_off(&rt, begin(&rt, &setup, &[]), &FILLED);
 }
 
 // How many writes are taken before the history is full, each of which is done before the next.
-fn fill_history<S: Shelf + Drop>(rt: &impl Abort, driver: Driver<S>) -> u64 {
-    let mut driver = driver;
+fn fill<S: Shelf>(rt: &impl Abort, driver: &mut Driver<S>) -> u64 {
     for done in 0..10 {
-        if write(rt, &mut driver, 0, done) == Err(AskFault::HistoryFull) {
-            let full = read(rt, &mut driver, 0) == Err(AskFault::HistoryFull);
-            check(rt, full, "for a read too");
-            close(rt, driver);
+        if write(rt, driver, 0, done) == Err(AskFault::HistoryFull) {
             return done;
         }
-        check(rt, drain(rt, &mut driver) == Ok(()), "it has landed");
-        check(rt, driver.take(1, done + 1) == Taken::Done, "done");
+        let steps = [
+            ("it has landed", Step::Drain(Ok(()))),
+            ("done", Step::Take(done + 1, Taken::Done)),
+        ];
+        play(rt, driver, &steps);
     }
     10
+}
+
+const FULL_TOO: [(&str, Step); 1] = [(
+    "full for a read too",
+    Step::Read(0, Err(AskFault::HistoryFull)),
+)];
+
+fn fill_history<S: Shelf + Drop>(rt: &impl Abort, driver: Driver<S>) -> u64 {
+    let mut driver = driver;
+    let taken = fill(rt, &mut driver);
+    play_out(rt, driver, &FULL_TOO);
+    taken
 }
 
 // One entry is that of the beginning, and one is kept for a cut. A request takes three, and the bytes of its blocks.

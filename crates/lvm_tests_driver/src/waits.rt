@@ -1,5 +1,6 @@
 //! Writes that wait for an entry of the cache, or for a note.
-use crate::fixtures::{MIRROR, Setup, begin, check, close, drain, turn, write};
+use crate::fixtures::{MIRROR, Setup, begin, check, close, turn, write};
+use crate::steps::{Step, play, play_out};
 use lvm_disk::Shelf;
 use lvm_faults::{Act, Planned};
 use lvm_ranges::below::driver::Driver;
@@ -22,6 +23,13 @@ fn most_out<S: Shelf>(rt: &impl Abort, driver: &mut Driver<S>) -> u32 {
     most
 }
 
+// Submits a write to each of 63 track groups.
+fn write_63<S: Shelf>(rt: &impl Abort, driver: &mut Driver<S>) {
+    for k in 0..63 {
+        check(rt, write(rt, driver, 256 * k, k) == Ok(k + 1), "taken");
+    }
+}
+
 fn are_done<S: Shelf>(driver: &mut Driver<S>, most: u64) -> bool {
     let mut done = true;
     for id in 0..most {
@@ -40,59 +48,23 @@ fn the_cache_has_62_entries(rt: HostRuntime) {
         pool: 256,
         ..MIRROR
     };
-    let mut driver = begin(&rt, &setup, &[]);
-    for k in 0..63 {
-        check(
-            &rt,
-            write(&rt, &mut driver, 256 * k, k) == Ok(k + 1),
-            "taken",
-        );
-    }
-    check(
-        &rt,
-        most_out(&rt, &mut driver) == 124,
-        "62 writes are under way",
-    );
-    check(&rt, drain(&rt, &mut driver) == Ok(()), "all have landed");
-    check(&rt, are_done(&mut driver, 63), "and are done");
-    let shelf = close(&rt, driver);
+    let shelf = fill_cache(&rt, begin(&rt, &setup, &[]));
     check(&rt, shelf.calls() == 2 * (2 + 124 + 2 + 2), "as many calls");
 }
 
+const LANDED: [(&str, Step); 1] = [("all have landed", Step::Drain(Ok(())))];
+
+fn fill_cache<S: Shelf + Drop>(rt: &impl Abort, driver: Driver<S>) -> S {
+    let mut driver = driver;
+    write_63(rt, &mut driver);
+    let most = most_out(rt, &mut driver);
+    check(rt, most == 124, "62 writes are under way");
+    play(rt, &mut driver, &LANDED);
+    check(rt, are_done(&mut driver, 63), "and are done");
+    close(rt, driver)
+}
+
 // ---- what is passed over
-
-// Turns until nothing may be made and none of the transfers that are out has ended: how many are out.
-fn until_idle<S: Shelf>(rt: &impl Abort, driver: &mut Driver<S>) -> u32 {
-    for _ in 0..2_000 {
-        if turn(rt, driver) == Turned::Idle {
-            return driver.flights();
-        }
-    }
-    0
-}
-
-// Turns until the first write is taken: how many transfers are out then.
-fn until_first<S: Shelf>(rt: &impl Abort, driver: &mut Driver<S>) -> u32 {
-    for _ in 0..2_000 {
-        turn(rt, driver);
-        if driver.take(1, 1) == Taken::Done {
-            return driver.flights();
-        }
-    }
-    0
-}
-
-// How many transfers are out after so many turns.
-fn out_after<S: Shelf>(rt: &impl Abort, driver: &mut Driver<S>, turns: u32) -> u32 {
-    for _ in 0..turns {
-        turn(rt, driver);
-    }
-    driver.flights()
-}
-
-fn waits<S: Shelf>(driver: &mut Driver<S>, id: u64) -> bool {
-    driver.take(1, id) == Taken::NotYet
-}
 
 // 62 of the track groups are pinned by writes whose transfers are passed over three times. So the write of another one
 // waits, and one that was submitted after it for a group that is pinned doesn't. Once the first has landed, a note on
@@ -115,21 +87,23 @@ fn a_write_waits_for_an_entry_until_one_has_landed(rt: HostRuntime) {
     wait_for_entry(&rt, begin(&rt, &setup, &plan));
 }
 
+const ENTRY: [(&str, Step); 8] = [
+    ("taken too", Step::Write(1281, 9, Ok(64))),
+    ("62 are under way", Step::UntilIdle(124)),
+    ("it needs no entry", Step::Take(64, Taken::Done)),
+    ("this one does", Step::Take(63, Taken::NotYet)),
+    ("the first is done", Step::UntilFirst(122)),
+    ("now it may be pinned", Step::Take(63, Taken::NotYet)),
+    ("by two notes", Step::Turns(3, 124)),
+    ("all is done", Step::Drain(Ok(()))),
+];
+
 fn wait_for_entry<S: Shelf + Drop>(rt: &impl Abort, driver: Driver<S>) {
     let mut driver = driver;
-    for k in 0..63 {
-        check(rt, write(rt, &mut driver, 256 * k, k) == Ok(k + 1), "taken");
-    }
-    check(rt, write(rt, &mut driver, 1281, 9) == Ok(64), "taken too");
-    check(rt, until_idle(rt, &mut driver) == 124, "62 are under way");
-    check(rt, driver.take(1, 64) == Taken::Done, "it needs no entry");
-    check(rt, waits(&mut driver, 63), "this one does");
-    check(rt, until_first(rt, &mut driver) == 122, "the first is done");
-    check(rt, waits(&mut driver, 63), "now it may be pinned");
-    check(rt, out_after(rt, &mut driver, 3) == 124, "by two notes");
-    check(rt, drain(rt, &mut driver) == Ok(()), "all is done");
+    write_63(rt, &mut driver);
+    play(rt, &mut driver, &ENTRY);
     for k in 1..63 {
-        check(rt, driver.take(1, k + 1) == Taken::Done, "done");
+        play(rt, &mut driver, &[("done", Step::Take(k + 1, Taken::Done))]);
     }
     close(rt, driver);
 }
@@ -145,18 +119,29 @@ fn a_note_waits_for_the_one_before_it(rt: HostRuntime) {
     wait_for_note(&rt, begin(&rt, &MIRROR, &late));
 }
 
+const NOTE: [(&str, Step); 12] = [
+    ("taken", Step::Write(0, 1, Ok(1))),
+    ("two notes", Step::Turns(4, 2)),
+    ("taken too", Step::Write(256, 2, Ok(2))),
+    ("the late note alone", Step::UntilIdle(1)),
+    ("the first waits for it", Step::Take(1, Taken::NotYet)),
+    ("so does the second", Step::Take(2, Taken::NotYet)),
+    ("the late note is still out", Step::UntilIdle(1)),
+    ("the first still waits", Step::Take(1, Taken::NotYet)),
+    ("and the second", Step::Take(2, Taken::NotYet)),
+    ("the late note is out once more", Step::UntilIdle(1)),
+    ("the first waits once more", Step::Take(1, Taken::NotYet)),
+    ("with the second", Step::Take(2, Taken::NotYet)),
+];
+
+const NOTED: [(&str, Step); 3] = [
+    ("all is done", Step::Drain(Ok(()))),
+    ("the first", Step::Take(1, Taken::Done)),
+    ("the second", Step::Take(2, Taken::Done)),
+];
+
 fn wait_for_note<S: Shelf + Drop>(rt: &impl Abort, driver: Driver<S>) {
     let mut driver = driver;
-    check(rt, write(rt, &mut driver, 0, 1) == Ok(1), "taken");
-    check(rt, out_after(rt, &mut driver, 4) == 2, "two notes");
-    check(rt, write(rt, &mut driver, 256, 2) == Ok(2), "taken");
-    for _ in 0..3 {
-        check(rt, until_idle(rt, &mut driver) == 1, "the late note alone");
-        let both = waits(&mut driver, 1) && waits(&mut driver, 2);
-        check(rt, both, "both wait for it");
-    }
-    check(rt, drain(rt, &mut driver) == Ok(()), "all is done");
-    check(rt, driver.take(1, 1) == Taken::Done, "the first");
-    check(rt, driver.take(1, 2) == Taken::Done, "the second");
-    close(rt, driver);
+    play(rt, &mut driver, &NOTE);
+    play_out(rt, driver, &NOTED);
 }

@@ -1,4 +1,7 @@
 //! Groups that are made, and that come on again.
+ghost use Rattle.lvm_survey.specs.Rows.{AreRows};
+ghost use Rattle.lvm_survey.specs.Surveyed.{IsSurveyValid};
+
 use crate::fixtures::{
     Begin, begin_first, begin_next, blank_shelf, change, check, first_three, group, image_shelf,
     images_of, name_of, row, stamp, status, survey,
@@ -6,7 +9,7 @@ use crate::fixtures::{
 use lvm_disk::Shelf;
 use lvm_faults::{Act, Planned};
 use lvm_memory::MemShelf;
-use lvm_num::Stamp;
+use lvm_num::{Descriptor, Stamp, Status};
 use lvm_quorum::{Choice, ChooseFault, choose};
 use lvm_survey::{Survey, SurveyRow};
 use std::process::Abort;
@@ -37,12 +40,6 @@ enum Chosen {
     // Some other group or status.
     Another,
     Not(ChooseFault),
-}
-
-#[derive(Clone, Copy, PartialEq, Eq)]
-struct Look {
-    shown: [Shown; 3],
-    chosen: Chosen,
 }
 
 const MADE: Shown = Shown {
@@ -82,25 +79,36 @@ fn shown_in(rt: &impl Abort, survey: &Survey) -> [Shown; 3] {
     [0, 1, 2].map(|disk| shown_on(rt, row(rt, survey, disk)))
 }
 
+fn is_group(rt: &(impl Abort + AllocGlobal), descriptor: &Descriptor) -> bool {
+    *descriptor == group(rt, GROUP, 3)
+}
+
+fn is_new(rt: &(impl Abort + AllocGlobal), is: &Status) -> bool {
+    *is == status(rt, GROUP, 3)
+}
+
 fn told(rt: &(impl Abort + AllocGlobal), choice: &Choice) -> Chosen {
-    let is_group = choice.descriptor == group(rt, GROUP, 3);
-    let is_new = choice.status == status(rt, GROUP, 3);
-    if is_group && is_new {
+    if is_group(rt, &choice.descriptor) && is_new(rt, &choice.status) {
         Chosen::Whole(first_three(choice.answering), choice.seen)
     } else {
         Chosen::Another
     }
 }
 
-fn see<S: Shelf>(rt: &(impl Abort + AllocGlobal), shelf: &mut S) -> Look {
-    let survey = survey(rt, shelf);
-    let shown = shown_in(rt, &survey);
+fn chosen_in(rt: &(impl Abort + AllocGlobal), survey: &Survey) -> Chosen
+    requires rows { AreRows survey.now }
+    requires valid { IsSurveyValid survey.now }
+{
     let name = name_of(rt, b"datavg");
-    let chosen = match choose(rt.alloc(), &survey, name) {
+    match choose(rt.alloc(), survey, name) {
         Ok(choice) => told(rt, &choice),
         Err(why) => Chosen::Not(why),
-    };
-    Look { shown, chosen }
+    }
+}
+
+fn see<S: Shelf>(rt: &(impl Abort + AllocGlobal), shelf: &mut S) -> ([Shown; 3], Chosen) {
+    let survey = survey(rt, shelf);
+    (shown_in(rt, &survey), chosen_in(rt, &survey))
 }
 
 // Makes a group of all disks, and says how that ended, after how many calls.
@@ -110,25 +118,28 @@ fn make(rt: &(impl Abort + AllocGlobal), shelf: &mut MemShelf, id: u64) -> (Begi
     (end, shelf.calls())
 }
 
+// Whether all disks have these records, and the name chooses the whole group under this epoch.
+fn shows<S: Shelf>(
+    rt: &(impl Abort + AllocGlobal),
+    shelf: &mut S,
+    shown: Shown,
+    epoch: u64,
+) -> bool {
+    see(rt, shelf) == ([shown; 3], Chosen::Whole([true; 3], epoch))
+}
+
 #[test]
 fn a_new_group_is_found_and_comes_on_again(rt: HostRuntime) {
     let mut shelf = blank_shelf(&rt, &SIZES, &[]);
     let made = make(&rt, &mut shelf, GROUP);
     check(&rt, made == (Begin::Ended, 18), "made");
-    let first = see(&rt, &mut shelf);
-    let wanted = Look {
-        shown: [MADE; 3],
-        chosen: Chosen::Whole([true; 3], 50),
-    };
-    check(&rt, first == wanted, "the new records");
-    let on = come_on(&rt, &mut shelf, 60);
-    check(&rt, on == Begin::Ended, "on again");
-    let again = see(&rt, &mut shelf);
-    let wanted = Look {
-        shown: [AGAIN; 3],
-        chosen: Chosen::Whole([true; 3], 60),
-    };
-    check(&rt, again == wanted, "the next records");
+    comes_on_again(&rt, &mut shelf);
+}
+
+fn comes_on_again<S: Shelf>(rt: &(impl Abort + AllocGlobal), shelf: &mut S) {
+    check(rt, shows(rt, shelf, MADE, 50), "the new records");
+    check(rt, come_on(rt, shelf, 60) == Begin::Ended, "on again");
+    check(rt, shows(rt, shelf, AGAIN, 60), "the next records");
 }
 
 fn come_on<S: Shelf>(rt: &(impl Abort + AllocGlobal), shelf: &mut S, epoch: u64) -> Begin {
@@ -154,15 +165,20 @@ fn see_begun<S: Shelf>(rt: &(impl Abort + AllocGlobal), shelf: &mut S) {
     }
 }
 
+// The power is cut at this call of the making of a group.
+fn cut_at(rt: &(impl Abort + AllocGlobal), call: u64, word: u64) {
+    let act = Act::Cut(word);
+    let mut shelf = blank_shelf(rt, &[4096; 2], &[Planned { call, act }]);
+    let made = make(rt, &mut shelf, GROUP);
+    check(rt, made == (Begin::Dark, call), "a cut");
+    see_begun(rt, &mut shelf);
+}
+
 #[test]
 fn a_cut_at_any_call_leaves_old_or_new_records(rt: HostRuntime) {
     for word in [0, 0x5555_5555_5555_5555, u64::MAX] {
         for call in 1..=12 {
-            let act = Act::Cut(word);
-            let mut shelf = blank_shelf(&rt, &[4096; 2], &[Planned { call, act }]);
-            let made = make(&rt, &mut shelf, GROUP);
-            check(&rt, made == (Begin::Dark, call), "a cut");
-            see_begun(&rt, &mut shelf);
+            cut_at(&rt, call, word);
         }
     }
 }
@@ -217,7 +233,7 @@ fn group_images(rt: &(impl Abort + AllocGlobal), id: u64) -> Vec<Vec<u8>> {
 
 fn chosen_of(rt: &(impl Abort + AllocGlobal), images: &[Vec<u8>]) -> Chosen {
     let mut shelf = image_shelf(rt, images, &[]);
-    see(rt, &mut shelf).chosen
+    see(rt, &mut shelf).1
 }
 
 #[test]

@@ -198,9 +198,10 @@ fn descriptor_bytes(rt: &(impl Abort + AllocGlobal), group: &Descriptor) -> Rows
     lvm_spelling::encode(rt.alloc(), group).expect(rt, "memory")
 }
 
-fn status_bytes(rt: &(impl Abort + AllocGlobal), status: &Status) -> Rows<u8> {
+fn status_bytes(rt: &(impl Abort + AllocGlobal), id: u64, count: u16) -> Rows<u8> {
+    let status = status(rt, id, count);
     assert!(rt; status.is_valid());
-    lvm_vgsa::encode(rt.alloc(), status).expect(rt, "memory")
+    lvm_vgsa::encode(rt.alloc(), &status).expect(rt, "memory")
 }
 
 // The slots of blank disks.
@@ -293,7 +294,7 @@ pub fn begin_first<S: Shelf>(
     group: &Descriptor,
 ) -> Begin {
     let descriptor = descriptor_bytes(rt, group);
-    let status = status_bytes(rt, &status(rt, group.id, shelf.disks()));
+    let status = status_bytes(rt, group.id, shelf.disks());
     let mut homes = first_homes();
     begin_with(
         rt,
@@ -313,7 +314,7 @@ pub fn begin_next<S: Shelf>(
     epoch: u64,
 ) -> Begin {
     let descriptor = descriptor_bytes(rt, group);
-    let status = status_bytes(rt, &status(rt, group.id, shelf.disks()));
+    let status = status_bytes(rt, group.id, shelf.disks());
     let mut homes = next_homes(rt, shelf);
     begin_with(
         rt,

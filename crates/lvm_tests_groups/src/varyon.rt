@@ -38,81 +38,12 @@ pub struct Session {
     pub stale: [bool; 2],
 }
 
-struct Case {
-    name: &'static str,
-    plan: &'static [Planned],
-    moment: u64,
-    answer: Answer,
-    // What is answered ten moments later, where no disk fails any more.
-    later: Answer,
-}
-
 /// All disks are there.
 pub const WHOLE: Answer = Answer::On(Session {
     votes: (3, 3),
     missing: [false, false],
     stale: [false, false],
 });
-
-// The group is made by twelve calls.
-static CASES: [Case; 6] = [
-    Case {
-        name: "all disks are there",
-        plan: &[],
-        moment: 60,
-        answer: WHOLE,
-        later: WHOLE,
-    },
-    Case {
-        name: "the second disk is missing, and comes back with a stale copy",
-        plan: &[Planned {
-            call: 13,
-            act: Act::Fail(1),
-        }],
-        moment: 60,
-        answer: Answer::On(Session {
-            votes: (2, 3),
-            missing: [false, true],
-            stale: [false, true],
-        }),
-        later: Answer::On(Session {
-            votes: (3, 3),
-            missing: [false, false],
-            stale: [false, true],
-        }),
-    },
-    Case {
-        name: "the first disk is missing",
-        plan: &[Planned {
-            call: 13,
-            act: Act::Fail(0),
-        }],
-        moment: 60,
-        answer: Answer::Not(Cause::NoQuorum { have: 1, total: 3 }),
-        later: WHOLE,
-    },
-    Case {
-        name: "an earlier moment",
-        plan: &[],
-        moment: 40,
-        answer: Answer::Not(Cause::ClockBack { seen: 50 }),
-        later: Answer::Not(Cause::ClockBack { seen: 50 }),
-    },
-    Case {
-        name: "the moment of the session before",
-        plan: &[],
-        moment: 50,
-        answer: Answer::Not(Cause::ClockBack { seen: 50 }),
-        later: WHOLE,
-    },
-    Case {
-        name: "the last moment of a clock",
-        plan: &[],
-        moment: u64::MAX,
-        answer: Answer::Not(Cause::ClockBack { seen: u64::MAX }),
-        later: Answer::Not(Cause::ClockBack { seen: u64::MAX }),
-    },
-];
 
 /// Two disks on which a group was made that has a volume of one logical partition with a copy on each.
 pub fn made(rt: &(impl Abort + AllocGlobal), mode: Mode, plan: &[Planned]) -> MemShelf {
@@ -168,24 +99,23 @@ pub fn heal<S: Shelf>(rt: &impl Abort, shelf: &mut S, disk: u16) {
     check(rt, shelf.arrange(Arrange::Heal(disk)), "it heals");
 }
 
-#[test]
-fn a_group_comes_on_by_its_votes_at_a_later_moment(rt: HostRuntime) {
-    for case in &CASES {
-        let shelf = made(&rt, Mode::Off, case.plan);
-        let (left, answer) = vary(&rt, shelf, case.moment);
-        let later = vary_later(&rt, left, case.moment.saturating_add(10));
-        check(&rt, answer == case.answer && later == case.later, case.name);
-    }
+// Varies the group on, which is refused for this and writes nothing: what stands is still this.
+fn refused(
+    rt: &(impl Abort + AllocGlobal),
+    shelf: MemShelf,
+    moment: u64,
+    cause: Cause,
+    images: &[Vec<u8>],
+) -> MemShelf {
+    let (left, answer) = vary(rt, shelf, moment);
+    check(rt, answer == Answer::Not(cause), "the cause");
+    check(rt, images_of(rt, &left).as_slice() == images, "what stands");
+    left
 }
 
-fn vary_later<S: Shelf + Drop>(rt: &(impl Abort + AllocGlobal), shelf: S, moment: u64) -> Answer {
-    let mut shelf = shelf;
-    heal(rt, &mut shelf, 0);
-    heal(rt, &mut shelf, 1);
-    let (_, answer) = vary(rt, shelf, moment);
-    answer
-}
+const NO_QUORUM: Cause = Cause::NoQuorum { have: 1, total: 3 };
 
+// The group is made by twelve calls. The disk with two of its votes fails, and then the moment is an earlier one.
 #[test]
 fn nothing_is_written_where_a_group_does_not_come_on(rt: HostRuntime) {
     let plan = [Planned {
@@ -193,9 +123,8 @@ fn nothing_is_written_where_a_group_does_not_come_on(rt: HostRuntime) {
         act: Act::Fail(0),
     }];
     let shelf = made(&rt, Mode::Off, &plan);
-    let before = images_of(&rt, &shelf);
-    let (unlit, _) = vary(&rt, shelf, 60);
-    check(&rt, images_of(&rt, &unlit) == before, "without a disk");
-    let (earlier, _) = vary(&rt, unlit, 50);
-    check(&rt, images_of(&rt, &earlier) == before, "earlier");
+    let images = images_of(&rt, &shelf);
+    let mut unlit = refused(&rt, shelf, 60, NO_QUORUM, &images);
+    heal(&rt, &mut unlit, 0);
+    refused(&rt, unlit, 50, Cause::ClockBack { seen: 50 }, &images);
 }

@@ -67,7 +67,7 @@ unread_promises asked clock entry exit same ready room input output end unrun =
 -- and nothing that is drawn was written
 pub unread_draws : {S : Type 0} (asked : Result Job WordsFault) (output : Stream) (end : Ended S) (P : MemShelf → ℕ → ℕ → Workload → Type 0) (Same : Type 0) → Same → IsUnrun end ended.Memory
     → OnDrawn asked (λ seed count. IsUnrun end end.status × IsGenerated seed count end.status (record { before = output; after = output }))
-        (λ disks mib load. IfSome end.sim (λ shelf. P shelf disks mib load) × IfNone end.sim (IsUnrun end ended.Memory × Same))
+    (λ disks mib load. IfSome end.sim (λ shelf. P shelf disks mib load) × IfNone end.sim (IsUnrun end ended.Memory × Same))
 unread_draws asked output end P Same same unrun = on_drawn asked _ _ (λ seed count. (
   record { status_is = refl; refused_is = unrun.refused_is; history_is = unrun.history_is; sim_is = unrun.sim_is },
   subst (λ (s : ExitStatus). IsGenerated seed count s (record { before = output; after = output })) (sym unrun.status_is) (none seed count),
@@ -77,4 +77,4 @@ unread_draws asked output end P Same same unrun = on_drawn asked _ _ (λ seed co
 ))
   where
     none : (seed count : ℕ) → IsGenerated seed count ended.Memory (record { before = output; after = output })
-    none seed count = record { status_is = inr (inr refl); whole = λ is. absurd (cc); front = λ _. front_at_first seed count output.content; cause = λ is. absurd (cc) }
+    none seed count = record { status_is = inr (inr refl); whole = λ is. absurd (cc); front = λ _. front_at_first seed count output.content; cause = λ is. absurd (cc); memory = λ is. refl; well = λ is. absurd (cc) }

@@ -20,6 +20,7 @@ pub mod Acknowledged
 pub mod Modes
 pub mod Scripts
 mod Recovering
+pub mod Refusing
 pub mod OneGroup
 pub mod Turning
 pub mod Woven

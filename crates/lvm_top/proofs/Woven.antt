@@ -185,7 +185,7 @@ module _ {S : Type 0} (device : S → Device) (blocks : ℕ) (load : Workload) (
   EndsAt h = EndsWoven blocks load answer (history_of h).run (record { device = device (shelf_of h); facts = (history_of h).facts }) (session_of h) exit status refused out
 
   abbrev RefusedAt : Holder S → Type 0
-  RefusedAt h = IsRefused (reply.Refused refusal.NoVolume) (history_of h).run (record { device = device (shelf_of h); facts = (history_of h).facts }) (session_of h) exit status refused out
+  RefusedAt h = IsRefused (reply.Refused refusal.Memory) (history_of h).run (record { device = device (shelf_of h); facts = (history_of h).facts }) (session_of h) exit status refused out
 
   pub serving_ends : (driver : S × Core) (h : Holder S) → h ≡ holder.Serving driver → IsOfKind h → IsServed blocks load (state (device driver.0) driver.1) exit status refused out → EndsAt h
   serving_ends driver h is kind served = subst (λ (k : Holder S). IsOfKind k → EndsAt k) (sym is) (λ vols. Drawn ok driver.1 refl vols refl refl served) kind

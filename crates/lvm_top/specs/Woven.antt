@@ -143,11 +143,11 @@ pub record IsServed (blocks : ℕ) (load : Workload) (first : Session) (exit : M
   pub tells : TellsWoven woven load.requests status out
   pub refused_is : refused ≡ refusals_of woven
 
--- How the run ends behind its lines: their answer is told where it isn't `ok`, or NoVolume where there is none to draw over; or the workload is drawn, and its totals
+-- How the run ends behind its lines: their answer is told where it isn't `ok`, or want of memory where no volume is there to draw over; or the workload is drawn, and its totals
 -- are told.
 pub data EndsWoven (blocks : ℕ) (load : Workload) (answer : Reply) (run : ℕ) (end : Moment) (on : Option Core) (exit : Moment) (status : ExitStatus) (refused : ℕ) (out : Passage) : Type 0 where
   NotMade : (answer ≡ reply.Ok → ⊥) → IsRefused answer run end on exit status refused out → EndsWoven blocks load answer run end on exit status refused out
-  NotServed : answer ≡ reply.Ok → IfSome on (λ core. core.descriptor.lvs ≡ []) → IsRefused (reply.Refused refusal.NoVolume) run end on exit status refused out → EndsWoven blocks load answer run end on exit status refused out
+  NotServed : answer ≡ reply.Ok → IfSome on (λ core. core.descriptor.lvs ≡ []) → IsRefused (reply.Refused refusal.Memory) run end on exit status refused out → EndsWoven blocks load answer run end on exit status refused out
   Drawn : answer ≡ reply.Ok → (core : Core) → on ≡ Some core → core.descriptor.lvs ≢ [] → core.history.run ≡ run → end.facts ≡ core.history.facts
       → IsServed blocks load (state end.device core) exit status refused out
       → EndsWoven blocks load answer run end on exit status refused out

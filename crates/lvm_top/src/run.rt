@@ -131,7 +131,11 @@ pub(crate) fn run_on<S: Shelf>(driver: &mut Driver<S>)
 }
 
 /// Closes a session that is over or has nothing left to do. After a power cut the power is put on again.
-pub(crate) fn close_ended<S: Shelf>(driver: Driver<S>, posts: Vec<Post>, bytes: Vec<u8>) -> Closed<S>
+pub(crate) fn close_ended<S: Shelf>(
+    driver: Driver<S>,
+    posts: Vec<Post>,
+    bytes: Vec<u8>,
+) -> Closed<S>
     ensures shelf { IsClosed driver.1.power (S.device driver.0) (S.device result.shelf) }
     ensures history { result.history ≡ driver.1.history }
 {

@@ -277,11 +277,11 @@ fn end_woven<S: Shelf, O: Sink>(
         Holder::Serving { driver } => draw(alloc, out, driver, posts, bytes, blocks, load),
         Holder::Empty { driver } => {
             let holder = Holder::Empty { driver };
-            refuse(alloc, out, Stage { holder, posts, bytes }, Reply::Refused(Refusal::NoVolume))
+            refuse(alloc, out, Stage { holder, posts, bytes }, Reply::Refused(Refusal::Memory))
         }
         Holder::Off { shelf, history } => {
             let holder = Holder::Off { shelf, history };
-            refuse(alloc, out, Stage { holder, posts, bytes }, Reply::Refused(Refusal::NoVolume))
+            refuse(alloc, out, Stage { holder, posts, bytes }, Reply::Refused(Refusal::Memory))
         }
     }
 }

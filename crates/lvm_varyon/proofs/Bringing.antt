@@ -30,6 +30,7 @@ use Rattle.lvm_begin.proofs.Following.{stamps_are_of_beginning}
 use Rattle.lvm_next.specs.Next.{IsNextStatus}
 use Rattle.lvm_recovery.specs.declared.copying.Recopy.{Recopy}
 use Rattle.lvm_recovery.specs.Copying.{IsOfCopies, sources_and_targets}
+use Rattle.lvm_recovery.specs.Plan.{ArePlannedInOrder}
 use Rattle.lvm_recovery.specs.Planned.{ArePlanned}
 use Rattle.lvm_varyon.specs.declared.plan.Plan.{Plan}
 use Rattle.lvm_varyon.specs.Chosen.{answering, last_moment}
@@ -113,6 +114,7 @@ module _ (old read : Device) (survey : Survey) (is : IsSurveyOf old read survey)
     next_is = subst (λ (t : Disks). IsNextStatus by.group t by.was by.next) targets_are by.next_is;
     copies = plan.copies;
     planned = subst (λ (t : Disks). ArePlanned (surveyed survey) by.group (Some by.was) t plan.copies) targets_are by.copies;
+    order = subst (λ (t : Disks). ArePlannedInOrder (surveyed survey) by.group by.was.value t plan.copies) targets_are by.order;
     writes = record {
       read = read;
       unwritten = is.unwritten;

@@ -24,6 +24,7 @@ use Rattle.lvm_survey.specs.Surveyed.{surveyed, IsSurveyValid}
 use Rattle.lvm_area.specs.Reading.{under}
 use Rattle.lvm_core.specs.declared.parts.Room.{Room}
 use Rattle.lvm_next.specs.Next.{IsNextStatus}
+use Rattle.lvm_recovery.specs.Plan.{ArePlannedInOrder}
 use Rattle.lvm_recovery.specs.Planned.{ArePlanned}
 use Rattle.lvm_varyon.specs.declared.plan.Plan.{Plan}
 use Rattle.lvm_varyon.specs.Chosen.{Holds, last_moment, IsClockBack}
@@ -85,6 +86,8 @@ module _ (s : Survey) (name : List ℕ) (choice : Choice) (is : IsChosenGroup (s
     status = by.status;
     copies = subst (λ (n : ℕ). ArePlanned (surveyed s) choice.descriptor (Some is.status) (has n) plan.copies) (sym by.targets)
         (subst (λ (w : Stamped Status). ArePlanned (surveyed s) choice.descriptor (Some w) (has choice.answering) plan.copies) was_is (by.copies is.status.stamp));
+    order = subst (λ (n : ℕ). ArePlannedInOrder (surveyed s) choice.descriptor is.status.value (has n) plan.copies) (sym by.targets)
+        (subst (λ (v : Status). ArePlannedInOrder (surveyed s) choice.descriptor v (has choice.answering) plan.copies) is.newest by.order);
     homes = subst (SpareNewest s) (sym by.same_homes) spare;
     parts = by.parts;
   }

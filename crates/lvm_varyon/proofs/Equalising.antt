@@ -10,14 +10,14 @@ use Rattle.lvm_write.proofs.Transfers.{spends_then, spent_then}
 use Rattle.lvm_begin.specs.declared.begin.Begun.{Begun}
 use Rattle.lvm_begin.specs.declared.begin.Begun.TheVariants as begun
 use Rattle.lvm_recovery.specs.declared.copying.Recopy.{Recopy}
-use Rattle.lvm_recovery.specs.Copying.{AllGive}
+use Rattle.lvm_recovery.specs.Copying.{AllGive, StopsAtOne}
 use Rattle.lvm_recovery.specs.Equalising.{EqualiseGives}
 use Rattle.lvm_varyon.specs.Equal.{CopyFailed, ForgettingFailed, HaveBeenCopied, MakesEqual, StopsEqualling}
 use Rattle.lvm_varyon.specs.Writing.{IsStillOut}
 
 module _ (copies : List Recopy) (epoch : ℕ) (targets : Disks) (number before after : ℕ) (old new : Device) where
   all_copied : (between : ℕ) (mid : Device) (buf : Buffer) → AllGive copies number before between old mid (begun.Ended buf) → HaveBeenCopied copies old mid
-  all_copied between mid buf gives = record { copied = gives.how.copied; keeps = gives.does.keeps; ranges = gives.ranges; well = gives.how.well }
+  all_copied between mid buf gives = record { copied = gives.how.copied; keeps = gives.does.keeps; writes = gives.writes; ranges = gives.ranges; well = gives.how.well }
 
   pub made_equal : (buf : Buffer) → EqualiseGives copies epoch targets number before after old new (begun.Ended buf) → MakesEqual copies epoch targets old new
   made_equal buf (inl on) = record {
@@ -42,16 +42,16 @@ module _ (copies : List Recopy) (epoch : ℕ) (targets : Disks) (number before a
   }
   one_failed disk buf (inr stopped) =
       let how = stopped.copied.how in
-      record { when = inl (stopped.copied.does.keeps, record { its = how.0; rose = how.1.rose; alone = how.1.alone; rested = record { ready = how.1.back.ready; cuts = how.1.back.cuts } }) }
+      record { when = inl (stopped.copied.does.keeps, record { its = how.0; order = stopped.copied.writes; rose = how.1.rose; alone = how.1.alone; rested = record { ready = how.1.back.ready; cuts = how.1.back.cuts } }) }
 
-  pub went_dark : EqualiseGives copies epoch targets number before after old new begun.Dark → IsCutOff old new × StopsEqualling copies epoch targets old new (Unit {0}) (λ copied. Unit {0})
+  pub went_dark : EqualiseGives copies epoch targets number before after old new begun.Dark → IsCutOff old new × StopsEqualling copies epoch targets old new (StopsAtOne copies old new (λ d. Unit {0})) (λ copied. Unit {0})
   went_dark (inl on) = (
     record { power = on.emptied.how.power; flights = on.emptied.how.flights; cuts = subst (λ (n : ℕ). Rose n new.counts.cuts) on.copied.how.back.cuts on.emptied.how.cuts },
     record { when = inr (on.mid, all_copied on.between on.mid on.buf on.copied, on.emptied.does.keeps, tt) },
   )
-  went_dark (inr stopped) = (stopped.copied.how, record { when = inl (stopped.copied.does.keeps, tt) })
+  went_dark (inr stopped) = (stopped.copied.how, record { when = inl (stopped.copied.does.keeps, stopped.copied.writes) })
 
-  pub got_stuck : EqualiseGives copies epoch targets number before after old new begun.Stuck → IsStillOut before old new × StopsEqualling copies epoch targets old new (Unit {0}) (λ copied. Unit {0})
+  pub got_stuck : EqualiseGives copies epoch targets number before after old new begun.Stuck → IsStillOut before old new × StopsEqualling copies epoch targets old new (StopsAtOne copies old new (λ d. Unit {0})) (λ copied. Unit {0})
   got_stuck (inl on) =
       let out = on.emptied.how in (
         record {
@@ -66,7 +66,7 @@ module _ (copies : List Recopy) (epoch : ℕ) (targets : Disks) (number before a
       )
   got_stuck (inr stopped) =
       let out = stopped.copied.how in
-      (record { flight = out.flight; out = out.out; freed = out.freed; power = out.power; cuts = out.cuts; waited = out.waited }, record { when = inl (stopped.copied.does.keeps, tt) })
+      (record { flight = out.flight; out = out.out; freed = out.freed; power = out.power; cuts = out.cuts; waited = out.waited }, record { when = inl (stopped.copied.does.keeps, stopped.copied.writes) })
 
   pub spends_all : (result : Begun) → EqualiseGives copies epoch targets number before after old new result → Spends before after old new
   spends_all result (inl on) = spends_then before on.between after old on.mid new on.copied.does.spends on.emptied.does.spends

@@ -84,6 +84,7 @@ module _ (old new : Device) (name : List ℕ) (moment : ℕ) (room : Room) (part
     next_is = is.written.next_is;
     copies = is.written.copies;
     planned = is.written.planned;
+    order = is.written.order;
     writes = record {
       read = is.written.writes.read;
       unwritten = is.written.writes.unwritten;

@@ -18,7 +18,7 @@ use Rattle.lvm_homes.specs.declared.homes.Homes.{Homes}
 use Rattle.lvm_begin.specs.Beginning.{Beginning, again_order, MayBeginAgain}
 use Rattle.lvm_begin.specs.Ends.{HasNoFault, IsLowestFailed}
 pub use Rattle.lvm_recovery.specs.declared.copying.Recopy.{Recopy}
-use Rattle.lvm_recovery.specs.Copying.{AreApart, IsCopied, IsInOneRun, IsOfCopies, LogsOnly, MayCopy, sources_and_targets}
+use Rattle.lvm_recovery.specs.Copying.{AreApart, IsCopied, IsInOneRun, IsOfCopies, LogsJust, LogsOnly, MayCopy, StopsAtOne, runs_into, sources_and_targets}
 use Rattle.lvm_recovery.specs.Equalising.{MayEqualise}
 use Rattle.lvm_core.specs.declared.refused.Cause.{Cause}
 use Rattle.lvm_core.specs.declared.refused.Cause.TheVariants as cause
@@ -27,11 +27,11 @@ use Rattle.lvm_varyon.specs.Writing.{AllWritten, OneWriteFailed, WasBrokenOff, I
 
 -- ---- copies, and then notes
 
--- What stood in the first run of each copy stands in its second run, and nothing else has changed.
+-- What stood in the first run of each copy stands in its second run, each was written once, in the copies' order, and nothing else has changed.
 pub record HaveBeenCopied (copies : List Recopy) (old new : Device) : Type 0 where
   pub copied : (one : Recopy) → IsOneOf copies one → IsCopied old new one
   pub keeps : KeepsShelf (sources_and_targets copies) (IsOfCopies old copies) old new
-  -- each range that was written lies in one of these second runs
+  pub writes : LogsJust (runs_into copies) old.wrote new.wrote
   pub ranges : LogsOnly (IsInOneRun copies) old.wrote new.wrote
   pub well : HasNoFault old new
 
@@ -53,9 +53,10 @@ pub record StopsEqualling (copies : List Recopy) (epoch : ℕ) (targets : Disks)
   pub when : (KeepsShelf (sources_and_targets copies) (IsOfCopies old copies) old new × AtCopy)
       ⊎ ((copied : Device) × HaveBeenCopied copies old copied × OnlyForgets targets epoch copied new × AtNotes copied)
 
--- a transfer failed of a disk from which or to which a copy is made, and of no other disk
+-- A transfer failed of a disk from which or to which a copy is made, and of no other disk; those before it were made, and those behind it weren't begun.
 pub record CopyFailed (copies : List Recopy) (disk : ℕ) (old new : Device) : Type 0 where
   pub its : IsTrue (sources_and_targets copies disk)
+  pub order : StopsAtOne copies old new (λ d. disk ≡ d)
   pub rose : Rose (old.counts.faults disk) (new.counts.faults disk)
   pub alone : (d : ℕ) → (d ≡ disk → ⊥) → new.counts.faults d ≡ old.counts.faults d
   pub rested : IsRested old new
@@ -70,8 +71,8 @@ module _ (patience : ℕ) (copies : List Recopy) (epoch : ℕ) (targets : Disks)
   abbrev pub EqualGives : Result (Unit {0}) Cause → Type 0
   EqualGives (Ok done) = MakesEqual copies epoch targets old new
   EqualGives (Err (cause.DiskFailed disk)) = StopsEqualling copies epoch targets old new (CopyFailed copies disk old new) (λ copied. ForgettingFailed epoch targets disk copied new)
-  EqualGives (Err cause.Dark) = IsCutOff old new × StopsEqualling copies epoch targets old new (Unit {0}) (λ copied. Unit {0})
-  EqualGives (Err cause.Stuck) = IsStillOut patience old new × StopsEqualling copies epoch targets old new (Unit {0}) (λ copied. Unit {0})
+  EqualGives (Err cause.Dark) = IsCutOff old new × StopsEqualling copies epoch targets old new (StopsAtOne copies old new (λ d. Unit {0})) (λ copied. Unit {0})
+  EqualGives (Err cause.Stuck) = IsStillOut patience old new × StopsEqualling copies epoch targets old new (StopsAtOne copies old new (λ d. Unit {0})) (λ copied. Unit {0})
   EqualGives (Err cause.Memory) = ⊥
   EqualGives (Err cause.HistoryFull) = ⊥
   EqualGives (Err cause.NoRecord) = ⊥
@@ -105,7 +106,7 @@ OneFailed b copies disk read new = OneWriteFailed b (again_order false) disk rea
 
 -- one of them was broken off
 abbrev pub BrokeOff : Beginning → List Recopy → Device → Device → Type 0
-BrokeOff b copies read new = WasBrokenOff b (again_order false) read new ⊎ StopsBehind b copies read new (λ mid. Unit {0}) (λ mid. Unit {0})
+BrokeOff b copies read new = WasBrokenOff b (again_order false) read new ⊎ StopsBehind b copies read new (λ mid. StopsAtOne copies mid new (λ d. Unit {0})) (λ mid. Unit {0})
 
 module _ (patience : ℕ) (b : Beginning) (copies : List Recopy) (read new : Device) where
   abbrev pub AllWritesGive : Result Homes Cause → Type 0

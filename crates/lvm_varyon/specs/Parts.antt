@@ -31,6 +31,7 @@ use Rattle.lvm_begin.specs.Beginning.{Beginning, Part, again_beginning}
 use Rattle.lvm_varyon.specs.declared.plan.Plan.{Plan}
 use Rattle.lvm_next.specs.Next.{IsNextStatus}
 use Rattle.lvm_recovery.specs.declared.copying.Recopy.{Recopy}
+use Rattle.lvm_recovery.specs.Plan.{ArePlannedInOrder}
 use Rattle.lvm_recovery.specs.Planned.{ArePlanned}
 use Rattle.lvm_varyon.specs.Chosen.{answering, MayComeOn, IsClockBack}
 use Rattle.lvm_varyon.specs.Writing.{AllWritten, WasBrokenOff, OneWriteFailed, IsStillOut}
@@ -100,6 +101,7 @@ pub record IsPlanFor (survey : Survey) (choice : Choice) (homes : Homes) (room :
   pub status : plan.status ≡ status_bytes next
   pub targets : plan.targets ≡ choice.answering
   pub copies : (stamp : Stamp) → ArePlanned (surveyed survey) choice.descriptor (Some (record { stamp = stamp; value = choice.status })) (has choice.answering) plan.copies
+  pub order : ArePlannedInOrder (surveyed survey) choice.descriptor choice.status (has choice.answering) plan.copies
   pub same_homes : plan.homes ≡ homes
   pub parts : IsReservedFor choice.descriptor next room plan.parts
 
@@ -124,6 +126,7 @@ pub record IsPlan (survey : Survey) (name : List ℕ) (moment : ℕ) (room : Roo
   pub descriptor : plan.descriptor ≡ descriptor_bytes group
   pub status : plan.status ≡ status_bytes next
   pub copies : ArePlanned (surveyed survey) group (Some was) (has plan.targets) plan.copies
+  pub order : ArePlannedInOrder (surveyed survey) group was.value (has plan.targets) plan.copies
   pub homes : SpareNewest survey plan.homes
   pub parts : IsReservedFor group next room plan.parts
 

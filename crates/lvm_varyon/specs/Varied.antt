@@ -30,6 +30,7 @@ use Rattle.lvm_varyon.specs.Chosen.{answering, last_moment, MayComeOn, IsClockBa
 use Rattle.lvm_next.specs.Restated.{Restated}
 use Rattle.lvm_recover.specs.Recovered.{HasNoPassive}
 use Rattle.lvm_recovery.specs.declared.copying.Recopy.{Recopy}
+use Rattle.lvm_recovery.specs.Plan.{ArePlannedInOrder}
 use Rattle.lvm_recovery.specs.Planned.{ArePlanned}
 use Rattle.lvm_varyon.specs.Writing.{beginning, Writes, IsStillOut}
 use Rattle.lvm_varyon.specs.Equal.{IsEqualled, OneFailed, BrokeOff}
@@ -48,6 +49,7 @@ pub record HasWritten (old new : Device) (name : List ℕ) (moment : ℕ) (How :
   -- the copies of track groups that their notes name
   pub copies : List Recopy
   pub planned : ArePlanned found.shown group (Some was) (answering found.shown group) copies
+  pub order : ArePlannedInOrder found.shown group was.value (answering found.shown group) copies
   pub writes : Writes old moment group next (answering found.shown group) (λ b read. How b copies read)
 
 -- the stamp of the last record that a varyon writes

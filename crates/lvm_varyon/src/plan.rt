@@ -3,6 +3,7 @@ ghost use Rattle.std.specs.Prelude.{◌≡◌, Some, IfOk};
 ghost use Rattle.lvm_num.specs.declared.record.Stamp.{Stamp};
 ghost use Rattle.lvm_num.specs.Disks.{has};
 ghost use Rattle.lvm_survey.specs.Surveyed.{surveyed};
+ghost use Rattle.lvm_recovery.specs.Plan.{ArePlannedInOrder};
 ghost use Rattle.lvm_recovery.specs.Planned.{ArePlanned};
 ghost use Rattle.lvm_num.specs.Descriptor.{IsValid};
 ghost use Rattle.lvm_num.specs.Status.{IsValidStatus};
@@ -109,7 +110,8 @@ fn copies_for(alloc: Global, survey: &Survey, choice: &Choice) -> Result<Rows<Re
     requires rows { AreRows survey.now }
     requires descriptor { IsValid choice.now.descriptor }
     requires status { IsValidStatus choice.now.status }
-    ensures { (stamp : Stamp) → IfOk result (λ copies. ArePlanned (surveyed survey.now) choice.now.descriptor (Some (record { stamp = stamp; value = choice.now.status })) (has choice.now.answering) copies) }
+    ensures planned { (stamp : Stamp) → IfOk result (λ copies. ArePlanned (surveyed survey.now) choice.now.descriptor (Some (record { stamp = stamp; value = choice.now.status })) (has choice.now.answering) copies) }
+    ensures order { IfOk result (λ copies. ArePlannedInOrder (surveyed survey.now) choice.now.descriptor choice.now.status (has choice.now.answering) copies) }
 {
     let named = named_by(alloc, survey, choice.answering)?;
     let table = StaleTable::from_status(alloc, &choice.status)?;

@@ -17,6 +17,9 @@ returns-then-is_err-clause-front g c =
     front_at_want c.args.seed c.loop-k.k c.args.count (string_bytes c.loop-k.text) c.loop-k.rng (g.O.Sink.held c.args.out.now) (g.O.Sink.held c.loop-k.out) (g.O.Sink.faults c.args.out.now) (g.O.Sink.faults c.loop-k.out)
     c.loop-k.invariant.0 c.loop-k-test.true
 
+pub returns-then-is_err-clause-memory : goal.returns-then-is_err-clause-memory
+returns-then-is_err-clause-memory g c = λ is. c.loop-k.invariant.0.well
+
 pub returns-then-is_err-2-clause-front : goal.returns-then-is_err-2-clause-front
 returns-then-is_err-2-clause-front g c =
     front_at_fault c.args.seed c.loop-k.k (string_bytes c.loop-k.text) (line_text (c.loop-k.k + 1) (draw_at c.loop-k.rng)) c.loop-k.rng (g.O.Sink.held c.args.out.now) (g.O.Sink.held c.loop-k.out) (g.O.Sink.faults c.args.out.now)

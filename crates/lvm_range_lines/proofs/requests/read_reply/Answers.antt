@@ -15,7 +15,7 @@ returns-in-Ok g c =
       finishes = (
         left,
         subst (λ (r : Result (Unit {0}) RangeFault). FinishGives c.args.asked.now left (state_of device c.args.driver.now) (state_of device c.finish_range.new.driver) r) c.in-Ok.is c.finish_range.ensures.gives,
-        subst (λ n. RoseBy (n - left) (device c.args.driver.now.0).counts.waits (device c.finish_range.new.driver.0).counts.waits) c.whole-patience.ensures c.in-Ok.ensures.waited,
+        subst (λ n. RoseBy (n - left) (device c.args.driver.now.0).counts.waits (device c.finish_range.new.driver.0).counts.waits) c.whole-patience.ensures c.in-Ok.ensures.spends.waits,
       );
       others = c.in-Ok.ensures.others;
       runs = c.in-Ok.ensures.runs;
@@ -30,7 +30,7 @@ returns-in-Err g c =
       finishes = (
         left,
         subst (λ (r : Result (Unit {0}) RangeFault). FinishGives c.args.asked.now left (state_of device c.args.driver.now) (state_of device c.finish_range.new.driver) r) c.in-Err.is c.finish_range.ensures.gives,
-        subst (λ n. RoseBy (n - left) (device c.args.driver.now.0).counts.waits (device c.finish_range.new.driver.0).counts.waits) c.whole-patience.ensures c.in-Err.ensures.waited,
+        subst (λ n. RoseBy (n - left) (device c.args.driver.now.0).counts.waits (device c.finish_range.new.driver.0).counts.waits) c.whole-patience.ensures c.in-Err.ensures.spends.waits,
       );
       others = c.in-Err.ensures.others;
       runs = c.in-Err.ensures.runs;

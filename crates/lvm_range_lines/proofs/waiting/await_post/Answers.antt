@@ -23,6 +23,6 @@ returns-in-None g c =
       awaits = awaits_range c.args.post.now c.await_range.new.patience.left (state_of device c.args.driver.now) (state_of device c.await_range.new.driver) c.await_range.result c.in-None.is made.turns made.ends;
       table = made.table;
       runs = made.runs;
-      patience = made.patience;
-      waited = made.waited;
+      patience = made.spends.falls;
+      waited = made.spends.waits;
     }

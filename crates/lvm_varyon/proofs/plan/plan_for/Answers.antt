@@ -14,6 +14,7 @@ use Rattle.lvm_core.specs.declared.parts.Room.{Room}
 use Rattle.lvm_session_start.specs.Parts.{IsOneGroup}
 use Rattle.lvm_next.specs.Next.{IsNextStatus}
 use Rattle.lvm_recovery.specs.declared.copying.Recopy.{Recopy}
+use Rattle.lvm_recovery.specs.Plan.{ArePlannedInOrder}
 use Rattle.lvm_recovery.specs.Planned.{ArePlanned}
 use Rattle.lvm_varyon.specs.declared.plan.Plan.{Plan}
 use Rattle.lvm_varyon.specs.Parts.{IsPlanFor, IsPlanOfChoice}
@@ -26,15 +27,17 @@ no_stamp = record { epoch = 0; seq = 0 }
 planned_for : (survey : Survey) (choice : Choice) (copies : List Recopy) (next : Status) (homes : Homes) (room : Room)
     → ((stamp : Stamp) → IsNextStatus choice.descriptor (has choice.answering) (record { stamp = stamp; value = choice.status }) next)
     → ((stamp : Stamp) → ArePlanned (surveyed survey) choice.descriptor (Some (record { stamp = stamp; value = choice.status })) (has choice.answering) copies)
+    → ArePlannedInOrder (surveyed survey) choice.descriptor choice.status (has choice.answering) copies
     → (r : Result Plan Memory) → IfOk r (IsPlanOfChoice (record choice { status = next }) copies homes room) → IfOk r (IsPlanFor survey choice homes room)
-planned_for survey choice copies next homes room next_is planned (Err why) is = tt
-planned_for survey choice copies next homes room next_is planned (Ok plan) is = record {
+planned_for survey choice copies next homes room next_is planned order (Err why) is = tt
+planned_for survey choice copies next homes room next_is planned order (Ok plan) is = record {
   next = next;
   next_is = next_is;
   descriptor = is.descriptor;
   status = is.status;
   targets = is.targets;
   copies = λ stamp. subst (λ (l : List Recopy). ArePlanned (surveyed survey) choice.descriptor (Some (record { stamp = stamp; value = choice.status })) (has choice.answering) l) (sym is.same_copies) (planned stamp);
+  order = subst (λ (l : List Recopy). ArePlannedInOrder (surveyed survey) choice.descriptor choice.status (has choice.answering) l) (sym is.same_copies) order;
   same_homes = is.same_homes;
   parts = is.parts;
 }
@@ -52,5 +55,5 @@ plan_with-requires-clause-group c =
 
 pub returns : goal.returns
 returns c =
-    planned_for c.args.survey.now c.args.choice c.in_ok-copies.copies c.in_ok-next.next c.args.homes c.args.room c.in_ok-next.ensures c.in_ok-copies.ensures c.plan_with.result
+    planned_for c.args.survey.now c.args.choice c.in_ok-copies.copies c.in_ok-next.next c.args.homes c.args.room c.in_ok-next.ensures c.in_ok-copies.ensures.planned c.in_ok-copies.ensures.order c.plan_with.result
     (subst (λ (x : Choice). IfOk c.plan_with.result (IsPlanOfChoice x c.in_ok-copies.copies c.args.homes c.args.room)) c.with_status.ensures c.plan_with.ensures)
