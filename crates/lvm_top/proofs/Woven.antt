@@ -15,19 +15,15 @@ use Rattle.lvm_steps.proofs.Spans.{keeps_still, span_upholds}
 use Rattle.lvm_stamps.specs.Behind.{IsAhead, IsBehind}
 use Rattle.lvm_core.specs.declared.parts.Room.{Room}
 use Rattle.lvm_posts.specs.declared.posts.Post.{Post}
-use Rattle.lvm_session.specs.declared.answers.Turned.{Turned}
-use Rattle.lvm_session.specs.declared.answers.Turned.TheVariants as turned
-use Rattle.lvm_session.specs.declared.open.Power.{Power}
 use Rattle.lvm_session.specs.declared.open.Power.TheVariants as power
 use Rattle.lvm_session.specs.State.{Core, State as Session, state}
-use Rattle.lvm_turn_answers.specs.Telling.{power_by}
 use Rattle.lvm_load.specs.declared.workload.Workload.{Workload}
 use Rattle.lvm_load.specs.declared.workload.Woven.{Woven}
 use Rattle.lvm_line.specs.passed.HolderVariants as holder
 use Rattle.lvm_line.specs.passed.RefusalVariants as refusal
 use Rattle.lvm_line.specs.passed.Running.{RunsOn}
 use Rattle.lvm_line.specs.passed.ReplyVariants as reply
-use Rattle.lvm_line.specs.passed.Stage.{ArePosted, GoesOn, Holder, IsBetween, IsOfKind, IsStuck, IsTimely, OfRequests, Reply, Stage, StandsBy, State, history_in, history_of, moment_in, most_refusals, session_in, session_of, shelf_of, state_in, without_facts}
+use Rattle.lvm_line.specs.passed.Stage.{ArePosted, GoesOn, Holder, IsBetween, IsBetweenStage, IsFitting, IsOfKind, IsStuck, IsTimely, OfRequests, Reply, Stage, StandsBy, State, history_in, history_of, moment_in, most_refusals, session_in, session_of, shelf_of, state_in, without_facts}
 use Rattle.lvm_line.proofs.passed.Stage.{over_goes}
 use Rattle.lvm_top.specs.declared.run.Ended.{Ended}
 use Rattle.lvm_top.specs.declared.status.ExitStatus.{ExitStatus}
@@ -36,7 +32,7 @@ use Rattle.lvm_top.specs.Program.{PromisesWovenBlank}
 use Rattle.lvm_top.specs.Run.{Run, ran}
 use Rattle.lvm_top.specs.Script.{Passage, Stream, empty_log, entry_state, facts_of, stream}
 use Rattle.lvm_top.specs.Sim.{IsToldBlank, full_room, sim_device}
-use Rattle.lvm_top.specs.Woven.{AreMadeAlone, Drawn, EndsWoven, GoesWoven, HasGroup, IsDrawn, IsMade, IsRefused, IsServed, IsWoven, IsWovenAlone, NoGroup, NotMade, NotServed, PromisesWoven, TellsWoven, exit_moment, exit_of, mklv_line, mkvg_line, status_woven, untold, woven_text}
+use Rattle.lvm_top.specs.Woven.{AreMadeAlone, Drawn, EndsWoven, GoesWoven, HasGroup, IsDrawn, IsMade, EndsRefused, HasServed, IsWoven, IsWovenAlone, NoGroup, NotMade, NotServed, PromisesWoven, TellsWoven, exit_moment, exit_of, mklv_line, mkvg_line, status_woven, untold, woven_text}
 use Rattle.lvm_top.proofs.Blanks.{sim_behind, sim_earlier, told_behind, told_earlier}
 use Rattle.lvm_top.proofs.Concluding.{Concluded, concluded, off_still}
 use Rattle.lvm_top.proofs.Lining.{stuck_is_off}
@@ -55,7 +51,7 @@ pub record MakesSo (run : ℕ) (Alone : Type 0) (answer : Reply) (first last : S
   pub power : last.moment.device.power ≡ true
   pub clock : first.last ≤ last.last
 
-ok_heard : IsStuck reply.Ok → ⊥
+pub ok_heard : IsStuck reply.Ok → ⊥
 ok_heard e = cc e
 
 pub makes_so : (log : Log) (room : Room) (group volume : List ℕ) (first : State) (answer : Reply) (last : State) (made : IsMade log room group volume first answer last) → MakesSo log.run (AreMadeAlone made) answer first last
@@ -85,28 +81,6 @@ makes_so log room group volume first answer last (HasGroup mid makes it) = recor
 none_posted : (facts : List Fact) (on : Option Core) → ArePosted facts on []
 none_posted facts on = record { each = λ k d less. absurd (omega (arith, less)); rise = λ i j d before less. absurd (omega (arith, less)) }
 
-unstuck : (answer : Turned) (p : Power) → p ≡ power_by answer → p ≡ power.Stuck → ⊥
-unstuck turned.Moved p is stuck = let e = sym is ∙ stuck in cc e
-unstuck turned.Idle p is stuck = let e = sym is ∙ stuck in cc e
-unstuck turned.Dark p is stuck = let e = sym is ∙ stuck in cc e
-unstuck turned.Off p is stuck = let e = sym is ∙ stuck in cc e
-
-module _ (end : State) (exit : Moment) (between : IsBetween end.moment end.session end.posts) (core : Core) (some : end.session ≡ Some core) (vols : core.descriptor.lvs ≢ []) (facts : end.moment.facts ≡ core.history.facts) where
-  abbrev behind : State
-  behind = record { moment = exit; session = None; posts = []; last = end.last }
-
-  drawn_goes : (blocks : ℕ) (load : Workload) (woven : Woven) → IsDrawn blocks load (state end.moment.device core) exit woven → GoesOn core.history.run OfRequests (reply.Refused refusal.Stuck) end behind
-  drawn_goes blocks load woven drawn =
-      over_goes OfRequests end core drawn.end
-      (record { alone = λ new alone. alone.acts tt; session = some; facts = facts; volumes = vols; between = between; leaves = drawn.runs.leaves; sound = drawn.sound })
-      (reply.Refused refusal.Stuck) behind drawn.closed drawn.facts refl refl (unstuck drawn.turns.answer drawn.end.core.power drawn.turns.tells.power_is) (λ heard. absurd (heard refl)) (none_posted _ _)
-      (λ not_asking. absurd (not_asking tt)) (omega arith)
-
-  pub drawn_concluded : (run : ℕ) → core.history.run ≡ run → (blocks : ℕ) (load : Workload) (woven : Woven) → IsDrawn blocks load (state end.moment.device core) exit woven → Concluded run end exit
-  drawn_concluded run named blocks load woven drawn =
-      let goes : GoesOn run OfRequests (reply.Refused refusal.Stuck) end behind = subst (λ n. GoesOn n OfRequests (reply.Refused refusal.Stuck) end behind) named (drawn_goes blocks load woven drawn) in
-      record { keeps = λ timely alone first span stands. (goes.keeps timely alone first span stands).0; left = λ timely. goes.left timely; power = goes.power }
-
 -- turns and calls don't leave a session stuck that was on
 pub runs_unstuck : (old new : Session) → RunsOn old new → old.core.power ≡ power.On → new.core.power ≡ power.Stuck → ⊥
 runs_unstuck old new runs on stuck = by runs.leaves.keeps.power
@@ -115,6 +89,30 @@ runs_unstuck old new runs on stuck = by runs.leaves.keeps.power
     by (inl same) = let e = sym on ∙ sym same ∙ stuck in cc e
     by (inr (inl dark)) = let e = sym dark ∙ stuck in cc e
     by (inr (inr off)) = let e = sym off.1 ∙ stuck in cc e
+
+module _ (end : State) (exit : Moment) (between : IsBetween end.moment end.session end.posts) (core : Core) (some : end.session ≡ Some core) (vols : core.descriptor.lvs ≢ []) (facts : end.moment.facts ≡ core.history.facts) where
+  abbrev behind : State
+  behind = record { moment = exit; session = None; posts = []; last = end.last }
+
+  on : core.power ≡ power.On
+  on = (subst (λ (o : Option Core). IsBetween end.moment o end.posts) some between).session.power
+
+  drawn_goes : (blocks : ℕ) (load : Workload) (woven : Woven) → IsDrawn blocks load (state end.moment.device core) exit woven → GoesOn core.history.run OfRequests (reply.Refused refusal.Stuck) end behind
+  drawn_goes blocks load woven drawn =
+      over_goes OfRequests end core drawn.end
+      (record { alone = λ new alone. alone.acts tt; session = some; facts = facts; volumes = vols; between = between; leaves = drawn.runs.leaves; sound = drawn.sound })
+      (reply.Refused refusal.Stuck) behind drawn.closed drawn.facts refl refl (runs_unstuck (state end.moment.device core) drawn.end drawn.runs on) (λ heard. absurd (heard refl)) (none_posted _ _)
+      (λ not_asking. absurd (not_asking tt)) (omega arith)
+
+  pub drawn_concluded : (run : ℕ) → core.history.run ≡ run → (blocks : ℕ) (load : Workload) (woven : Woven) → IsDrawn blocks load (state end.moment.device core) exit woven → Concluded run end exit
+  drawn_concluded run named blocks load woven drawn =
+      let goes : GoesOn run OfRequests (reply.Refused refusal.Stuck) end behind = subst (λ n. GoesOn n OfRequests (reply.Refused refusal.Stuck) end behind) named (drawn_goes blocks load woven drawn) in
+      record { keeps = λ timely alone first span stands. (goes.keeps timely alone first span stands).0; left = λ timely. goes.left timely; power = goes.power }
+
+-- the lines are those that are named
+pub made_by : (log : Log) (room : Room) (group group1 volume volume1 : List ℕ) (first : State) (answer : Reply) (last : State) → group ≡ group1 → volume ≡ volume1 → IsMade log room group volume first answer last → IsMade log room group1 volume1 first answer last
+made_by log room group group1 volume volume1 first answer last is_group is_volume made =
+    subst (λ (l : List ℕ). IsMade log room l volume1 first answer last) is_group (subst (λ (l : List ℕ). IsMade log room group l first answer last) is_volume made)
 
 -- the lines answer at most two refusals
 pub made_few : (log : Log) (room : Room) (group volume : List ℕ) (first : State) (answer : Reply) (last : State) → IsMade log room group volume first answer last → first.posts ≡ [] → most_refusals answer ≤ 2
@@ -138,12 +136,14 @@ told_none woven requests status is held faults = record {
   split = refl;
   written = told_same held (λ a b. b ≡ a ++ []) (λ a. sym (append-nil a));
   whole = λ e. absurd (cc e);
+  well = λ e. absurd (cc e);
   sink = λ e. absurd (cc e);
+  memory = λ e. refl;
 }
 
 pub told_all : (woven : Woven) (requests : ℕ) (status : ExitStatus) → status ≡ status_woven woven requests None → (before after : Option (List ℕ)) (faults later : ℕ) (text : List ℕ) → text ≡ woven_text woven → WhereTold before after (λ a b. b ≡ a ++ text)
-    → TellsWoven woven requests status (through before faults after later)
-told_all woven requests status is before after faults later text same whole = record {
+    → later ≡ faults → TellsWoven woven requests status (through before faults after later)
+told_all woven requests status is before after faults later text same whole well = record {
   failed = None;
   only = tt;
   status_is = is;
@@ -152,7 +152,9 @@ told_all woven requests status is before after faults later text same whole = re
   split = sym (append-nil (woven_text woven));
   written = subst (λ (t : List ℕ). WhereTold before after (λ a b. b ≡ a ++ t)) same whole;
   whole = λ e. refl;
+  well = λ e. well;
   sink = λ e. absurd (cc e);
+  memory = λ e. absurd (cc e);
 }
 
 pub told_some : (woven : Woven) (requests : ℕ) (status : ExitStatus) → status ≡ status_woven woven requests (Some ended.SinkFault) → (before after : Option (List ℕ)) (faults later : ℕ) (text : List ℕ)
@@ -169,7 +171,9 @@ told_some woven requests status is before after faults later text same part rose
       split = split;
       written = written;
       whole = λ e. absurd (cc e);
+      well = λ e. absurd (cc e);
       sink = λ e. rose;
+      memory = λ e. absurd (cc e);
     }
 
     by : (before after : Option (List ℕ)) → WhereTold before after (λ a b. WritesFront (woven_text woven) a b) → TellsWoven woven requests status (through before faults after later)
@@ -185,9 +189,9 @@ module _ {S : Type 0} (device : S → Device) (blocks : ℕ) (load : Workload) (
   EndsAt h = EndsWoven blocks load answer (history_of h).run (record { device = device (shelf_of h); facts = (history_of h).facts }) (session_of h) exit status refused out
 
   abbrev RefusedAt : Holder S → Type 0
-  RefusedAt h = IsRefused (reply.Refused refusal.Memory) (history_of h).run (record { device = device (shelf_of h); facts = (history_of h).facts }) (session_of h) exit status refused out
+  RefusedAt h = EndsRefused (reply.Refused refusal.Memory) (history_of h).run (record { device = device (shelf_of h); facts = (history_of h).facts }) (session_of h) exit status refused out
 
-  pub serving_ends : (driver : S × Core) (h : Holder S) → h ≡ holder.Serving driver → IsOfKind h → IsServed blocks load (state (device driver.0) driver.1) exit status refused out → EndsAt h
+  pub serving_ends : (driver : S × Core) (h : Holder S) → h ≡ holder.Serving driver → IsOfKind h → HasServed blocks load (state (device driver.0) driver.1) exit status refused out → EndsAt h
   serving_ends driver h is kind served = subst (λ (k : Holder S). IsOfKind k → EndsAt k) (sym is) (λ vols. Drawn ok driver.1 refl vols refl refl served) kind
 
   pub empty_ends : (driver : S × Core) (h : Holder S) → h ≡ holder.Empty driver → IsOfKind h → RefusedAt (holder.Empty driver) → EndsAt h
@@ -196,14 +200,23 @@ module _ {S : Type 0} (device : S → Device) (blocks : ℕ) (load : Workload) (
   pub off_ends : (shelf : S) (history : Log) (h : Holder S) → h ≡ holder.Off shelf history → RefusedAt (holder.Off shelf history) → EndsAt h
   off_ends shelf history h is none = subst EndsAt (sym is) (NotServed ok tt none)
 
+-- what holds of the stage with its holder holds with what that is
+module _ {S : Type 0} (device : S → Device) (old : Stage S) (h : Holder S) (is : old.holder ≡ h) where
+  abbrev At : Holder S → Stage S
+  At k = record { holder = k; posts = old.posts; bytes = old.bytes }
+
+  pub between_at : IsBetweenStage device old → IsBetweenStage device (At h)
+  between_at between = subst (λ (k : Holder S). IsBetweenStage device (At k)) is between
+
+  pub fits_at : IsFitting old → IsFitting (At h)
+  fits_at fits = subst (λ (k : Holder S). IsFitting (At k)) is fits
+
+  pub rooms_at : (o : Option Log) → IsSomeAnd o (λ log. without_facts log ≡ without_facts (history_of h)) → IsSomeAnd o (λ log. without_facts log ≡ without_facts (history_in old))
+  rooms_at o rooms = subst (λ (k : Holder S). IsSomeAnd o (λ log. without_facts log ≡ without_facts (history_of k))) (sym is) rooms
+
 -- a session that serves requests is on between two lines
-pub serving_on : {S : Type 0} (device : S → Device) (posts : List Post) (driver : S × Core) (h : Holder S) → h ≡ holder.Serving driver
-    → (session_of h ≡ None) ⊎ IsBetween (record { device = device (shelf_of h); facts = (history_of h).facts }) (session_of h) posts → driver.1.power ≡ power.On
-serving_on {S} device posts driver h is between = its (subst (λ (k : Holder S). (session_of k ≡ None) ⊎ IsBetween (record { device = device (shelf_of k); facts = (history_of k).facts }) (session_of k) posts) is between)
-  where
-    its : (session_of (holder.Serving driver) ≡ None) ⊎ IsBetween (record { device = device driver.0; facts = driver.1.history.facts }) (Some driver.1) posts → driver.1.power ≡ power.On
-    its (inl none) = absurd (cc none)
-    its (inr between) = between.session.power
+pub serving_on : {S : Type 0} (device : S → Device) (old : Stage S) (driver : S × Core) → old.holder ≡ holder.Serving driver → IsBetweenStage device old → driver.1.power ≡ power.On
+serving_on device old driver is between = (between_at device old (holder.Serving driver) is between).session.power
 
 -- ---- the end
 

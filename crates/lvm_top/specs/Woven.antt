@@ -1,5 +1,5 @@
 -- A run of a workload over a group of its own.
-use Rattle.std.specs.Prelude.{◌≡◌, ◌≢◌, ◌⊎◌, ◌≤◌, ◌+◌, ◌-◌, ◌*◌, ◌++◌, ◌==◌, ℕ, [], List, length, take, Bool, true, Option, Some, None, IfSome, IfNone, if◌then◌else◌, codes}
+use Rattle.std.specs.Prelude.{◌≡◌, ◌≢◌, ◌⊎◌, ◌≤◌, ◌+◌, ◌-◌, ◌*◌, ◌++◌, ◌==◌, ℕ, [], List, length, take, Bool, true, false, Option, Some, None, IfSome, IfNone, if◌then◌else◌, codes}
 use Rattle.std.specs.Fmt.{decimal}
 use Rattle.lvm_disk.specs.Device.{Device, IsReady}
 use Rattle.lvm_io.specs.Count.{Rose}
@@ -43,12 +43,12 @@ abbrev pub mkvg_line : ℕ → List ℕ
 mkvg_line disks = take (20 + 7 * disks) (codes "mkvg -y weavevg -s 1 hdisk0 hdisk1 hdisk2 hdisk3 hdisk4 hdisk5 hdisk6 hdisk7")
 
 -- a copy on each of two disks, or one where there is one disk
-abbrev pub copies_for : ℕ → ℕ
-copies_for disks = if disks == 1 then 1 else 2
+abbrev pub copy_count : ℕ → ℕ
+copy_count disks = if disks == 1 then 1 else 2
 
--- the line that makes the volume, of all partitions but two of a disk
+-- the line that makes the volume, of as many logical partitions as a disk has partitions
 abbrev pub mklv_line : ℕ → ℕ → List ℕ
-mklv_line disks mib = codes "mklv -y weavelv -c " ++ decimal (copies_for disks) ++ codes " -w a weavevg " ++ decimal (mib - 2)
+mklv_line disks mib = codes "mklv -y weavelv -c " ++ decimal (copy_count disks) ++ codes " -w a weavevg " ++ decimal (mib - 2)
 
 -- The two lines were done, or the first alone where it wasn't answered by `ok`; and the last of them was answered so.
 pub data IsMade (log : Log) (room : Room) (group volume : List ℕ) (first : State) (answer : Reply) (last : State) : Type 0 where
@@ -66,14 +66,19 @@ AreMadeAlone {group = group} {volume = volume} {first = first} {last = last} (Ha
 abbrev pub IsDrawable : Workload → Type 0
 IsDrawable load = (1 ≤ load.clients) × (load.clients ≤ 64)
 
--- It is drawn over the first volume of a session, of so many blocks; then turns are made until one doesn't move, and the session is closed.
+-- turns are made until one doesn't move, unless nothing is heard
+abbrev pub TurnsBehind : Bool → Session → Session → Type 0
+TurnsBehind true last end = end ≡ last
+TurnsBehind false last end = MakesTurns last end
+
+-- It is drawn over the first volume of a session, of so many blocks; then turns are made until one doesn't move, unless nothing is heard, and the session is closed.
 pub record IsDrawn (blocks : ℕ) (load : Workload) (first : Session) (exit : Moment) (woven : Woven) : Type 0 where
   pub last : Session
   pub weaves : Weaves 1 blocks load.requests (first_weaving first load.clients load.seed) last woven.waiting
   pub totals : woven.totals ≡ totals_of load.requests (entries_since (length first.core.history.facts) last.core.history.facts)
   pub causes : HasCauses 1 blocks load.requests first last woven
   pub end : Session
-  pub turns : MakesTurns last end
+  pub turns : TurnsBehind woven.waiting last end
   pub runs : RunsOn first end
   pub sound : IsSound end
   pub closed : IsClosed end.core.power end.device exit.device
@@ -96,8 +101,8 @@ abbrev pub woven_text : Woven → List ℕ
 woven_text woven = refusal_text woven ++ totals_text woven.totals
 
 -- so many refusals are written
-abbrev pub refusals_of : Woven → ℕ
-refusals_of woven = if woven.waiting then 1 else 0
+abbrev pub refusals_told : Woven → ℕ
+refusals_told woven = if woven.waiting then 1 else 0
 
 -- each request ended well
 abbrev pub is_whole : Woven → ℕ → Bool
@@ -121,7 +126,9 @@ pub record TellsWoven (woven : Woven) (requests : ℕ) (status : ExitStatus) (ou
   pub split : woven_text woven ≡ front ++ rest
   pub written : WhereTold out.before.content out.after.content (λ a b. b ≡ a ++ front)
   pub whole : failed ≡ None → rest ≡ []
+  pub well : failed ≡ None → out.after.faults ≡ out.before.faults
   pub sink : failed ≡ Some ended.SinkFault → Rose out.before.faults out.after.faults
+  pub memory : failed ≡ Some ended.Memory → out.after ≡ out.before
 
 -- ---- its end
 
@@ -130,26 +137,26 @@ abbrev pub exit_of : {S : Type 0} → (S → Device) → Ended S → Moment
 exit_of device end = record { device = device end.shelf; facts = facts_of end.history }
 
 -- The run ends with this refusal, and what is on is concluded.
-pub record IsRefused (why : Reply) (run : ℕ) (end : Moment) (on : Option Core) (exit : Moment) (status : ExitStatus) (refused : ℕ) (out : Passage) : Type 0 where
+pub record EndsRefused (why : Reply) (run : ℕ) (end : Moment) (on : Option Core) (exit : Moment) (status : ExitStatus) (refused : ℕ) (out : Passage) : Type 0 where
   pub concludes : Concludes run end exit on
   pub stop : Option Stop
   pub tells : Tells why 0 refused out stop
   pub status_is : status ≡ status_of stop refused
 
 -- The run draws its workload over this session, and tells its totals.
-pub record IsServed (blocks : ℕ) (load : Workload) (first : Session) (exit : Moment) (status : ExitStatus) (refused : ℕ) (out : Passage) : Type 0 where
+pub record HasServed (blocks : ℕ) (load : Workload) (first : Session) (exit : Moment) (status : ExitStatus) (refused : ℕ) (out : Passage) : Type 0 where
   pub woven : Woven
   pub drawn : IsDrawn blocks load first exit woven
   pub tells : TellsWoven woven load.requests status out
-  pub refused_is : refused ≡ refusals_of woven
+  pub refused_is : refused ≡ refusals_told woven
 
 -- How the run ends behind its lines: their answer is told where it isn't `ok`, or want of memory where no volume is there to draw over; or the workload is drawn, and its totals
 -- are told.
 pub data EndsWoven (blocks : ℕ) (load : Workload) (answer : Reply) (run : ℕ) (end : Moment) (on : Option Core) (exit : Moment) (status : ExitStatus) (refused : ℕ) (out : Passage) : Type 0 where
-  NotMade : (answer ≡ reply.Ok → ⊥) → IsRefused answer run end on exit status refused out → EndsWoven blocks load answer run end on exit status refused out
-  NotServed : answer ≡ reply.Ok → IfSome on (λ core. core.descriptor.lvs ≡ []) → IsRefused (reply.Refused refusal.Memory) run end on exit status refused out → EndsWoven blocks load answer run end on exit status refused out
+  NotMade : (answer ≡ reply.Ok → ⊥) → EndsRefused answer run end on exit status refused out → EndsWoven blocks load answer run end on exit status refused out
+  NotServed : answer ≡ reply.Ok → IfSome on (λ core. core.descriptor.lvs ≡ []) → EndsRefused (reply.Refused refusal.Memory) run end on exit status refused out → EndsWoven blocks load answer run end on exit status refused out
   Drawn : answer ≡ reply.Ok → (core : Core) → on ≡ Some core → core.descriptor.lvs ≢ [] → core.history.run ≡ run → end.facts ≡ core.history.facts
-      → IsServed blocks load (state end.device core) exit status refused out
+      → HasServed blocks load (state end.device core) exit status refused out
       → EndsWoven blocks load answer run end on exit status refused out
 
 -- ---- the run

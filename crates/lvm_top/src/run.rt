@@ -105,8 +105,8 @@ fn at_rest<S: Shelf>(driver: Driver<S>) -> (Driver<S>, bool)
     (Driver::from_parts(shelf, session), rests)
 }
 
-// The session of a driver is sound.
-fn is_sound<S: Shelf>(driver: &Driver<S>)
+/// The session of a driver is sound.
+pub(crate) fn is_sound<S: Shelf>(driver: &Driver<S>)
     ensures { IsSound (state_of S.device driver.now) }
 {
     let _ = driver.power();

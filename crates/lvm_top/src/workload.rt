@@ -1,16 +1,18 @@
 //! A workload over a group of its own.
-ghost use Rattle.std.specs.Prelude.{◌≡◌, ◌⊎◌, ◌↔◌, ◌≤◌, None, IfOk, IsSomeAnd, IsTrue, vec_capacity};
+ghost use Rattle.std.specs.Prelude.{◌≡◌, ◌↔◌, ◌≤◌, ◌-◌, ◌*◌, None, IfOk, IsSomeAnd, IsTrue, vec_capacity};
 ghost use Rattle.std.specs.String.{string_bytes};
 ghost use Rattle.lvm_disk.specs.Device.{IsReady};
 ghost use Rattle.lvm_core.specs.Starting.{IsRoom};
 ghost use Rattle.lvm_session.specs.declared.open.Power.TheVariants as power;
+ghost use Rattle.lvm_session.specs.Sound.{IsSound};
 ghost use Rattle.lvm_line.specs.passed.Driver.{state_of};
-ghost use Rattle.lvm_line.specs.passed.Stage.{IsBetweenStage, IsFitting, history_in, moment_in, most_refusals, session_in, state_in, without_facts};
+ghost use Rattle.lvm_line.specs.passed.Running.{RunsOn};
+ghost use Rattle.lvm_line.specs.passed.Stage.{IsBetweenStage, IsFitting, IsStuck, history_in, moment_in, most_refusals, session_in, state_in, without_facts};
 ghost use Rattle.lvm_top.specs.Run.{ran};
 ghost use Rattle.lvm_top.specs.Script.{passage};
-ghost use Rattle.lvm_top.specs.Woven.{EndsWoven, IsDrawable, IsDrawn, IsMade, IsRefused, IsServed, PromisesWoven, TellsWoven, copies_for, exit_of, is_whole, mkvg_line, mklv_line, refusal_text, refusals_of, status_woven, untold, woven_text};
+ghost use Rattle.lvm_top.specs.Woven.{EndsWoven, IsDrawable, IsDrawn, IsMade, EndsRefused, HasServed, PromisesWoven, TellsWoven, TurnsBehind, copy_count, exit_of, is_whole, mkvg_line, mklv_line, refusal_text, refusals_told, status_woven, untold, woven_text};
 
-use crate::run::{Ended, close_ended, conclude, run_on, status_of, unbegun};
+use crate::run::{Ended, close_ended, conclude, is_sound, run_on, status_of, unbegun};
 use crate::script::write_reply;
 use crate::status::ExitStatus;
 use lvm_core::{Closed, Room};
@@ -41,20 +43,29 @@ fn mkvg_line(disks: u16) -> &'static [u8]
 }
 
 // How many copies it has: one on each of two disks, or one where there is one disk.
-fn copies_for(disks: u16) -> u32
-    ensures { result ≡ copies_for disks }
+fn copy_count(disks: u16) -> u32
+    ensures { result ≡ copy_count disks }
 {
     if disks == 1 { 1 } else { 2 }
 }
 
-// The line that makes its volume: two copies, or one where there is one disk, of all partitions but two of a disk.
+// The line that makes its volume, of as many logical partitions as a disk has partitions.
 fn mklv_line(alloc: Global, disks: u16, mib: u32) -> Result<String, AllocError>
     requires { 2 ≤ mib }
     ensures { IfOk result (λ text. string_bytes text ≡ mklv_line disks mib) }
 {
-    let copies = copies_for(disks);
+    let copies = copy_count(disks);
     let lps = mib - 2;
     format!(in alloc; "mklv -y weavelv -c {copies} -w a weavevg {lps}")
+}
+
+// The blocks of the volume.
+fn woven_blocks(mib: u32) -> u64
+    requires { 3 ≤ mib }
+    ensures is { result ≡ 2048 * (mib - 2) }
+    ensures some { 1 ≤ result }
+{
+    PARTITION * u64::from(mib - 2)
 }
 
 // What the lines that make the volume leave, and what the last of them was answered.
@@ -103,7 +114,21 @@ struct Served<S: Shelf> {
     woven: Woven,
 }
 
-// Draws a workload over the first volume of a session, of so many blocks, makes turns until one doesn't move, and closes it.
+// Makes turns until one doesn't move, unless nothing is heard.
+fn behind<S: Shelf>(driver: &mut Driver<S>, unheard: bool)
+    requires unstuck { driver.old.1.power ≡ power.Stuck → ⊥ }
+    ensures turns { TurnsBehind unheard (state_of S.device driver.old) (state_of S.device driver.new) }
+    ensures runs { RunsOn (state_of S.device driver.old) (state_of S.device driver.new) }
+    ensures sound { IsSound (state_of S.device driver.new) }
+{
+    if unheard {
+        is_sound(driver);
+    } else {
+        run_on(driver);
+    }
+}
+
+// Draws a workload over the first volume of a session, of so many blocks, makes turns behind it, and closes the session.
 fn serve<S: Shelf>(
     driver: Driver<S>,
     posts: Vec<Post>,
@@ -120,7 +145,7 @@ fn serve<S: Shelf>(
     let mut driver = driver;
     let mut bytes = bytes;
     let woven = weave(&mut driver, 1, blocks, load, &mut bytes);
-    run_on(&mut driver);
+    behind(&mut driver, woven.waiting);
     Served {
         closed: close_ended(driver, posts, bytes),
         woven,
@@ -184,8 +209,8 @@ fn tell_woven<O: Sink>(alloc: Global, out: &mut O, woven: &Woven, requests: u32)
 }
 
 // How many refusals were printed.
-fn refusals_of(woven: &Woven) -> u32
-    ensures { result ≡ refusals_of woven.now }
+fn refusals_told(woven: &Woven) -> u32
+    ensures { result ≡ refusals_told woven.now }
 {
     if woven.waiting { 1 } else { 0 }
 }
@@ -202,10 +227,11 @@ fn is_ok(reply: &Reply) -> bool
 
 // Ends a run with a refusal, which is printed.
 fn refuse<S: Shelf, O: Sink>(alloc: Global, out: &mut O, stage: Stage<S>, why: Reply) -> Ended<S>
-    requires between { (session_in stage ≡ None) ⊎ IsBetweenStage S.device stage }
+    requires off { IsStuck why → session_in stage ≡ None }
+    requires between { (IsStuck why → ⊥) → IsBetweenStage S.device stage }
     requires fits { IsFitting stage }
     requires few { most_refusals why ≤ 2 }
-    ensures refused { IsRefused why (history_in stage).run (moment_in S.device stage) (session_in stage) (exit_of S.device result) result.status result.refused (passage O.held O.faults out.old out.new) }
+    ensures refused { EndsRefused why (history_in stage).run (moment_in S.device stage) (session_in stage) (exit_of S.device result) result.status result.refused (passage O.held O.faults out.old out.new) }
     ensures rooms { IsSomeAnd result.history (λ log. without_facts log ≡ without_facts (history_in stage)) }
     ensures sim { result.sim ≡ None }
 {
@@ -233,7 +259,7 @@ fn draw<S: Shelf, O: Sink>(
     requires on { driver.1.power ≡ power.On }
     requires some { IsDrawable load.now × (1 ≤ blocks) }
     requires room { 131072 ≤ vec_capacity bytes }
-    ensures drawn { IsServed blocks load.now (state_of S.device driver) (exit_of S.device result) result.status result.refused (passage O.held O.faults out.old out.new) }
+    ensures drawn { HasServed blocks load.now (state_of S.device driver) (exit_of S.device result) result.status result.refused (passage O.held O.faults out.old out.new) }
     ensures rooms { IsSomeAnd result.history (λ log. without_facts log ≡ without_facts driver.1.history) }
     ensures sim { result.sim ≡ None }
 {
@@ -241,7 +267,7 @@ fn draw<S: Shelf, O: Sink>(
     let Closed { shelf, history } = closed;
     Ended {
         status: tell_woven(alloc, out, &woven, load.requests),
-        refused: refusals_of(&woven),
+        refused: refusals_told(&woven),
         history: Some(history),
         shelf,
         sim: None,
@@ -256,7 +282,8 @@ fn end_woven<S: Shelf, O: Sink>(
     blocks: u64,
     load: &Workload,
 ) -> Ended<S>
-    requires between { (session_in made.stage ≡ None) ⊎ IsBetweenStage S.device made.stage }
+    requires off { IsStuck made.reply → session_in made.stage ≡ None }
+    requires between { (IsStuck made.reply → ⊥) → IsBetweenStage S.device made.stage }
     requires fits { IsFitting made.stage }
     requires few { most_refusals made.reply ≤ 2 }
     requires some { IsDrawable load.now × (1 ≤ blocks) }
@@ -287,8 +314,8 @@ fn end_woven<S: Shelf, O: Sink>(
 }
 
 /// Runs a workload: makes the group `weavevg` of the first disks, with partitions of 1 MiB, and its volume `weavelv`, active
-/// and of two copies, or one where there is one disk, of all partitions but two of a disk; draws the requests of its clients
-/// over it, makes turns until one doesn't move, and writes the totals. A refusal of a line that makes them is written as in a
+/// and of two copies, or one where there is one disk, of as many logical partitions as a disk has partitions; draws the
+/// requests of its clients over it, makes turns until one doesn't move, unless nothing is heard, and writes the totals. A refusal of a line that makes them is written as in a
 /// script. The moment at which the run begins names it in its history.
 pub fn run_weave<S: Shelf, O: Sink, C: Clock>(
     alloc: Global,
@@ -322,5 +349,5 @@ pub fn run_weave<S: Shelf, O: Sink, C: Clock>(
         bytes,
     };
     let made = make_volume(alloc, stage, clock, room, mkvg_line(disks), volume.as_bytes());
-    end_woven(alloc, out, made, PARTITION * u64::from(mib - 2), load)
+    end_woven(alloc, out, made, woven_blocks(mib), load)
 }
