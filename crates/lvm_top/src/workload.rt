@@ -28,7 +28,9 @@ use std::alloc::{AllocError, Global};
 
 // The line that makes a group of eight disks; so many bytes of it stand before them, and as many are each.
 const MKVG: &[u8] = b"mkvg -y weavevg -s 1 hdisk0 hdisk1 hdisk2 hdisk3 hdisk4 hdisk5 hdisk6 hdisk7";
+
 const DISKS_AT: usize = 20;
+
 const DISK: usize = 7;
 
 // The blocks of a partition.
@@ -156,7 +158,11 @@ fn serve<S: Shelf>(
 fn refusal_text(woven: &Woven) -> &'static str
     ensures { result.now ≡ refusal_text woven.now }
 {
-    if woven.waiting { "refused 24 Stuck\n" } else { "" }
+    if woven.waiting {
+        "refused 24 Stuck\n"
+    } else {
+        ""
+    }
 }
 
 // The totals, behind the refusal where nothing was heard of a transfer.
@@ -304,11 +310,29 @@ fn end_woven<S: Shelf, O: Sink>(
         Holder::Serving { driver } => draw(alloc, out, driver, posts, bytes, blocks, load),
         Holder::Empty { driver } => {
             let holder = Holder::Empty { driver };
-            refuse(alloc, out, Stage { holder, posts, bytes }, Reply::Refused(Refusal::Memory))
+            refuse(
+                alloc,
+                out,
+                Stage {
+                    holder,
+                    posts,
+                    bytes,
+                },
+                Reply::Refused(Refusal::Memory),
+            )
         }
         Holder::Off { shelf, history } => {
             let holder = Holder::Off { shelf, history };
-            refuse(alloc, out, Stage { holder, posts, bytes }, Reply::Refused(Refusal::Memory))
+            refuse(
+                alloc,
+                out,
+                Stage {
+                    holder,
+                    posts,
+                    bytes,
+                },
+                Reply::Refused(Refusal::Memory),
+            )
         }
     }
 }
@@ -348,6 +372,13 @@ pub fn run_weave<S: Shelf, O: Sink, C: Clock>(
         posts,
         bytes,
     };
-    let made = make_volume(alloc, stage, clock, room, mkvg_line(disks), volume.as_bytes());
+    let made = make_volume(
+        alloc,
+        stage,
+        clock,
+        room,
+        mkvg_line(disks),
+        volume.as_bytes(),
+    );
     end_woven(alloc, out, made, woven_blocks(mib), load)
 }
