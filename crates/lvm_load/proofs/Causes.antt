@@ -36,7 +36,7 @@ use Rattle.lvm_turn_answers.proofs.Telling.{turn_tells}
 use Rattle.lvm_load.specs.declared.client.Client.{Client}
 use Rattle.lvm_load.specs.declared.workload.Woven.{Woven}
 use Rattle.lvm_load.specs.declared.totals.Totals.{Totals}
-use Rattle.lvm_load.specs.Ends.{AreUnbegun, HasCauses, Over, Precedes, Refused, Unheard as NothingHeard}
+use Rattle.lvm_load.specs.Ends.{AreUnbegun, HasCauses, Over, Precedes, Refused, Waited}
 use Rattle.lvm_load.specs.Requests.{ask_of, bytes_of, word_of}
 use Rattle.lvm_load.specs.Totals.{entries_since, totals_of}
 use Rattle.lvm_load.specs.Weaving.{AsksDrawn, Draws, FinishesBy, Names, NoTurn, NoWord, NoneDrawn, OneDrawn, OneTurn, OneWord, PassesOn, TakesWhere, Turns, Unheard, Weaves, Weaving, client_at, drew as drew_more, first_weaving, fresh_clients, goes_on, has_open, idle_after, is_unheard, may_land, open_of, opened_by}
@@ -143,11 +143,11 @@ follows : (a b c : State) → Precedes a b → Precedes b c → Precedes a c
 follows a b c one two = (one.0 ++ two.0, two.1 ∙ ap (λ (l : List Fact). l ++ two.0) one.1 ∙ append_assoc a.core.history.facts one.0 two.0)
 
 -- a cause is one later on
-later_cause : (lv blocks n : ℕ) (first old new : State) → Leads n old new → AreUnbegun lv blocks first old → AreUnbegun lv blocks first new
-later_cause lv blocks n first old new leads (Refused it) =
-    Refused (record { at = it.at; after = it.after; before = follows it.at old new it.before (precedes n old new leads); drawn = it.drawn; why = it.why; refused = it.refused })
-later_cause lv blocks n first old new leads (Over ended) = Over (leads.over ended)
-later_cause lv blocks n first old new leads (NothingHeard unheard) = NothingHeard (rose_by_after unheard leads.counted)
+later_cause : (lv blocks n : ℕ) (start : Weaving) (old new : State) → Leads n old new → AreUnbegun lv blocks start old → AreUnbegun lv blocks start new
+later_cause lv blocks n start old new leads (Refused it) =
+    Refused (record { drawn = it.drawn; old = it.old; draws = it.draws; at = it.at; client = it.client; names = it.names; why = it.why; refused = it.refused; before = follows it.at.session old new it.before (precedes n old new leads) })
+later_cause lv blocks n start old new leads (Over ended) = Over (leads.over ended)
+later_cause lv blocks n start old new leads (Waited waited) = Waited (rose_by_after waited leads.counted)
 
 -- ---- a turn
 
@@ -341,79 +341,82 @@ passes_lead first start now hears (OneWord {old = old} so_far passes) =
 -- ---- what was drawn
 
 -- So many requests have begun, each that was drawn, unless there is a cause.
-record Drew (lv blocks n : ℕ) (first : State) (more : Bool) (now : Weaving) : Type 0 where
-  pub hears : Hears first now.session now.clients now.idle
+record Drew (lv blocks n : ℕ) (start : Weaving) (more : Bool) (now : Weaving) : Type 0 where
+  pub hears : Hears start.session now.session now.clients now.idle
   pub gained : ℕ
-  pub leads : Leads gained first now.session
+  pub leads : Leads gained start.session now.session
   pub few : gained ≤ n
-  pub cause : ((gained ≡ n) × (more ≡ true)) ⊎ AreUnbegun lv blocks first now.session
+  pub cause : ((gained ≡ n) × (more ≡ true)) ⊎ AreUnbegun lv blocks start now.session
 
 -- nothing is heard
-unheard_cause : (lv blocks : ℕ) (first : State) (now : Weaving) → Hears first now.session now.clients now.idle → is_unheard now.idle ≡ true → AreUnbegun lv blocks first now.session
-unheard_cause lv blocks first now hears unheard = by (is_over now.session.core.power) refl
+unheard_cause : (lv blocks : ℕ) (start now : Weaving) → Hears start.session now.session now.clients now.idle → is_unheard now.idle ≡ true → AreUnbegun lv blocks start now.session
+unheard_cause lv blocks start now hears unheard = by (is_over now.session.core.power) refl
   where
-    by : (b : Bool) → is_over now.session.core.power ≡ b → AreUnbegun lv blocks first now.session
+    by : (b : Bool) → is_over now.session.core.power ≡ b → AreUnbegun lv blocks start now.session
     by true is = Over is
-    by false is = NothingHeard (as_many first.device.counts.waits now.session.device.counts.waits now.idle (leb-true 1000000 now.idle unheard) (hears.on is))
+    by false is = Waited (as_many start.session.device.counts.waits now.session.device.counts.waits now.idle (leb-true 1000000 now.idle unheard) (hears.on is))
 
-module _ (lv blocks : ℕ) (first : State) (old named new : Weaving) (n k : ℕ) (more : Bool) (so_far : Drew lv blocks n first true old) (names : Names old named k)
+module _ (lv blocks : ℕ) (start old named new : Weaving) (n k : ℕ) (more : Bool) (draws : Draws lv blocks start n true old) (so_far : Drew lv blocks n start true old) (names : Names old named k)
     (asks : AsksDrawn lv blocks k named.rng named.session new.session named.clients new.clients more) (idle_is : new.idle ≡ named.idle) where
-  hears_mid : Hears first names.mid.session names.mid.clients names.mid.idle
-  hears_mid = passes_hear first old names.mid so_far.hears names.passes
+  hears_mid : Hears start.session names.mid.session names.mid.clients names.mid.idle
+  hears_mid = passes_hear start.session old names.mid so_far.hears names.passes
 
-  hears_named : Hears first named.session named.clients named.idle
-  hears_named = subst (λ (w : Weaving). Hears first w.session w.clients w.idle) (sym names.is) hears_mid
+  hears_named : Hears start.session named.session named.clients named.idle
+  hears_named = subst (λ (w : Weaving). Hears start.session w.session w.clients w.idle) (sym names.is) hears_mid
 
-  leads_named : Leads so_far.gained first named.session
+  leads_named : Leads so_far.gained start.session named.session
   leads_named =
-      let to_mid = leads_then so_far.gained 0 first old.session names.mid.session so_far.leads (passes_lead first old names.mid so_far.hears names.passes) in
-      subst (λ (w : Weaving). Leads so_far.gained first w.session) (sym names.is) (no_more so_far.gained first names.mid.session to_mid)
+      let to_mid = leads_then so_far.gained 0 start.session old.session names.mid.session so_far.leads (passes_lead start.session old names.mid so_far.hears names.passes) in
+      subst (λ (w : Weaving). Leads so_far.gained start.session w.session) (sym names.is) (no_more so_far.gained start.session names.mid.session to_mid)
 
   named_mid : Leads 0 old.session named.session
-  named_mid = subst (λ (w : Weaving). Leads 0 old.session w.session) (sym names.is) (passes_lead first old names.mid so_far.hears names.passes)
+  named_mid = subst (λ (w : Weaving). Leads 0 old.session w.session) (sym names.is) (passes_lead start.session old names.mid so_far.hears names.passes)
 
   free : open_of named.clients k ≡ None
   free = subst (λ (w : Weaving). open_of w.clients k ≡ None) (sym names.is) names.free
 
-  hears_new : Hears first new.session new.clients new.idle
-  hears_new = subst (λ m. Hears first new.session new.clients m) (sym idle_is) (asks_hear lv blocks k named.rng first named.session new.session named.clients new.clients named.idle more hears_named free asks)
+  hears_new : Hears start.session new.session new.clients new.idle
+  hears_new = subst (λ m. Hears start.session new.session new.clients m) (sym idle_is) (asks_hear lv blocks k named.rng start.session named.session new.session named.clients new.clients named.idle more hears_named free asks)
 
   its_lead : (r : Result ℕ AskFault) → asks.answer ≡ r → Leads (taken_one r) named.session new.session
-  its_lead r is = asks_lead lv blocks k named.rng first named.session new.session named.clients new.clients named.idle more hears_named free asks r is
+  its_lead r is = asks_lead lv blocks k named.rng start.session named.session new.session named.clients new.clients named.idle more hears_named free asks r is
 
-  drew_one : Drew lv blocks (n + 1) first more new
+  drew_one : Drew lv blocks (n + 1) start more new
   drew_one = by asks.answer refl
     where
-      by : (r : Result ℕ AskFault) → asks.answer ≡ r → Drew lv blocks (n + 1) first more new
+      by : (r : Result ℕ AskFault) → asks.answer ≡ r → Drew lv blocks (n + 1) start more new
       by (Ok id) is = record {
         hears = hears_new;
         gained = so_far.gained + 1;
-        leads = leads_then so_far.gained 1 first named.session new.session leads_named (its_lead (Ok id) is);
+        leads = leads_then so_far.gained 1 start.session named.session new.session leads_named (its_lead (Ok id) is);
         few = let few = so_far.few in omega (arith, few);
         cause = ⊎_elim
             (λ all. inl (let eq = all.0 in omega (arith, eq), asks.more_is ∙ ap goes_on is))
-            (λ cause. inr (later_cause lv blocks 1 first named.session new.session (its_lead (Ok id) is) (later_cause lv blocks 0 first old.session named.session named_mid cause)))
+            (λ cause. inr (later_cause lv blocks 1 start named.session new.session (its_lead (Ok id) is) (later_cause lv blocks 0 start old.session named.session named_mid cause)))
             so_far.cause;
       }
       by (Err why) is = record {
         hears = hears_new;
         gained = so_far.gained;
-        leads = no_more so_far.gained first new.session (leads_then so_far.gained 0 first named.session new.session leads_named (its_lead (Err why) is));
+        leads = no_more so_far.gained start.session new.session (leads_then so_far.gained 0 start.session named.session new.session leads_named (its_lead (Err why) is));
         few = let few = so_far.few in omega (arith, few);
         cause = inr (Refused (record {
-          at = named.session;
-          after = precedes so_far.gained first named.session leads_named;
-          before = precedes 0 named.session new.session (its_lead (Err why) is);
-          drawn = draw_at named.rng;
+          drawn = n;
+          old = old;
+          draws = draws;
+          at = named;
+          client = k;
+          names = names;
           why = why;
-          refused = its_cause lv blocks k named.rng first named.session new.session named.clients new.clients named.idle more hears_named free asks why is;
+          refused = its_cause lv blocks k named.rng start.session named.session new.session named.clients new.clients named.idle more hears_named free asks why is;
+          before = precedes 0 named.session new.session (its_lead (Err why) is);
         }));
       }
 
-drew : (lv blocks : ℕ) (start : Weaving) → Hears start.session start.session start.clients start.idle → (n : ℕ) (more : Bool) (now : Weaving) → Draws lv blocks start n more now → Drew lv blocks n start.session more now
+drew : (lv blocks : ℕ) (start : Weaving) → Hears start.session start.session start.clients start.idle → (n : ℕ) (more : Bool) (now : Weaving) → Draws lv blocks start n more now → Drew lv blocks n start more now
 drew lv blocks start hears n more now NoneDrawn = record { hears = hears; gained = 0; leads = leads_none start.session; few = omega arith; cause = inl (refl, refl) }
 drew lv blocks start hears n more now (OneDrawn {n = m} {old = old} before named k goes names asks rng idle_is) =
-    drew_one lv blocks start.session old named now m k goes (drew lv blocks start hears m true old before) names asks idle_is
+    drew_one lv blocks start old named now m k goes before (drew lv blocks start hears m true old before) names asks idle_is
 drew lv blocks start hears n more now (Unheard {old = old} before passes unheard) =
     let so_far = drew lv blocks start hears n true old before in
     let hears_now = passes_hear start.session old now so_far.hears passes in
@@ -422,7 +425,7 @@ drew lv blocks start hears n more now (Unheard {old = old} before passes unheard
       gained = so_far.gained;
       leads = no_more so_far.gained start.session now.session (leads_then so_far.gained 0 start.session old.session now.session so_far.leads (passes_lead start.session old now so_far.hears passes));
       few = so_far.few;
-      cause = inr (unheard_cause lv blocks start.session now hears_now unheard);
+      cause = inr (unheard_cause lv blocks start now hears_now unheard);
     }
 
 -- ---- turns until none is open
@@ -442,7 +445,7 @@ finish_hears first start clients idle hears new after idle1 (OneTurn {old = old}
 
 module _ (lv blocks requests seed clients : ℕ) (first last : State) (woven : Woven) (sound : IsSound first) (weaves : Weaves lv blocks requests (first_weaving first clients seed) last woven.waiting)
     (told : woven.totals ≡ totals_of requests (entries_since (length first.core.history.facts) last.core.history.facts)) where
-  all_drew : Drew lv blocks weaves.draws.drawn first weaves.draws.more weaves.mid
+  all_drew : Drew lv blocks weaves.draws.drawn (first_weaving first clients seed) weaves.draws.more weaves.mid
   all_drew = drew lv blocks (first_weaving first clients seed) (hears_first first clients sound) weaves.draws.drawn weaves.draws.more weaves.mid weaves.draws.draws
 
   finished : Hears first last weaves.after weaves.idle × Leads 0 weaves.mid.session last
@@ -457,12 +460,12 @@ module _ (lv blocks requests seed clients : ℕ) (first last : State) (woven : W
   unbegun : woven.totals.unbegun ≡ requests - (all_drew.gained + 0)
   unbegun = ap (λ (t : Totals). t.unbegun) told ∙ ap (λ m. requests - m) (begun_since (all_drew.gained + 0) first.core.history.facts last.core.history.facts leads.gains)
 
-  pub has_causes : HasCauses lv blocks requests first last woven
+  pub has_causes : HasCauses lv blocks requests (first_weaving first clients seed) last woven
   has_causes = record {
     all = let few = all_drew.few in let most = weaves.draws.most in omega (arith, begun, unbegun, few, most);
     unbegun = λ some. ⊎_elim
         (λ all. absurd (let eq = all.0 in let drawn = weaves.draws.all all.1 in omega (arith, some, unbegun, eq, drawn)))
-        (λ cause. later_cause lv blocks 0 first weaves.mid.session last finished.1 cause)
+        (λ cause. later_cause lv blocks 0 (first_weaving first clients seed) weaves.mid.session last finished.1 cause)
         all_drew.cause;
     waiting = λ waits. ⊎_elim
         (λ none. absurd (let e : true ≡ false = sym waits ∙ weaves.waits_is ∙ none in cc e))

@@ -10,7 +10,7 @@ use Rattle.lvm_load.specs.declared.totals.Kind.{Kind}
 use Rattle.lvm_load.specs.declared.totals.Kind.TheVariants as kind
 use Rattle.lvm_load.specs.declared.totals.Totals.{Totals}
 
--- how a request that landed so counts: a write or a read as done, a write as lost, and else as refused
+-- how a request that landed so counts: a write as done or lost, a read as got, and else as refused
 abbrev pub kind_of : Outcome → Kind
 kind_of outcome.Done = kind.Done
 kind_of outcome.Got = kind.Got

@@ -126,7 +126,7 @@ pub fn weave<S: Shelf>(
     requires some { (1 ≤ workload.now.clients) × (workload.now.clients ≤ 64) × (1 ≤ blocks) }
     requires room { 131072 ≤ vec_capacity bytes.old }
     ensures totals { result.totals ≡ totals_of workload.now.requests (entries_since (length driver.old.1.history.facts) driver.new.1.history.facts) }
-    ensures causes { HasCauses lv blocks workload.now.requests (state_of S.device driver.old) (state_of S.device driver.new) result }
+    ensures causes { HasCauses lv blocks workload.now.requests (first_weaving (state_of S.device driver.old) workload.now.clients workload.now.seed) (state_of S.device driver.new) result }
     ensures weaves { Weaves lv blocks workload.now.requests (first_weaving (state_of S.device driver.old) workload.now.clients workload.now.seed) (state_of S.device driver.new) result.waiting }
     ensures runs { RunsOn (state_of S.device driver.old) (state_of S.device driver.new) }
     ensures room { 131072 ≤ vec_capacity bytes.new }

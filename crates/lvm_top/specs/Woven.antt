@@ -76,7 +76,7 @@ pub record IsDrawn (blocks : ℕ) (load : Workload) (first : Session) (exit : Mo
   pub last : Session
   pub weaves : Weaves 1 blocks load.requests (first_weaving first load.clients load.seed) last woven.waiting
   pub totals : woven.totals ≡ totals_of load.requests (entries_since (length first.core.history.facts) last.core.history.facts)
-  pub causes : HasCauses 1 blocks load.requests first last woven
+  pub causes : HasCauses 1 blocks load.requests (first_weaving first load.clients load.seed) last woven
   pub end : Session
   pub turns : TurnsBehind woven.waiting last end
   pub runs : RunsOn first end
