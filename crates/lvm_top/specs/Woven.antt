@@ -48,7 +48,7 @@ copy_count disks = if disks == 1 then 1 else 2
 
 -- the line that makes the volume, of as many logical partitions as a disk has partitions
 abbrev pub mklv_line : ℕ → ℕ → List ℕ
-mklv_line disks mib = codes "mklv -y weavelv -c " ++ decimal (copy_count disks) ++ codes " -w a weavevg " ++ decimal (mib - 2)
+mklv_line disks mib = codes "mklv -y weavelv -c " ++ (decimal (copy_count disks) ++ (codes " -w a weavevg " ++ decimal (mib - 2)))
 
 -- The two lines were done, or the first alone where it wasn't answered by `ok`; and the last of them was answered so.
 pub data IsMade (log : Log) (room : Room) (group volume : List ℕ) (first : State) (answer : Reply) (last : State) : Type 0 where

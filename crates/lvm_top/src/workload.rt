@@ -58,7 +58,8 @@ fn mklv_line(alloc: Global, disks: u16, mib: u32) -> Result<String, AllocError>
 {
     let copies = copy_count(disks);
     let lps = mib - 2;
-    format!(in alloc; "mklv -y weavelv -c {copies} -w a weavevg {lps}")
+    let text = format!(in alloc; "mklv -y weavelv -c {copies} -w a weavevg {lps}")?;
+    Ok(text)
 }
 
 // The blocks of the volume.
@@ -176,9 +177,10 @@ fn woven_text(alloc: Global, woven: &Woven) -> Result<String, AllocError>
     let lost = woven.totals.lost;
     let refused = woven.totals.refused;
     let unbegun = woven.totals.unbegun;
-    format!(in alloc;
+    let text = format!(in alloc;
         "{head}begun {begun}\ndone {done}\ngot {got}\nlost {lost}\nrefused {refused}\nunbegun {unbegun}\n"
-    )
+    )?;
+    Ok(text)
 }
 
 // Whether all requests ended well.
