@@ -32,7 +32,7 @@ use Rattle.lvm_top.specs.Program.{PromisesWovenBlank}
 use Rattle.lvm_top.specs.Run.{Run, ran}
 use Rattle.lvm_top.specs.Script.{Passage, Stream, empty_log, entry_state, facts_of, stream}
 use Rattle.lvm_top.specs.Sim.{IsToldBlank, full_room, sim_device}
-use Rattle.lvm_top.specs.Woven.{AreMadeAlone, Drawn, EndsWoven, GoesWoven, HasGroup, IsDrawn, IsMade, EndsRefused, HasServed, IsWoven, IsWovenAlone, NoGroup, NotMade, NotServed, PromisesWoven, TellsWoven, exit_moment, exit_of, mklv_line, mkvg_line, status_woven, untold, woven_text}
+use Rattle.lvm_top.specs.Woven.{AreMadeAlone, Drawn, EndsWoven, Exit, GoesWoven, HasGroup, IsDrawn, IsMade, EndsRefused, HasServed, IsWoven, IsWovenAlone, NoGroup, NotMade, NotServed, PromisesWoven, TellsWoven, exit_from, exit_of, mklv_line, mkvg_line, status_woven, untold, woven_text}
 use Rattle.lvm_top.proofs.Blanks.{sim_behind, sim_earlier, told_behind, told_earlier}
 use Rattle.lvm_top.proofs.Concluding.{Concluded, concluded, off_still}
 use Rattle.lvm_top.proofs.Lining.{stuck_is_off}
@@ -184,14 +184,14 @@ told_some woven requests status is before after faults later text same part rose
 
 -- ---- what holds the shelf
 
-module _ {S : Type 0} (device : S → Device) (blocks : ℕ) (load : Workload) (answer : Reply) (exit : Moment) (status : ExitStatus) (refused : ℕ) (out : Passage) (ok : answer ≡ reply.Ok) where
+module _ {S : Type 0} (device : S → Device) (blocks : ℕ) (load : Workload) (answer : Reply) (exit : Exit) (ok : answer ≡ reply.Ok) where
   abbrev EndsAt : Holder S → Type 0
-  EndsAt h = EndsWoven blocks load answer (history_of h).run (record { device = device (shelf_of h); facts = (history_of h).facts }) (session_of h) exit status refused out
+  EndsAt h = EndsWoven blocks load answer (history_of h).run (record { device = device (shelf_of h); facts = (history_of h).facts }) (session_of h) exit
 
   abbrev RefusedAt : Holder S → Type 0
-  RefusedAt h = EndsRefused (reply.Refused refusal.Memory) (history_of h).run (record { device = device (shelf_of h); facts = (history_of h).facts }) (session_of h) exit status refused out
+  RefusedAt h = EndsRefused (reply.Refused refusal.Memory) (history_of h).run (record { device = device (shelf_of h); facts = (history_of h).facts }) (session_of h) exit
 
-  pub serving_ends : (driver : S × Core) (h : Holder S) → h ≡ holder.Serving driver → IsOfKind h → HasServed blocks load (state (device driver.0) driver.1) exit status refused out → EndsAt h
+  pub serving_ends : (driver : S × Core) (h : Holder S) → h ≡ holder.Serving driver → IsOfKind h → HasServed blocks load (state (device driver.0) driver.1) exit → EndsAt h
   serving_ends driver h is kind served = subst (λ (k : Holder S). IsOfKind k → EndsAt k) (sym is) (λ vols. Drawn ok driver.1 refl vols refl refl served) kind
 
   pub empty_ends : (driver : S × Core) (h : Holder S) → h ≡ holder.Empty driver → IsOfKind h → RefusedAt (holder.Empty driver) → EndsAt h
@@ -225,18 +225,18 @@ pub data ConcludesSo (run : ℕ) (answer : Reply) (end : State) (exit : Moment) 
   Unheard : IsStuck answer → exit ≡ end.moment → ConcludesSo run answer end exit
   Heard : (IsStuck answer → ⊥) → Concluded run end exit → ConcludesSo run answer end exit
 
-pub concludes_so : (blocks : ℕ) (load : Workload) (answer : Reply) (run : ℕ) (end : State) (exit : Moment) (status : ExitStatus) (refused : ℕ) (out : Passage)
-    → EndsWoven blocks load answer run end.moment end.session exit status refused out → (IsStuck answer → end.session ≡ None) → ((IsStuck answer → ⊥) → IsBetween end.moment end.session end.posts) → ConcludesSo run answer end exit
-concludes_so blocks load answer run end exit status refused out (NotMade not it) off between = ⊎_elim
-    (λ stuck. let is = it.tells.stuck.0 stuck in Unheard is (off_still run end.moment exit end.session it.concludes (off is)))
-    (λ heard. let not_stuck : IsStuck answer → ⊥ = λ is. heard (it.tells.stuck.1 is) in Heard not_stuck (concluded run end exit it.concludes (between not_stuck)))
+pub concludes_so : (blocks : ℕ) (load : Workload) (answer : Reply) (run : ℕ) (end : State) (exit : Exit) → EndsWoven blocks load answer run end.moment end.session exit
+    → (IsStuck answer → end.session ≡ None) → ((IsStuck answer → ⊥) → IsBetween end.moment end.session end.posts) → ConcludesSo run answer end exit.moment
+concludes_so blocks load answer run end exit (NotMade not it) off between = ⊎_elim
+    (λ stuck. let is = it.tells.stuck.0 stuck in Unheard is (off_still run end.moment exit.moment end.session it.concludes (off is)))
+    (λ heard. let not_stuck : IsStuck answer → ⊥ = λ is. heard (it.tells.stuck.1 is) in Heard not_stuck (concluded run end exit.moment it.concludes (between not_stuck)))
     (how_stopped it.stop)
-concludes_so blocks load answer run end exit status refused out (NotServed ok none it) off between =
+concludes_so blocks load answer run end exit (NotServed ok none it) off between =
     let heard : IsStuck answer → ⊥ = λ is. ok_heard (sym ok ∙ is) in
-    Heard heard (concluded run end exit it.concludes (between heard))
-concludes_so blocks load answer run end exit status refused out (Drawn ok core some vols named facts served) off between =
+    Heard heard (concluded run end exit.moment it.concludes (between heard))
+concludes_so blocks load answer run end exit (Drawn ok core some vols named facts served) off between =
     let heard : IsStuck answer → ⊥ = λ is. ok_heard (sym ok ∙ is) in
-    Heard heard (drawn_concluded end exit (between heard) core some vols facts run named blocks load served.woven served.drawn)
+    Heard heard (drawn_concluded end exit.moment (between heard) core some vols facts run named blocks load served.woven served.drawn)
 
 pub lit : (run : ℕ) (answer : Reply) (end : State) (exit : Moment) → ConcludesSo run answer end exit → end.moment.device.power ≡ true → exit.device.power ≡ true
 lit run answer end exit (Unheard stuck same) on = subst (λ (m : Moment). m.device.power ≡ true) (sym same) on
@@ -251,24 +251,24 @@ module _ (disks mib : ℕ) (load : Workload) (r : Run) (ready : IsReady r.entry)
   made : MakesSo r.named (AreMadeAlone goes.made) goes.answer (entry_state r.entry r.named) goes.end
   made = makes_so (empty_log r.named r.room) r.room (mkvg_line disks) (mklv_line disks mib) (entry_state r.entry r.named) goes.answer goes.end goes.made
 
-  pub its_end : ConcludesSo r.named goes.answer goes.end (exit_moment r)
-  its_end = concludes_so (2048 * (mib - 2)) load goes.answer r.named goes.end (exit_moment r) r.status r.refused r.output goes.ends made.stuck made.between
+  pub its_end : ConcludesSo r.named goes.answer goes.end (exit_from r).moment
+  its_end = concludes_so (2048 * (mib - 2)) load goes.answer r.named goes.end (exit_from r) goes.ends made.stuck made.between
 
   timely : IsBehind r.named r.entry → IsTimely r.named (entry_state r.entry r.named)
   timely clock = begins_timely r.named r.entry ready.flights clock
 
   -- a span leads from the entry to the exit
-  spanned : IsBehind r.named r.entry → IsWovenAlone goes → Keeps r.named start (exit_moment r)
+  spanned : IsBehind r.named r.entry → IsWovenAlone goes → Keeps r.named start (exit_from r).moment
   spanned clock alone = by its_end (made.keeps (timely clock) alone.0 start (keeps_still r.named start) (λ past begins. tt))
     where
-      by : ConcludesSo r.named goes.answer goes.end (exit_moment r) → Keeps r.named start goes.end.moment × ((IsStuck goes.answer → ⊥) → StandsBy r.named start goes.end) → Keeps r.named start (exit_moment r)
+      by : ConcludesSo r.named goes.answer goes.end (exit_from r).moment → Keeps r.named start goes.end.moment × ((IsStuck goes.answer → ⊥) → StandsBy r.named start goes.end) → Keeps r.named start (exit_from r).moment
       by (Unheard stuck same) kept = subst (Keeps r.named start) (sym same) kept.0
       by (Heard heard its) kept = its.keeps (made.timely heard (timely clock)) alone.1 start kept.0 (kept.1 heard)
 
   pub woven_ahead : IsBehind r.named r.entry → IsAhead r.named (r.last + 1) r.exit (facts_of r.history)
   woven_ahead clock = subst (λ n. IsAhead r.named (n + 1) r.exit (facts_of r.history)) goes.clock (by its_end)
     where
-      by : ConcludesSo r.named goes.answer goes.end (exit_moment r) → IsAhead r.named (goes.end.last + 1) r.exit (facts_of r.history)
+      by : ConcludesSo r.named goes.answer goes.end (exit_from r).moment → IsAhead r.named (goes.end.last + 1) r.exit (facts_of r.history)
       by (Unheard stuck same) = subst (λ (m : Moment). IsAhead r.named (goes.end.last + 1) m.device m.facts) (sym same) (made.left (timely clock))
       by (Heard heard its) = its.left (made.timely heard (timely clock))
 
@@ -314,37 +314,43 @@ module _ {S : Type 0} (device : S → Device) (disks mib : ℕ) (load : Workload
   pub their_clock : run ≤ last
   their_clock = so.clock
 
-  module _ (closed : S) (kept : Log) (status : ExitStatus) (refused : ℕ) (out : Passage)
-      (ends : EndsWoven (2048 * (mib - 2)) load answer (history_in it).run (moment_in device it) (session_in it) (record { device = device closed; facts = kept.facts }) status refused out)
-      (kept_is : without_facts kept ≡ without_facts (history_in it)) where
-    named : kept.run ≡ run
-    named = ap (λ (l : Log). l.run) kept_is ∙ of_run
+  module _ (closed : S) (kept : Log) (status : ExitStatus) (refused : ℕ) (out : Passage) where
+    abbrev exit : Exit
+    exit = record { moment = record { device = device closed; facts = kept.facts }; status = status; refused = refused; out = out }
 
-    abbrev its : Run
-    its = record (ran room entry (device closed) untold out last (Some kept) status refused) { named = run }
+    module _ (ends : EndsWoven (2048 * (mib - 2)) load answer (history_in it).run (moment_in device it) (session_in it) exit) (kept_is : without_facts kept ≡ without_facts (history_in it)) where
+      named : kept.run ≡ run
+      named = ap (λ (l : Log). l.run) kept_is ∙ of_run
 
-    the_ends : EndsWoven (2048 * (mib - 2)) load answer run (moment_in device it) (session_in it) (record { device = device closed; facts = kept.facts }) status refused out
-    the_ends = subst (λ n. EndsWoven (2048 * (mib - 2)) load answer n (moment_in device it) (session_in it) (record { device = device closed; facts = kept.facts }) status refused out) of_run ends
+      abbrev its : Run
+      its = record (ran room entry (device closed) untold out last (Some kept) status refused) { named = run }
 
-    pub some_promises : PromisesWoven disks mib load asked (ran room entry (device closed) untold out last (Some kept) status refused)
-    some_promises = subst (λ n. PromisesWoven disks mib load asked (record (ran room entry (device closed) untold out last (Some kept) status refused) { named = n })) (sym named)
-        (woven_promises disks mib load asked its (subst (λ n. Rose asked n) (sym named) rose, (let is = named in let le = so.clock in omega (arith, is, le))) (record {
-          ready = ready;
-          history_is = ap (λ (l : Log). record l { facts = kept.facts }) (kept_is ∙ rooms ∙ fresh);
-          none = tt;
-          goes = record { answer = answer; end = state_in device it last; made = the_lines; ends = the_ends; clock = refl };
-          power = lit run answer (state_in device it last) (record { device = device closed; facts = kept.facts })
-              (concludes_so (2048 * (mib - 2)) load answer run (state_in device it last) (record { device = device closed; facts = kept.facts }) status refused out the_ends so.stuck so.between) so.power;
-        }))
+      the_ends : EndsWoven (2048 * (mib - 2)) load answer run (moment_in device it) (session_in it) exit
+      the_ends = subst (λ n. EndsWoven (2048 * (mib - 2)) load answer n (moment_in device it) (session_in it) exit) of_run ends
+
+      does : IsWoven disks mib load its
+      does = record {
+        ready = ready;
+        history_is = ap (λ (l : Log). record l { facts = kept.facts }) (kept_is ∙ rooms ∙ fresh);
+        none = tt;
+        goes = record { answer = answer; end = state_in device it last; made = the_lines; ends = the_ends; clock = refl };
+        power = lit run answer (state_in device it last) exit.moment (concludes_so (2048 * (mib - 2)) load answer run (state_in device it last) exit the_ends so.stuck so.between) so.power;
+      }
+
+      pub some_promises : PromisesWoven disks mib load asked (ran room entry (device closed) untold out last (Some kept) status refused)
+      some_promises = subst (λ n. PromisesWoven disks mib load asked (record (ran room entry (device closed) untold out last (Some kept) status refused) { named = n })) (sym named)
+          (woven_promises disks mib load asked its (subst (λ n. Rose asked n) (sym named) rose, (let is = named in let le = so.clock in omega (arith, is, le))) does)
 
   -- a run whose history is told
   pub the_promises_woven : (end : Ended S) (out : Passage) → IsSomeAnd end.history (λ log. without_facts log ≡ without_facts (history_in it))
-      → EndsWoven (2048 * (mib - 2)) load answer (history_in it).run (moment_in device it) (session_in it) (exit_of device end) end.status end.refused out
+      → EndsWoven (2048 * (mib - 2)) load answer (history_in it).run (moment_in device it) (session_in it) (exit_of device end out)
       → PromisesWoven disks mib load asked (ran room entry (device end.shelf) untold out last end.history end.status end.refused)
   the_promises_woven end out kept ends = by end.history kept ends
     where
-      by : (h : Option Log) → IsSomeAnd h (λ log. without_facts log ≡ without_facts (history_in it))
-          → EndsWoven (2048 * (mib - 2)) load answer (history_in it).run (moment_in device it) (session_in it) (record { device = device end.shelf; facts = facts_of h }) end.status end.refused out
+      abbrev With : Option Log → Exit
+      With h = record { moment = record { device = device end.shelf; facts = facts_of h }; status = end.status; refused = end.refused; out = out }
+
+      by : (h : Option Log) → IsSomeAnd h (λ log. without_facts log ≡ without_facts (history_in it)) → EndsWoven (2048 * (mib - 2)) load answer (history_in it).run (moment_in device it) (session_in it) (With h)
           → PromisesWoven disks mib load asked (ran room entry (device end.shelf) untold out last h end.status end.refused)
       by None kept ends = absurd kept
       by (Some log) kept ends = some_promises end.shelf log end.status end.refused out ends kept

@@ -56,9 +56,11 @@ pub data IsMade (log : Log) (room : Room) (group volume : List ℕ) (first : Sta
   HasGroup : (mid : State) → IsLine log room group reply.Ok first mid → IsLine log room volume answer mid last → IsMade log room group volume first answer last
 
 -- at most one group has a quorum among all disks where the lines enter a volume's making
-abbrev pub AreMadeAlone : {log : Log} {room : Room} {group volume : List ℕ} {first : State} {answer : Reply} {last : State} → IsMade log room group volume first answer last → Type 0
+abbrev pub AreMadeAlone : {log : Log} {room : Room} {group volume : List ℕ} {first : State} {answer : Reply} {last : State}
+    → IsMade log room group volume first answer last → Type 0
 AreMadeAlone {group = group} {first = first} {last = last} (NoGroup not does) = IsAlone (role_of (line_of group)) first last
-AreMadeAlone {group = group} {volume = volume} {first = first} {last = last} (HasGroup mid makes does) = IsAlone (role_of (line_of group)) first mid × IsAlone (role_of (line_of volume)) mid last
+AreMadeAlone {group = group} {volume = volume} {first = first} {last = last} (HasGroup mid makes does) =
+    IsAlone (role_of (line_of group)) first mid × IsAlone (role_of (line_of volume)) mid last
 
 -- ---- the workload
 
@@ -132,32 +134,41 @@ pub record TellsWoven (woven : Woven) (requests : ℕ) (status : ExitStatus) (ou
 
 -- ---- its end
 
--- what stands once the run has ended
-abbrev pub exit_of : {S : Type 0} → (S → Device) → Ended S → Moment
-exit_of device end = record { device = device end.shelf; facts = facts_of end.history }
+-- how a run has ended: what stands then, its status, how many refusals it has told, and what was written
+pub record Exit : Type 0 where
+  pub moment : Moment
+  pub status : ExitStatus
+  pub refused : ℕ
+  pub out : Passage
+
+abbrev pub exit_of : {S : Type 0} → (S → Device) → Ended S → Passage → Exit
+exit_of device end out = record { moment = record { device = device end.shelf; facts = facts_of end.history }; status = end.status; refused = end.refused; out = out }
 
 -- The run ends with this refusal, and what is on is concluded.
-pub record EndsRefused (why : Reply) (run : ℕ) (end : Moment) (on : Option Core) (exit : Moment) (status : ExitStatus) (refused : ℕ) (out : Passage) : Type 0 where
-  pub concludes : Concludes run end exit on
+pub record EndsRefused (why : Reply) (run : ℕ) (end : Moment) (on : Option Core) (exit : Exit) : Type 0 where
+  pub concludes : Concludes run end exit.moment on
   pub stop : Option Stop
-  pub tells : Tells why 0 refused out stop
-  pub status_is : status ≡ status_of stop refused
+  pub tells : Tells why 0 exit.refused exit.out stop
+  pub status_is : exit.status ≡ status_of stop exit.refused
 
 -- The run draws its workload over this session, and tells its totals.
-pub record HasServed (blocks : ℕ) (load : Workload) (first : Session) (exit : Moment) (status : ExitStatus) (refused : ℕ) (out : Passage) : Type 0 where
+pub record HasServed (blocks : ℕ) (load : Workload) (first : Session) (exit : Exit) : Type 0 where
   pub woven : Woven
-  pub drawn : IsDrawn blocks load first exit woven
-  pub tells : TellsWoven woven load.requests status out
-  pub refused_is : refused ≡ refusals_told woven
+  pub drawn : IsDrawn blocks load first exit.moment woven
+  pub tells : TellsWoven woven load.requests exit.status exit.out
+  pub refused_is : exit.refused ≡ refusals_told woven
 
--- How the run ends behind its lines: their answer is told where it isn't `ok`, or want of memory where no volume is there to draw over; or the workload is drawn, and its totals
--- are told.
-pub data EndsWoven (blocks : ℕ) (load : Workload) (answer : Reply) (run : ℕ) (end : Moment) (on : Option Core) (exit : Moment) (status : ExitStatus) (refused : ℕ) (out : Passage) : Type 0 where
-  NotMade : (answer ≡ reply.Ok → ⊥) → EndsRefused answer run end on exit status refused out → EndsWoven blocks load answer run end on exit status refused out
-  NotServed : answer ≡ reply.Ok → IfSome on (λ core. core.descriptor.lvs ≡ []) → EndsRefused (reply.Refused refusal.Memory) run end on exit status refused out → EndsWoven blocks load answer run end on exit status refused out
+-- no volume serves requests
+abbrev pub IsUnserved : Option Core → Type 0
+IsUnserved None = Unit {0}
+IsUnserved (Some core) = core.descriptor.lvs ≡ []
+
+-- How a run ends behind its lines: their answer is told where it isn't `ok`, or want of memory where no volume serves requests; or the workload is drawn, and told.
+pub data EndsWoven (blocks : ℕ) (load : Workload) (answer : Reply) (run : ℕ) (end : Moment) (on : Option Core) (exit : Exit) : Type 0 where
+  NotMade : (answer ≡ reply.Ok → ⊥) → EndsRefused answer run end on exit → EndsWoven blocks load answer run end on exit
+  NotServed : answer ≡ reply.Ok → IsUnserved on → EndsRefused (reply.Refused refusal.Memory) run end on exit → EndsWoven blocks load answer run end on exit
   Drawn : answer ≡ reply.Ok → (core : Core) → on ≡ Some core → core.descriptor.lvs ≢ [] → core.history.run ≡ run → end.facts ≡ core.history.facts
-      → HasServed blocks load (state end.device core) exit status refused out
-      → EndsWoven blocks load answer run end on exit status refused out
+      → HasServed blocks load (state end.device core) exit → EndsWoven blocks load answer run end on exit
 
 -- ---- the run
 
@@ -165,16 +176,15 @@ pub data EndsWoven (blocks : ℕ) (load : Workload) (answer : Reply) (run : ℕ)
 abbrev pub untold : Passage
 untold = record { before = stream None 0; after = stream None 0 }
 
--- what stands once the run has ended
-abbrev pub exit_moment : Run → Moment
-exit_moment r = record { device = r.exit; facts = facts_of r.history }
+abbrev pub exit_from : Run → Exit
+exit_from r = record { moment = record { device = r.exit; facts = facts_of r.history }; status = r.status; refused = r.refused; out = r.output }
 
 -- What a run does for which memory was found: its lines, and its end.
 pub record GoesWoven (disks mib : ℕ) (load : Workload) (r : Run) : Type 0 where
   pub answer : Reply
   pub end : State
   pub made : IsMade (empty_log r.named r.room) r.room (mkvg_line disks) (mklv_line disks mib) (entry_state r.entry r.named) answer end
-  pub ends : EndsWoven (2048 * (mib - 2)) load answer r.named end.moment end.session (exit_moment r) r.status r.refused r.output
+  pub ends : EndsWoven (2048 * (mib - 2)) load answer r.named end.moment end.session (exit_from r)
   pub clock : end.last ≡ r.last
 
 -- Nothing was under way at entry. Without a history no memory was found for a run, and nothing was done. The power is on at exit.
@@ -189,9 +199,7 @@ pub record IsWoven (disks mib : ℕ) (load : Workload) (r : Run) : Type 0 where
 abbrev pub IsWovenAlone : {disks mib : ℕ} {load : Workload} {r : Run} → GoesWoven disks mib load r → Type 0
 IsWovenAlone {r = r} goes = AreMadeAlone goes.made × IsAlone OfRequests goes.end (exit_state r.exit r.history goes.end)
 
--- What every run of a workload promises, as one of a script does: its moment was answered by the clock in this call; where that is later than what stands on the disks,
--- and no other group has a quorum, the history is legal with what was told before, and each crash image that the disks may leave is kept with it; over disks that hold
--- nothing so it is without anything told before; and the clock stays ahead of the disks.
+-- What every run of a workload promises, of its history, its images and the clock as one of a script does.
 pub record PromisesWoven (disks mib : ℕ) (load : Workload) (asked : ℕ) (r : Run) : Type 0 where
   pub clock : IfSome r.history (λ log. Rose asked log.run × (log.run ≤ r.last))
   pub does : IsWoven disks mib load r

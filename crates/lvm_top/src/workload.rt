@@ -239,7 +239,7 @@ fn refuse<S: Shelf, O: Sink>(alloc: Global, out: &mut O, stage: Stage<S>, why: R
     requires between { (IsStuck why → ⊥) → IsBetweenStage S.device stage }
     requires fits { IsFitting stage }
     requires few { most_refusals why ≤ 2 }
-    ensures refused { EndsRefused why (history_in stage).run (moment_in S.device stage) (session_in stage) (exit_of S.device result) result.status result.refused (passage O.held O.faults out.old out.new) }
+    ensures refused { EndsRefused why (history_in stage).run (moment_in S.device stage) (session_in stage) (exit_of S.device result (passage O.held O.faults out.old out.new)) }
     ensures rooms { IsSomeAnd result.history (λ log. without_facts log ≡ without_facts (history_in stage)) }
     ensures sim { result.sim ≡ None }
 {
@@ -267,7 +267,7 @@ fn draw<S: Shelf, O: Sink>(
     requires on { driver.1.power ≡ power.On }
     requires some { IsDrawable load.now × (1 ≤ blocks) }
     requires room { 131072 ≤ vec_capacity bytes }
-    ensures drawn { HasServed blocks load.now (state_of S.device driver) (exit_of S.device result) result.status result.refused (passage O.held O.faults out.old out.new) }
+    ensures drawn { HasServed blocks load.now (state_of S.device driver) (exit_of S.device result (passage O.held O.faults out.old out.new)) }
     ensures rooms { IsSomeAnd result.history (λ log. without_facts log ≡ without_facts driver.1.history) }
     ensures sim { result.sim ≡ None }
 {
@@ -295,7 +295,7 @@ fn end_woven<S: Shelf, O: Sink>(
     requires fits { IsFitting made.stage }
     requires few { most_refusals made.reply ≤ 2 }
     requires some { IsDrawable load.now × (1 ≤ blocks) }
-    ensures ends { EndsWoven blocks load.now made.reply (history_in made.stage).run (moment_in S.device made.stage) (session_in made.stage) (exit_of S.device result) result.status result.refused (passage O.held O.faults out.old out.new) }
+    ensures ends { EndsWoven blocks load.now made.reply (history_in made.stage).run (moment_in S.device made.stage) (session_in made.stage) (exit_of S.device result (passage O.held O.faults out.old out.new)) }
     ensures rooms { IsSomeAnd result.history (λ log. without_facts log ≡ without_facts (history_in made.stage)) }
     ensures sim { result.sim ≡ None }
 {
@@ -341,8 +341,8 @@ fn end_woven<S: Shelf, O: Sink>(
 
 /// Runs a workload: makes the group `weavevg` of the first disks, with partitions of 1 MiB, and its volume `weavelv`, active
 /// and of two copies, or one where there is one disk, of as many logical partitions as a disk has partitions; draws the
-/// requests of its clients over it, makes turns until one doesn't move, unless nothing is heard, and writes the totals. A refusal of a line that makes them is written as in a
-/// script. The moment at which the run begins names it in its history.
+/// requests of its clients over it, makes turns until one doesn't move, unless nothing is heard, and writes the totals. A
+/// refusal of a line that makes them is written as in a script. The moment at which the run begins names it in its history.
 pub fn run_weave<S: Shelf, O: Sink, C: Clock>(
     alloc: Global,
     disks: u16,

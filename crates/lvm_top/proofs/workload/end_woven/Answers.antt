@@ -12,7 +12,7 @@ draw-requires-clause-on g c = serving_on g.S.Shelf.device c.args.made.stage c.in
 
 pub returns-in-Serving-clause-ends : goal.returns-in-Serving-clause-ends
 returns-in-Serving-clause-ends g c =
-    serving_ends g.S.Shelf.device c.args.blocks c.args.load.now c.args.made.reply _ _ _ _ (c.is_ok.ensures.0 c.if-not-is_ok.false) c.in-Serving.driver c.args.made.stage.holder c.in-Serving.is c.requires.fits.kind c.draw.ensures.drawn
+    serving_ends g.S.Shelf.device c.args.blocks c.args.load.now c.args.made.reply _ (c.is_ok.ensures.0 c.if-not-is_ok.false) c.in-Serving.driver c.args.made.stage.holder c.in-Serving.is c.requires.fits.kind c.draw.ensures.drawn
 
 pub returns-in-Serving-clause-rooms : goal.returns-in-Serving-clause-rooms
 returns-in-Serving-clause-rooms g c = rooms_at g.S.Shelf.device c.args.made.stage (holder.Serving c.in-Serving.driver) c.in-Serving.is _ c.draw.ensures.rooms
@@ -25,7 +25,7 @@ refuse-in-Empty-requires-clause-fits g c = fits_at g.S.Shelf.device c.args.made.
 
 pub returns-in-Empty-clause-ends : goal.returns-in-Empty-clause-ends
 returns-in-Empty-clause-ends g c =
-    empty_ends g.S.Shelf.device c.args.blocks c.args.load.now c.args.made.reply _ _ _ _ (c.is_ok.ensures.0 c.if-not-is_ok.false) c.in-Empty.driver c.args.made.stage.holder c.in-Empty.is c.requires.fits.kind c.refuse-in-Empty.ensures.refused
+    empty_ends g.S.Shelf.device c.args.blocks c.args.load.now c.args.made.reply _ (c.is_ok.ensures.0 c.if-not-is_ok.false) c.in-Empty.driver c.args.made.stage.holder c.in-Empty.is c.requires.fits.kind c.refuse-in-Empty.ensures.refused
 
 pub returns-in-Empty-clause-rooms : goal.returns-in-Empty-clause-rooms
 returns-in-Empty-clause-rooms g c = rooms_at g.S.Shelf.device c.args.made.stage (holder.Empty c.in-Empty.driver) c.in-Empty.is _ c.refuse-in-Empty.ensures.rooms
@@ -38,7 +38,7 @@ refuse-in-Off-requires-clause-fits g c = fits_at g.S.Shelf.device c.args.made.st
 
 pub returns-in-Off-clause-ends : goal.returns-in-Off-clause-ends
 returns-in-Off-clause-ends g c =
-    off_ends g.S.Shelf.device c.args.blocks c.args.load.now c.args.made.reply _ _ _ _ (c.is_ok.ensures.0 c.if-not-is_ok.false) c.in-Off.shelf c.in-Off.history c.args.made.stage.holder c.in-Off.is c.refuse-in-Off.ensures.refused
+    off_ends g.S.Shelf.device c.args.blocks c.args.load.now c.args.made.reply _ (c.is_ok.ensures.0 c.if-not-is_ok.false) c.in-Off.shelf c.in-Off.history c.args.made.stage.holder c.in-Off.is c.refuse-in-Off.ensures.refused
 
 pub returns-in-Off-clause-rooms : goal.returns-in-Off-clause-rooms
 returns-in-Off-clause-rooms g c = rooms_at g.S.Shelf.device c.args.made.stage (holder.Off c.in-Off.shelf c.in-Off.history) c.in-Off.is _ c.refuse-in-Off.ensures.rooms

@@ -50,4 +50,4 @@ returns-clause-run g c =
     (made_by (without_facts c.in-Ok-new.history) c.args.room c.mkvg_line.result.now (mkvg_line c.args.disks) c.as_bytes.result.now (mklv_line c.args.disks c.args.mib) (state_in device stage begun) it.reply (state_in device it.stage last) c.mkvg_line.ensures (c.as_bytes.ensures.value ∙ c.in-Ok.ensures) c.make_volume-made.ensures.made)
     c.make_volume-made.ensures.rooms c.requires.ready c.now-run.ensures.later c.end_woven.result out
     c.end_woven.ensures.rooms
-    (subst (λ n. EndsWoven n c.args.load.now it.reply (history_in it.stage).run (moment_in device it.stage) (session_in it.stage) (exit_of device c.end_woven.result) c.end_woven.result.status c.end_woven.result.refused out) c.woven_blocks.ensures.is c.end_woven.ensures.ends)
+    (subst (λ n. EndsWoven n c.args.load.now it.reply (history_in it.stage).run (moment_in device it.stage) (session_in it.stage) (exit_of device c.end_woven.result out)) c.woven_blocks.ensures.is c.end_woven.ensures.ends)
