@@ -341,16 +341,16 @@ module _ {S : Type 0} (device : S → Device) (disks mib : ℕ) (load : Workload
       some_promises = subst (λ n. PromisesWoven disks mib load asked (record (ran room entry (device closed) untold out last (Some kept) status refused) { named = n })) (sym named)
           (woven_promises disks mib load asked its (subst (λ n. Rose asked n) (sym named) rose, (let is = named in let le = so.clock in omega (arith, is, le))) does)
 
+  abbrev exit_with : S → Option Log → ExitStatus → ℕ → Passage → Exit
+  exit_with closed h status refused out = record { moment = record { device = device closed; facts = facts_of h }; status = status; refused = refused; out = out }
+
   -- a run whose history is told
   pub the_promises_woven : (end : Ended S) (out : Passage) → IsSomeAnd end.history (λ log. without_facts log ≡ without_facts (history_in it))
       → EndsWoven (2048 * (mib - 2)) load answer (history_in it).run (moment_in device it) (session_in it) (exit_of device end out)
       → PromisesWoven disks mib load asked (ran room entry (device end.shelf) untold out last end.history end.status end.refused)
   the_promises_woven end out kept ends = by end.history kept ends
     where
-      abbrev With : Option Log → Exit
-      With h = record { moment = record { device = device end.shelf; facts = facts_of h }; status = end.status; refused = end.refused; out = out }
-
-      by : (h : Option Log) → IsSomeAnd h (λ log. without_facts log ≡ without_facts (history_in it)) → EndsWoven (2048 * (mib - 2)) load answer (history_in it).run (moment_in device it) (session_in it) (With h)
+      by : (h : Option Log) → IsSomeAnd h (λ log. without_facts log ≡ without_facts (history_in it)) → EndsWoven (2048 * (mib - 2)) load answer (history_in it).run (moment_in device it) (session_in it) (exit_with end.shelf h end.status end.refused out)
           → PromisesWoven disks mib load asked (ran room entry (device end.shelf) untold out last h end.status end.refused)
       by None kept ends = absurd kept
       by (Some log) kept ends = some_promises end.shelf log end.status end.refused out ends kept
