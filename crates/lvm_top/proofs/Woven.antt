@@ -32,10 +32,11 @@ use Rattle.lvm_top.specs.Program.{PromisesWovenBlank}
 use Rattle.lvm_top.specs.Run.{Run, ran}
 use Rattle.lvm_top.specs.Script.{Passage, Stream, empty_log, entry_state, facts_of, stream}
 use Rattle.lvm_top.specs.Sim.{IsToldBlank, full_room, sim_device}
-use Rattle.lvm_top.specs.Woven.{AreMadeAlone, Drawn, EndsWoven, Exit, GoesWoven, HasGroup, IsDrawn, IsMade, EndsRefused, HasServed, IsWoven, IsWovenAlone, NoGroup, NotMade, NotServed, PromisesWoven, TellsWoven, exit_from, exit_of, mklv_line, mkvg_line, status_woven, untold, woven_text}
+use Rattle.lvm_top.specs.Woven.{AreMadeAlone, Drawn, EndsWoven, Exit, GoesWoven, HasGroup, IsDrawn, IsMade, IsMadeForCause, EndsRefused, HasServed, IsWoven, IsWovenAlone, NoGroup, NotMade, NotServed, PromisesWoven, TellsWoven, exit_from, exit_of, mklv_line, mkvg_line, status_woven, untold, woven_text}
 use Rattle.lvm_top.proofs.Blanks.{sim_behind, sim_earlier, told_behind, told_earlier}
 use Rattle.lvm_top.proofs.Concluding.{Concluded, concluded, off_still}
 use Rattle.lvm_top.proofs.Lining.{stuck_is_off}
+use Rattle.lvm_top.proofs.Refusing.{line_caused}
 use Rattle.lvm_top.proofs.Scripting.{begins_timely}
 use Rattle.lvm_top.proofs.Stopping.{how_stopped}
 
@@ -113,6 +114,11 @@ module _ (end : State) (exit : Moment) (between : IsBetween end.moment end.sessi
 pub made_by : (log : Log) (room : Room) (group group1 volume volume1 : List ℕ) (first : State) (answer : Reply) (last : State) → group ≡ group1 → volume ≡ volume1 → IsMade log room group volume first answer last → IsMade log room group1 volume1 first answer last
 made_by log room group group1 volume volume1 first answer last is_group is_volume made =
     subst (λ (l : List ℕ). IsMade log room l volume1 first answer last) is_group (subst (λ (l : List ℕ). IsMade log room group l first answer last) is_volume made)
+
+-- a refusal of them has its cause
+pub made_caused : (log : Log) (room : Room) (group volume : List ℕ) (first : State) (answer : Reply) (last : State) (made : IsMade log room group volume first answer last) → IsMadeForCause made
+made_caused log room group volume first answer last (NoGroup not it) = line_caused log room group answer first last it
+made_caused log room group volume first answer last (HasGroup mid makes it) = line_caused log room volume answer mid last it
 
 -- the lines answer at most two refusals
 pub made_few : (log : Log) (room : Room) (group volume : List ℕ) (first : State) (answer : Reply) (last : State) → IsMade log room group volume first answer last → first.posts ≡ [] → most_refusals answer ≤ 2
@@ -286,6 +292,7 @@ pub woven_promises : (disks mib : ℕ) (load : Workload) (asked : ℕ) (r : Run)
 woven_promises disks mib load asked r clock does = record {
   clock = clock;
   does = does;
+  causes = λ goes. made_caused (empty_log r.named r.room) r.room (mkvg_line disks) (mklv_line disks mib) (entry_state r.entry r.named) goes.answer goes.end goes.made;
   upheld = woven_upheld disks mib load r does.ready;
   first = woven_first disks mib load r does.ready;
   ahead = woven_ahead disks mib load r does.ready;

@@ -30,6 +30,7 @@ use Rattle.lvm_top.specs.declared.script.Stop.{Stop}
 use Rattle.lvm_top.specs.declared.status.ExitStatus.{ExitStatus}
 use Rattle.lvm_top.specs.declared.status.ExitStatus.TheVariants as ended
 use Rattle.lvm_top.specs.Ending.{Concludes, MakesTurns}
+use Rattle.lvm_top.specs.Refused.{IsForCause}
 use Rattle.lvm_top.specs.Run.{Run, exit_state}
 use Rattle.lvm_top.specs.Script.{Passage, empty_log, entry_state, facts_of, stream}
 use Rattle.lvm_top.specs.Sim.{IsToldBlank}
@@ -61,6 +62,12 @@ abbrev pub AreMadeAlone : {log : Log} {room : Room} {group volume : List ℕ} {f
 AreMadeAlone {group = group} {first = first} {last = last} (NoGroup not does) = IsAlone (role_of (line_of group)) first last
 AreMadeAlone {group = group} {volume = volume} {first = first} {last = last} (HasGroup mid makes does) =
     IsAlone (role_of (line_of group)) first mid × IsAlone (role_of (line_of volume)) mid last
+
+-- the line that was answered last has its cause, where it is refused
+abbrev pub IsMadeForCause : {log : Log} {room : Room} {group volume : List ℕ} {first : State} {answer : Reply} {last : State}
+    → IsMade log room group volume first answer last → Type 0
+IsMadeForCause {group = group} {first = first} {answer = answer} {last = last} (NoGroup not does) = IsForCause group answer first last
+IsMadeForCause {volume = volume} {answer = answer} {last = last} (HasGroup mid makes does) = IsForCause volume answer mid last
 
 -- ---- the workload
 
@@ -203,6 +210,7 @@ IsWovenAlone {r = r} goes = AreMadeAlone goes.made × IsAlone OfRequests goes.en
 pub record PromisesWoven (disks mib : ℕ) (load : Workload) (asked : ℕ) (r : Run) : Type 0 where
   pub clock : IfSome r.history (λ log. Rose asked log.run × (log.run ≤ r.last))
   pub does : IsWoven disks mib load r
+  pub causes : (goes : GoesWoven disks mib load r) → IsMadeForCause goes.made
   pub upheld : (goes : GoesWoven disks mib load r) → IsWovenAlone goes → IsBehind r.named r.entry → IsUpheld r.named r.entry r.exit (facts_of r.history)
   pub first : (goes : GoesWoven disks mib load r) → IsWovenAlone goes → IsToldBlank r.entry → Legal (joined [] (facts_of r.history)) × ImagesKept r.exit (joined [] (facts_of r.history))
   pub ahead : GoesWoven disks mib load r → IsBehind r.named r.entry → IsAhead r.named (r.last + 1) r.exit (facts_of r.history)
