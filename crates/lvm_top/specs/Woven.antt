@@ -95,19 +95,25 @@ pub record IsDrawn (blocks : ℕ) (load : Workload) (first : Session) (exit : Mo
 
 -- ---- what is written
 
--- so much of each kind
-abbrev pub totals_text : Totals → List ℕ
-totals_text t =
-    codes "begun " ++ decimal t.begun ++ codes "\ndone " ++ decimal t.done ++ codes "\ngot " ++ decimal t.got ++ codes "\nlost " ++ decimal t.lost
-    ++ codes "\nrefused " ++ decimal t.refused ++ codes "\nunbegun " ++ decimal t.unbegun ++ codes "\n"
+-- so many of a kind
+abbrev pub total_line : List ℕ → ℕ → List ℕ
+total_line kind n = kind ++ codes " " ++ decimal n ++ codes "\n"
+
+-- behind this, how many requests have begun, and how many ended well
+abbrev pub with_well : List ℕ → Totals → List ℕ
+with_well before t = before ++ total_line (codes "begun") t.begun ++ total_line (codes "done") t.done ++ total_line (codes "got") t.got
+
+-- behind this, how many ended otherwise, and how many haven't begun
+abbrev pub with_ill : List ℕ → Totals → List ℕ
+with_ill before t = before ++ total_line (codes "lost") t.lost ++ total_line (codes "refused") t.refused ++ total_line (codes "unbegun") t.unbegun
 
 -- the refusal where nothing was heard of a transfer
 abbrev pub refusal_text : Woven → List ℕ
 refusal_text woven = if woven.waiting then codes "refused 24 Stuck\n" else []
 
--- and the totals behind it
+-- and the six lines behind it
 abbrev pub woven_text : Woven → List ℕ
-woven_text woven = refusal_text woven ++ totals_text woven.totals
+woven_text woven = with_ill (with_well (refusal_text woven) woven.totals) woven.totals
 
 -- so many refusals are written
 abbrev pub refusals_told : Woven → ℕ

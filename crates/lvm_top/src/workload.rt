@@ -1,5 +1,5 @@
 //! A workload over a group of its own.
-ghost use Rattle.std.specs.Prelude.{◌≡◌, ◌↔◌, ◌≤◌, ◌-◌, ◌*◌, None, IfOk, IsSomeAnd, IsTrue, vec_capacity};
+ghost use Rattle.std.specs.Prelude.{◌≡◌, ◌↔◌, ◌≤◌, ◌-◌, ◌*◌, ◌++◌, None, IfOk, OnOk, IsSomeAnd, IsTrue, vec_capacity};
 ghost use Rattle.std.specs.String.{string_bytes};
 ghost use Rattle.lvm_disk.specs.Device.{IsReady};
 ghost use Rattle.lvm_core.specs.Starting.{IsRoom};
@@ -10,7 +10,7 @@ ghost use Rattle.lvm_line.specs.passed.Running.{RunsOn};
 ghost use Rattle.lvm_line.specs.passed.Stage.{IsBetweenStage, IsFitting, IsStuck, history_in, moment_in, most_refusals, session_in, state_in, without_facts};
 ghost use Rattle.lvm_top.specs.Run.{ran};
 ghost use Rattle.lvm_top.specs.Script.{passage};
-ghost use Rattle.lvm_top.specs.Woven.{EndsWoven, IsDrawable, IsDrawn, IsMade, EndsRefused, HasServed, PromisesWoven, TellsWoven, TurnsBehind, copy_count, exit_of, is_whole, mkvg_line, mklv_line, refusal_text, refusals_told, status_woven, untold, woven_text};
+ghost use Rattle.lvm_top.specs.Woven.{EndsWoven, IsDrawable, IsDrawn, IsMade, EndsRefused, HasServed, PromisesWoven, TellsWoven, TurnsBehind, copy_count, exit_of, is_whole, mkvg_line, mklv_line, refusal_text, refusals_told, status_woven, total_line, untold, with_ill, with_well, woven_text};
 
 use crate::run::{Ended, close_ended, conclude, is_sound, run_on, status_of, unbegun};
 use crate::script::write_reply;
@@ -22,7 +22,7 @@ use lvm_io::{Clock, Sink, write_all};
 use lvm_line::below::driver::Driver;
 use lvm_line::below::stage::{Holder, Refusal, Reply, Stage, take_rooms};
 use lvm_line::do_line;
-use lvm_load::{Workload, Woven, weave};
+use lvm_load::{Totals, Workload, Woven, weave};
 use lvm_posts::Post;
 use std::alloc::{AllocError, Global};
 
@@ -166,20 +166,38 @@ fn refusal_text(woven: &Woven) -> &'static str
     }
 }
 
+// Adds how many are of a kind.
+fn push_total(text: &mut String, kind: &str, n: u32) -> Result<(), AllocError>
+    ensures { OnOk result (string_bytes text.new ≡ string_bytes text.old ++ total_line kind.now n) }
+{
+    write!(text, "{kind} {n}\n")
+}
+
+// Adds how many requests have begun, and how many ended well.
+fn push_well(text: &mut String, totals: &Totals) -> Result<(), AllocError>
+    ensures { OnOk result (string_bytes text.new ≡ with_well (string_bytes text.old) totals.now) }
+{
+    push_total(text, "begun", totals.begun)?;
+    push_total(text, "done", totals.done)?;
+    push_total(text, "got", totals.got)
+}
+
+// Adds how many ended otherwise, and how many haven't begun.
+fn push_ill(text: &mut String, totals: &Totals) -> Result<(), AllocError>
+    ensures { OnOk result (string_bytes text.new ≡ with_ill (string_bytes text.old) totals.now) }
+{
+    push_total(text, "lost", totals.lost)?;
+    push_total(text, "refused", totals.refused)?;
+    push_total(text, "unbegun", totals.unbegun)
+}
+
 // The totals, behind the refusal where nothing was heard of a transfer.
 fn woven_text(alloc: Global, woven: &Woven) -> Result<String, AllocError>
     ensures { IfOk result (λ text. string_bytes text ≡ woven_text woven.now) }
 {
-    let head = refusal_text(woven);
-    let begun = woven.totals.begun;
-    let done = woven.totals.done;
-    let got = woven.totals.got;
-    let lost = woven.totals.lost;
-    let refused = woven.totals.refused;
-    let unbegun = woven.totals.unbegun;
-    let text = format!(in alloc;
-        "{head}begun {begun}\ndone {done}\ngot {got}\nlost {lost}\nrefused {refused}\nunbegun {unbegun}\n"
-    )?;
+    let mut text = String::from_str(alloc, refusal_text(woven))?;
+    push_well(&mut text, &woven.totals)?;
+    push_ill(&mut text, &woven.totals)?;
     Ok(text)
 }
 
