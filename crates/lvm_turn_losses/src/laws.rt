@@ -1,0 +1,12 @@
+//! Laws of turns. Each call does nothing: its contract is the law.
+ghost use Rattle.lvm_turn_losses.specs.Losing.{TurnsLoseByFaults, VotesGoByFaults};
+
+/// In a turn of a sound session a disk comes to be missing only where a transfer of it has failed.
+pub fn turns_lose_by_faults()
+    ensures { TurnsLoseByFaults }
+{}
+
+/// Where disks come to be missing so alone, the votes are lost only where they were or a transfer has failed.
+pub fn votes_go_by_faults()
+    ensures { VotesGoByFaults }
+{}
