@@ -1,15 +1,17 @@
 -- Why `mklv` and `rmlv` are refused.
-use Rattle.std.proofs.Common.{◌≡◌, inl, inr, ◌*◌, ◌+◌, ◌-◌, ◌≤◌, ℕ, Bool, true, false, Option, Some, None, Result, IsFalse, if◌then◌else◌, sym, ap, subst, arith}
+use Rattle.std.proofs.Common.{◌≡◌, inl, inr, ◌*◌, ◌+◌, ◌-◌, ◌&&◌, ◌≤◌, ℕ, Bool, true, false, Option, Some, None, Result, IsFalse, not, refl, if◌then◌else◌, sym, ◌∙◌, ap, subst, arith}
 use Rattle.std.specs.Prelude.{nat_lt}
 use Rattle.std.proofs.lemmas.Bool.{ltb-false}
 use Rattle.lvm_num.specs.declared.descriptor.Descriptor.{Descriptor}
+use Rattle.lvm_num.specs.Descriptor.{is_member}
+use Rattle.lvm_num.specs.Status.{calls_missing}
 use Rattle.lvm_num.specs.Votes.{total_votes, is_enough_to_write}
 use Rattle.lvm_disk.specs.Counts.{Rose, RoseBy, Counts}
 use Rattle.lvm_disk.specs.Device.{Device}
 use Rattle.lvm_parse.specs.declared.command.Command.{Command}
 use Rattle.lvm_operands.specs.declared.rest.Misfit.{Misfit}
 use Rattle.lvm_status.specs.Update.{Stored}
-use Rattle.lvm_commit.specs.Settling.{HasLostQuorum}
+use Rattle.lvm_commit.specs.Settling.{HasLostQuorum, there}
 use Rattle.lvm_session.specs.State.{Core, State as Session}
 use Rattle.lvm_line.specs.Causes.{HasCause, HasFailed, HasLost, IsDrained}
 use Rattle.lvm_write.proofs.Transfers.{rose_then}
@@ -82,6 +84,15 @@ module _ (read : Result (Option Command) Misfit) (other : IsOther read) (failed 
     faults_since : (disk : ℕ) (n : Counts) → Rose (mid.device.counts.faults disk) (n.faults disk) → Rose (old.moment.device.counts.faults disk) (n.faults disk)
     faults_since disk n rose = rose_before (drains.runs.leaves.keeps.counts.faults disk) rose
 
+    -- what is there is a member of the session's group
+    member_of : (disk : ℕ) → there mid.core.status disk ≡ true → is_member core.descriptor disk ≡ true
+    member_of disk was = sym (ap (λ (g : Descriptor). is_member g disk) drains.runs.leaves.keeps.descriptor) ∙ sym (ap (λ (g : Descriptor). is_member g disk) drains.sound.fitting.group)
+        ∙ first (is_member mid.core.status.group disk) (calls_missing mid.core.status.wanted disk) was
+      where
+        first : (a b : Bool) → a && not b ≡ true → a ≡ true
+        first true b is = refl
+        first false b is = is
+
     lost : (have total : ℕ) (last : Stored) → HasLostQuorum mid.core.status last mid.device left.device have total → new.moment.device.counts ≡ left.device.counts → (2 * have ≤ total) × HasLost old new.moment.device.counts
     lost have total last it same = (
       subst (λ (n : ℕ). 2 * have ≤ n) (sym it.total_is) (at_most_half last.group have it.few),
@@ -90,6 +101,7 @@ module _ (read : Result (Option Command) Misfit) (other : IsOther read) (failed 
         mid = mid.core;
         drained = drained;
         disk = it.disk;
+        member = member_of it.disk it.was;
         was = it.was;
         failed = subst (λ (n : Counts). Rose (old.moment.device.counts.faults it.disk) (n.faults it.disk)) (sym same) (faults_since it.disk left.device.counts it.failed);
       },

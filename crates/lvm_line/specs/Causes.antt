@@ -11,6 +11,7 @@ use Rattle.lvm_core.specs.declared.parts.Room.{Room}
 use Rattle.lvm_session.specs.Causes.{AnyFailedSince}
 use Rattle.lvm_session.specs.State.{Core, state}
 use Rattle.lvm_num.specs.declared.descriptor.Descriptor.{Descriptor}
+use Rattle.lvm_num.specs.Descriptor.{is_member}
 use Rattle.lvm_disk.specs.Device.{Device}
 use Rattle.lvm_copy_lines.specs.passed.Recover.{HasNoPassive}
 use Rattle.lvm_copy_lines.specs.passed.Varyon.{IsRestated, IsRecovered}
@@ -54,6 +55,7 @@ pub record HasLost (old : State) (new : Counts) : Type 0 where
   pub mid : Core
   pub drained : IsDrained old core mid
   pub disk : ℕ
+  pub member : IsTrue (is_member core.descriptor disk)
   pub was : IsTrue (there mid.status disk)
   pub failed : Rose (old.moment.device.counts.faults disk) (new.faults disk)
 

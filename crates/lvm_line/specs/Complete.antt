@@ -1,7 +1,11 @@
 -- What is left to refuse a line where nothing goes wrong.
-use Rattle.std.specs.Prelude.{◌≤◌, ◌*◌, ℕ, List, IfSome}
+use Rattle.std.specs.Prelude.{◌≤◌, ◌*◌, ℕ, List, Option, Some, Result, Ok, IfSome}
 use Rattle.lvm_disk.specs.Counts.{Counts, Rose, RoseBy}
 use Rattle.lvm_vol.specs.Log.{Log}
+use Rattle.lvm_parse.specs.declared.command.Command.{Command}
+use Rattle.lvm_parse.specs.declared.command.Command.TheVariants as command
+use Rattle.lvm_operands.specs.declared.rest.Misfit.{Misfit}
+use Rattle.lvm_parse.specs.Grammar.{line_of}
 use Rattle.lvm_core.specs.declared.parts.Room.{Room}
 use Rattle.lvm_session.specs.State.{Core, state}
 use Rattle.lvm_copy_lines.specs.passed.Resync.{AnyFails}
@@ -10,16 +14,24 @@ use Rattle.lvm_copy_lines.specs.passed.RefusalVariants as refusal
 use Rattle.lvm_copy_lines.specs.passed.ReplyVariants as reply
 use Rattle.lvm_line.specs.Lines.{IsLine}
 
--- no transfer has failed, nor a read of records, the power wasn't cut, and it didn't wait a million times
+-- no transfer has failed, the power wasn't cut, and it didn't wait a million times
 pub record NoneRose (old new : Counts) : Type 0 where
   pub faults : (disk : ℕ) → Rose (old.faults disk) (new.faults disk) → ⊥
-  pub misses : (disk : ℕ) → Rose (old.misses disk) (new.misses disk) → ⊥
   pub cuts : Rose old.cuts new.cuts → ⊥
   pub waits : RoseBy patience_of_line old.waits new.waits → ⊥
 
--- So it is between two states; and of a disk that isn't on the shelf, which a session can't count, no transfer has failed since that began which was on.
-pub record NothingFailed (old new : State) : Type 0 where
+-- a read of records that fails is told by `mkvg` and by `rd` and `wr` of a disk; a `varyonvg` goes on without the disk
+abbrev pub TellsOfReads : Result (Option Command) Misfit → Type 0
+TellsOfReads (Ok (Some (command.Mkvg force name mib disks))) = Unit {0}
+TellsOfReads (Ok (Some (command.RawRd disk at count))) = Unit {0}
+TellsOfReads (Ok (Some (command.RawWr disk at count word))) = Unit {0}
+TellsOfReads other = ⊥
+
+-- So it is between the states of a line, nor has a read of records failed of which that tells; and of a disk that isn't on the shelf, which a session can't count,
+-- no transfer has failed since that began which was on.
+pub record NothingFailed (read : Result (Option Command) Misfit) (old new : State) : Type 0 where
   pub none : NoneRose old.moment.device.counts new.moment.device.counts
+  pub misses : TellsOfReads read → (disk : ℕ) → Rose (old.moment.device.counts.misses disk) (new.moment.device.counts.misses disk) → ⊥
   pub seen : IfSome old.session (λ (core : Core). AnyFails (state old.moment.device core) (state new.moment.device core) → ⊥)
 
 -- A refusal by what is asked for, by the records and the session that are there, or for want of memory, and for nothing that a shelf did; so it counts here
@@ -37,4 +49,4 @@ IsOwn other = Unit {0}
 -- Each line in which nothing failed is refused so alone, if it is.
 abbrev pub CompleteLaw : Type 0
 CompleteLaw = (log : Log) (room : Room) (line : List ℕ) (why : Refusal) (old new : State) → IsLine log room line (reply.Refused why) old new
-    → NothingFailed old new → IsOwn why
+    → NothingFailed (line_of line) old new → IsOwn why

@@ -116,7 +116,7 @@ varyon_recovers r ran = record {
   unwritten = λ line name have total is did.
       let told = reply.Refused (refusal.NoQuorum have total) in
       ap (λ (d : Device). d.wrote) (sym (exit_is r ran line name told is did))
-      ∙ nothing_written (empty_log r.named r.room) r.room (line_of line) have total (entry_state r.entry r.named) ran.end (its r ran line name told is did (λ e. cc e)).does;
+      ∙ (let it = its r ran line name told is did (λ e. cc e) in nothing_written (empty_log r.named r.room) r.room (line_of line) have total (entry_state r.entry r.named) ran.end it.between it.does);
 }
 
 -- ---- a line of a script

@@ -1,6 +1,7 @@
 -- Why the lines of a script are refused.
 use Rattle.std.proofs.Common.{ℕ, List}
 use Rattle.lvm_vol.specs.Log.{Log}
+use Rattle.lvm_parse.specs.Grammar.{line_of}
 use Rattle.lvm_core.specs.declared.parts.Room.{Room}
 use Rattle.lvm_line.specs.Complete.{NothingFailed}
 use Rattle.lvm_line.specs.Lines.{IsLine}
@@ -17,7 +18,7 @@ module _ (log : Log) (room : Room) where
   line_caused line (reply.Refused why) old new it = has_cause log room _ why old new it.between it.does
   line_caused line other old new it = tt
 
-  line_complete : (line : List ℕ) (answer : Reply) (old new : State) → IsLine log room line answer old new → NothingFailed old new → IsWell answer
+  line_complete : (line : List ℕ) (answer : Reply) (old new : State) → IsLine log room line answer old new → NothingFailed (line_of line) old new → IsWell answer
   line_complete line (reply.Refused why) old new it nothing = lines_complete log room line why old new it nothing
   line_complete line other old new it nothing = tt
 

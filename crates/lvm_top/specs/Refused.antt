@@ -35,7 +35,7 @@ IsWell other = Unit {0}
 abbrev pub AreComplete : {log : Log} {room : Room} {first : State} {lines : List (List ℕ)} {replies : List Reply} {last : State}
     → Script log room first lines replies last → Type 0
 AreComplete NoLine = Unit {0}
-AreComplete (NextLine {mid = mid} {new = new} line answer said goes says before does) = AreComplete before × (NothingFailed mid new → IsWell answer)
+AreComplete (NextLine {mid = mid} {new = new} line answer said goes says before does) = AreComplete before × (NothingFailed (line_of line) mid new → IsWell answer)
 
 -- In whatever script that is so.
 abbrev pub ScriptsAreComplete : Type 0

@@ -137,6 +137,7 @@ module _ {S : Type 0} (device : S → Device) (stage : Stage S) (fits : IsFittin
       runs = rested.turned.runs;
       still = λ rest. still_turns first mid (still rest) rested.turned.turns rested.settled.power;
       empty = rested.empty;
+      sound = rested.turned.sound;
       settled = rested.settled;
       few = rested.turned.few;
       waited = rested.turned.waited;

@@ -102,6 +102,7 @@ pub record Drains (core : Core) (old : State) (left : ℕ) (mid : Session) : Typ
   pub runs : RunsOn (state old.moment.device core) mid
   pub still : IsAtRest old → mid ≡ state old.moment.device core
   pub empty : core.descriptor.lvs ≡ [] → mid ≡ state old.moment.device core
+  pub sound : IsSound mid
   pub settled : IsSettled mid.core
   pub few : left ≤ patience_of_line
   pub waited : RoseBy (patience_of_line - left) old.moment.device.counts.waits mid.device.counts.waits
