@@ -1,6 +1,6 @@
 -- A line whose range is waited for.
 use Rattle.std.proofs.Common.{◌≡◌, ◌≤◌, ◌+◌, ℕ, Bool, true, false, List, Option, Some, None, length, refl, sym, ◌∙◌, ap, subst, arith}
-use Rattle.std.specs.Prelude.{MatchOption, Result, Ok, Err, IfOk}
+use Rattle.std.specs.Prelude.{MatchOption, Result, Ok, Err, IfErr, IfOk}
 use Rattle.std.specs.Global.{Vec}
 use Rattle.lvm_num.specs.Votes.{total_votes}
 use Rattle.lvm_disk.specs.Device.{Device}
@@ -23,7 +23,8 @@ use Rattle.lvm_posts.specs.declared.posts.Post.{Post}
 use Rattle.lvm_posts.specs.Deciding.{AllWell, FirstFails, RangeEnds, fault_by}
 use Rattle.lvm_posts.specs.Pieces.{piece_lp}
 use Rattle.lvm_group_lines.specs.passed.Ranges.{AskRangeGives, Asks, IsAskedFor, range_fault, AskRangeFault, FinishGives, Finished, WasStuck}
-use Rattle.lvm_group_lines.specs.passed.Ranges.{KeepsOthers, IsUnfinished}
+use Rattle.lvm_group_lines.specs.passed.Ranges.{KeepsOthers, IsUnfinished, RangeCause}
+use Rattle.lvm_group_lines.proofs.passed.Ranges.{range_cause}
 use Rattle.lvm_group_lines.specs.passed.Stage.{Reply, Stage, EndsUnasked, OfRequests, InFull, Shows, WithoutMemory, most_refusals, HaveRooms}
 use Rattle.lvm_group_lines.specs.passed.Stage.{ComesTo, IsBetweenStage, IsCarried, IsFitting, state_in, ArePosted, State, is_unheard}
 use Rattle.lvm_group_lines.specs.passed.HolderVariants as holder
@@ -103,6 +104,12 @@ module _ {S : Type 0} (device : S → Device) (first : S × Core) (posts : Vec P
   posted : ArePosted end.1.history.facts (Some end.1) posts.items
   posted = others_posted mid.1 posts.items asked (kept posts.items between.posted) (asked_behind first.1 write count mid.1 asked posts.items between.session.sound.told.requests between.posted its) end.1 others
 
+  -- why it ended otherwise than well
+  caused_so : (left lv : ℕ) (done : Ending) → AskRangeGives write lv at count first.1 mid.1 (Ok asked) → FinishGives asked left (state_of device mid) (state_of device end) done → IfErr done (RangeCause left (device first.0) (state_of device end))
+  caused_so left lv (Ok well) gives finishes = tt
+  caused_so left lv (Err why) gives finishes = range_cause write lv at count (device first.0) first.1 mid.1 asked left (state_of device end) why between.session.sound.told gives
+      (subst (λ (s : S). FinishGives asked left (state (device s) mid.1) (state_of device end) (Err why)) shelf finishes) sound
+
   module _ (left : ℕ) (done : Ending) (finishes : FinishGives asked left (state_of device mid) (state_of device end) done) (waited : Waited left (state_of device mid) (state_of device end)) where
     finished : (stage : Stage S) (last : ℕ) → EndsBy done (state_of device end) posts.items last (state_in device stage last)
         → (lv : ℕ) → AskRangeGives write lv at count first.1 mid.1 (Ok asked) → IsFinished write lv at count first.1 (state_in device (serving first posts bytes) last) (state_in device stage last) (state_of device end) asked done
@@ -112,6 +119,7 @@ module _ {S : Type 0} (device : S → Device) (first : S × Core) (posts : Vec P
       left = left;
       finishes = subst (λ (s : S). FinishGives asked left (state (device s) mid.1) (state_of device end) done) shelf finishes;
       waited = subst (λ (s : S). Waited left (state (device s) mid.1) (state_of device end)) shelf waited;
+      caused = caused_so left lv done gives finishes;
       runs = all;
       sound = sound;
       ends = ends;
