@@ -2,6 +2,7 @@ pub mod passed
 pub mod Answering
 pub mod Lining
 pub mod Knowing
+pub mod Turns
 pub mod Faulting
 pub mod Causing
 pub mod Requesting

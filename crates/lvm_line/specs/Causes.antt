@@ -8,14 +8,15 @@ use Rattle.lvm_parse.specs.Grammar.{line_of}
 use Rattle.lvm_vol.specs.Log.{Log}
 use Rattle.lvm_commit.specs.Settling.{there}
 use Rattle.lvm_core.specs.declared.parts.Room.{Room}
-use Rattle.lvm_session.specs.State.{Core}
+use Rattle.lvm_session.specs.Causes.{faults_at_first}
+use Rattle.lvm_session.specs.State.{Core, state}
 use Rattle.lvm_num.specs.declared.descriptor.Descriptor.{Descriptor}
 use Rattle.lvm_disk.specs.Device.{Device}
 use Rattle.lvm_copy_lines.specs.passed.Recover.{HasNoPassive}
 use Rattle.lvm_copy_lines.specs.passed.Varyon.{IsRestated, IsRecovered}
 use Rattle.lvm_copy_lines.specs.passed.Quiesce.{Quiesces}
-use Rattle.lvm_copy_lines.specs.passed.Driver.{DrainFault}
-use Rattle.lvm_copy_lines.specs.passed.VolumeLines.{IsUndrained}
+use Rattle.lvm_copy_lines.specs.passed.Ranges.{AnyFailed}
+use Rattle.lvm_copy_lines.specs.passed.Resync.{AnyFails}
 use Rattle.lvm_copy_lines.specs.passed.Stage.{patience_of_line, IsAtRest, State, IsTimely, Refusal}
 use Rattle.lvm_line.specs.Lines.{IsLine}
 use Rattle.lvm_copy_lines.specs.passed.RefusalVariants as refusal
@@ -54,36 +55,53 @@ pub record HasLost (old : State) (new : Counts) : Type 0 where
   pub was : IsTrue (there mid.status disk)
   pub failed : Rose (old.moment.device.counts.faults disk) (new.faults disk)
 
--- The turns before the command ended for that.
-pub record WasUndrained (why : Refusal) (old new : State) : Type 0 where
+-- a transfer of some disk has failed since the session began that was on
+pub record HasFailedSince (old : State) (new : Counts) : Type 0 where
   pub core : Core
-  pub fault : DrainFault
   pub on : old.session ≡ Some core
-  pub ends : IsUndrained core old new fault (reply.Refused why)
+  pub disk : ℕ
+  pub failed : Rose (faults_at_first core disk) (new.faults disk)
 
--- Transfers of the line's disk have failed; the votes that are left are at most half, and a transfer of a member has failed; the power was cut; the shelf
--- waited a million times; transfers of the disk that is named have failed; or the clock's moment isn't later than the one that is told. For the other
--- refusals nothing has to have happened.
+-- a transfer of some disk has failed; of one that isn't on the shelf, since the session began that was on
+pub record HasFailedInSight (old new : State) : Type 0 where
+  pub core : Core
+  pub on : old.session ≡ Some core
+  pub failed : AnyFails (state old.moment.device core) (state new.moment.device core)
+
+-- Transfers of the line's disk have failed; the votes that are left are at most half, and a transfer of a member has failed, or one has since the session began;
+-- the power was cut; the shelf waited a million times; transfers of the disk that is named have failed; or the clock's moment isn't later than the one that is
+-- told. For the other refusals nothing has to have happened.
 abbrev pub CauseOf : Result (Option Command) Misfit → Refusal → State → State → Type 0
 CauseOf read refusal.Lost old new = RoseOn (disk_of read) old.moment.device.counts.faults new.moment.device.counts.faults
 CauseOf read refusal.ReadFailed old new = RoseOn (disk_of read) old.moment.device.counts.faults new.moment.device.counts.faults
-CauseOf read (refusal.WentOff have total) old new = (2 * have ≤ total) × HasLost old new.moment.device.counts
+CauseOf read (refusal.WentOff have total) old new = (2 * have ≤ total) × (HasLost old new.moment.device.counts ⊎ HasFailedSince old new.moment.device.counts)
 CauseOf read refusal.Dark old new = Rose old.moment.device.counts.cuts new.moment.device.counts.cuts
 CauseOf read refusal.Stuck old new = RoseBy patience_of_line old.moment.device.counts.waits new.moment.device.counts.waits
 CauseOf read (refusal.DiskFailed disk) old new = HasFailed read disk old.moment.device.counts new.moment.device.counts
 CauseOf read (refusal.ClockBack seen) old new = new.last ≤ seen
 CauseOf read other old new = Unit {0}
 
--- What a line of requests is refused for is told by what it does: how its requests have landed, and why.
+-- What a line of requests is refused for: the power was cut; the shelf waited a million times; the votes that are left are at most half, and a transfer has failed
+-- since the session began; or a transfer has failed in the line. For the other refusals nothing has to have happened.
+abbrev pub TurnCause : Refusal → State → State → Type 0
+TurnCause refusal.Dark old new = Rose old.moment.device.counts.cuts new.moment.device.counts.cuts
+TurnCause refusal.Stuck old new = RoseBy patience_of_line old.moment.device.counts.waits new.moment.device.counts.waits
+TurnCause (refusal.WentOff have total) old new = (2 * have ≤ total) × HasFailedSince old new.moment.device.counts
+TurnCause refusal.Lost old new = AnyFailed old.moment.device new.moment.device
+TurnCause refusal.ReadFailed old new = AnyFailed old.moment.device new.moment.device
+TurnCause (refusal.SyncFailed disk) old new = HasFailedInSight old new
+TurnCause other old new = Unit {0}
+
+-- so it is of a line that makes requests or turns, and of each other as above
 abbrev pub HasCause : Result (Option Command) Misfit → Refusal → State → State → Type 0
-HasCause (Ok (Some (command.Rd name at count))) why old new = Unit {0}
-HasCause (Ok (Some (command.Wr name at count word))) why old new = Unit {0}
-HasCause (Ok (Some (command.Post name at count word))) why old new = Unit {0}
-HasCause (Ok (Some command.Wait)) why old new = Unit {0}
-HasCause (Ok (Some (command.SyncVolume name))) why old new = Unit {0}
-HasCause (Ok (Some (command.SyncGroup name))) why old new = Unit {0}
-HasCause (Ok (Some (command.Step turns))) why old new = Unit {0}
-HasCause read why old new = WasUndrained why old new ⊎ CauseOf read why old new
+HasCause (Ok (Some (command.Rd name at count))) why old new = TurnCause why old new
+HasCause (Ok (Some (command.Wr name at count word))) why old new = TurnCause why old new
+HasCause (Ok (Some (command.Post name at count word))) why old new = TurnCause why old new
+HasCause (Ok (Some command.Wait)) why old new = TurnCause why old new
+HasCause (Ok (Some (command.SyncVolume name))) why old new = TurnCause why old new
+HasCause (Ok (Some (command.SyncGroup name))) why old new = TurnCause why old new
+HasCause (Ok (Some (command.Step turns))) why old new = TurnCause why old new
+HasCause read why old new = CauseOf read why old new
 
 -- Within each line that is refused for what its shelf or the clock did, that has happened.
 abbrev pub CauseLaw : Type 0

@@ -32,7 +32,7 @@ use Rattle.lvm_posts.specs.declared.asked.Asked.{Asked}
 use Rattle.lvm_posts.specs.declared.fault.RangeFault.{RangeFault}
 use Rattle.lvm_posts.specs.Posts.{AreHeld}
 use Rattle.lvm_ranges.specs.Keeping.{AreApart, KeepsOthers}
-use Rattle.lvm_ranges.specs.Finishing.{HasLandedFor, TakesRange}
+use Rattle.lvm_ranges.specs.Finishing.{HasLandedSo, TakesRange}
 use Rattle.lvm_ranges.specs.Landing.{HaveLanded}
 use Rattle.lvm_posts.specs.Pieces.{piece_lp}
 use Rattle.lvm_posts.specs.Deciding.{EndsWith, RangeEnds, fault_by}
@@ -298,7 +298,7 @@ found_one {X} t (x ∷ xs) some = by (t x) refl (found_one t xs) some
     by false is rest e = rest e
 
 -- it has landed as the history tells
-landed_for : (s : State) (id : ℕ) (how : Outcome) → IsSound s → list_any (is_asked 1 id) s.core.requests ≡ true → outcome_in s.core.history.facts id ≡ Some how → HasLandedFor s id how
+landed_for : (s : State) (id : ℕ) (how : Outcome) → IsSound s → list_any (is_asked 1 id) s.core.requests ≡ true → outcome_in s.core.history.facts id ≡ Some how → HasLandedSo s id how
 landed_for s id how sound held told = record { request = o; found = one.1; landed = landed; cause = subst (λ (m : Option Outcome). IfSome m (IsLandedFor s o)) landed answered }
   where
     one : (o : Open) × (find (is_asked 1 id) s.core.requests ≡ Some o) × (is_asked 1 id o ≡ true)

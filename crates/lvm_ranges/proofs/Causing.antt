@@ -38,7 +38,7 @@ use Rattle.lvm_posts.specs.Pieces.{piece_lp}
 use Rattle.lvm_ranges.specs.declared.refusal.AskRangeFault.{AskRangeFault}
 use Rattle.lvm_ranges.specs.Asking.{AskRangeGives, Asks, range_fault}
 use Rattle.lvm_ranges.specs.Choosing.{AreAllSince, AreSince}
-use Rattle.lvm_ranges.specs.Finishing.{AnyFailed, FinishGives, Finished, HasLandedFor, RangeCause, TakesRange, WasStuck}
+use Rattle.lvm_ranges.specs.Finishing.{AnyFailed, FinishGives, Finished, HasLandedSo, RangeCause, TakesRange, WasStuck}
 use Rattle.lvm_ranges.specs.Landing.{TurnsFor}
 use Rattle.lvm_ranges.specs.Pieces.{NoPiece, OnePiece, Submits}
 use Rattle.lvm_ranges.specs.Taking.{NoTake, OneTake, Takes}
@@ -98,6 +98,10 @@ few_votes core lost = go core.descriptor.quorum (is_false (is_enough_to_write co
     go true is = ltb-false (total_votes core.descriptor) (2 * votes_there core) is
     go false is = let none = ltb-false 0 (votes_there core) is in omega (arith, none)
 
+-- once it is off, a transfer has failed since it began
+pub off_votes : (s : State) → IsSound s → s.core.power ≡ power.Off → (2 * votes_there s.core ≤ total_votes s.core.descriptor) × AnyFailedSince s
+off_votes s sound off = let lost = sound.off off in (few_votes s.core lost, loss_is_caused s sound lost)
+
 -- answers that are taken leave the votes
 lost_still : (core new : Core) (client id : ℕ) (answer : Taken) → TakeGives core new client id answer → is_lost new ≡ is_lost core
 lost_still core new client id answer gives = by (position (is_asked client id) core.requests) gives
@@ -115,7 +119,7 @@ still_lost NoTake = refl
 still_lost (OneTake {n = n} {core = core} {new = new} before answer gives landed) = lost_still core new 1 _ answer gives ∙ still_lost before
 
 module _ (first : Device) (mid end : State) (asked : Asked) (left : ℕ) (answer : Result (Unit {0}) RangeFault) (takes : TakesRange asked mid end answer) (sound : IsSound end) (since : AreAllSince first.counts.faults asked.first mid.core) where
-  own_since : (k : ℕ) (how : Outcome) (it : HasLandedFor mid (asked.first + k) how) → AreSince first.counts.faults it.request
+  own_since : (k : ℕ) (how : Outcome) (it : HasLandedSo mid (asked.first + k) how) → AreSince first.counts.faults it.request
   own_since k how it = its (let is = own in omega (arith, is))
     where
       own : it.request.request.id ≡ asked.first + k
@@ -134,7 +138,7 @@ module _ (first : Device) (mid end : State) (asked : Asked) (left : ℕ) (answer
   abbrev so : ℕ → Outcome → RangeFault → Type 0
   so k how why = fault_by (piece_lp asked k) (votes_there mid.core) (total_votes mid.core.descriptor) how ≡ Some why
 
-  piece_cause : (k : ℕ) (how : Outcome) (why : RangeFault) → so k how why → HasLandedFor mid (asked.first + k) how → RangeCause left first end why
+  piece_cause : (k : ℕ) (how : Outcome) (why : RangeFault) → so k how why → HasLandedSo mid (asked.first + k) how → RangeCause left first end why
   piece_cause k outcome.Done why is it = absurd (cc is)
   piece_cause k outcome.Got why is it = absurd (cc is)
   piece_cause k outcome.Lost why is it =

@@ -21,7 +21,7 @@ use Rattle.lvm_posts.specs.Deciding.{RangeEnds}
 use Rattle.lvm_ranges.specs.Taking.{Takes}
 
 -- Client 1's request of this number has landed so, and the cause of that holds of it.
-pub record HasLandedFor (s : State) (id : ℕ) (how : Outcome) : Type 0 where
+pub record HasLandedSo (s : State) (id : ℕ) (how : Outcome) : Type 0 where
   pub request : Open
   pub found : find (is_asked 1 id) s.core.requests ≡ Some request
   pub landed : request.landed ≡ Some how
@@ -36,7 +36,7 @@ pub record TakesRange (asked : Asked) (old new : State) (answer : Result (Unit {
   pub power_is : new.core.power ≡ old.core.power
   pub ends : RangeEnds new.core.history.facts asked (votes_there old.core) (total_votes old.core.descriptor) answer
   -- why each piece landed as the history tells
-  pub caused : (k : ℕ) (how : Outcome) → k < asked.pieces → outcome_in new.core.history.facts (asked.first + k) ≡ Some how → HasLandedFor old (asked.first + k) how
+  pub caused : (k : ℕ) (how : Outcome) → k < asked.pieces → outcome_in new.core.history.facts (asked.first + k) ≡ Some how → HasLandedSo old (asked.first + k) how
 
 -- Turns are made until the first moment at which each piece has landed, and its answers are taken; or the patience has run out before.
 pub data FinishGives (asked : Asked) (left : ℕ) (old new : State) (answer : Result (Unit {0}) RangeFault) : Type 0 where
