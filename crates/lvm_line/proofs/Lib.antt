@@ -6,4 +6,5 @@ pub mod Turns
 pub mod Faulting
 pub mod Causing
 pub mod Requesting
+pub mod Completing
 pub mod Staying

@@ -78,6 +78,7 @@ CauseOf read (refusal.WentOff have total) old new = (2 * have ≤ total) × (Has
 CauseOf read refusal.Dark old new = Rose old.moment.device.counts.cuts new.moment.device.counts.cuts
 CauseOf read refusal.Stuck old new = RoseBy patience_of_line old.moment.device.counts.waits new.moment.device.counts.waits
 CauseOf read (refusal.DiskFailed disk) old new = HasFailed read disk old.moment.device.counts new.moment.device.counts
+CauseOf read (refusal.SyncFailed disk) old new = ⊥
 CauseOf read (refusal.ClockBack seen) old new = new.last ≤ seen
 CauseOf read other old new = Unit {0}
 
@@ -90,6 +91,7 @@ TurnCause (refusal.WentOff have total) old new = (2 * have ≤ total) × HasFail
 TurnCause refusal.Lost old new = AnyFailed old.moment.device new.moment.device
 TurnCause refusal.ReadFailed old new = AnyFailed old.moment.device new.moment.device
 TurnCause (refusal.SyncFailed disk) old new = HasFailedInSight old new
+TurnCause (refusal.DiskFailed disk) old new = ⊥
 TurnCause other old new = Unit {0}
 
 -- so it is of a line that makes requests or turns, and of each other as above

@@ -277,7 +277,7 @@ module _ (first old new : State) (asked : Asked) (have total n lp : ℕ) (fault 
 -- ---- why they landed so
 
 -- what holds of each in the table holds of the one that is found
-found_holds : (P : Open → Type 0) (t : Open → Bool) (os : List Open) → AllByRecursion P os → IfSome (find t os) P
+pub found_holds : (P : Open → Type 0) (t : Open → Bool) (os : List Open) → AllByRecursion P os → IfSome (find t os) P
 found_holds P t [] all = tt
 found_holds P t (o ∷ os) all = by (t o) (found_holds P t os all.1)
   where

@@ -1,9 +1,8 @@
 -- Why a range that was asked for, and waited for, ended otherwise than well.
-use Rattle.std.proofs.Common.{◌≡◌, ◌≤◌, ◌<◌, ◌+◌, ◌*◌, ◌||◌, ◌==◌, ℕ, Bool, true, false, not, List, [], ◌∷◌, Option, Some, None, Result, Ok, Err, position, if◌then◌else◌, refl, sym, ◌∙◌, ap, subst, arith}
-use Rattle.std.specs.Prelude.{IfSome, MatchOption, find, is_some, nat_lt}
+use Rattle.std.proofs.Common.{◌≡◌, ◌≤◌, ◌+◌, ◌*◌, ◌||◌, ◌==◌, ℕ, Bool, true, false, List, [], ◌∷◌, Option, Some, None, Result, Ok, Err, position, if◌then◌else◌, refl, sym, ◌∙◌, ap, subst, arith}
+use Rattle.std.specs.Prelude.{IfSome, MatchOption, is_some, nat_lt}
 use Rattle.std.specs.List.{list_any, AllByRecursion}
 use Rattle.std.proofs.lemmas.Bool.{eqb-true, ltb-false}
-use Rattle.lvm_num.specs.declared.descriptor.Descriptor.{Descriptor}
 use Rattle.lvm_num.specs.Votes.{is_enough_to_write, total_votes}
 use Rattle.lvm_num.proofs.MapsLemmas.{find-Some}
 use Rattle.lvm_disk.specs.Counts.{NoneFalls}
@@ -20,20 +19,19 @@ use Rattle.lvm_session.specs.declared.answers.Taken.TheVariants as answered
 use Rattle.lvm_session.specs.declared.open.Open.{Open}
 use Rattle.lvm_session.specs.declared.open.Power.TheVariants as power
 use Rattle.lvm_session.specs.Calls.{TakeAt, TakeGives, TakesLanded, is_asked}
-use Rattle.lvm_session.specs.Causes.{AnyFailedSince, HasFailed, IsLandedFor, had_usable}
+use Rattle.lvm_session.specs.Causes.{AnyFailedSince, HasFailed}
 use Rattle.lvm_session.specs.Enabled.{is_lost}
-use Rattle.lvm_session.specs.Sound.{IsAsked, IsSound, IsTold, outcome_in}
+use Rattle.lvm_session.specs.Sound.{IsAsked, IsSound, IsTold}
 use Rattle.lvm_session.specs.State.{Core, State, state, votes_there}
 use Rattle.lvm_keeps.proofs.Lists.{all_on, all_push}
 use Rattle.lvm_keeps.proofs.Losing.{loss_is_caused}
 use Rattle.lvm_keeps.proofs.Small.{both, is_false, not_so}
 use Rattle.lvm_turn_answers.proofs.Stepping.{turn_counts}
 use Rattle.lvm_driver.specs.Drains.{IsAny}
-use Rattle.lvm_driver.proofs.Causes.{find_all}
 use Rattle.lvm_posts.specs.declared.asked.Asked.{Asked}
 use Rattle.lvm_posts.specs.declared.fault.RangeFault.{RangeFault}
 use Rattle.lvm_posts.specs.declared.fault.RangeFault.TheVariants as fault
-use Rattle.lvm_posts.specs.Deciding.{AllWell, EndsWith, FirstFails, RangeEnds, fault_by}
+use Rattle.lvm_posts.specs.Deciding.{AllWell, FirstFails, RangeEnds, fault_by}
 use Rattle.lvm_posts.specs.Pieces.{piece_lp}
 use Rattle.lvm_ranges.specs.declared.refusal.AskRangeFault.{AskRangeFault}
 use Rattle.lvm_ranges.specs.Asking.{AskRangeGives, Asks, range_fault}
@@ -42,6 +40,7 @@ use Rattle.lvm_ranges.specs.Finishing.{AnyFailed, FinishGives, Finished, HasLand
 use Rattle.lvm_ranges.specs.Landing.{TurnsFor}
 use Rattle.lvm_ranges.specs.Pieces.{NoPiece, OnePiece, Submits}
 use Rattle.lvm_ranges.specs.Taking.{NoTake, OneTake, Takes}
+use Rattle.lvm_ranges.proofs.Answering.{found_holds}
 use Rattle.lvm_ranges.proofs.Beginning.{earlier}
 use Rattle.lvm_ranges.proofs.Choosing.{turn_chooses}
 
@@ -84,11 +83,11 @@ turned asked first now (Then {m} {n} before step any) =
 some_failed : (first last : Device) (ts : List Target) → list_any (λ (t : Target). t.usable) ts ≡ true → AllByRecursion (λ (t : Target). t.usable ≡ true → HasFailed last t) ts
     → AllByRecursion (λ (t : Target). first.counts.faults t.pp.disk ≤ t.faults) ts → AnyFailed first last
 some_failed first last [] some failed since = not_so some
-some_failed first last (t ∷ ts) some failed since = by t.usable refl some
+some_failed first last (t ∷ ts) some failed since = by t.usable refl (λ rest. some_failed first last ts rest failed.1 since.1) some
   where
-    by : (b : Bool) → t.usable ≡ b → b || list_any (λ (t : Target). t.usable) ts ≡ true → AnyFailed first last
-    by true is e = (t.pp.disk, rose_before since.0 (failed.0 is))
-    by false is e = some_failed first last ts e failed.1 since.1
+    by : (b : Bool) → t.usable ≡ b → (list_any (λ (t : Target). t.usable) ts ≡ true → AnyFailed first last) → b || list_any (λ (t : Target). t.usable) ts ≡ true → AnyFailed first last
+    by true is others e = (t.pp.disk, rose_before since.0 (failed.0 is))
+    by false is others e = others e
 
 -- votes that are too few are at most half
 few_votes : (core : Core) → is_lost core ≡ true → 2 * votes_there core ≤ total_votes core.descriptor
@@ -127,7 +126,7 @@ module _ (first : Device) (mid end : State) (asked : Asked) (left : ℕ) (answer
 
       its : asked.first ≤ it.request.request.id → AreSince first.counts.faults it.request
       its = subst (λ (m : Option Open). IfSome m (λ (o : Open). asked.first ≤ o.request.id → AreSince first.counts.faults o)) it.found
-          (find_all (λ (o : Open). asked.first ≤ o.request.id → AreSince first.counts.faults o) (is_asked 1 (asked.first + k)) mid.core.requests since)
+          (found_holds (λ (o : Open). asked.first ≤ o.request.id → AreSince first.counts.faults o) (is_asked 1 (asked.first + k)) mid.core.requests since)
 
   failed_at_end : AnyFailed first mid.device → AnyFailed first end.device
   failed_at_end = subst (λ (d : Device). AnyFailed first d) (sym takes.shelf)

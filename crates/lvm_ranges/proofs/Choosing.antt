@@ -1,8 +1,7 @@
 -- When a turn chooses the targets of requests.
-use Rattle.std.proofs.Common.{◌≡◌, ◌≤◌, ◌<◌, ◌+◌, ℕ, zero, suc, inl, inr, Bool, true, false, List, [], ◌∷◌, ◌++◌, map, Option, Some, None, slice_get, slice_set, refl, sym, ◌∙◌, ap, subst, arith, if◌then◌else◌}
+use Rattle.std.proofs.Common.{◌≡◌, ◌≤◌, ℕ, zero, suc, inl, inr, Bool, true, false, List, [], ◌∷◌, map, Some, slice_get, slice_set, sym, ap, subst, if◌then◌else◌}
 use Rattle.std.specs.List.{AllByRecursion}
 use Rattle.lvm_num.specs.declared.place.Pp.{Pp}
-use Rattle.lvm_disk.specs.Paths.{Here, Path, Then}
 use Rattle.lvm_vol.specs.declared.entry.Outcome.{Outcome}
 use Rattle.lvm_vol.specs.declared.entry.Outcome.TheVariants as outcome
 use Rattle.lvm_sched.specs.declared.writes.TargetState.{TargetState}
@@ -23,7 +22,7 @@ use Rattle.lvm_session.specs.Ends.{Ends, Learns}
 use Rattle.lvm_session.specs.Events.{Chooses, ChoosesBy, copy_of, landed_as, target_at}
 use Rattle.lvm_session.specs.Judging.{aims, copies_for, is_running, is_waiting}
 use Rattle.lvm_session.specs.State.{Core, State}
-use Rattle.lvm_session.specs.Turns.{Darkens, FinishMakes, Finishes, GoesOff, Makes, Moves, NoStart, OnMakes, TurnMakes, WasDark, WasOff, WasOn}
+use Rattle.lvm_session.specs.Turns.{FinishMakes, Finishes, Makes, Moves, NoStart, OnMakes, TurnMakes, WasDark, WasOff, WasOn}
 use Rattle.lvm_keeps.proofs.Lists.{all_at, all_mapped, all_set}
 use Rattle.lvm_turn_answers.proofs.Frames.{copy_stays, marked_stays, note_stays, status_stays}
 use Rattle.lvm_ranges.specs.Choosing.{AreAllSince, AreSince, TurnChoosesSince}
