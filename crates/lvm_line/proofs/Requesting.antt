@@ -165,12 +165,12 @@ module _ (old new : State) (between : IsBetween old.moment old.session old.posts
 
   pub sync_group_told : (name : List ℕ) (why : Refusal) → SyncGroupDoes name old new (reply.Refused why) → Told why old new
   sync_group_told name why (OtherGroupForSync off is) = told_by why refusal.NoGroup old new is.0 (told_easy refusal.NoGroup old new tt (λ e. cc) (λ h t e. cc))
-  sync_group_told name why (NothingSyncs core some none is same) = by (has_numbers core) is
+  sync_group_told name why (NothingSyncs core some named none is same) = by (has_numbers core) is
     where
       by : (b : Bool) → reply.Refused why ≡ (if b then reply.Synced 0 else reply.Refused refusal.HistoryFull) → Told why old new
       by true e = absurd (cc (e))
       by false e = told_by why refusal.HistoryFull old new e (told_easy refusal.HistoryFull old new tt (λ i. cc) (λ h t i. cc))
-  sync_group_told name why (SyncsGroup core some volumes its) = synced_told group_fault (group_copies core.descriptor) core why some its
+  sync_group_told name why (SyncsGroup core some named volumes its) = synced_told group_fault (group_copies core.descriptor) core why some its
 
   -- ---- step
 

@@ -14,8 +14,7 @@ use Rattle.lvm_resync.specs.declared.fault.SyncFault.{SyncFault}
 use Rattle.lvm_resync.specs.declared.fault.SyncFault.TheVariants as fault
 use Rattle.lvm_resync.specs.declared.tally.Tally.{Tally}
 use Rattle.lvm_resync.specs.Passing.{Copy}
-use Rattle.lvm_resync.specs.Syncing.{ArePassed, IsAnswer, Passes, SyncEnds, SyncGives, Syncs, fault_by, fault_on, no_tally, numbers_fault}
-use Rattle.lvm_resync.specs.Turning.{StopsFor}
+use Rattle.lvm_resync.specs.Syncing.{ArePassed, IsAnswer, Passes, StopsAmong, SyncEnds, SyncGives, Syncs, fault_by, fault_on, no_tally, numbers_fault}
 use Rattle.lvm_resync.proofs.Staying.{leaves_fresh}
 
 -- a session that goes on, of which no copy is open
@@ -57,7 +56,7 @@ module _ (refused : Option SyncFault) (copies : List Copy) (old new : State) (le
   begun answer is ends = subst (λ (m : Option SyncFault). SyncGives m copies old new left answer) (sym is) ends
 
   -- where it ends before
-  pub stopped : (why : SyncFault) → refused ≡ None → StopsFor left new.core why → SyncGives refused copies old new left (Err why)
+  pub stopped : (why : SyncFault) → refused ≡ None → StopsAmong copies left old new no_tally why → SyncGives refused copies old new left (Err why)
   stopped why is stops = begun (Err why) is (inr stops)
 
   -- and once all are passed

@@ -1,8 +1,7 @@
 -- The copy that is open is brought up until it doesn't run.
-use Rattle.std.proofs.Common.{◌≡◌, ◌-◌, ℕ, Bool, true, false, Option, Some, None, if◌then◌else◌, refl, sym, ap, subst, ◌∙◌}
+use Rattle.std.proofs.Common.{◌≡◌, ◌⊎◌, inl, inr, ◌-◌, ℕ, Bool, true, false, Option, Some, None, if◌then◌else◌, refl, sym, ap, subst, ◌∙◌}
 use Rattle.std.specs.Prelude.{IfSome}
 use Rattle.std.specs.Option.{option_map_or}
-use Rattle.lvm_num.specs.declared.place.Pp.{Pp}
 use Rattle.lvm_disk.specs.Counts.{RoseBy}
 use Rattle.lvm_disk.specs.Paths.{Here, Then}
 use Rattle.lvm_session.specs.declared.answers.CopyState.TheVariants as copy
@@ -20,7 +19,7 @@ use Rattle.lvm_driver.specs.Drains.{IsTurn}
 use Rattle.lvm_turn_marks.specs.Marks.{is_marked}
 use Rattle.lvm_running.specs.Running.{RunsOn}
 use Rattle.lvm_ranges.specs.Keeping.{KeepsTable}
-use Rattle.lvm_resync.specs.Passing.{HasEnded, IsEnded, IsJustOpened, Runs, EachTurnWhile}
+use Rattle.lvm_resync.specs.Passing.{HasEnded, IsEnded, IsJustOpened, IsSameCopy, Runs, EachTurnWhile}
 use Rattle.lvm_resync.specs.Turning.{GoesBeside, IsUnderWay}
 use Rattle.lvm_resync.proofs.Open.{IsOpenStill, just_opened, turn_open}
 use Rattle.lvm_resync.proofs.Standing.{still_ended}
@@ -29,17 +28,17 @@ use Rattle.lvm_resync.proofs.Turning.{beside_both, beside_none, unstuck_beside}
 -- So far turns were made while it ran, and it is open still, where the session isn't over.
 pub record BroughtSoFar (first now : State) (patience left : ℕ) : Type 0 where
   pub turns : EachTurnWhile Runs first now
-  pub pp : Pp
-  pub its : IfSome first.core.copy (λ (c : OpenCopy). c.pp ≡ pp)
-  pub still : IsOpenStill pp now.core
+  pub begun : OpenCopy
+  pub its : first.core.copy ≡ Some begun
+  pub still : IsOpenStill begun now.core
   pub unstuck : now.core.power ≡ power.Stuck → ⊥
   pub beside : GoesBeside first now patience left
 
 pub begins : (first : State) (left : ℕ) → (first.core.power ≡ power.Stuck → ⊥) → IsJustOpened first.core → BroughtSoFar first first left left
 begins first left unstuck just = record {
   turns = Here tt;
-  pp = just.0.pp;
-  its = subst (λ (m : Option OpenCopy). IfSome m (λ (c : OpenCopy). c.pp ≡ just.0.pp)) (sym just.1) refl;
+  begun = just.0;
+  its = just.1;
   still = just_opened first.core just.0 just.1 just.2;
   unstuck = unstuck;
   beside = beside_none first left;
@@ -79,15 +78,20 @@ module _ (first old new : State) (patience left after : ℕ) (so_far : BroughtSo
   pub turned : IsSound old → Runs old.core → IsTurn old new → new.core.power ≡ power.On → GoesBeside old new left after → BroughtSoFar first new patience after
   turned sound runs made on beside = record {
     turns = Then so_far.turns (runs, made) tt;
-    pp = so_far.pp;
+    begun = so_far.begun;
     its = so_far.its;
-    still = turn_open so_far.pp old new sound so_far.still runs made.0 made.1 on;
+    still = turn_open so_far.begun old new sound so_far.still runs made.0 made.1 on;
     unstuck = unstuck_beside old new left after beside so_far.unstuck;
     beside = beside_both first old new patience left after so_far.beside beside;
   }
 
   pub stops : GoesBeside old new left after → GoesBeside first new patience after
   stops beside = beside_both first old new patience left after so_far.beside beside
+
+  -- the turns up to one behind which it doesn't go on
+  pub last_turns : Runs old.core → (new ≡ old) ⊎ IsTurn old new → EachTurnWhile Runs first new
+  last_turns runs (inl same) = subst (EachTurnWhile Runs first) (sym same) so_far.turns
+  last_turns runs (inr made) = Then so_far.turns (runs, made) tt
 
 -- ---- it is closed
 
@@ -113,17 +117,16 @@ module _ (first old : State) (patience left : ℕ) (so_far : BroughtSoFar first 
   ends_as over = subst HasEnded (sym state_is) (has_ended it so_far.still.goes (λ cursor e. over (cursor, state_is ∙ e)))
 
   fresh : (new : State) → new ≡ state old.device (closed old.core) → copy_state old.core ≡ copy.Done → IfSome first.core.copy (λ (c : OpenCopy). is_marked new.core c.pp ≡ false)
-  fresh new is done = by first.core.copy so_far.its
+  fresh new is done = subst (λ (m : Option OpenCopy). IfSome m (λ (c : OpenCopy). is_marked new.core c.pp ≡ false)) (sym so_far.its) (ap (is_marked new.core) (sym so_far.still.its.0) ∙ here)
     where
       here : is_marked new.core it.pp ≡ false
       here = ap (λ (s : State). is_marked s.core it.pp) is ∙ (so_far.still.cleared (done_end it (sym state_is ∙ done))).1
 
-      by : (m : Option OpenCopy) → IfSome m (λ (c : OpenCopy). c.pp ≡ so_far.pp) → IfSome m (λ (c : OpenCopy). is_marked new.core c.pp ≡ false)
-      by None e = tt
-      by (Some c) e = ap (is_marked new.core) (e ∙ sym so_far.still.its) ∙ here
+  same : IfSome first.core.copy (λ (c : OpenCopy). IfSome old.core.copy (IsSameCopy c))
+  same = subst (λ (m : Option OpenCopy). IfSome m (λ (c : OpenCopy). IfSome old.core.copy (IsSameCopy c))) (sym so_far.its) (subst (λ (m : Option OpenCopy). IfSome m (IsSameCopy so_far.begun)) (sym so_far.still.is_open) so_far.still.its)
 
   pub closes : (new : State) → IsCopyCaused old → new ≡ state old.device (closed old.core) → RunsOn old new → IsEnded first new (copy_state old.core) × GoesBeside first new patience left
-  closes new caused is runs = (record { ended = old; turns = so_far.turns; how_is = refl; caused = caused; is = is; fresh = fresh new is }, beside_both first old new patience left left so_far.beside here)
+  closes new caused is runs = (record { ended = old; turns = so_far.turns; how_is = refl; same = same; caused = caused; is = is; fresh = fresh new is }, beside_both first old new patience left left so_far.beside here)
     where
       none : GoesBeside old old left left
       none = beside_none old left

@@ -1,5 +1,5 @@
 -- A copy is judged: turns are made until it is settled, and it is opened where it is stale.
-use Rattle.std.proofs.Common.{◌≡◌, ◌<◌, ◌-◌, ◌||◌, ℕ, suc, Bool, true, false, List, [], ◌∷◌, None, Some, Result, Ok, Err, map, length, refl, sym, ap, subst, ◌∙◌}
+use Rattle.std.proofs.Common.{◌≡◌, ◌⊎◌, inl, inr, ◌<◌, ◌-◌, ◌||◌, ℕ, suc, Bool, true, false, List, [], ◌∷◌, None, Some, Result, Ok, Err, map, length, refl, sym, ap, subst, ◌∙◌}
 use Rattle.std.specs.List.{list_any}
 use Rattle.lvm_num.specs.declared.descriptor.Descriptor.{Descriptor}
 use Rattle.lvm_num.specs.declared.descriptor.LvRow.{LvRow}
@@ -23,8 +23,9 @@ use Rattle.lvm_running.specs.Running.{LeavesSession}
 use Rattle.lvm_ranges.specs.Keeping.{KeepsTable}
 use Rattle.lvm_resync.specs.declared.copies.Opening.{Opening}
 use Rattle.lvm_resync.specs.declared.fault.SyncFault.{SyncFault}
-use Rattle.lvm_resync.specs.Passing.{Copy, EndsOr, IsAnsweredBy, IsJudged, IsOpened, IsUnsettled, MayPass, MayRefuse, EachTurnWhile}
-use Rattle.lvm_resync.specs.Turning.{GoesBeside, IsUnderWay}
+use Rattle.lvm_resync.specs.declared.fault.SyncFault.TheVariants as fault
+use Rattle.lvm_resync.specs.Passing.{Copy, EndsOr, IsAnsweredBy, IsJudged, IsOpened, IsUnsettled, MayPass, MayRefuse, EachTurnWhile, StopsAt, StopsRunning}
+use Rattle.lvm_resync.specs.Turning.{GoesBeside, IsOverFor, IsUnderWay}
 use Rattle.lvm_resync.proofs.Refusing.{IsRefusedSo, opened_so, refused_so, settled_alone}
 use Rattle.lvm_resync.proofs.Standing.{still_settled}
 use Rattle.lvm_resync.proofs.Turning.{beside_both, beside_none, unstuck_beside}
@@ -50,6 +51,32 @@ may_still c old new same none may = record {
   its = subst (λ (d : Descriptor). copy_at (copies_in d c.lv c.lp) c.number ≡ Some c.pp) (sym same) may.its;
   within = subst (λ (d : Descriptor). (row : LvRow) → volume_of d c.lv ≡ Some row → c.lp < row.lps) (sym same) may.within;
 }
+
+-- where the session or the patience is at its end while it isn't settled,
+judged_off : (c : Copy) (old new : State) (left : ℕ) (why : SyncFault) → IsOverFor left new.core why → EachTurnWhile (IsUnsettled c) old new → StopsAt c left old new why
+judged_off c old new left fault.Dark is turns = (is, inl turns)
+judged_off c old new left fault.Off is turns = (is, inl turns)
+judged_off c old new left fault.Stuck is turns = (is, inl turns)
+judged_off c old new left fault.Busy is turns = absurd is
+judged_off c old new left fault.NoVolume is turns = absurd is
+judged_off c old new left fault.OutOfRange is turns = absurd is
+judged_off c old new left fault.HistoryFull is turns = absurd is
+judged_off c old new left (fault.SyncFailed disk) is turns = absurd is
+judged_off c old new left (fault.NoFresh lp) is turns = absurd is
+judged_off c old new left (fault.Missing disk) is turns = absurd is
+
+-- and while it runs
+pub running_off : (c : Copy) (old opened new : State) (left : ℕ) (why : SyncFault) → IsOpened c old opened → StopsRunning left opened new why → StopsAt c left old new why
+running_off c old opened new left fault.Dark opens (is, turns) = (is, inr (record { opened = opened; opens = opens; turns = turns }))
+running_off c old opened new left fault.Off opens (is, turns) = (is, inr (record { opened = opened; opens = opens; turns = turns }))
+running_off c old opened new left fault.Stuck opens (is, turns) = (is, inr (record { opened = opened; opens = opens; turns = turns }))
+running_off c old opened new left fault.Busy opens (is, turns) = absurd is
+running_off c old opened new left fault.NoVolume opens (is, turns) = absurd is
+running_off c old opened new left fault.OutOfRange opens (is, turns) = absurd is
+running_off c old opened new left fault.HistoryFull opens (is, turns) = absurd is
+running_off c old opened new left (fault.SyncFailed disk) opens (is, turns) = absurd is
+running_off c old opened new left (fault.NoFresh lp) opens (is, turns) = absurd is
+running_off c old opened new left (fault.Missing disk) opens (is, turns) = absurd is
 
 -- while it isn't settled something is under way
 pub under_way : (c : Copy) (s : State) → IsSound s → MayPass s.core c → is_stale s.core c.pp ≡ true → copy_fault s.core c.lv c.lp c.number ≡ Some refusal.AlreadyFresh → IsUnderWay s
@@ -100,6 +127,14 @@ module _ (c : Copy) (first old mid new : State) (patience left after : ℕ) (so_
         beside = beside_then beside;
       }
 
+  -- behind which the session or the patience is at its end
+  pub broken_off : IsUnsettled c old.core → (why : SyncFault) → IsOverFor after new.core why → (new ≡ mid) ⊎ IsTurn mid new → StopsAt c after first new why
+  broken_off unsettled why is made = judged_off c first new after why is (turns made)
+    where
+      turns : (new ≡ mid) ⊎ IsTurn mid new → EachTurnWhile (IsUnsettled c) first new
+      turns (inl still) = subst (EachTurnWhile (IsUnsettled c) first) (sym (still ∙ same)) so_far.settles
+      turns (inr turn) = Then so_far.settles (unsettled, subst (λ (s : State). IsTurn s new) same turn) tt
+
 module _ (c : Copy) (first old new : State) (patience left : ℕ) (so_far : JudgedSoFar c first old patience left) where
   pub opens : is_stale old.core c.pp ≡ true → new.device ≡ old.device → LeavesSession old new → OpenGives (counts_seen old.device old.core) old.core new.core c.lv c.lp c.number (Ok tt)
       → IsOpened c first new × GoesBeside first new patience left
@@ -126,17 +161,17 @@ module _ (c : Copy) (first now : State) (patience left : ℕ) (so_far : JudgedSo
       by refusal.NoVolume so differs = so
       by refusal.OutOfRange so differs = so
 
-  pub answers : (answer : Result Opening SyncFault) → IsAnsweredBy c.lp why answer → EndsOr (IsJudged c first now) left now.core answer
+  pub answers : (answer : Result Opening SyncFault) → IsAnsweredBy c.lp why answer → EndsOr (IsJudged c first now) (StopsAt c left first now) answer
   answers answer is = by why fault_is (refused_so now.core c so_far.may why fault_is) is
     where
       Judged : Result Opening SyncFault → Type 0
-      Judged = EndsOr (IsJudged c first now) left now.core
+      Judged = EndsOr (IsJudged c first now) (StopsAt c left first now)
 
       by : (w : CopyFault) → copy_fault now.core c.lv c.lp c.number ≡ Some w → IsRefusedSo now.core c.pp w → IsAnsweredBy c.lp w answer → Judged answer
       by refusal.AlreadyFresh at so it = absurd it
-      by refusal.Dark at so it = subst Judged (sym it) so
-      by refusal.Off at so it = subst Judged (sym it) so
-      by refusal.HistoryFull at so it = subst Judged (sym it) (so, so_far.may.none)
+      by refusal.Dark at so it = subst Judged (sym it) (so, inl so_far.settles)
+      by refusal.Off at so it = subst Judged (sym it) (so, inl so_far.settles)
+      by refusal.HistoryFull at so it = subst Judged (sym it) ((so, so_far.may.none), record { settles = so_far.settles; stale = stale; why_is = at })
       by (refusal.Missing disk) at so it = subst Judged (sym it) (record { settles = so_far.settles; stale = stale; why_is = at }, so_far.may.none)
       by refusal.NoFresh at so it = subst Judged (sym it) ((refl, record { settles = so_far.settles; stale = stale; why_is = at }), so_far.may.none)
       by refusal.Busy at so it = absurd it

@@ -15,8 +15,8 @@ use Rattle.lvm_resync.specs.declared.copies.Passed.TheVariants as passed
 use Rattle.lvm_resync.specs.declared.fault.SyncFault.{SyncFault}
 use Rattle.lvm_resync.specs.declared.fault.SyncFault.TheVariants as fault
 use Rattle.lvm_resync.specs.declared.tally.Tally.{Tally}
-use Rattle.lvm_resync.specs.Passing.{Copy, IsEnded, IsJustOpened, IsOpened, IsPassed, IsPassedBy, copy_of}
-use Rattle.lvm_resync.specs.Syncing.{ArePassed, NonePassed, OnePassed, copies_at, copy_in, volume_copies, with_passed}
+use Rattle.lvm_resync.specs.Passing.{Copy, IsEnded, IsJustOpened, IsOpened, IsPassed, IsPassedBy, StopsAt, copy_of}
+use Rattle.lvm_resync.specs.Syncing.{ArePassed, NonePassed, OnePassed, StopsAmong, copies_at, copy_in, volume_copies, with_passed}
 use Rattle.lvm_resync.proofs.Making.{made_fresh}
 
 -- one that was opened runs
@@ -69,3 +69,8 @@ module _ (d : Descriptor) (lv lp place : ℕ) where
   one_there p old new t to how at it adds =
       subst (λ (x : Tally). ArePassed (copy_in d lv lp place) old new t x tt) (sym adds)
       (subst (λ (copies : List Copy). ArePassed copies old new t (with_passed t how) tt) (sym (copies_here (Some p) at)) (OnePassed (copy_of lv lp (place + 1) p) how NonePassed it.0, it.1))
+
+  -- the resync ends at it
+  pub stops_there : (p : Pp) (left : ℕ) (old new : State) (t : Tally) (why : SyncFault) → slice_get (copies_in d lv lp) place ≡ Some p → StopsAt (copy_of lv lp (place + 1) p) left old new why
+      → StopsAmong (copy_in d lv lp place) left old new t why
+  stops_there p left old new t why at it = record { passed = []; one = copy_of lv lp (place + 1) p; rest = []; all = copies_here (Some p) at; mid = old; tally = t; passes = NonePassed; stops = it }

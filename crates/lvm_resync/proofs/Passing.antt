@@ -1,12 +1,14 @@
 -- Copies that are passed one after the other.
-use Rattle.std.proofs.Common.{◌≡◌, ◌+◌, ◌++◌, ℕ, suc, List, [], ◌∷◌, None, sym, subst, append_assoc, append-nil, arith}
+use Rattle.std.proofs.Common.{◌≡◌, ◌⊎◌, inl, inr, ◌+◌, ◌<◌, ◌++◌, ℕ, zero, suc, List, [], ◌∷◌, None, sym, ap, ◌∙◌, subst, append_assoc, append-nil, arith}
+use Rattle.std.proofs.Math.Nat.{eq-or-lt_of_le}
 use Rattle.lvm_num.specs.declared.descriptor.Descriptor.{Descriptor}
 use Rattle.lvm_session.specs.declared.open.Power.TheVariants as power
 use Rattle.lvm_session.specs.State.{State}
 use Rattle.lvm_resync.specs.declared.copies.Passed.{Passed}
+use Rattle.lvm_resync.specs.declared.fault.SyncFault.{SyncFault}
 use Rattle.lvm_resync.specs.declared.tally.Tally.{Tally}
 use Rattle.lvm_resync.specs.Passing.{Copy, IsPassed}
-use Rattle.lvm_resync.specs.Syncing.{ArePassed, NonePassed, OnePassed, Passes, below, with_passed}
+use Rattle.lvm_resync.specs.Syncing.{ArePassed, NonePassed, OnePassed, Passes, StopsAmong, below, with_passed}
 use Rattle.lvm_resync.specs.Turning.{GoesBeside}
 use Rattle.lvm_resync.proofs.Turning.{beside_both, beside_none, unstuck_beside}
 
@@ -43,6 +45,47 @@ pub more_of : (f : Descriptor → ℕ → List Copy) (first old new : State) (fr
     → ArePassed (f old.core.descriptor n) old new t to tt → GoesBeside old new left after → PassedSoFar (f first.core.descriptor) first new from to (n + 1) patience after
 more_of f first old new from t to n patience left after so_far it beside =
     one_more (f first.core.descriptor) first old new from t to n patience left after so_far (subst (λ (d : Descriptor). ArePassed (f d n) old new t to tt) so_far.beside.leaves.keeps.descriptor it) beside
+
+-- ---- the resync ends at once
+
+-- those below a number are those below a smaller one, its own and others
+record Splits (of : ℕ → List Copy) (n m : ℕ) : Type 0 where
+  rest : List Copy
+  all : below of m ≡ below of n ++ (of n ++ rest)
+
+splits_at : (of : ℕ → List Copy) (n m : ℕ) → n < m → Splits of n m
+splits_at of n zero less = absurd (omega (arith, less))
+splits_at of n (suc m) less = by (eq-or-lt_of_le (omega (arith, less)))
+  where
+    by : (n ≡ m) ⊎ (n < m) → Splits of n (suc m)
+    by (inl same) =
+        record { rest = []; all = ap (λ (k : ℕ). below of k ++ of k) (sym same) ∙ sym (ap (λ (l : List Copy). below of n ++ l) (append-nil (of n))) }
+    by (inr more) =
+        let it = splits_at of n m more in
+        record { rest = it.rest ++ of m; all = ap (λ (l : List Copy). l ++ of m) it.all ∙ append_assoc (below of n) (of n ++ it.rest) (of m) ∙ ap (λ (l : List Copy). below of n ++ l) (append_assoc (of n) it.rest (of m)) }
+
+module _ (of : ℕ → List Copy) (first old new : State) (from t : Tally) (n patience left after : ℕ) (so_far : PassedSoFar of first old from t n patience left) (why : SyncFault) where
+  -- it ends at one of the next
+  pub stops_among : (m : ℕ) → n < m → StopsAmong (of n) after old new t why → StopsAmong (below of m) after first new from why
+  stops_among m less it =
+      let cut = splits_at of n m less in
+      record {
+        passed = below of n ++ it.passed;
+        one = it.one;
+        rest = it.rest ++ cut.rest;
+        all = cut.all ∙ ap (λ (l : List Copy). below of n ++ (l ++ cut.rest)) it.all ∙ ap (λ (l : List Copy). below of n ++ l) (append_assoc it.passed (it.one ∷ it.rest) cut.rest)
+            ∙ sym (append_assoc (below of n) it.passed (it.one ∷ (it.rest ++ cut.rest)));
+        mid = it.mid;
+        tally = it.tally;
+        passes = passes_both first old from t (below of n) so_far.passes it.passed it.mid it.tally it.passes;
+        stops = it.stops;
+      }
+
+-- so it does where the copies are those of the group, which stays as it was
+pub stops_of : (f : Descriptor → ℕ → List Copy) (first old new : State) (from t : Tally) (n patience left after : ℕ) → PassedSoFar (f first.core.descriptor) first old from t n patience left
+    → (why : SyncFault) (m : ℕ) → n < m → StopsAmong (f old.core.descriptor n) after old new t why → StopsAmong (below (f first.core.descriptor) m) after first new from why
+stops_of f first old new from t n patience left after so_far why m less it =
+    stops_among (f first.core.descriptor) first old new from t n patience left after so_far why m less (subst (λ (d : Descriptor). StopsAmong (f d n) after old new t why) so_far.beside.leaves.keeps.descriptor it)
 
 -- all of them are passed
 pub all_of : (of : ℕ → List Copy) (first now : State) (from to : Tally) (n m patience left : ℕ) → PassedSoFar of first now from to n patience left → n ≡ m → ArePassed (below of m) first now from to tt

@@ -41,7 +41,7 @@ use Rattle.lvm_resync.specs.declared.fault.SyncFault.{SyncFault}
 use Rattle.lvm_resync.specs.declared.tally.Tally.{Tally}
 use Rattle.lvm_resync.specs.Passing.{Copy, EachTurnWhile, IsEnded, IsFresh, IsMadeFresh, IsOpened, IsUnsettled, Runs}
 use Rattle.lvm_resync.specs.Syncing.{IsStaleFor, LeavesFresh, NonePassed, OnePassed, Passes, is_made_among, no_tally, or_first}
-use Rattle.lvm_resync.proofs.Making.{its_pp}
+use Rattle.lvm_resync.proofs.Making.{as_opened, its_pp}
 use Rattle.lvm_resync.proofs.Open.{IsOpenStill, just_opened, turn_open}
 
 -- ---- why something is stale
@@ -160,8 +160,11 @@ module _ (c : Copy) (first judged new : State) (made : Pp → Bool) (so_far : St
       by q (inl why) = inl (still_for first judged new q (more q) (λ gone. ap (λ (k : Core). is_missing k q.disk) opens.is ∙ gone) why)
       by q (inr was) = inr was
 
-  pub opened_still : IsOpenStill p new.core
-  opened_still = subst (λ (q : Pp). IsOpenStill q new.core) its (just_opened new.core _ (ap (λ (k : Core). k.copy) opens.is) refl)
+  abbrev begun_copy : OpenCopy
+  begun_copy = as_opened (counts_seen judged.device judged.core) judged.core new.core c.lv c.lp c.number opens
+
+  pub opened_still : IsOpenStill begun_copy new.core
+  opened_still = just_opened new.core begun_copy (ap (λ (k : Core). k.copy) opens.is) refl
 
 -- ---- it is brought up
 
@@ -195,17 +198,17 @@ goes_on s sound runs = by s.core.power refl
     by power.Stuck is = absurd (none_open (sound.stuck is).copy)
 
 -- other partitions than that of the copy aren't open
-shut_beside : (core : Core) (p : Pp) → IsOpenStill p core → (q : Pp) → is_pp q p ≡ false → is_open_at core q ≡ false
-shut_beside core p it q other = ap (λ m. option_map_or (λ (c : OpenCopy). is_pp q c.pp) m false) it.is_open ∙ ap (is_pp q) it.its ∙ other
+shut_beside : (core : Core) (begun : OpenCopy) → IsOpenStill begun core → (q : Pp) → is_pp q begun.pp ≡ false → is_open_at core q ≡ false
+shut_beside core begun it q other = ap (λ m. option_map_or (λ (c : OpenCopy). is_pp q c.pp) m false) it.is_open ∙ ap (is_pp q) it.its.0 ∙ other
 
-bring_stays : (first opened ended : State) (made : Pp → Bool) (p : Pp) → Stays first opened made (λ q. is_pp q p) → IsOpenStill p opened.core → EachTurnWhile Runs opened ended
-    → Stays first ended made (λ q. is_pp q p) × (Runs ended.core → IsOpenStill p ended.core)
-bring_stays first opened ended made p so_far begun (Here any) = (so_far, λ runs. begun)
-bring_stays first opened ended made p so_far begun (Then {m} path turn any) =
-    let before = bring_stays first opened m made p so_far begun path in
+bring_stays : (first opened ended : State) (made : Pp → Bool) (begun : OpenCopy) → Stays first opened made (λ q. is_pp q begun.pp) → IsOpenStill begun opened.core → EachTurnWhile Runs opened ended
+    → Stays first ended made (λ q. is_pp q begun.pp) × (Runs ended.core → IsOpenStill begun ended.core)
+bring_stays first opened ended made begun so_far is_open (Here any) = (so_far, λ runs. is_open)
+bring_stays first opened ended made begun so_far is_open (Then {m} path turn any) =
+    let before = bring_stays first opened m made begun so_far is_open path in
     let still = before.1 turn.0 in
-    let after = turn_stays first m ended made (λ q. is_pp q p) before.0 turn.1 (λ q other. shut_beside m.core p still q other) in
-    (after, λ runs. turn_open p m ended before.0.sound still turn.0 turn.1.0 turn.1.1 (goes_on ended after.sound runs))
+    let after = turn_stays first m ended made (λ q. is_pp q begun.pp) before.0 turn.1 (λ q other. shut_beside m.core begun still q other) in
+    (after, λ runs. turn_open begun m ended before.0.sound still turn.0 turn.1.0 turn.1.1 (goes_on ended after.sound runs))
 
 -- ---- it is made fresh
 
@@ -235,8 +238,11 @@ module _ (c : Copy) (first old new : State) (made : Pp → Bool) (so_far : Stays
   begun : Stays first opened made (λ x. is_pp x q)
   begun = open_stays c first opens.judged opened made judged_stays.0 judged_stays.1 opens.may opens.opens opens.device q refl
 
-  brought : Stays first ends.ended made (λ x. is_pp x q) × (Runs ends.ended.core → IsOpenStill q ends.ended.core)
-  brought = bring_stays first opened ends.ended made q begun (opened_still c first opens.judged opened made judged_stays.0 judged_stays.1 opens.may opens.opens opens.device q refl) ends.turns
+  abbrev begun_copy : OpenCopy
+  begun_copy = as_opened (counts_seen opens.judged.device opens.judged.core) opens.judged.core opened.core c.lv c.lp c.number opens.opens
+
+  brought : Stays first ends.ended made (λ x. is_pp x q) × (Runs ends.ended.core → IsOpenStill begun_copy ends.ended.core)
+  brought = bring_stays first opened ends.ended made begun_copy begun (opened_still c first opens.judged opened made judged_stays.0 judged_stays.1 opens.may opens.opens opens.device q refl) ends.turns
 
   -- on the partition that was asked for
   its : q ≡ c.pp

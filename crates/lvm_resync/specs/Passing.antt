@@ -23,7 +23,7 @@ use Rattle.lvm_resync.specs.declared.copies.Opening.{Opening}
 use Rattle.lvm_resync.specs.declared.copies.Opening.TheVariants as opening
 use Rattle.lvm_resync.specs.declared.copies.Passed.{Passed}
 use Rattle.lvm_resync.specs.declared.copies.Passed.TheVariants as passed
-use Rattle.lvm_resync.specs.Turning.{StopsFor}
+use Rattle.lvm_resync.specs.Turning.{IsOverFor, StopsFor}
 
 -- a copy, from 1, of a logical partition, from 0, of a volume, on this physical partition
 pub record Copy : Type 0 where
@@ -95,11 +95,16 @@ Runs core = (cursor : ℕ) × (copy_state core ≡ copy.Running cursor)
 abbrev pub IsJustOpened : Core → Type 0
 IsJustOpened core = (c : OpenCopy) × (core.copy ≡ Some c) × (c.end ≡ None)
 
+-- it is the same one, opened when the disks had failed as often
+abbrev pub IsSameCopy : OpenCopy → OpenCopy → Type 0
+IsSameCopy old new = (new.pp ≡ old.pp) × (new.lv ≡ old.lv) × (new.lp ≡ old.lp) × (new.copy ≡ old.copy) × (new.faults ≡ old.faults)
+
 -- It is brought up until it has ended so, for its cause, and closed; where it is done nothing calls it stale any more.
 pub record IsEnded (old new : State) (how : CopyState) : Type 0 where
   pub ended : State
   pub turns : EachTurnWhile Runs old ended
   pub how_is : copy_state ended.core ≡ how
+  pub same : IfSome old.core.copy (λ (c : OpenCopy). IfSome ended.core.copy (IsSameCopy c))
   pub caused : IsCopyCaused ended
   pub is : new ≡ state ended.device (closed ended.core)
   pub fresh : how ≡ copy.Done → IfSome old.core.copy (λ (c : OpenCopy). is_marked new.core c.pp ≡ false)
@@ -138,10 +143,30 @@ PassesCopy c old new (passed.Failed why) = RefusedFor c old new why ⊎ FailedFo
 
 -- ---- how its calls end
 
--- as they say; or the resync ends at once
-abbrev pub EndsOr : {A : Type 0} → (A → Type 0) → ℕ → Core → Result A SyncFault → Type 0
-EndsOr Is left core (Ok it) = Is it
-EndsOr Is left core (Err why) = StopsFor left core why
+-- it is opened, and turns are made while it runs
+pub record IsBroken (c : Copy) (old new : State) : Type 0 where
+  pub opened : State
+  pub opens : IsOpened c old opened
+  pub turns : EachTurnWhile Runs opened new
+
+-- What becomes of a copy at which the resync ends at once: where numbers are short it is stale, and isn't opened for that; else turns were made while it
+-- wasn't settled, or while it ran.
+abbrev pub BreaksOff : Copy → State → State → SyncFault → Type 0
+BreaksOff c old new fault.HistoryFull = IsRefused c old new refusal.HistoryFull
+BreaksOff c old new why = EachTurnWhile (IsUnsettled c) old new ⊎ IsBroken c old new
+
+-- the resync ends at once at this copy, with so much patience left
+abbrev pub StopsAt : Copy → ℕ → State → State → SyncFault → Type 0
+StopsAt c left old new why = StopsFor left new.core why × BreaksOff c old new why
+
+-- so it does while the copy that is open runs
+abbrev pub StopsRunning : ℕ → State → State → SyncFault → Type 0
+StopsRunning left old new why = IsOverFor left new.core why × EachTurnWhile Runs old new
+
+-- as the one says; or the resync ends at once, as the other does
+abbrev pub EndsOr : {A : Type 0} → (A → Type 0) → (SyncFault → Type 0) → Result A SyncFault → Type 0
+EndsOr Is Stops (Ok it) = Is it
+EndsOr Is Stops (Err why) = Stops why
 
 -- it is passed, and none is left open
 abbrev pub IsPassed : Copy → State → State → Passed → Type 0

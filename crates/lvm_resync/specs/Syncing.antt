@@ -18,8 +18,7 @@ use Rattle.lvm_resync.specs.declared.copies.Passed.TheVariants as passed
 use Rattle.lvm_resync.specs.declared.fault.SyncFault.{SyncFault}
 use Rattle.lvm_resync.specs.declared.fault.SyncFault.TheVariants as fault
 use Rattle.lvm_resync.specs.declared.tally.Tally.{Tally}
-use Rattle.lvm_resync.specs.Passing.{Copy, PassesCopy}
-use Rattle.lvm_resync.specs.Turning.{StopsFor}
+use Rattle.lvm_resync.specs.Passing.{Copy, PassesCopy, StopsAt}
 
 -- ---- the copies that are asked for
 
@@ -71,6 +70,17 @@ pub data Passes (first : State) (from : Tally) : List Copy → State → Tally �
 abbrev pub ArePassed : List Copy → State → State → Tally → Tally → Unit {0} → Type 0
 ArePassed copies old new from to done = Passes old from copies new to × (new.core.copy ≡ None)
 
+-- The resync ends at once at one of these copies, with so much patience left; those before it are passed, and none behind it.
+pub record StopsAmong (copies : List Copy) (left : ℕ) (old new : State) (from : Tally) (why : SyncFault) : Type 0 where
+  pub passed : List Copy
+  pub one : Copy
+  pub rest : List Copy
+  pub all : copies ≡ passed ++ one ∷ rest
+  pub mid : State
+  pub tally : Tally
+  pub passes : Passes old from passed mid tally
+  pub stops : StopsAt one left mid new why
+
 -- ---- what is answered
 
 -- none is passed yet
@@ -108,7 +118,7 @@ pub record LeavesFresh (copies : List Copy) (old new : State) (tally : Tally) (p
 -- How many copies are made fresh, where none stays stale; else the first thing by which one does; or why it ended before.
 abbrev pub SyncEnds : List Copy → State → State → ℕ → Result ℕ SyncFault → Type 0
 SyncEnds copies old new left (Ok made) = (syncs : Syncs copies old new made None) × LeavesFresh copies old new (record { made = made; fault = None }) syncs.passes
-SyncEnds copies old new left (Err why) = ((made : ℕ) × Syncs copies old new made (Some why)) ⊎ StopsFor left new.core why
+SyncEnds copies old new left (Err why) = ((made : ℕ) × Syncs copies old new made (Some why)) ⊎ StopsAmong copies left old new no_tally why
 
 -- and where it isn't begun nothing changes
 abbrev pub SyncGives : Option SyncFault → List Copy → State → State → ℕ → Result ℕ SyncFault → Type 0
