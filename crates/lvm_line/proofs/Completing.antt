@@ -1,7 +1,6 @@
 -- Lines in which nothing failed.
-use Rattle.std.proofs.Common.{◌≡◌, ℕ, Option, Some, None, Result, Ok, inl, inr, subst}
+use Rattle.std.proofs.Common.{ℕ, Option, Some, None, Result, Ok, inl, inr, subst}
 use Rattle.std.specs.Prelude.{IfSome}
-use Rattle.lvm_disk.specs.Counts.{Rose}
 use Rattle.lvm_parse.specs.declared.command.Command.{Command}
 use Rattle.lvm_parse.specs.declared.command.Command.TheVariants as command
 use Rattle.lvm_operands.specs.declared.rest.Misfit.{Misfit}

@@ -1,5 +1,5 @@
 -- Why `mklv` and `rmlv` are refused.
-use Rattle.std.proofs.Common.{◌≡◌, ◌⊎◌, inl, inr, ◌*◌, ◌+◌, ◌-◌, ◌≤◌, ℕ, Bool, true, false, Option, Some, None, Result, IsFalse, if◌then◌else◌, sym, ap, subst, arith}
+use Rattle.std.proofs.Common.{◌≡◌, inl, inr, ◌*◌, ◌+◌, ◌-◌, ◌≤◌, ℕ, Bool, true, false, Option, Some, None, Result, IsFalse, if◌then◌else◌, sym, ap, subst, arith}
 use Rattle.std.specs.Prelude.{nat_lt}
 use Rattle.std.proofs.lemmas.Bool.{ltb-false}
 use Rattle.lvm_num.specs.declared.descriptor.Descriptor.{Descriptor}
@@ -11,7 +11,7 @@ use Rattle.lvm_operands.specs.declared.rest.Misfit.{Misfit}
 use Rattle.lvm_status.specs.Update.{Stored}
 use Rattle.lvm_commit.specs.Settling.{HasLostQuorum}
 use Rattle.lvm_session.specs.State.{Core, State as Session}
-use Rattle.lvm_line.specs.Causes.{HasCause, HasFailed, HasFailedSince, HasLost, IsDrained}
+use Rattle.lvm_line.specs.Causes.{HasCause, HasFailed, HasLost, IsDrained}
 use Rattle.lvm_write.proofs.Transfers.{rose_then}
 use Rattle.lvm_disk.proofs.Rising.{rose_before}
 use Rattle.lvm_copy_lines.specs.passed.Driver.{DrainFault, FailsSo}
@@ -97,9 +97,6 @@ module _ (read : Result (Option Command) Misfit) (other : IsOther read) (failed 
       },
     )
 
-    by_line : {have total : ℕ} → (2 * have ≤ total) × HasLost old new.moment.device.counts → (2 * have ≤ total) × (HasLost old new.moment.device.counts ⊎ HasFailedSince old new.moment.device.counts)
-    by_line is = (is.0, inl is.1)
-
     known_so : (why : GroupFault) → FaultFacts why patience mid left → IsLeft (ends_session why) left old new → Known read (refusal_for why) old new
     known_so fault.Dark facts leaves = record {
       cause = has_by read refusal.Dark old new other (subst (λ (n : Counts). Rose old.moment.device.counts.cuts n.cuts) (sym (counts_left true left old new leaves)) (rose_before drains.runs.leaves.keeps.counts.cuts facts.1));
@@ -107,7 +104,7 @@ module _ (read : Result (Option Command) Misfit) (other : IsOther read) (failed 
       unwritten = λ have total is. absurd (cc (is));
     }
     known_so (fault.WentOff have total) facts leaves = record {
-      cause = has_by read (refusal.WentOff have total) old new other (by_line (lost have total left.core.status facts.0 (counts_left true left old new leaves)));
+      cause = has_by read (refusal.WentOff have total) old new other (let its = lost have total left.core.status facts.0 (counts_left true left old new leaves) in (its.0, inl its.1));
       off = λ is. none_left left old new leaves;
       unwritten = λ h t is. absurd (cc (is));
     }

@@ -1,5 +1,5 @@
 -- What lines of requests are refused for.
-use Rattle.std.proofs.Common.{◌≡◌, ◌≤◌, ℕ, Bool, true, false, List, Option, Some, None, Result, Ok, Err, if◌then◌else◌, ap, subst, arith}
+use Rattle.std.proofs.Common.{◌≡◌, ℕ, Bool, true, false, List, Option, Some, None, Result, Ok, Err, if◌then◌else◌, ap, subst, arith}
 use Rattle.std.specs.Prelude.{IfErr}
 use Rattle.lvm_num.specs.Votes.{total_votes}
 use Rattle.lvm_disk.specs.Counts.{Counts}

@@ -1,5 +1,5 @@
 -- What is left to refuse a line where nothing goes wrong.
-use Rattle.std.specs.Prelude.{◌≡◌, ◌≤◌, ◌*◌, ℕ, List, IfSome}
+use Rattle.std.specs.Prelude.{◌≤◌, ◌*◌, ℕ, List, IfSome}
 use Rattle.lvm_disk.specs.Counts.{Counts, Rose, RoseBy}
 use Rattle.lvm_vol.specs.Log.{Log}
 use Rattle.lvm_core.specs.declared.parts.Room.{Room}
