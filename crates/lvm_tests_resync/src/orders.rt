@@ -59,10 +59,13 @@ fn goes_on_alone<S: Shelf + Drop>(
     let mut driver = driver;
     write_after(rt, &mut driver, before);
     turns(rt, &mut driver, between);
-    let done = driver.copy_state() == CopyState::Done;
+    let first = driver.take(1, 1);
+    let waits = first == Taken::NotYet;
+    let done = driver.copy_state() == CopyState::Done && waits;
     order(rt, &mut driver, Arrange::Fail(1));
     check(rt, drain(rt, &mut driver) == Ok(()), "nothing stands still");
-    check(rt, driver.take(1, 1) == Taken::Done, "the write is done");
+    let last = if waits { driver.take(1, 1) } else { first };
+    check(rt, last == Taken::Done, "the write is done");
     check(rt, got(rt, &mut driver, 3) == Ok(9), "it is read");
     close_copy(&mut driver);
     close(rt, driver);
@@ -77,7 +80,7 @@ fn a_write_waits_for_no_note_of_a_missing_disk(rt: HostRuntime) {
             done = goes_on_alone(&rt, begin(&rt, &STALE, &[]), before, between) || done;
         }
     }
-    check(&rt, done, "also once the copying was done");
+    check(&rt, done, "also where it waits once the copying was done");
 }
 
 // The first track group is copied by four calls. Both transfers of the write are passed over while the others are, and
