@@ -37,7 +37,7 @@ abbrev pub MayBe : Option SyncFault → Type 0
 MayBe None = Unit {0}
 MayBe (Some why) = MayCome why
 
-passed_may : (c : Copy) (old new : Session) (why : SyncFault) → PassesCopy c old new (passed.Failed why) → MayCome why
+passed_may : (c : Copy) {patience left : ℕ} (old new : Session) (why : SyncFault) → PassesCopy c patience left old new (passed.Failed why) → MayCome why
 passed_may c old new fault.Dark it = tt
 passed_may c old new fault.Off it = tt
 passed_may c old new fault.Stuck it = tt
@@ -51,7 +51,7 @@ passed_may c old new (fault.SyncFailed disk) it = tt
 passed_may c old new (fault.NoFresh lp) it = tt
 passed_may c old new (fault.Missing disk) it = tt
 
-passes_may : (first : Session) (copies : List Copy) (now : Session) (tally : Tally) → Passes first no_tally copies now tally → MayBe tally.fault
+passes_may : (first : Session) {patience left : ℕ} (copies : List Copy) (now : Session) (tally : Tally) → Passes first no_tally patience copies now tally left → MayBe tally.fault
 passes_may first all now total NonePassed = tt
 passes_may first all now total (OnePassed {copies} {old} {new} {tally} c passed.Fresh rest it) = passes_may first copies old tally rest
 passes_may first all now total (OnePassed {copies} {old} {new} {tally} c passed.Made rest it) = passes_may first copies old tally rest
@@ -73,11 +73,11 @@ stops_may left core (fault.SyncFailed disk) stops = tt
 stops_may left core (fault.NoFresh lp) stops = tt
 stops_may left core (fault.Missing disk) stops = tt
 
-pub may_come : (refused : Option SyncFault) (copies : List Copy) (old new : Session) (left : ℕ) (result : Result ℕ SyncFault) → MayBe refused → SyncGives refused copies old new left result → IfErr result MayCome
-may_come (Some why) copies old new left result may gives = subst (λ (r : Result ℕ SyncFault). IfErr r MayCome) (sym gives.0) may
-may_come None copies old new left (Ok made) may gives = tt
-may_come None copies old new left (Err why) may (inl syncs) = passes_may old copies new (record { made = syncs.0; fault = Some why }) syncs.1.passes
-may_come None copies old new left (Err why) may (inr stops) = stops_may left new.core why stops.stops.0
+pub may_come : (refused : Option SyncFault) (copies : List Copy) (patience left : ℕ) (old new : Session) (result : Result ℕ SyncFault) → MayBe refused → SyncGives refused copies patience left old new result → IfErr result MayCome
+may_come (Some why) copies patience left old new result may gives = subst (λ (r : Result ℕ SyncFault). IfErr r MayCome) (sym gives.0) may
+may_come None copies patience left old new (Ok made) may gives = tt
+may_come None copies patience left old new (Err why) may (inl syncs) = passes_may old copies new (record { made = syncs.0; fault = Some why }) syncs.1.passes
+may_come None copies patience left old new (Err why) may (inr stops) = stops_may left new.core why stops.stops.0
 
 numbers_may : (core : Core) → MayBe (numbers_fault core)
 numbers_may core = by (has_numbers core)
@@ -126,12 +126,12 @@ stopped_shut left core (fault.SyncFailed disk) stops heard on = absurd stops
 stopped_shut left core (fault.NoFresh lp) stops heard on = absurd stops
 stopped_shut left core (fault.Missing disk) stops heard on = absurd stops
 
-pub synced_shut : (refused : Option SyncFault) (copies : List Copy) (old new : Session) (left : ℕ) (result : Result ℕ SyncFault) → SyncGives refused copies old new left result → old.core.copy ≡ None
+pub synced_shut : (refused : Option SyncFault) (copies : List Copy) (patience left : ℕ) (old new : Session) (result : Result ℕ SyncFault) → SyncGives refused copies patience left old new result → old.core.copy ≡ None
     → is_unheard (sync_reply new.core result) ≡ false → new.core.power ≡ power.On → new.core.copy ≡ None
-synced_shut (Some why) copies old new left result gives none heard on = ap (λ (s : Session). s.core.copy) gives.1 ∙ none
-synced_shut None copies old new left (Ok made) gives none heard on = gives.0.none
-synced_shut None copies old new left (Err why) (inl syncs) none heard on = syncs.1.none
-synced_shut None copies old new left (Err why) (inr stops) none heard on = stopped_shut left new.core why stops.stops.0 heard on
+synced_shut (Some why) copies patience left old new result gives none heard on = ap (λ (s : Session). s.core.copy) gives.1 ∙ none
+synced_shut None copies patience left old new (Ok made) gives none heard on = gives.0.none
+synced_shut None copies patience left old new (Err why) (inl syncs) none heard on = syncs.1.none
+synced_shut None copies patience left old new (Err why) (inr stops) none heard on = stopped_shut left new.core why stops.stops.0 heard on
 
 -- ---- the reply
 

@@ -53,7 +53,7 @@ pub record IsSynced (refused : Core → Option SyncFault) (copies : List Copy) (
   pub end : Session
   pub left : ℕ
   pub result : Result ℕ SyncFault
-  pub gives : SyncGives (refused core) copies (session_over old core) end left result
+  pub gives : SyncGives (refused core) copies patience_of_line left (session_over old core) end result
   pub beside : GoesBeside (session_over old core) end patience_of_line left
   pub sound : IsSound end
   pub leaves : FailsIf (is_unheard answer) end old.posts old.last new

@@ -35,7 +35,6 @@ use Rattle.lvm_session.specs.Turns.{FinishMakes, Finishes, Makes, Moves, NoStart
 use Rattle.lvm_copy_open.specs.Opening.{counts_seen, faults_seen}
 use Rattle.lvm_turn_answers.proofs.Stepping.{turn_counts}
 use Rattle.lvm_running.proofs.Shapes.{Given, given, turn_goes}
-use Rattle.lvm_driver.specs.Drains.{IsTurn}
 use Rattle.lvm_resync.specs.declared.copies.Passed.{Passed}
 use Rattle.lvm_resync.specs.declared.copies.Passed.TheVariants as passed
 use Rattle.lvm_resync.specs.declared.fault.SyncFault.{SyncFault}
@@ -45,6 +44,7 @@ use Rattle.lvm_resync.specs.Causes.{AnyFails, SyncCause}
 use Rattle.lvm_resync.specs.Passing.{Copy, EachTurnWhile, FailedFor, IsBroughtUp, IsEnded, IsOpened, IsSameCopy, IsUnsettled, PassesCopy, RefusedFor, Runs}
 use Rattle.lvm_resync.specs.Syncing.{ArePassed, IsAnswer, NonePassed, OnePassed, Passes, StopsAmong, fault_by, fault_on, group_fault, no_tally, numbers_fault, or_first, partition_fault, volume_fault, with_passed}
 use Rattle.lvm_resync.proofs.Making.{as_opened}
+use Rattle.lvm_resync.proofs.Turning.{TurnsIn, turns_in}
 
 -- ---- a turn leaves the disks as they are
 
@@ -104,25 +104,28 @@ since_same s = record { sizes = refl; given_is = refl; faults = λ d. omega arit
 since_both : (old mid new : State) → Since old mid → Since mid new → Since old new
 since_both old mid new one two = record { sizes = two.sizes ∙ one.sizes; given_is = two.given_is ∙ one.given_is; faults = λ d. let a = one.faults d in let b = two.faults d in omega (arith, a, b) }
 
-since_turns : (Is : Core → Type 0) (old new : State) → EachTurnWhile Is old new → Since old new
-since_turns Is old new (Here any) = since_same old
-since_turns Is old new (Then {m} path step any) = since_both old m new (since_turns Is old m path)
+since_path : (Is : Core → Type 0) (old new : State) → TurnsIn Is old new → Since old new
+since_path Is old new (Here any) = since_same old
+since_path Is old new (Then {m} path step any) = since_both old m new (since_path Is old m path)
     (record { sizes = turn_sizes m new step.1.0 step.1.1; given_is = (turn_goes m new step.1.0 step.1.1).given_is; faults = (turn_counts m new step.1.0 step.1.1).faults })
+
+since_turns : (Is : Core → Type 0) {patience left : ℕ} (old new : State) → EachTurnWhile Is patience left old new → Since old new
+since_turns Is old new turns = since_path Is old new (turns_in Is turns)
 
 -- by a call, which makes no transfer
 since_call : (old new : State) → new.device ≡ old.device → given new.core ≡ given old.core → Since old new
 since_call old new same given_is = record { sizes = same_sizes old.device new.device same; given_is = given_is; faults = λ d. subst (λ (x : Device). old.device.counts.faults d ≤ x.counts.faults d) (sym same) (omega arith) }
 
-since_opened : (c : Copy) (old opened : State) (it : IsOpened c old opened) → Since old opened
+since_opened : (c : Copy) {patience left : ℕ} (old opened : State) (it : IsOpened c patience left old opened) → Since old opened
 since_opened c old opened it = since_both old it.judged opened (since_turns (IsUnsettled c) old it.judged it.settles) (since_call it.judged opened it.device (ap given it.opens.is))
 
-since_ended : (how : CopyState) (opened new : State) → IsEnded opened new how → Since opened new
+since_ended : (how : CopyState) {patience left : ℕ} (opened new : State) → IsEnded patience left opened new how → Since opened new
 since_ended how opened new it = since_both opened it.ended new (since_turns Runs opened it.ended it.turns) (since_call it.ended new (ap (λ (s : State). s.device) it.is) (ap (λ (s : State). given s.core) it.is))
 
-since_brought : (how : CopyState) (c : Copy) (old new : State) → IsBroughtUp c old new how → Since old new
+since_brought : (how : CopyState) (c : Copy) {patience left : ℕ} (old new : State) → IsBroughtUp c patience left old new how → Since old new
 since_brought how c old new it = since_both old it.opened new (since_opened c old it.opened it.opens) (since_ended how it.opened new it.ends)
 
-since_refused : (c : Copy) (old new : State) (why : SyncFault) → RefusedFor c old new why → Since old new
+since_refused : (c : Copy) {patience left : ℕ} (old new : State) (why : SyncFault) → RefusedFor c patience left old new why → Since old new
 since_refused c old new (fault.NoFresh lp) it = since_turns (IsUnsettled c) old new it.1.settles
 since_refused c old new (fault.Missing disk) it = since_turns (IsUnsettled c) old new it.settles
 since_refused c old new fault.Dark it = absurd it
@@ -134,7 +137,7 @@ since_refused c old new fault.OutOfRange it = absurd it
 since_refused c old new fault.HistoryFull it = absurd it
 since_refused c old new (fault.SyncFailed disk) it = absurd it
 
-since_failed : (c : Copy) (old new : State) (why : SyncFault) → FailedFor c old new why → Since old new
+since_failed : (c : Copy) {patience left : ℕ} (old new : State) (why : SyncFault) → FailedFor c patience left old new why → Since old new
 since_failed c old new (fault.SyncFailed disk) it = since_brought (copy.SyncFailed disk) c old new it
 since_failed c old new (fault.NoFresh lp) it = since_brought copy.NoFresh c old new it.1
 since_failed c old new (fault.Missing disk) it = absurd it
@@ -146,13 +149,13 @@ since_failed c old new fault.NoVolume it = absurd it
 since_failed c old new fault.OutOfRange it = absurd it
 since_failed c old new fault.HistoryFull it = absurd it
 
-since_passed : (c : Copy) (old new : State) (how : Passed) → PassesCopy c old new how → Since old new
+since_passed : (c : Copy) {patience left : ℕ} (old new : State) (how : Passed) → PassesCopy c patience left old new how → Since old new
 since_passed c old new passed.Fresh it = since_turns (IsUnsettled c) old new it.settles
 since_passed c old new passed.Made it = since_brought copy.Done c old new it.brings
 since_passed c old new (passed.Failed why) (inl it) = since_refused c old new why it
 since_passed c old new (passed.Failed why) (inr it) = since_failed c old new why it
 
-since_passes : (first : State) (from : Tally) (copies : List Copy) (now : State) (tally : Tally) → Passes first from copies now tally → Since first now
+since_passes : (first : State) (from : Tally) {patience left : ℕ} (copies : List Copy) (now : State) (tally : Tally) → Passes first from patience copies now tally left → Since first now
 since_passes first from all now total NonePassed = since_same first
 since_passes first from all now total (OnePassed {copies} {old} {new} {tally} c how rest it) = since_both first old new (since_passes first from copies old tally rest) (since_passed c old new how it)
 
@@ -163,7 +166,7 @@ seen_more : (old new : State) → Since old new → (d : ℕ) → faults_seen ol
 seen_more old new it d = subst (λ (l : List ℕ). faults_seen old.device old.core d ≤ (if nat_lt d (length l) then new.device.counts.faults d else faults_at_first new.core d)) (sym it.sizes) (by (nat_lt d (length old.device.sizes)))
   where
     first_same : faults_at_first new.core d ≡ faults_at_first old.core d
-    first_same = ap (λ (g : Given). let o : Origin = g.1.0 in slice_index_or o.faults d 0) it.given_is
+    first_same = ap (λ (g : Given). let o : Origin = g.1 in slice_index_or o.faults d 0) it.given_is
 
     by : (b : Bool) → (if b then old.device.counts.faults d else faults_at_first old.core d) ≤ (if b then new.device.counts.faults d else faults_at_first new.core d)
     by true = it.faults d
@@ -207,7 +210,7 @@ failed_end c disk e = by (is_out c.step) c.end refl e
     by false (Some ending.NoFresh) is f = absurd (cc f)
     by false (Some ending.Ended) is f = absurd (cc f)
 
-module _ (c : Copy) (old new : State) (disk : ℕ) (valid : IsValid old.core.descriptor) (it : IsBroughtUp c old new (copy.SyncFailed disk)) where
+module _ (c : Copy) (old new : State) (disk : ℕ) (valid : IsValid old.core.descriptor) {patience left : ℕ} (it : IsBroughtUp c patience left old new (copy.SyncFailed disk)) where
   abbrev copies : List Pp
   copies = copies_of it.opens.opens.row c.lp
 
@@ -237,13 +240,13 @@ module _ (c : Copy) (old new : State) (disk : ℕ) (valid : IsValid old.core.des
     same = subst (λ (m : Option OpenCopy). IfSome m (IsSameCopy begun)) is its
 
     its_own : copies_in it.ends.ended.core.descriptor k.lv k.lp ≡ copies
-    its_own = ap (λ (n : ℕ). copies_in it.ends.ended.core.descriptor n k.lp) same.1.0 ∙ ap (λ (n : ℕ). copies_in it.ends.ended.core.descriptor c.lv n) same.1.1.0 ∙ its_copies_then
+    its_own = ap (λ (n : ℕ). copies_in it.ends.ended.core.descriptor n k.lp) same.1 ∙ ap (λ (n : ℕ). copies_in it.ends.ended.core.descriptor c.lv n) same.2 ∙ its_copies_then
 
     rose : (n : ℕ) (p : Pp) → copy_at copies n ≡ Some p → FailedSinceOpening it.ends.ended.device k n p → AnyFails it.opens.judged it.ends.ended
     rose n p at since = (p.disk, subst (λ (x : ℕ). Rose x (it.ends.ended.device.counts.faults p.disk)) seen since)
       where
         seen : faults_at_opening k n ≡ faults_seen it.opens.judged.device it.opens.judged.core p.disk
-        seen = ap (λ (fs : List ℕ). slice_index_or fs (n - 1) 0) same.1.1.1.1 ∙ counted_at (counts_seen it.opens.judged.device it.opens.judged.core) copies (n - 1) p few (at_place copies n p at)
+        seen = ap (λ (fs : List ℕ). slice_index_or fs (n - 1) 0) same.4 ∙ counted_at (counts_seen it.opens.judged.device it.opens.judged.core) copies (n - 1) p few (at_place copies n p at)
 
     caused : IsCausedAmong it.ends.ended (copies_in it.ends.ended.core.descriptor k.lv k.lp) k
     caused = subst (λ (m : Option OpenCopy). IfSome m (λ (x : OpenCopy). IsCausedAmong it.ends.ended (copies_in it.ends.ended.core.descriptor x.lv x.lp) x)) is it.ends.caused
@@ -252,7 +255,7 @@ module _ (c : Copy) (old new : State) (disk : ℕ) (valid : IsValid old.core.des
     failed = by (caused.failed (failed_end k disk how))
       where
         by : FailedSinceOpening it.ends.ended.device k k.copy k.pp ⊎ HaveSourcesFailed it.ends.ended (copies_in it.ends.ended.core.descriptor k.lv k.lp) k → AnyFails it.opens.judged it.ends.ended
-        by (inl own) = rose k.copy k.pp (ap (copy_at copies) same.1.1.1.0 ∙ it.opens.opens.copy_is ∙ ap (λ (p : Pp). Some p) (sym same.0)) own
+        by (inl own) = rose k.copy k.pp (ap (copy_at copies) same.3 ∙ it.opens.opens.copy_is ∙ ap (λ (p : Pp). Some p) (sym same.0)) own
         by (inr sources) = rose sources.number sources.source (ap (λ (ps : List Pp). copy_at ps sources.number) (sym its_own) ∙ sources.source_is) sources.one
 
   brought_fails : AnyFails old new
@@ -286,7 +289,7 @@ stays_still old mid new fault.NoVolume since it = absurd it
 stays_still old mid new fault.OutOfRange since it = absurd it
 stays_still old mid new fault.HistoryFull since it = absurd it
 
-one_stays : (c : Copy) (first old new : State) (why : SyncFault) → IsValid old.core.descriptor → Since first old → RefusedFor c old new why ⊎ FailedFor c old new why → StaysFor first new why
+one_stays : (c : Copy) {patience left : ℕ} (first old new : State) (why : SyncFault) → IsValid old.core.descriptor → Since first old → RefusedFor c patience left old new why ⊎ FailedFor c patience left old new why → StaysFor first new why
 one_stays c first old new (fault.SyncFailed disk) valid since (inl none) = absurd none
 one_stays c first old new (fault.SyncFailed disk) valid since (inr it) = fails_later first old new since (brought_fails c old new disk valid it)
 one_stays c first old new (fault.NoFresh lp) valid since it = tt
@@ -299,24 +302,24 @@ one_stays c first old new fault.NoVolume valid since it = ⊎_elim (λ none. abs
 one_stays c first old new fault.OutOfRange valid since it = ⊎_elim (λ none. absurd none) (λ none. absurd none) it
 one_stays c first old new fault.HistoryFull valid since it = ⊎_elim (λ none. absurd none) (λ none. absurd none) it
 
-passes_stay : (first : State) → IsValid first.core.descriptor → (copies : List Copy) (now : State) (tally : Tally) → Passes first no_tally copies now tally → IfSome tally.fault (StaysFor first now)
+passes_stay : (first : State) → IsValid first.core.descriptor → {patience left : ℕ} (copies : List Copy) (now : State) (tally : Tally) → Passes first no_tally patience copies now tally left → IfSome tally.fault (StaysFor first now)
 passes_stay first valid all now total NonePassed = tt
-passes_stay first valid all now total (OnePassed {copies} {old} {new} {tally} c how rest it) = by how it
+passes_stay first valid all now total (OnePassed {copies} {old} {new} {tally} {before} {left} c how rest it) = by how it
   where
     since : Since first old
     since = since_passes first no_tally copies old tally rest
 
-    before : IfSome tally.fault (StaysFor first old)
-    before = passes_stay first valid copies old tally rest
+    so_far : IfSome tally.fault (StaysFor first old)
+    so_far = passes_stay first valid copies old tally rest
 
-    still : (how : Passed) → PassesCopy c old new how → (m : Option SyncFault) → IfSome m (StaysFor first old) → IfSome m (StaysFor first new)
+    still : (how : Passed) → PassesCopy c before left old new how → (m : Option SyncFault) → IfSome m (StaysFor first old) → IfSome m (StaysFor first new)
     still how it None stays = tt
     still how it (Some why) stays = stays_still first old new why (since_passed c old new how it) stays
 
-    by : (how : Passed) → PassesCopy c old new how → IfSome (with_passed tally how).fault (StaysFor first new)
-    by passed.Fresh it = still passed.Fresh it tally.fault before
-    by passed.Made it = still passed.Made it tally.fault before
-    by (passed.Failed why) it = of tally.fault before
+    by : (how : Passed) → PassesCopy c before left old new how → IfSome (with_passed tally how).fault (StaysFor first new)
+    by passed.Fresh it = still passed.Fresh it tally.fault so_far
+    by passed.Made it = still passed.Made it tally.fault so_far
+    by (passed.Failed why) it = of tally.fault so_far
       where
         of : (m : Option SyncFault) → IfSome m (StaysFor first old) → IfSome (or_first m why) (StaysFor first new)
         of None stays = one_stays c first old new why (subst IsValid (sym (ap (λ (g : Given). let d : Descriptor = g.0 in d) since.given_is)) valid) since it
@@ -336,23 +339,23 @@ stays_cause left old new fault.NoVolume it = tt
 stays_cause left old new fault.OutOfRange it = tt
 stays_cause left old new fault.HistoryFull it = absurd it
 
-pub synced_caused : (copies : List Copy) (old new : State) (left : ℕ) (tally : Tally) (answer : Result ℕ SyncFault) → IsValid old.core.descriptor → ArePassed copies old new no_tally tally tt → IsAnswer tally answer → IfErr answer (SyncCause left old new)
-synced_caused copies old new left tally (Ok made) valid passed is = tt
-synced_caused copies old new left tally (Err why) valid passed is =
+pub synced_caused : (copies : List Copy) (patience left : ℕ) (old new : State) (tally : Tally) (answer : Result ℕ SyncFault) → IsValid old.core.descriptor → ArePassed copies patience left old new no_tally tally tt → IsAnswer tally answer → IfErr answer (SyncCause left old new)
+synced_caused copies patience left old new tally (Ok made) valid passed is = tt
+synced_caused copies patience left old new tally (Err why) valid passed is =
     stays_cause left old new why (subst (λ (m : Option SyncFault). IfSome m (StaysFor old new)) (ap (λ (t : Tally). t.fault) is) (passes_stay old valid copies new tally passed.0))
 
 -- it ended before
-pub stopped_caused : (copies : List Copy) (old new : State) (left : ℕ) (why : SyncFault) → StopsAmong copies left old new no_tally why → SyncCause left old new why
-stopped_caused copies old new left fault.Dark it = it.stops.0
-stopped_caused copies old new left fault.Off it = it.stops.0
-stopped_caused copies old new left fault.Stuck it = it.stops.0
-stopped_caused copies old new left fault.HistoryFull it = it.stops.0.0
-stopped_caused copies old new left fault.Busy it = tt
-stopped_caused copies old new left fault.NoVolume it = tt
-stopped_caused copies old new left fault.OutOfRange it = tt
-stopped_caused copies old new left (fault.SyncFailed disk) it = absurd it.stops.0
-stopped_caused copies old new left (fault.NoFresh lp) it = tt
-stopped_caused copies old new left (fault.Missing disk) it = tt
+pub stopped_caused : (copies : List Copy) (patience left : ℕ) (old new : State) (why : SyncFault) → StopsAmong copies patience left old new no_tally why → SyncCause left old new why
+stopped_caused copies patience left old new fault.Dark it = it.stops.0
+stopped_caused copies patience left old new fault.Off it = it.stops.0
+stopped_caused copies patience left old new fault.Stuck it = it.stops.0
+stopped_caused copies patience left old new fault.HistoryFull it = it.stops.0.0
+stopped_caused copies patience left old new fault.Busy it = tt
+stopped_caused copies patience left old new fault.NoVolume it = tt
+stopped_caused copies patience left old new fault.OutOfRange it = tt
+stopped_caused copies patience left old new (fault.SyncFailed disk) it = absurd it.stops.0
+stopped_caused copies patience left old new (fault.NoFresh lp) it = tt
+stopped_caused copies patience left old new (fault.Missing disk) it = tt
 
 -- it wasn't begun
 module _ (left : ℕ) (s : State) where

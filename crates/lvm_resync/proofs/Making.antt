@@ -19,16 +19,16 @@ abbrev pub as_opened : (counts : Counts) (old new : Core) (lv lp number : ℕ) �
 as_opened counts old new lv lp number it = opened_copy it.pp lv lp number it.tried (faults_of counts (copies_of it.row lp)) (step_place old)
 
 -- it is opened on the partition that was asked for
-pub its_pp : (c : Copy) (old opened : State) (opens : IsOpened c old opened) → opens.opens.pp ≡ c.pp
-its_pp c old opened opens = let e : Some opens.opens.pp ≡ Some c.pp = sym opens.opens.copy_is ∙ at in cc e
+pub its_pp : (c : Copy) (patience left : ℕ) (old opened : State) (opens : IsOpened c patience left old opened) → opens.opens.pp ≡ c.pp
+its_pp c patience left old opened opens = let e : Some opens.opens.pp ≡ Some c.pp = sym opens.opens.copy_is ∙ at in cc e
   where
     at : copy_at (copies_of opens.opens.row c.lp) c.number ≡ Some c.pp
     at = sym (ap (λ m. copy_at (option_map_or (λ (r : LvRow). copies_of r c.lp) m []) c.number) opens.opens.volume) ∙ opens.its
 
-pub made_fresh : (c : Copy) (old opened new : State) → IsOpened c old opened → IsEnded opened new copy.Done → IsMadeFresh c old new
-made_fresh c old opened new opens ends = record {
-  brings = record { opened = opened; opens = opens; ends = ends };
-  fresh = ap (is_marked new.core) (sym (its_pp c old opened opens)) ∙ here;
+pub made_fresh : (c : Copy) (patience before left : ℕ) (old opened new : State) → IsOpened c patience before old opened → IsEnded before left opened new copy.Done → IsMadeFresh c patience left old new
+made_fresh c patience before left old opened new opens ends = record {
+  brings = record { opened = opened; before = before; opens = opens; ends = ends };
+  fresh = ap (is_marked new.core) (sym (its_pp c patience before old opened opens)) ∙ here;
 }
   where
     here : is_marked new.core opens.opens.pp ≡ false

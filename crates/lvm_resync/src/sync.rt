@@ -114,7 +114,7 @@ pub fn sync_partition<S: Shelf>(
     patience: &mut Patience,
 ) -> Result<u32, SyncFault>
     requires unstuck { driver.old.1.power ≡ power.Stuck → ⊥ }
-    ensures gives { SyncGives (partition_fault driver.old.1 lv lp) (partition_copies driver.old.1.descriptor lv lp) (state_of S.device driver.old) (state_of S.device driver.new) patience.new.left result }
+    ensures gives { SyncGives (partition_fault driver.old.1 lv lp) (partition_copies driver.old.1.descriptor lv lp) patience.old.left patience.new.left (state_of S.device driver.old) (state_of S.device driver.new) result }
     ensures caused { IfErr result (SyncCause patience.new.left (state_of S.device driver.old) (state_of S.device driver.new)) }
     ensures beside { GoesBeside (state_of S.device driver.old) (state_of S.device driver.new) patience.old.left patience.new.left }
 {
@@ -140,7 +140,7 @@ pub fn sync_volume<S: Shelf>(
     patience: &mut Patience,
 ) -> Result<u32, SyncFault>
     requires unstuck { driver.old.1.power ≡ power.Stuck → ⊥ }
-    ensures gives { SyncGives (volume_fault driver.old.1 lv) (volume_copies driver.old.1.descriptor lv) (state_of S.device driver.old) (state_of S.device driver.new) patience.new.left result }
+    ensures gives { SyncGives (volume_fault driver.old.1 lv) (volume_copies driver.old.1.descriptor lv) patience.old.left patience.new.left (state_of S.device driver.old) (state_of S.device driver.new) result }
     ensures caused { IfErr result (SyncCause patience.new.left (state_of S.device driver.old) (state_of S.device driver.new)) }
     ensures beside { GoesBeside (state_of S.device driver.old) (state_of S.device driver.new) patience.old.left patience.new.left }
 {
@@ -165,7 +165,7 @@ pub fn sync_group<S: Shelf>(
     patience: &mut Patience,
 ) -> Result<u32, SyncFault>
     requires unstuck { driver.old.1.power ≡ power.Stuck → ⊥ }
-    ensures gives { SyncGives (group_fault driver.old.1) (group_copies driver.old.1.descriptor) (state_of S.device driver.old) (state_of S.device driver.new) patience.new.left result }
+    ensures gives { SyncGives (group_fault driver.old.1) (group_copies driver.old.1.descriptor) patience.old.left patience.new.left (state_of S.device driver.old) (state_of S.device driver.new) result }
     ensures caused { IfErr result (SyncCause patience.new.left (state_of S.device driver.old) (state_of S.device driver.new)) }
     ensures beside { GoesBeside (state_of S.device driver.old) (state_of S.device driver.new) patience.old.left patience.new.left }
 {

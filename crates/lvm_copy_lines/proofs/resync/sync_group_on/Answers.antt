@@ -1,10 +1,10 @@
 use Rattle.std.proofs.Common.{◌≡◌, ◌≤◌, ℕ, refl, sym, ap, subst, ◌∙◌}
 use Rattle.lvm_session.specs.declared.open.Power.TheVariants as power
-use Rattle.lvm_resync.specs.Syncing.{group_copies, group_fault}
+use Rattle.lvm_resync.specs.Syncing.{SyncGives, group_copies, group_fault}
 use Rattle.lvm_resync.specs.Turning.{GoesBeside}
 use Rattle.lvm_volume_lines.specs.passed.Driver.{state_of}
 use Rattle.lvm_volume_lines.specs.passed.HolderVariants as holder
-use Rattle.lvm_volume_lines.specs.passed.Stage.{ComesTo, HaveRooms, Reply, is_unheard, most_refusals}
+use Rattle.lvm_volume_lines.specs.passed.Stage.{ComesTo, HaveRooms, Reply, is_unheard, most_refusals, patience_of_line}
 use Rattle.lvm_copy_lines.specs.Resyncing.{SyncsGroup, SyncGroupDoes}
 use Rattle.lvm_copy_lines.proofs.Synced.{fails_if, may_come, sync_few, synced_ends, synced_shut, group_may}
 use Rattle.lvm_copy_lines.proofs.resync.sync_group_on.Goals as goal
@@ -16,7 +16,7 @@ pub sync_reply-reply-requires : goal.sync_reply-reply-requires
 sync_reply-reply-requires g c =
     let device = g.S.Shelf.device in
     let core = c.args.driver.1 in
-    may_come (group_fault core) (group_copies core.descriptor) (state_of device c.args.driver) (state_of device c.sync_group-synced.new.driver) c.sync_group-synced.new.patience.left c.sync_group-synced.result
+    may_come (group_fault core) (group_copies core.descriptor) c.whole.result.left c.sync_group-synced.new.patience.left (state_of device c.args.driver) (state_of device c.sync_group-synced.new.driver) c.sync_group-synced.result
     (group_may core c.requires.between.session.copy) c.sync_group-synced.ensures.gives
 
 pub returns : goal.returns
@@ -26,7 +26,7 @@ returns g c =
     let end = c.sync_group-synced.new.driver in
     let left = c.sync_group-synced.new.patience.left in
     let result = c.sync_group-synced.result in
-    let gives = c.sync_group-synced.ensures.gives in
+    let gives = subst (λ (k : ℕ). SyncGives (group_fault first.1) (group_copies first.1.descriptor) k left (state_of device first) (state_of device end) result) c.whole.ensures c.sync_group-synced.ensures.gives in
     let stage = c.left.result.stage in
     let answer = c.left.result.reply in
     let says = c.left.ensures.reply ∙ c.sync_reply-reply.ensures.reply in
@@ -47,4 +47,4 @@ returns g c =
       says = says;
       caused = c.sync_group-synced.ensures.caused;
     }))
-    result (λ heard. synced_shut (group_fault first.1) (group_copies first.1.descriptor) (state_of device first) (state_of device end) left result gives c.requires.between.session.copy (sym (ap is_unheard says) ∙ heard)) says left_by
+    result (λ heard. synced_shut (group_fault first.1) (group_copies first.1.descriptor) patience_of_line left (state_of device first) (state_of device end) result gives c.requires.between.session.copy (sym (ap is_unheard says) ∙ heard)) says left_by

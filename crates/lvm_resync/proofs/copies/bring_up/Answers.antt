@@ -24,7 +24,7 @@ returns-in_err-make_turn-clause-ends g c =
     rw (f.1, f.2) (
       ends.0,
       last_turns (state_of device c.args.driver.now) (state_of device c.loop-driver.driver) (state_of device c.make_turn.new.driver) c.args.patience.now.left c.loop-driver.patience.left c.make_turn.new.patience.left c.loop-driver.invariant
-          (c.is_running.ensures.runs c.loop-driver-test.true) ends.1,
+          (c.is_running.ensures.runs c.loop-driver-test.true) c.in_err-make_turn.field-0.0 ends.1,
     )
 
 pub returns-in_err-make_turn-clause-beside : goal.returns-in_err-make_turn-clause-beside

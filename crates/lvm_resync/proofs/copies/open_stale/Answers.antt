@@ -99,7 +99,7 @@ returns-in_default g c =
     let it = refused_for (counts_seen old.device old.core) old.core c.open_copy.new.self.1 c.args.lv c.args.lp c.args.number c.in-Err.why c.in-Err.ensures.gives in
     let same = same_state device c.loop-pp.driver c.open_copy.new.self c.open_copy.ensures.shelf it.1 in
     record {
-      ends = subst (λ (s : State). EndsOr (IsJudged one first s) (StopsAt one c.loop-pp.patience.left first s) c.refused.result) (sym same) (answers one first old c.args.patience.now.left c.loop-pp.patience.left c.loop-pp.invariant c.in-Err.why
+      ends = subst (λ (s : State). EndsOr (IsJudged one c.args.patience.now.left c.loop-pp.patience.left first s) (StopsAt one c.args.patience.now.left c.loop-pp.patience.left first s) c.refused.result) (sym same) (answers one first old c.args.patience.now.left c.loop-pp.patience.left c.loop-pp.invariant c.in-Err.why
           (sym c.is_stale.ensures ∙ c.loop-pp-test.true) it.0 c.refused.result c.refused.ensures);
       beside = subst (λ (s : State). GoesBeside first s c.args.patience.now.left c.loop-pp.patience.left) (sym same) c.loop-pp.invariant.beside;
     }

@@ -19,7 +19,7 @@ bring_up-requires-clause-opened g c =
     let one = copy_of c.args.lv c.args.lp c.args.number c.args.pp in
     let first = state_of device c.args.driver.now in
     let opened = state_of device c.open_stale.new.driver in
-    opened_just one first opened (subst (λ (o : Opening). IsJudged one first opened o) c.in-Opened.is c.in_ok-opening.ensures.ends)
+    opened_just one c.args.patience.now.left c.open_stale.new.patience.left first opened (subst (λ (o : Opening). IsJudged one c.args.patience.now.left c.open_stale.new.patience.left first opened o) c.in-Opened.is c.in_ok-opening.ensures.ends)
 
 pub returns-in_ok-how-in-Opened-clause-ends : goal.returns-in_ok-how-in-Opened-clause-ends
 returns-in_ok-how-in-Opened-clause-ends g c =
@@ -27,7 +27,8 @@ returns-in_ok-how-in-Opened-clause-ends g c =
     let one = copy_of c.args.lv c.args.lp c.args.number c.args.pp in
     let first = state_of device c.args.driver.now in
     let opened = state_of device c.open_stale.new.driver in
-    passed_so one first opened (state_of device c.bring_up.new.driver) (subst (λ (o : Opening). IsJudged one first opened o) c.in-Opened.is c.in_ok-opening.ensures.ends)
+    passed_so one c.args.patience.now.left c.open_stale.new.patience.left c.bring_up.new.patience.left first opened (state_of device c.bring_up.new.driver)
+    (subst (λ (o : Opening). IsJudged one c.args.patience.now.left c.open_stale.new.patience.left first opened o) c.in-Opened.is c.in_ok-opening.ensures.ends)
     c.in_ok-how-in-Opened.how c.passed_by.result c.in_ok-how-in-Opened.ensures.ends c.passed_by.ensures
 
 pub returns-in_ok-how-in-Opened-clause-beside : goal.returns-in_ok-how-in-Opened-clause-beside
@@ -47,5 +48,5 @@ returns-in_err-how-in-Opened-clause-ends g c =
     let first = state_of device c.args.driver.now in
     let opened = state_of device c.open_stale.new.driver in
     let f = err_from_is_err_and c.from_residual-in_err-how-in-Opened.result c.from_residual-in_err-how-in-Opened.ensures.1 in
-    rw (f.1, f.2) (running_off one first opened (state_of device c.bring_up.new.driver) c.bring_up.new.patience.left c.in_err-how-in-Opened.field-0.0
-    (subst (λ (o : Opening). IsJudged one first opened o) c.in-Opened.is c.in_ok-opening.ensures.ends) c.in_err-how-in-Opened.ensures.ends)
+    rw (f.1, f.2) (running_off one c.args.patience.now.left c.open_stale.new.patience.left c.bring_up.new.patience.left first opened (state_of device c.bring_up.new.driver) c.in_err-how-in-Opened.field-0.0
+    (subst (λ (o : Opening). IsJudged one c.args.patience.now.left c.open_stale.new.patience.left first opened o) c.in-Opened.is c.in_ok-opening.ensures.ends) c.in_err-how-in-Opened.ensures.ends)
