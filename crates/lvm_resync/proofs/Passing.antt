@@ -4,10 +4,9 @@ use Rattle.std.proofs.Math.Nat.{eq-or-lt_of_le}
 use Rattle.lvm_num.specs.declared.descriptor.Descriptor.{Descriptor}
 use Rattle.lvm_session.specs.declared.open.Power.TheVariants as power
 use Rattle.lvm_session.specs.State.{State}
-use Rattle.lvm_resync.specs.declared.copies.Passed.{Passed}
 use Rattle.lvm_resync.specs.declared.fault.SyncFault.{SyncFault}
 use Rattle.lvm_resync.specs.declared.tally.Tally.{Tally}
-use Rattle.lvm_resync.specs.Passing.{Copy, IsPassed}
+use Rattle.lvm_resync.specs.Passing.{Copy}
 use Rattle.lvm_resync.specs.Syncing.{ArePassed, NonePassed, OnePassed, Passes, StopsAmong, below, with_passed}
 use Rattle.lvm_resync.specs.Turning.{GoesBeside}
 use Rattle.lvm_resync.proofs.Turning.{beside_both, beside_none, unstuck_beside}
@@ -92,7 +91,3 @@ stops_of f first old new from t n patience left after so_far why m less it =
 -- all of them are passed
 pub all_of : (of : ℕ → List Copy) (first now : State) (from to : Tally) (n m patience left : ℕ) → PassedSoFar of first now from to n patience left → n ≡ m → ArePassed (below of m) patience left first now from to tt
 all_of of first now from to n m patience left so_far same = (subst (λ (k : ℕ). Passes first from patience (below of k) now to left) same so_far.passes, so_far.none)
-
--- one copy alone
-pub passes_one : (patience left : ℕ) (old new : State) (t : Tally) (c : Copy) (how : Passed) → IsPassed c patience left old new how → ArePassed (c ∷ []) patience left old new t (with_passed t how) tt
-passes_one patience left old new t c how it = (OnePassed c how NonePassed it.0, it.1)
