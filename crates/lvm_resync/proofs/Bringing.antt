@@ -1,5 +1,5 @@
 -- The copy that is open is brought up until it doesn't run.
-use Rattle.std.proofs.Common.{◌≡◌, ◌⊎◌, inl, inr, ◌-◌, ℕ, Bool, true, false, Option, Some, None, if◌then◌else◌, refl, sym, ap, subst, ◌∙◌}
+use Rattle.std.proofs.Common.{◌≡◌, inl, inr, ◌-◌, ℕ, Bool, true, false, Option, Some, None, if◌then◌else◌, refl, sym, ap, subst, ◌∙◌}
 use Rattle.std.specs.Prelude.{IfSome}
 use Rattle.std.specs.Option.{option_map_or}
 use Rattle.lvm_disk.specs.Counts.{RoseBy}
@@ -14,7 +14,7 @@ use Rattle.lvm_disk.specs.Device.{Device}
 use Rattle.lvm_session.specs.State.{Core, State, state}
 use Rattle.lvm_session.specs.Sound.{IsSound}
 use Rattle.lvm_driver.specs.Answers.{IsCopyCaused}
-use Rattle.lvm_session.specs.declared.answers.Turned.TheVariants as turned
+use Rattle.lvm_session.specs.declared.answers.Turned.TheVariants as told
 use Rattle.lvm_driver.specs.Drains.{NoTurn}
 use Rattle.lvm_resync.specs.declared.fault.SyncFault.{SyncFault}
 use Rattle.lvm_turn_marks.specs.Marks.{is_marked}
@@ -87,8 +87,8 @@ module _ (first old new : State) (patience left after : ℕ) (so_far : BroughtSo
   }
     where
       by : MakesTurn old new left after → IsOpenStill so_far.begun new.core
-      by (inl moved) = turn_open so_far.begun old new sound so_far.still runs turned.Moved moved.2 on
-      by (inr waited) = turn_open so_far.begun old new sound so_far.still runs turned.Idle waited.1 on
+      by (inl moved) = turn_open so_far.begun old new sound so_far.still runs told.Moved moved.2 on
+      by (inr waited) = turn_open so_far.begun old new sound so_far.still runs told.Idle waited.1 on
 
   pub stops : GoesBeside old new left after → GoesBeside first new patience after
   stops beside = beside_both first old new patience left after so_far.beside beside

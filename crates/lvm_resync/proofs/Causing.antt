@@ -125,39 +125,39 @@ since_ended how opened new it = since_both opened it.ended new (since_turns Runs
 since_brought : (how : CopyState) (c : Copy) {patience left : ℕ} (old new : State) → IsBroughtUp c patience left old new how → Since old new
 since_brought how c old new it = since_both old it.opened new (since_opened c old it.opened it.opens) (since_ended how it.opened new it.ends)
 
-since_refused : (c : Copy) {patience left : ℕ} (old new : State) (why : SyncFault) → RefusedFor c patience left old new why → Since old new
-since_refused c old new (fault.NoFresh lp) it = since_turns (IsUnsettled c) old new it.1.settles
-since_refused c old new (fault.Missing disk) it = since_turns (IsUnsettled c) old new it.settles
-since_refused c old new fault.Dark it = absurd it
-since_refused c old new fault.Off it = absurd it
-since_refused c old new fault.Stuck it = absurd it
-since_refused c old new fault.Busy it = absurd it
-since_refused c old new fault.NoVolume it = absurd it
-since_refused c old new fault.OutOfRange it = absurd it
-since_refused c old new fault.HistoryFull it = absurd it
-since_refused c old new (fault.SyncFailed disk) it = absurd it
+since_refused : (c : Copy) (patience left : ℕ) (old new : State) (why : SyncFault) → RefusedFor c patience left old new why → Since old new
+since_refused c patience left old new (fault.NoFresh lp) it = since_turns (IsUnsettled c) old new it.1.settles
+since_refused c patience left old new (fault.Missing disk) it = since_turns (IsUnsettled c) old new it.settles
+since_refused c patience left old new fault.Dark it = absurd it
+since_refused c patience left old new fault.Off it = absurd it
+since_refused c patience left old new fault.Stuck it = absurd it
+since_refused c patience left old new fault.Busy it = absurd it
+since_refused c patience left old new fault.NoVolume it = absurd it
+since_refused c patience left old new fault.OutOfRange it = absurd it
+since_refused c patience left old new fault.HistoryFull it = absurd it
+since_refused c patience left old new (fault.SyncFailed disk) it = absurd it
 
-since_failed : (c : Copy) {patience left : ℕ} (old new : State) (why : SyncFault) → FailedFor c patience left old new why → Since old new
-since_failed c old new (fault.SyncFailed disk) it = since_brought (copy.SyncFailed disk) c old new it
-since_failed c old new (fault.NoFresh lp) it = since_brought copy.NoFresh c old new it.1
-since_failed c old new (fault.Missing disk) it = absurd it
-since_failed c old new fault.Dark it = absurd it
-since_failed c old new fault.Off it = absurd it
-since_failed c old new fault.Stuck it = absurd it
-since_failed c old new fault.Busy it = absurd it
-since_failed c old new fault.NoVolume it = absurd it
-since_failed c old new fault.OutOfRange it = absurd it
-since_failed c old new fault.HistoryFull it = absurd it
+since_failed : (c : Copy) (patience left : ℕ) (old new : State) (why : SyncFault) → FailedFor c patience left old new why → Since old new
+since_failed c patience left old new (fault.SyncFailed disk) it = since_brought (copy.SyncFailed disk) c old new it
+since_failed c patience left old new (fault.NoFresh lp) it = since_brought copy.NoFresh c old new it.1
+since_failed c patience left old new (fault.Missing disk) it = absurd it
+since_failed c patience left old new fault.Dark it = absurd it
+since_failed c patience left old new fault.Off it = absurd it
+since_failed c patience left old new fault.Stuck it = absurd it
+since_failed c patience left old new fault.Busy it = absurd it
+since_failed c patience left old new fault.NoVolume it = absurd it
+since_failed c patience left old new fault.OutOfRange it = absurd it
+since_failed c patience left old new fault.HistoryFull it = absurd it
 
-since_passed : (c : Copy) {patience left : ℕ} (old new : State) (how : Passed) → PassesCopy c patience left old new how → Since old new
-since_passed c old new passed.Fresh it = since_turns (IsUnsettled c) old new it.settles
-since_passed c old new passed.Made it = since_brought copy.Done c old new it.brings
-since_passed c old new (passed.Failed why) (inl it) = since_refused c old new why it
-since_passed c old new (passed.Failed why) (inr it) = since_failed c old new why it
+since_passed : (c : Copy) (patience left : ℕ) (old new : State) (how : Passed) → PassesCopy c patience left old new how → Since old new
+since_passed c patience left old new passed.Fresh it = since_turns (IsUnsettled c) old new it.settles
+since_passed c patience left old new passed.Made it = since_brought copy.Done c old new it.brings
+since_passed c patience left old new (passed.Failed why) (inl it) = since_refused c patience left old new why it
+since_passed c patience left old new (passed.Failed why) (inr it) = since_failed c patience left old new why it
 
 since_passes : (first : State) (from : Tally) {patience left : ℕ} (copies : List Copy) (now : State) (tally : Tally) → Passes first from patience copies now tally left → Since first now
 since_passes first from all now total NonePassed = since_same first
-since_passes first from all now total (OnePassed {copies} {old} {new} {tally} c how rest it) = since_both first old new (since_passes first from copies old tally rest) (since_passed c old new how it)
+since_passes first from all now total (OnePassed {copies} {old} {new} {tally} {before} {left} c how rest it) = since_both first old new (since_passes first from copies old tally rest) (since_passed c before left old new how it)
 
 -- ---- what has failed
 
@@ -211,8 +211,8 @@ failed_end c disk e = by (is_out c.step) c.end refl e
     by false (Some ending.Ended) is f = absurd (cc f)
 
 module _ (c : Copy) (old new : State) (disk : ℕ) (valid : IsValid old.core.descriptor) {patience left : ℕ} (it : IsBroughtUp c patience left old new (copy.SyncFailed disk)) where
-  abbrev copies : List Pp
-  copies = copies_of it.opens.opens.row c.lp
+  abbrev pps : List Pp
+  pps = copies_of it.opens.opens.row c.lp
 
   abbrev begun : OpenCopy
   begun = as_opened (counts_seen it.opens.judged.device it.opens.judged.core) it.opens.judged.core it.opened.core c.lv c.lp c.number it.opens.opens
@@ -223,30 +223,30 @@ module _ (c : Copy) (old new : State) (disk : ℕ) (valid : IsValid old.core.des
   its : IfSome it.ends.ended.core.copy (IsSameCopy begun)
   its = subst (λ (m : Option OpenCopy). IfSome m (λ (k : OpenCopy). IfSome it.ends.ended.core.copy (IsSameCopy k))) (ap (λ (k : Core). k.copy) it.opens.opens.is) it.ends.same
 
-  its_copies : copies_in it.opens.judged.core.descriptor c.lv c.lp ≡ copies
+  its_copies : copies_in it.opens.judged.core.descriptor c.lv c.lp ≡ pps
   its_copies = ap (λ (m : Option LvRow). option_map_or (λ (r : LvRow). copies_of r c.lp) m []) it.opens.opens.volume
 
-  few : length copies ≤ 3
+  few : length pps ≤ 3
   few = subst (λ (ps : List Pp). length ps ≤ 3) its_copies (few_in it.opens.judged.core.descriptor c.lv c.lp (subst IsValid (sym (ap (λ (g : Given). let d : Descriptor = g.0 in d) settled.given_is)) valid))
 
   brought : Since it.opens.judged it.ends.ended
   brought = since_both it.opens.judged it.opened it.ends.ended (since_call it.opens.judged it.opened it.opens.device (ap given it.opens.opens.is)) (since_turns Runs it.opened it.ends.ended it.ends.turns)
 
-  its_copies_then : copies_in it.ends.ended.core.descriptor c.lv c.lp ≡ copies
+  its_copies_then : copies_in it.ends.ended.core.descriptor c.lv c.lp ≡ pps
   its_copies_then = ap (λ (g : Given). let d : Descriptor = g.0 in copies_in d c.lv c.lp) brought.given_is ∙ its_copies
 
   module _ (k : OpenCopy) (is : it.ends.ended.core.copy ≡ Some k) (how : state_of_copy k ≡ copy.SyncFailed disk) where
     same : IsSameCopy begun k
     same = subst (λ (m : Option OpenCopy). IfSome m (IsSameCopy begun)) is its
 
-    its_own : copies_in it.ends.ended.core.descriptor k.lv k.lp ≡ copies
+    its_own : copies_in it.ends.ended.core.descriptor k.lv k.lp ≡ pps
     its_own = ap (λ (n : ℕ). copies_in it.ends.ended.core.descriptor n k.lp) same.1 ∙ ap (λ (n : ℕ). copies_in it.ends.ended.core.descriptor c.lv n) same.2 ∙ its_copies_then
 
-    rose : (n : ℕ) (p : Pp) → copy_at copies n ≡ Some p → FailedSinceOpening it.ends.ended.device k n p → AnyFails it.opens.judged it.ends.ended
+    rose : (n : ℕ) (p : Pp) → copy_at pps n ≡ Some p → FailedSinceOpening it.ends.ended.device k n p → AnyFails it.opens.judged it.ends.ended
     rose n p at since = (p.disk, subst (λ (x : ℕ). Rose x (it.ends.ended.device.counts.faults p.disk)) seen since)
       where
         seen : faults_at_opening k n ≡ faults_seen it.opens.judged.device it.opens.judged.core p.disk
-        seen = ap (λ (fs : List ℕ). slice_index_or fs (n - 1) 0) same.4 ∙ counted_at (counts_seen it.opens.judged.device it.opens.judged.core) copies (n - 1) p few (at_place copies n p at)
+        seen = ap (λ (fs : List ℕ). slice_index_or fs (n - 1) 0) same.4 ∙ counted_at (counts_seen it.opens.judged.device it.opens.judged.core) pps (n - 1) p few (at_place pps n p at)
 
     caused : IsCausedAmong it.ends.ended (copies_in it.ends.ended.core.descriptor k.lv k.lp) k
     caused = subst (λ (m : Option OpenCopy). IfSome m (λ (x : OpenCopy). IsCausedAmong it.ends.ended (copies_in it.ends.ended.core.descriptor x.lv x.lp) x)) is it.ends.caused
@@ -255,7 +255,7 @@ module _ (c : Copy) (old new : State) (disk : ℕ) (valid : IsValid old.core.des
     failed = by (caused.failed (failed_end k disk how))
       where
         by : FailedSinceOpening it.ends.ended.device k k.copy k.pp ⊎ HaveSourcesFailed it.ends.ended (copies_in it.ends.ended.core.descriptor k.lv k.lp) k → AnyFails it.opens.judged it.ends.ended
-        by (inl own) = rose k.copy k.pp (ap (copy_at copies) same.3 ∙ it.opens.opens.copy_is ∙ ap (λ (p : Pp). Some p) (sym same.0)) own
+        by (inl own) = rose k.copy k.pp (ap (copy_at pps) same.3 ∙ it.opens.opens.copy_is ∙ ap (λ (p : Pp). Some p) (sym same.0)) own
         by (inr sources) = rose sources.number sources.source (ap (λ (ps : List Pp). copy_at ps sources.number) (sym its_own) ∙ sources.source_is) sources.one
 
   brought_fails : AnyFails old new
@@ -289,41 +289,37 @@ stays_still old mid new fault.NoVolume since it = absurd it
 stays_still old mid new fault.OutOfRange since it = absurd it
 stays_still old mid new fault.HistoryFull since it = absurd it
 
-one_stays : (c : Copy) {patience left : ℕ} (first old new : State) (why : SyncFault) → IsValid old.core.descriptor → Since first old → RefusedFor c patience left old new why ⊎ FailedFor c patience left old new why → StaysFor first new why
-one_stays c first old new (fault.SyncFailed disk) valid since (inl none) = absurd none
-one_stays c first old new (fault.SyncFailed disk) valid since (inr it) = fails_later first old new since (brought_fails c old new disk valid it)
-one_stays c first old new (fault.NoFresh lp) valid since it = tt
-one_stays c first old new (fault.Missing disk) valid since it = tt
-one_stays c first old new fault.Dark valid since it = ⊎_elim (λ none. absurd none) (λ none. absurd none) it
-one_stays c first old new fault.Off valid since it = ⊎_elim (λ none. absurd none) (λ none. absurd none) it
-one_stays c first old new fault.Stuck valid since it = ⊎_elim (λ none. absurd none) (λ none. absurd none) it
-one_stays c first old new fault.Busy valid since it = ⊎_elim (λ none. absurd none) (λ none. absurd none) it
-one_stays c first old new fault.NoVolume valid since it = ⊎_elim (λ none. absurd none) (λ none. absurd none) it
-one_stays c first old new fault.OutOfRange valid since it = ⊎_elim (λ none. absurd none) (λ none. absurd none) it
-one_stays c first old new fault.HistoryFull valid since it = ⊎_elim (λ none. absurd none) (λ none. absurd none) it
+one_stays : (c : Copy) (patience left : ℕ) (first old new : State) (why : SyncFault) → IsValid old.core.descriptor → Since first old → RefusedFor c patience left old new why ⊎ FailedFor c patience left old new why → StaysFor first new why
+one_stays c patience left first old new (fault.SyncFailed disk) valid since (inl none) = absurd none
+one_stays c patience left first old new (fault.SyncFailed disk) valid since (inr it) = fails_later first old new since (brought_fails c old new disk valid it)
+one_stays c patience left first old new (fault.NoFresh lp) valid since it = tt
+one_stays c patience left first old new (fault.Missing disk) valid since it = tt
+one_stays c patience left first old new fault.Dark valid since it = ⊎_elim (λ none. absurd none) (λ none. absurd none) it
+one_stays c patience left first old new fault.Off valid since it = ⊎_elim (λ none. absurd none) (λ none. absurd none) it
+one_stays c patience left first old new fault.Stuck valid since it = ⊎_elim (λ none. absurd none) (λ none. absurd none) it
+one_stays c patience left first old new fault.Busy valid since it = ⊎_elim (λ none. absurd none) (λ none. absurd none) it
+one_stays c patience left first old new fault.NoVolume valid since it = ⊎_elim (λ none. absurd none) (λ none. absurd none) it
+one_stays c patience left first old new fault.OutOfRange valid since it = ⊎_elim (λ none. absurd none) (λ none. absurd none) it
+one_stays c patience left first old new fault.HistoryFull valid since it = ⊎_elim (λ none. absurd none) (λ none. absurd none) it
 
-passes_stay : (first : State) → IsValid first.core.descriptor → {patience left : ℕ} (copies : List Copy) (now : State) (tally : Tally) → Passes first no_tally patience copies now tally left → IfSome tally.fault (StaysFor first now)
-passes_stay first valid all now total NonePassed = tt
-passes_stay first valid all now total (OnePassed {copies} {old} {new} {tally} {before} {left} c how rest it) = by how it
-  where
-    since : Since first old
-    since = since_passes first no_tally copies old tally rest
+module _ (first : State) (valid : IsValid first.core.descriptor) (c : Copy) (before left : ℕ) (old new : State) (since : Since first old) where
+  stays_then : (how : Passed) → PassesCopy c before left old new how → (m : Option SyncFault) → IfSome m (StaysFor first old) → IfSome m (StaysFor first new)
+  stays_then how it None stays = tt
+  stays_then how it (Some why) stays = stays_still first old new why (since_passed c before left old new how it) stays
 
-    so_far : IfSome tally.fault (StaysFor first old)
-    so_far = passes_stay first valid copies old tally rest
+  or_stays : (why : SyncFault) → PassesCopy c before left old new (passed.Failed why) → (m : Option SyncFault) → IfSome m (StaysFor first old) → IfSome (or_first m why) (StaysFor first new)
+  or_stays why it None stays = one_stays c before left first old new why (subst IsValid (sym (ap (λ (g : Given). let d : Descriptor = g.0 in d) since.given_is)) valid) since it
+  or_stays why it (Some w) stays = stays_then (passed.Failed why) it (Some w) stays
 
-    still : (how : Passed) → PassesCopy c before left old new how → (m : Option SyncFault) → IfSome m (StaysFor first old) → IfSome m (StaysFor first new)
-    still how it None stays = tt
-    still how it (Some why) stays = stays_still first old new why (since_passed c old new how it) stays
+  passed_stay : (tally : Tally) → IfSome tally.fault (StaysFor first old) → (how : Passed) → PassesCopy c before left old new how → IfSome (with_passed tally how).fault (StaysFor first new)
+  passed_stay tally so_far passed.Fresh it = stays_then passed.Fresh it tally.fault so_far
+  passed_stay tally so_far passed.Made it = stays_then passed.Made it tally.fault so_far
+  passed_stay tally so_far (passed.Failed why) it = or_stays why it tally.fault so_far
 
-    by : (how : Passed) → PassesCopy c before left old new how → IfSome (with_passed tally how).fault (StaysFor first new)
-    by passed.Fresh it = still passed.Fresh it tally.fault so_far
-    by passed.Made it = still passed.Made it tally.fault so_far
-    by (passed.Failed why) it = of tally.fault so_far
-      where
-        of : (m : Option SyncFault) → IfSome m (StaysFor first old) → IfSome (or_first m why) (StaysFor first new)
-        of None stays = one_stays c first old new why (subst IsValid (sym (ap (λ (g : Given). let d : Descriptor = g.0 in d) since.given_is)) valid) since it
-        of (Some w) stays = still (passed.Failed why) it (Some w) stays
+passes_stay : (first : State) → IsValid first.core.descriptor → (patience : ℕ) (copies : List Copy) (now : State) (tally : Tally) (left : ℕ) → Passes first no_tally patience copies now tally left → IfSome tally.fault (StaysFor first now)
+passes_stay first valid patience all now total rest NonePassed = tt
+passes_stay first valid patience all now total spare (OnePassed {copies} {old} {new} {tally} {before} {left} c how rest it) =
+    passed_stay first valid c before left old new (since_passes first no_tally copies old tally rest) tally (passes_stay first valid patience copies old tally before rest) how it
 
 -- ---- the answer
 
@@ -342,7 +338,7 @@ stays_cause left old new fault.HistoryFull it = absurd it
 pub synced_caused : (copies : List Copy) (patience left : ℕ) (old new : State) (tally : Tally) (answer : Result ℕ SyncFault) → IsValid old.core.descriptor → ArePassed copies patience left old new no_tally tally tt → IsAnswer tally answer → IfErr answer (SyncCause left old new)
 synced_caused copies patience left old new tally (Ok made) valid passed is = tt
 synced_caused copies patience left old new tally (Err why) valid passed is =
-    stays_cause left old new why (subst (λ (m : Option SyncFault). IfSome m (StaysFor old new)) (ap (λ (t : Tally). t.fault) is) (passes_stay old valid copies new tally passed.0))
+    stays_cause left old new why (subst (λ (m : Option SyncFault). IfSome m (StaysFor old new)) (ap (λ (t : Tally). t.fault) is) (passes_stay old valid patience copies new tally left passed.0))
 
 -- it ended before
 pub stopped_caused : (copies : List Copy) (patience left : ℕ) (old new : State) (why : SyncFault) → StopsAmong copies patience left old new no_tally why → SyncCause left old new why

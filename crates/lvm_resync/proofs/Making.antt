@@ -3,7 +3,6 @@ use Rattle.std.proofs.Common.{◌≡◌, ℕ, false, [], Option, Some, refl, sym
 use Rattle.std.specs.Prelude.{IfSome}
 use Rattle.std.specs.Option.{option_map_or}
 use Rattle.lvm_num.specs.declared.descriptor.LvRow.{LvRow}
-use Rattle.lvm_num.specs.declared.place.Pp.{Pp}
 use Rattle.lvm_num.specs.Descriptor.{copies_of}
 use Rattle.lvm_disk.specs.Counts.{Counts}
 use Rattle.lvm_session.specs.declared.answers.CopyState.TheVariants as copy

@@ -1,5 +1,5 @@
 -- How a copy was passed, and the copies at a place.
-use Rattle.std.proofs.Common.{◌≡◌, inl, inr, ◌+◌, ℕ, List, [], ◌∷◌, Option, None, Some, slice_get, refl, sym, ap, subst, ◌∙◌}
+use Rattle.std.proofs.Common.{◌≡◌, inr, ◌+◌, ℕ, List, [], ◌∷◌, Option, None, Some, slice_get, refl, sym, ap, subst}
 use Rattle.std.specs.Option.{option_map, option_map_or}
 use Rattle.lvm_num.specs.declared.descriptor.Descriptor.{Descriptor}
 use Rattle.lvm_num.specs.declared.descriptor.LvRow.{LvRow}
@@ -11,9 +11,7 @@ use Rattle.lvm_session.specs.Judging.{copies_in}
 use Rattle.lvm_session.specs.State.{Core, State}
 use Rattle.lvm_keeps_events.proofs.CopyReadFail.{of_place}
 use Rattle.lvm_resync.specs.declared.copies.Passed.{Passed}
-use Rattle.lvm_resync.specs.declared.copies.Passed.TheVariants as passed
 use Rattle.lvm_resync.specs.declared.fault.SyncFault.{SyncFault}
-use Rattle.lvm_resync.specs.declared.fault.SyncFault.TheVariants as fault
 use Rattle.lvm_resync.specs.declared.tally.Tally.{Tally}
 use Rattle.lvm_resync.specs.Passing.{Copy, IsEnded, IsJustOpened, IsOpened, IsPassed, IsPassedBy, StopsAt, copy_of}
 use Rattle.lvm_resync.specs.Syncing.{ArePassed, NonePassed, OnePassed, StopsAmong, copies_at, copy_in, volume_copies, with_passed}

@@ -55,13 +55,13 @@ record Splits (of : ℕ → List Copy) (n m : ℕ) : Type 0 where
 
 splits_at : (of : ℕ → List Copy) (n m : ℕ) → n < m → Splits of n m
 splits_at of n zero less = absurd (omega (arith, less))
-splits_at of n (suc m) less = by (eq-or-lt_of_le (omega (arith, less)))
+splits_at of n (suc m) less = by (λ more. splits_at of n m more) (eq-or-lt_of_le (omega (arith, less)))
   where
-    by : (n ≡ m) ⊎ (n < m) → Splits of n (suc m)
-    by (inl same) =
+    by : (n < m → Splits of n m) → (n ≡ m) ⊎ (n < m) → Splits of n (suc m)
+    by before (inl same) =
         record { rest = []; all = ap (λ (k : ℕ). below of k ++ of k) (sym same) ∙ sym (ap (λ (l : List Copy). below of n ++ l) (append-nil (of n))) }
-    by (inr more) =
-        let it = splits_at of n m more in
+    by before (inr more) =
+        let it = before more in
         record { rest = it.rest ++ of m; all = ap (λ (l : List Copy). l ++ of m) it.all ∙ append_assoc (below of n) (of n ++ it.rest) (of m) ∙ ap (λ (l : List Copy). below of n ++ l) (append_assoc (of n) it.rest (of m)) }
 
 module _ (of : ℕ → List Copy) (first old new : State) (from t : Tally) (n patience left after : ℕ) (so_far : PassedSoFar of first old from t n patience left) (why : SyncFault) where

@@ -161,11 +161,11 @@ module _ (c : Copy) (first judged new : State) (made : Pp → Bool) (so_far : St
       by q (inl why) = inl (still_for first judged new q (more q) (λ gone. ap (λ (k : Core). is_missing k q.disk) opens.is ∙ gone) why)
       by q (inr was) = inr was
 
-  abbrev begun_copy : OpenCopy
-  begun_copy = as_opened (counts_seen judged.device judged.core) judged.core new.core c.lv c.lp c.number opens
+  abbrev its_copy : OpenCopy
+  its_copy = as_opened (counts_seen judged.device judged.core) judged.core new.core c.lv c.lp c.number opens
 
-  pub opened_still : IsOpenStill begun_copy new.core
-  opened_still = just_opened new.core begun_copy (ap (λ (k : Core). k.copy) opens.is) refl
+  pub opened_still : IsOpenStill its_copy new.core
+  opened_still = just_opened new.core its_copy (ap (λ (k : Core). k.copy) opens.is) refl
 
 -- ---- it is brought up
 

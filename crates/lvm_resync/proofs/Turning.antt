@@ -58,7 +58,7 @@ unstuck_beside old new a b beside = stays_unstuck old.core new.core beside.leave
 abbrev pub TurnsIn : (Core → Type 0) → State → State → Type 0
 TurnsIn Is = Path (λ (old new : State). Is old.core × IsTurn old new) IsAny
 
-pub turns_in : (Is : Core → Type 0) {patience left : ℕ} {first now : State} → EachTurnWhile Is patience left first now → TurnsIn Is first now
+pub turns_in : (Is : Core → Type 0) {patience : ℕ} {first : State} {left : ℕ} {now : State} → EachTurnWhile Is patience left first now → TurnsIn Is first now
 turns_in Is NoTurn = Here tt
 turns_in Is (ThenMoves turns may some made) = Then (turns_in Is turns) (may, (turned.Moved, made)) tt
 turns_in Is (ThenWaits turns may one made finds) = Then (turns_in Is turns) (may, (turned.Idle, made)) tt
