@@ -1,5 +1,5 @@
 //! A sink that makes image files.
-ghost use Rattle.std.specs.Prelude.{◌≡◌, ◌<◌, ◌≤◌, None, Some, is_some, length, IfOk};
+ghost use Rattle.std.specs.Prelude.{◌≡◌, ◌<◌, ◌≤◌, false, None, Some, is_some, length, IsTrue, IsOk, IfOk};
 
 use crate::exclusive::Exclusive;
 use crate::name::image_name;
@@ -11,7 +11,7 @@ use std::rt::Files;
 use std::{fs, io};
 
 /// A sink for the files `hdisk0.img` and so on of the current folder. Contracts see the number of its
-/// faults, the disk that was chosen and how often one was.
+/// faults, the disk that was chosen, how often one was, and whether that disk had a file already.
 ///
 /// It makes no file before a disk is chosen, and none where there is one of that name: what a disk
 /// holds is never written over. Until a disk is chosen, and where its file can't be made, each write
@@ -34,20 +34,20 @@ pub struct ImageSink<'a, R: Files> {
 const SYNC: u64 = 67_108_864;
 
 impl<'a, R: Files> Model for ImageSink<'a, R> {
-    ghost use Rattle.std.specs.Prelude.{◌≡◌, None};
+    ghost use Rattle.std.specs.Prelude.{◌≡◌, None, IsTrue};
     ghost use Rattle.lvm_image.specs.Sink.{SinkState};
 
     ghost Value = { SinkState };
 
-    ghost view = { λ s. record { chosen = s.disk; choices = s.choices; faults = s.faults } };
+    ghost view = { λ s. record { chosen = s.disk; choices = s.choices; faults = s.faults; taken = s.taken } };
 
-    ghost invariant = { λ s. s.disk ≡ None → s.file ≡ None };
+    ghost invariant = { λ s. (s.disk ≡ None → s.file ≡ None) × (IsTrue s.taken → s.file ≡ None) };
 }
 
 impl<'a, R: Files> ImageSink<'a, R> {
     /// A sink for which no disk is chosen yet.
     pub fn new(rt: &'a R) -> ImageSink<'a, R>
-        ensures { result ≡ record { chosen = None; choices = 0; faults = 0 } }
+        ensures { result ≡ record { chosen = None; choices = 0; faults = 0; taken = false } }
     {
         ImageSink {
             files: rt,
@@ -68,12 +68,17 @@ impl<'a, R: Files> ImageSink<'a, R> {
     }
 
     /// Whether no image was made of the disk that was chosen last, since it has one.
-    pub fn is_taken(&self) -> bool {
+    pub fn is_taken(&self) -> bool
+        ensures { result ≡ self.now.taken }
+    {
         self.taken
     }
 
     /// Sees that what it took is durable.
-    pub fn settle(&self) -> io::Result<()> {
+    pub fn settle(&self) -> io::Result<()>
+        ensures unchosen { self.now.chosen ≡ None → IsOk result }
+        ensures taken { IsTrue self.now.taken → IsOk result }
+    {
         match &self.file {
             Some(file) => file.sync_data(),
             None => Ok(()),
@@ -130,6 +135,7 @@ impl<'a, R: Files> Sink for ImageSink<'a, R> {
         ensures cause { result ≡ Put.Failed → Rose self.old.faults self.new.faults }
         ensures well { (result ≡ Put.Failed → ⊥) → self.new.faults ≡ self.old.faults }
         ensures unmade { self.old.chosen ≡ None → result ≡ Put.Failed }
+        ensures taken { (self.new.taken ≡ self.old.taken) × (IsTrue self.old.taken → result ≡ Put.Failed) }
     {
         if let Some(mut file) = self.file.take() {
             if let Ok((count, unsynced)) = put(&mut file, from, self.unsynced) {

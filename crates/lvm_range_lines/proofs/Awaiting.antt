@@ -1,7 +1,7 @@
 -- Turns until each post has landed.
-use Rattle.std.proofs.Common.{◌≡◌, ◌≤◌, ◌<◌, ◌+◌, ◌-◌, ℕ, List, Some, None, length, get_or, refl, sym, ◌∙◌, subst, arith, below_more}
-use Rattle.std.specs.Prelude.{Result, Ok, Err}
-use Rattle.std.proofs.lemmas.List.{get_or_default}
+use Rattle.std.proofs.Common.{◌≡◌, ◌≤◌, ◌<◌, ◌+◌, ◌-◌, ℕ, zero, suc, List, Some, None, length, get_or, refl, sym, ◌∙◌, ap, subst, arith, below_more}
+use Rattle.std.specs.Prelude.{Result, Ok, Err, [], ◌∷◌, ◌++◌, take, drop}
+use Rattle.std.proofs.lemmas.List.{get_or_default, take_all, take_more}
 use Rattle.lvm_disk.specs.Counts.{RoseBy}
 use Rattle.lvm_disk.specs.Paths.{Path, Here, Then}
 use Rattle.lvm_disk.proofs.Paths.{append-path}
@@ -14,7 +14,7 @@ use Rattle.lvm_posts.specs.declared.posts.Post.{Post}
 use Rattle.lvm_group_lines.specs.passed.Ranges.{Stuck, KeepsTable, AwaitEnds, HaveLanded, IsUnfinished, TurnsFor}
 use Rattle.lvm_group_lines.proofs.passed.Ranges.{table_same, table_then}
 use Rattle.lvm_range_lines.specs.Taking.{AwaitsPost, AwaitsPosts, HasLanded, IsGone, IsInVain}
-use Rattle.lvm_range_lines.specs.Waiting.{IsAwaited, TurnsForPosts}
+use Rattle.lvm_range_lines.specs.Waiting.{AllPaid, IsAwaited, NonePaid, OnePaid, PostCosts, PostsCost, RunsShort, TurnsForPosts, WaitCosts}
 
 pub no_wait : (left waits : ℕ) → RoseBy (left - left) waits waits
 no_wait left waits = let none : 0 ≡ left - left = omega arith in subst (λ n. RoseBy n waits waits) none (rose_by_none waits)
@@ -30,6 +30,12 @@ for_all : (posts : List Post) (post : Post) (old new : Session) → ((s : Sessio
 for_all posts post old _ awaited (Here any) = Here any
 for_all posts post old new awaited (Then {m} before step any) = Then (for_all posts post old m awaited before) (awaited m step.0, step.1) any
 
+-- the front, one, and those behind it
+split_at : {X : Type 0} (l : List X) (i : ℕ) (d : X) → i < length l → l ≡ take i l ++ get_or l i d ∷ drop (suc i) l
+split_at {X = X} [] i d low = absurd (omega (arith, low))
+split_at {X = X} (x ∷ l) zero d low = refl
+split_at {X = X} (x ∷ l) (suc i) d low = ap (λ (m : List X). x ∷ m) (split_at l i d (omega (arith, low)))
+
 -- so far
 pub record AwaitedSoFar (posts : List Post) (first now : Session) (patience left i : ℕ) : Type 0 where
   pub turns : Path (TurnsForPosts posts) IsAny first now
@@ -38,6 +44,7 @@ pub record AwaitedSoFar (posts : List Post) (first now : Session) (patience left
   pub runs : RunsOn first now
   pub fewer : left ≤ patience
   pub waited : RoseBy (patience - left) first.device.counts.waits now.device.counts.waits
+  pub costs : PostsCost patience first (take i posts) left now
 
 pub none_awaited : (posts : List Post) (first : Session) (patience : ℕ) → AwaitedSoFar posts first first patience patience 0
 none_awaited posts first patience = record {
@@ -47,6 +54,7 @@ none_awaited posts first patience = record {
   runs = runs_none first;
   fewer = omega arith;
   waited = no_wait patience first.device.counts.waits;
+  costs = NonePaid;
 }
 
 module _ (posts : List Post) (first old new : Session) (patience left less_left i : ℕ) (d : Post) (within : i < length posts) (so_far : AwaitedSoFar posts first old patience left i)
@@ -66,14 +74,15 @@ module _ (posts : List Post) (first old new : Session) (patience left less_left 
   others_landed : (k : ℕ) (e : Post) → k < i → (get_or posts k e).ended ≡ None → HaveLanded (get_or posts k e).asked new
   others_landed k e low own j less = table.requests.landed ((get_or posts k e).asked.first + j) (so_far.landed k e low own j less)
 
-  pub one_awaited : AwaitsPost post less_left old new (Ok tt) → AwaitedSoFar posts first new patience less_left (i + 1)
-  one_awaited its = record {
+  pub one_awaited : AwaitsPost post less_left old new (Ok tt) → PostCosts post left less_left old new (Ok tt) → AwaitedSoFar posts first new patience less_left (i + 1)
+  one_awaited its paid = record {
     turns = turns_then its;
     landed = λ k e low own. landed_then its k e low own;
     table = table_then first.core old.core new.core so_far.table table;
     runs = runs_both first old new so_far.runs runs;
     fewer = let low = so_far.fewer in omega (arith, low, fewer);
     waited = waited_on;
+    costs = subst (λ (ps : List Post). PostsCost patience first ps less_left new) (sym (take_more posts i d within)) (OnePaid so_far.costs post paid);
   }
     where
       turns_then : AwaitsPost post less_left old new (Ok tt) → Path (TurnsForPosts posts) IsAny first new
@@ -96,6 +105,9 @@ module _ (posts : List Post) (first old new : Session) (patience left less_left 
   one_in_vain why (HasLanded is turns landed ok) = absurd (cc ok)
   one_in_vain why (IsInVain is turns unfinished none stuck fails) = record { turns = turns_on is turns; ends = (awaited is new unfinished, none) }
 
+  pub one_short : (why : Stuck) → PostCosts post left less_left old new (Err why) → WaitCosts patience posts less_left first new
+  one_short why short = RunsShort (take i posts) (drop (suc i) posts) post left old why (split_at posts i d within) so_far.costs short
+
   pub table_now : KeepsTable first.core new.core
   table_now = table_then first.core old.core new.core so_far.table table
 
@@ -111,3 +123,6 @@ all_awaited posts first now patience left i over so_far = record {
   ends = λ post among own. let less = among.1 in
       subst (λ (p : Post). p.ended ≡ None → HaveLanded p.asked now) among.2 (so_far.landed among.0 post (omega (arith, over, less))) own;
 }
+
+pub all_paid : (posts : List Post) (first now : Session) (patience left i : ℕ) → length posts ≤ i → AwaitedSoFar posts first now patience left i → WaitCosts patience posts left first now
+all_paid posts first now patience left i over so_far = AllPaid (subst (λ (ps : List Post). PostsCost patience first ps left now) (take_all i posts over) so_far.costs)

@@ -17,13 +17,13 @@ use Rattle.lvm_group_lines.specs.passed.Running.{RunsOn}
 use Rattle.lvm_group_lines.proofs.passed.Running.{runs_both}
 use Rattle.lvm_posts.specs.declared.posts.Post.{Post}
 use Rattle.lvm_group_lines.specs.passed.RefusalVariants as refusal
-use Rattle.lvm_group_lines.specs.passed.Stage.{Reply, Stage, EndsUnasked, GoesOn, OfRequests, IsStuck, most_refusals, HaveRooms, IsBetweenStage}
+use Rattle.lvm_group_lines.specs.passed.Stage.{Reply, Stage, EndsUnasked, GoesOn, OfRequests, IsStuck, most_refusals, patience_of_line, HaveRooms, IsBetweenStage}
 use Rattle.lvm_group_lines.specs.passed.Stage.{IsCarried, IsEnded, IsFitting, history_in, shelf_in, state_in, ArePosted, State, without_facts}
 use Rattle.lvm_group_lines.specs.passed.ReplyVariants as reply
 use Rattle.lvm_group_lines.proofs.passed.Stage.{over_goes}
 use Rattle.lvm_range_lines.specs.Leaving.{GoesOnWith, Waited, serving}
 use Rattle.lvm_range_lines.specs.Taking.{GoesBehind, IsClosedBehind, LandedEnds}
-use Rattle.lvm_range_lines.specs.Waiting.{AllHaveLanded, Awaits, Goes, InVain, IsAwaited, Over, TurnsForPosts, WaitDoes, WaitEnds}
+use Rattle.lvm_range_lines.specs.Waiting.{AllHaveLanded, Awaits, Goes, InVain, IsAwaited, Over, TurnsForPosts, WaitCosts, WaitDoes, WaitEnds}
 use Rattle.lvm_range_lines.proofs.Behind.{behind_goes, posts_few, waits_off}
 use Rattle.lvm_range_lines.proofs.Ending.{RunsTo, carried_ends, closed_orders, ended_is_over, its, runs_to, stuck_ends, unstuck}
 use Rattle.lvm_range_lines.proofs.Landed.{long_ended, posted_ended}
@@ -39,7 +39,7 @@ heard_ok stuck = cc stuck
 
 module _ {S : Type 0} (device : S → Device) (first : S × Core) (posts : Vec Post) (bytes : Vec ℕ) (fits : IsFitting (serving first posts bytes)) (between : IsBetweenStage device (serving first posts bytes))
     (mid : S × Core) (turns : Path (TurnsForPosts posts.items) IsAny (state_of device first) (state_of device mid)) (runs : RunsOn (state_of device first) (state_of device mid)) (sound : IsSound (state_of device mid))
-    (left : ℕ) (waited : Waited left (state_of device first) (state_of device mid)) (posted : ArePosted mid.1.history.facts (Some mid.1) posts.items) where
+    (left : ℕ) (waited : Waited left (state_of device first) (state_of device mid)) (costs : WaitCosts patience_of_line posts.items left (state_of device first) (state_of device mid)) (posted : ArePosted mid.1.history.facts (Some mid.1) posts.items) where
   abbrev Does : Log → State → State → Reply → Type 0
   Does log = WaitDoes
 
@@ -50,7 +50,7 @@ module _ {S : Type 0} (device : S → Device) (first : S × Core) (posts : Vec P
   to_mid = runs_to device first mid runs sound
 
   does_so : (stage : Stage S) (answer : Reply) (last : ℕ) → WaitEnds (state_of device mid) left (state_in device old last) (state_in device stage last) answer → WaitDoes (state_in device old last) (state_in device stage last) answer
-  does_so stage answer last ends = Awaits first.1 refl fits.kind (record { mid = state_of device mid; turns = turns; runs = runs; sound = sound; left = left; waited = waited; ends = ends })
+  does_so stage answer last ends = Awaits first.1 refl fits.kind (record { mid = state_of device mid; turns = turns; runs = runs; sound = sound; left = left; waited = waited; costs = costs; ends = ends })
 
   -- ---- it goes on
 

@@ -6,12 +6,14 @@ use Rattle.lvm_disk.specs.Device.{Device}
 use Rattle.lvm_session.specs.declared.open.Power.{Power}
 use Rattle.lvm_session.specs.declared.open.Power.TheVariants as power
 use Rattle.lvm_session.specs.State.{Core, State as Session, state}
+use Rattle.lvm_posts.specs.declared.asked.Asked.{Asked}
 use Rattle.lvm_posts.specs.declared.fault.RangeFault.{RangeFault}
 use Rattle.lvm_posts.specs.declared.posts.Post.{Post}
+use Rattle.lvm_group_lines.specs.passed.Ranges.{FinishCosts}
 use Rattle.lvm_group_lines.specs.passed.HolderVariants as holder
 use Rattle.lvm_group_lines.specs.passed.Stage.{Reply, Stage, EndsUnasked, OfRequests, patience_of_line, IsBetweenStage, IsClosed, IsFitting, IsLeftBy}
 use Rattle.lvm_group_lines.specs.passed.Stage.{posts_ended, ArePosted, State}
-use Rattle.lvm_range_lines.specs.Refusals.{is_stuck}
+use Rattle.lvm_range_lines.specs.Refusals.{Ending, is_stuck}
 
 -- ---- states
 
@@ -57,6 +59,11 @@ EndsBy (Err why) end posts last new = FailsBy why end posts last new
 -- the patience of a line went with answers that nothing had ended, and so much of it is left
 abbrev pub Waited : ℕ → Session → Session → Type 0
 Waited left old new = RoseBy (patience_of_line - left) old.device.counts.waits new.device.counts.waits
+
+-- so it went while a range was waited for: each answer that nothing had ended cost one, and behind the last of it no turn was made
+pub record Pays (asked : Asked) (left : ℕ) (old new : Session) (done : Ending) : Type 0 where
+  pub waited : Waited left old new
+  pub costs : FinishCosts asked patience_of_line left old new done
 
 -- ---- stages
 

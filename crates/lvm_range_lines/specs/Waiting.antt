@@ -1,5 +1,5 @@
 -- What `wait` does.
-use Rattle.std.specs.Prelude.{◌≡◌, ◌≢◌, ◌∷◌, ◌++◌, ℕ, true, [], List, Some, None, Contains}
+use Rattle.std.specs.Prelude.{◌≡◌, ◌≢◌, ◌∷◌, ◌++◌, ℕ, true, [], List, Some, None, Contains, Result, Ok, Err}
 use Rattle.lvm_disk.specs.Paths.{Path}
 use Rattle.lvm_vol.specs.Facts.{Fact}
 use Rattle.lvm_session.specs.declared.open.Power.TheVariants as power
@@ -11,9 +11,9 @@ use Rattle.lvm_group_lines.specs.passed.Driver.{IsCausedFor, IsAny, IsTurn}
 use Rattle.lvm_posts.specs.declared.posts.Post.{Post}
 use Rattle.lvm_posts.specs.Deciding.{RangeEnds}
 use Rattle.lvm_posts.specs.Posts.{takings}
-use Rattle.lvm_group_lines.specs.passed.Ranges.{HaveLanded, IsUnfinished, TakesRange}
+use Rattle.lvm_group_lines.specs.passed.Ranges.{AwaitCosts, HaveLanded, IsUnfinished, Stuck, TakesRange}
 use Rattle.lvm_group_lines.specs.passed.Earlier.{with_taken}
-use Rattle.lvm_group_lines.specs.passed.Stage.{State, Reply}
+use Rattle.lvm_group_lines.specs.passed.Stage.{State, Reply, patience_of_line}
 use Rattle.lvm_group_lines.specs.passed.RefusalVariants as refusal
 use Rattle.lvm_group_lines.specs.passed.ReplyVariants as reply
 use Rattle.lvm_range_lines.specs.Answers.{Tells}
@@ -57,6 +57,22 @@ AllHaveLanded posts s = (post : Post) → Contains posts post → post.ended ≡
 -- a turn that is made while some hasn't: a path of these makes no turn more once all have
 abbrev pub TurnsForPosts : List Post → Session → Session → Type 0
 TurnsForPosts posts old new = IsAwaited posts old × IsTurn old new
+
+-- what it costs to wait for a post: nothing, where its session is gone
+pub data PostCosts (post : Post) (patience left : ℕ) (old new : Session) (answer : Result (Unit {0}) Stuck) : Type 0 where
+  CostsNothing : (votes : ℕ × ℕ) → post.ended ≡ Some votes → left ≡ patience → new ≡ old → PostCosts post patience left old new answer
+  Costs : post.ended ≡ None → AwaitCosts post.asked patience left old new answer → PostCosts post patience left old new answer
+
+-- They are waited for one after the other, each by the patience that those before it have left.
+pub data PostsCost (patience : ℕ) (first : Session) : List Post → ℕ → Session → Type 0 where
+  NonePaid : PostsCost patience first [] patience first
+  OnePaid : {posts : List Post} {left less : ℕ} {mid new : Session} → PostsCost patience first posts left mid → (post : Post) → PostCosts post left less mid new (Ok tt) → PostsCost patience first (posts ++ post ∷ []) less new
+
+-- So it is of all, or up to one for which the patience ran out.
+pub data WaitCosts (patience : ℕ) (posts : List Post) (left : ℕ) (old new : Session) : Type 0 where
+  AllPaid : PostsCost patience old posts left new → WaitCosts patience posts left old new
+  RunsShort : (before behind : List Post) (post : Post) (some : ℕ) (mid : Session) (why : Stuck) → posts ≡ before ++ post ∷ behind → PostsCost patience old before some mid → PostCosts post some left mid new (Err why)
+      → WaitCosts patience posts left old new
 
 -- ---- the line
 
@@ -107,6 +123,7 @@ pub record WaitsFor (core : Core) (old new : State) (answer : Reply) : Type 0 wh
   pub sound : IsSound mid
   pub left : ℕ
   pub waited : Waited left (session_over old core) mid
+  pub costs : WaitCosts patience_of_line old.posts left (session_over old core) mid
   pub ends : WaitEnds mid left old new answer
 
 -- All posts are answered in their order, once all have landed. Where no group is on, or one without a volume, each has.

@@ -19,7 +19,7 @@ ghost use Rattle.lvm_group_lines.specs.passed.Running.{RunsOn};
 ghost use Rattle.lvm_group_lines.specs.passed.Stage.{EndsUnasked, OfRequests, IsBetweenStage, IsFitting, history_in, session_in, ArePosted, IsPosted};
 ghost use Rattle.lvm_vol.specs.Order.{Ordered};
 ghost use Rattle.lvm_range_lines.specs.Leaving.{resting, serving};
-ghost use Rattle.lvm_range_lines.specs.Waiting.{AllHaveLanded, TakesPost, WaitDoes};
+ghost use Rattle.lvm_range_lines.specs.Waiting.{AllHaveLanded, PostCosts, TakesPost, WaitCosts, WaitDoes};
 ghost use Rattle.lvm_range_lines.specs.Taking.{AwaitsPost, AwaitsPosts, Enters, GathersGone, GathersPosts, KeepsLater, LandedEnds, LeavesOthers, StaysKept, WaitsBehind};
 
 use crate::answers::Answers;
@@ -46,6 +46,7 @@ fn await_post<S: Shelf>(
     requires unstuck { driver.old.1.power ≡ power.Stuck → ⊥ }
     requires laid { IsLaidOut post.now.asked }
     ensures awaits { AwaitsPost post.now patience.new.left (state_of S.device driver.old) (state_of S.device driver.new) result }
+    ensures costs { PostCosts post.now patience.old.left patience.new.left (state_of S.device driver.old) (state_of S.device driver.new) result }
     ensures table { KeepsTable driver.old.1 driver.new.1 }
     ensures runs { RunsOn (state_of S.device driver.old) (state_of S.device driver.new) }
     ensures patience { patience.new.left ≤ patience.old.left }
@@ -66,6 +67,7 @@ fn await_posts<S: Shelf>(
     requires unstuck { driver.old.1.power ≡ power.Stuck → ⊥ }
     requires laid { All (λ post. IsLaidOut post.asked) posts.now }
     ensures awaits { AwaitsPosts posts.now patience.new.left (state_of S.device driver.old) (state_of S.device driver.new) result }
+    ensures costs { WaitCosts patience.old.left posts.now patience.new.left (state_of S.device driver.old) (state_of S.device driver.new) }
     ensures table { KeepsTable driver.old.1 driver.new.1 }
     ensures runs { RunsOn (state_of S.device driver.old) (state_of S.device driver.new) }
     ensures waited { RoseBy (patience.old.left - patience.new.left) (S.device driver.old.0).counts.waits (S.device driver.new.0).counts.waits }

@@ -1,5 +1,5 @@
 //! Who holds the shelf and the history between two lines.
-ghost use Rattle.std.specs.Prelude.{◌≡◌, IsTrue, None, length};
+ghost use Rattle.std.specs.Prelude.{◌≡◌, IsTrue, IsFalse, None, length};
 ghost use Rattle.std.specs.Option.{option_map};
 ghost use Rattle.lvm_disk.specs.Steps.{MayArrange, ArrangeGives};
 ghost use Rattle.lvm_session.specs.Dark.{after_arrange};
@@ -50,7 +50,8 @@ impl<S: Shelf> Holder<S> {
 
     /// Whether its session isn't over, where it has one of a group with volumes.
     pub fn goes_on(&self) -> bool
-        ensures { IsTrue result → IsOnIn self.now }
+        ensures on { IsTrue result → IsOnIn self.now }
+        ensures off { IsFalse result → IsOnIn self.now → ⊥ }
     {
         match self {
             Holder::Off {

@@ -1,7 +1,7 @@
 //! What stands between two lines of a script.
-ghost use Rattle.std.specs.Prelude.{◌≡◌, ◌↔◌, ℕ, [], length, IsTrue, IsFalse, IsSome, IfSome, IfOk, None};
-ghost use Rattle.lvm_stage.specs.Replies.{IsStuck};
-ghost use Rattle.lvm_stage.specs.Stages.{ComesTo, GivesBack, HaveRooms, IsCarried, IsEnded, IsLeftBy, IsNotOn, IsOn, history_in, posts_ended, session_in, session_of, shelf_in};
+ghost use Rattle.std.specs.Prelude.{◌≡◌, ◌⊎◌, ◌↔◌, ℕ, [], length, IsTrue, IsFalse, IsSome, IfSome, IfOk, None};
+ghost use Rattle.lvm_stage.specs.Replies.{IsStuck, is_unheard};
+ghost use Rattle.lvm_stage.specs.Stages.{ComesTo, GivesBack, HaveRooms, IsCarried, IsEnded, IsLeftBy, IsNotOn, IsOn, IsOnIn, history_in, posts_ended, session_in, session_of, shelf_in};
 
 use crate::holder::Holder;
 use crate::reply::{Refusal, Reply};
@@ -206,6 +206,7 @@ impl<S: Shelf> Stage<S> {
     pub fn goes_on(&self, reply: &Reply) -> bool
         ensures left { IsTrue result → IsLeftBy S.device self.now reply.now self.now }
         ensures heard { IsTrue result → IsStuck reply.now → ⊥ }
+        ensures ends { IsFalse result → IsTrue (is_unheard reply.now) ⊎ (IsOnIn self.now.holder → ⊥) }
     {
         if reply.is_unheard() {
             false

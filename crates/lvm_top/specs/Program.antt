@@ -124,6 +124,7 @@ pub record IsGenerated (seed count : ℕ) (status : ExitStatus) (out : Passage) 
   pub whole : status ≡ ended.Well → WhereTold out.before.content out.after.content (λ a b. b ≡ a ++ script_text seed count)
   pub front : (status ≡ ended.Well → ⊥) → WhereTold out.before.content out.after.content (λ a b. WritesFront (script_text seed count) a b)
   pub cause : status ≡ ended.SinkFault → Rose out.before.faults out.after.faults
+  pub memory : status ≡ ended.Memory → out.after.faults ≡ out.before.faults
 
 -- That disk alone was chosen, and its new image has so many MiB of zeros, or the sink failed and it has a front of them.
 pub record IsImaged (disk mib : ℕ) (status : ExitStatus) (chosen : Option ℕ) (earlier choices : ℕ) (image : Passage) : Type 0 where

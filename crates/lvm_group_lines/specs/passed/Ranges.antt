@@ -2,3 +2,4 @@
 pub use Rattle.lvm_disk_lines.specs.passed.Ranges.{AreApart, AreGot, AskRangeFault, AskRangeGives, Asks, AwaitEnds, FinishGives, Finished}
 pub use Rattle.lvm_disk_lines.specs.passed.Ranges.{HasEndedWell, HaveLanded, IsAskedFor, IsRead, IsUnfinished, KeepsEarlier, KeepsOthers, KeepsTable}
 pub use Rattle.lvm_disk_lines.specs.passed.Ranges.{Moves, NoMove, OneMove, StepEnds, Stuck, TakesRange, TurnsFor, WasStuck, range_fault}
+pub use Rattle.lvm_disk_lines.specs.passed.Ranges.{AwaitCosts, FinishCosts}

@@ -3,12 +3,14 @@ use Rattle.lvm_group_lines.specs.passed.Driver.{state_of}
 use Rattle.lvm_group_lines.proofs.passed.Running.{runs_none}
 use Rattle.lvm_group_lines.proofs.passed.Ranges.{table_same}
 use Rattle.lvm_range_lines.specs.Taking.{IsGone}
+use Rattle.lvm_range_lines.specs.Waiting.{Costs, CostsNothing}
 use Rattle.lvm_range_lines.proofs.Awaiting.{awaits_range, no_wait}
 use Rattle.lvm_range_lines.proofs.waiting.await_post.Goals as goal
 
 pub returns-in-Some : goal.returns-in-Some
 returns-in-Some g c = record {
   awaits = IsGone c.in-Some.field-0 c.in-Some.is refl refl;
+  costs = CostsNothing c.in-Some.field-0 c.in-Some.is refl refl;
   table = table_same c.args.driver.now.1;
   runs = runs_none (state_of g.S.Shelf.device c.args.driver.now);
   patience = omega arith;
@@ -21,6 +23,7 @@ returns-in-None g c =
     let device = g.S.Shelf.device in
     record {
       awaits = awaits_range c.args.post.now c.await_range.new.patience.left (state_of device c.args.driver.now) (state_of device c.await_range.new.driver) c.await_range.result c.in-None.is made.turns made.ends;
+      costs = Costs c.in-None.is made.costs;
       table = made.table;
       runs = made.runs;
       patience = made.patience;

@@ -7,8 +7,8 @@ use Rattle.lvm_group_lines.specs.passed.Driver.{state_of, IsAny}
 use Rattle.lvm_group_lines.proofs.passed.Running.{stays_unstuck}
 use Rattle.lvm_posts.specs.declared.posts.Post.{Post}
 use Rattle.lvm_posts.specs.Pieces.{IsLaidOut}
-use Rattle.lvm_group_lines.specs.passed.Stage.{Stage, HaveRooms, IsEnded}
-use Rattle.lvm_range_lines.specs.Waiting.{AllHaveLanded, IsAwaited, TurnsForPosts}
+use Rattle.lvm_group_lines.specs.passed.Stage.{Stage, HaveRooms, IsEnded, patience_of_line}
+use Rattle.lvm_range_lines.specs.Waiting.{AllHaveLanded, IsAwaited, TurnsForPosts, WaitCosts}
 use Rattle.lvm_range_lines.proofs.Posting.{table_posts}
 use Rattle.lvm_range_lines.proofs.Landed.{fits_on}
 use Rattle.lvm_range_lines.proofs.Waits.{landed_ends, vain_ends}
@@ -46,6 +46,7 @@ returns-in-Ok g c =
     landed_ends device first c.args.posts c.args.bytes c.requires.fits c.requires.between mid
     (subst (λ (ps : List Post). Path (TurnsForPosts ps) IsAny (state_of device first) (state_of device mid)) c.deref.ensures.value made.awaits.turns) made.runs c.wait_landed.ensures.sound left
     (subst (λ n. RoseBy (n - left) (device first.0).counts.waits (device mid.0).counts.waits) c.whole-patience.ensures made.waited)
+    (subst (λ (ps : List Post). WaitCosts patience_of_line ps left (state_of device first) (state_of device mid)) c.deref.ensures.value (subst (λ n. WaitCosts n c.deref.result.now left (state_of device first) (state_of device mid)) c.whole-patience.ensures made.costs))
     (table_posts first.1 mid.1 made.table c.args.posts.items c.requires.between.posted)
     (subst (λ (ps : List Post). AllHaveLanded ps (state_of device mid)) c.deref.ensures.value c.in-Ok.ensures.awaits.ends)
     c.wait_landed.result.stage c.wait_landed.result.reply c.wait_landed.ensures.fits c.wait_landed.ensures.ends
@@ -62,6 +63,7 @@ returns-in-Err g c =
     vain_ends device first c.args.posts c.args.bytes c.requires.fits c.requires.between mid
     (subst (λ (ps : List Post). Path (TurnsForPosts ps) IsAny (state_of device first) (state_of device mid)) c.deref.ensures.value made.awaits.turns) made.runs c.is_sound.ensures left
     (subst (λ n. RoseBy (n - left) (device first.0).counts.waits (device mid.0).counts.waits) c.whole-patience.ensures made.waited)
+    (subst (λ (ps : List Post). WaitCosts patience_of_line ps left (state_of device first) (state_of device mid)) c.deref.ensures.value (subst (λ n. WaitCosts n c.deref.result.now left (state_of device first) (state_of device mid)) c.whole-patience.ensures made.costs))
     (table_posts first.1 mid.1 made.table c.args.posts.items c.requires.between.posted)
     (subst (λ (ps : List Post). IsAwaited ps (state_of device mid)) c.deref.ensures.value vain.0) vain.1
     stage (subst (λ (s : Stage g.row.S.Denot). IsEnded device mid c.args.posts.items s) (sym c.refused.ensures.stage) c.ended.ensures.ended)
