@@ -13,7 +13,7 @@ use lvm_over::darken;
 use lvm_pbuf::Pool;
 use lvm_session::{Flown, Owner, Session};
 
-/// A buffer of a pool in which one is, with zeros in its first sector.
+/// A buffer of a pool in which one is: that of the lowest number, of 256 sectors, whatever these hold.
 pub fn take_free(pool: &mut Pool) -> Pbuf
     requires { list_any not pool.old ≡ true }
     ensures taken { TakesLowest pool.old pool.new result.number }

@@ -3,6 +3,8 @@ use Rattle.std.specs.Prelude.{◌≡◌, ◌≢◌, ℕ, [], Some, None}
 use Rattle.lvm_num.specs.Votes.{total_votes}
 use Rattle.lvm_session.specs.declared.answers.Turned.{Turned}
 use Rattle.lvm_session.specs.declared.answers.Turned.TheVariants as turned
+use Rattle.lvm_session.specs.declared.open.Power.{Power}
+use Rattle.lvm_session.specs.declared.open.Power.TheVariants as power
 use Rattle.lvm_session.specs.Sound.{IsSound}
 use Rattle.lvm_session.specs.State.{Core, State as Session, votes_there}
 use Rattle.lvm_group_lines.specs.passed.Running.{RunsOn}
@@ -19,12 +21,20 @@ step_reply moved end turned.Idle = reply.Stepped moved
 step_reply moved end turned.Dark = reply.Refused refusal.Dark
 step_reply moved end turned.Off = reply.Refused (refusal.WentOff (votes_there end.core) (total_votes end.core.descriptor))
 
+-- what a last turn that answered so has left of the session: the power is off, or the votes are lost
+abbrev pub StopsAs : Turned → Power → Type 0
+StopsAs turned.Moved left = Unit {0}
+StopsAs turned.Idle left = Unit {0}
+StopsAs turned.Dark left = left ≡ power.Dark
+StopsAs turned.Off left = left ≡ power.Off
+
 -- the turns of a session are made
 pub record IsStepped (turns : ℕ) (core : Core) (old new : State) (answer : Reply) : Type 0 where
   pub end : Session
   pub moved : ℕ
   pub how : Turned
   pub ends : StepEnds turns (session_over old core) end moved how
+  pub stops : StopsAs how end.core.power
   pub runs : RunsOn (session_over old core) end
   pub sound : IsSound end
   pub leaves : Leaves end old.posts old.last new

@@ -18,13 +18,13 @@ use Rattle.lvm_session.specs.declared.answers.Taken.{Taken}
 use Rattle.lvm_session.specs.declared.answers.Taken.TheVariants as answered
 use Rattle.lvm_session.specs.declared.open.Open.{Open}
 use Rattle.lvm_session.specs.Calls.{TakeAt, TakeGives, TakesLanded, after_take, is_asked, taken_as}
-use Rattle.lvm_session.specs.Causes.{IsAnswered}
+use Rattle.lvm_session.specs.Causes.{IsAnswered, IsLandedFor}
 use Rattle.lvm_session.specs.Judging.{is_waiting}
 use Rattle.lvm_session.specs.Sound.{IsAsked, IsSound, outcome_in, waits}
 use Rattle.lvm_session.specs.State.{Core, State, votes_there}
 use Rattle.lvm_keeps.proofs.Lists.{all_at, any_removed}
 use Rattle.lvm_keeps.proofs.Small.{both, not_so}
-use Rattle.lvm_keeps.proofs.Telling.{answered_still, open_still}
+use Rattle.lvm_keeps.proofs.Telling.{answered_still, open_still, outcome_still}
 use Rattle.lvm_running.specs.Running.{RunsOn}
 use Rattle.lvm_running.proofs.Running.{runs_both, runs_none}
 use Rattle.lvm_driver.specs.Answers.{IsCausedFor}
@@ -32,7 +32,7 @@ use Rattle.lvm_posts.specs.declared.asked.Asked.{Asked}
 use Rattle.lvm_posts.specs.declared.fault.RangeFault.{RangeFault}
 use Rattle.lvm_posts.specs.Posts.{AreHeld}
 use Rattle.lvm_ranges.specs.Keeping.{AreApart, KeepsOthers}
-use Rattle.lvm_ranges.specs.Finishing.{TakesRange}
+use Rattle.lvm_ranges.specs.Finishing.{HasLandedSo, TakesRange}
 use Rattle.lvm_ranges.specs.Landing.{HaveLanded}
 use Rattle.lvm_posts.specs.Pieces.{piece_lp}
 use Rattle.lvm_posts.specs.Deciding.{EndsWith, RangeEnds, fault_by}
@@ -162,6 +162,7 @@ pub record TakingSoFar (first now : State) (asked : Asked) (have total n : ℕ) 
   pub fewer : length now.core.requests + n ≡ length first.core.requests
   pub others : KeepsOthers asked first.core now.core
   pub power_is : now.core.power ≡ first.core.power
+  pub outcomes : (id : ℕ) → outcome_in now.core.history.facts id ≡ outcome_in first.core.history.facts id
   pub runs : RunsOn first now
 
 pub takes_none : (first : State) (asked : Asked) (have total : ℕ) → AreHeld first.core asked → HaveLanded asked first → TakingSoFar first first asked have total 0 None
@@ -174,6 +175,7 @@ takes_none first asked have total held landed = record {
   fewer = omega arith;
   others = record { held = λ other apart has. has; answered = λ other apart are. are; none = λ client id is. is; requests = keeps_none first.core };
   power_is = refl;
+  outcomes = λ id. refl;
   runs = runs_none first;
 }
 
@@ -264,6 +266,7 @@ module _ (first old new : State) (asked : Asked) (have total n lp : ℕ) (fault 
       requests = keeps_both first.core old.core new.core so_far.others.requests (keeps_requests old.core new.core sound.told.ordered grows);
     };
     power_is = ap (λ (c : Core). c.power) one.is ∙ so_far.power_is;
+    outcomes = λ id. ap (λ (l : List Fact). outcome_in l id) facts_are ∙ outcome_still old.core.history.facts entry id refl ∙ so_far.outcomes id;
     runs = runs_both first old new so_far.runs runs;
   }
     where
@@ -274,7 +277,7 @@ module _ (first old new : State) (asked : Asked) (have total n lp : ℕ) (fault 
 -- ---- why they landed so
 
 -- what holds of each in the table holds of the one that is found
-found_holds : (P : Open → Type 0) (t : Open → Bool) (os : List Open) → AllByRecursion P os → IfSome (find t os) P
+pub found_holds : (P : Open → Type 0) (t : Open → Bool) (os : List Open) → AllByRecursion P os → IfSome (find t os) P
 found_holds P t [] all = tt
 found_holds P t (o ∷ os) all = by (t o) (found_holds P t os all.1)
   where
@@ -285,16 +288,47 @@ found_holds P t (o ∷ os) all = by (t o) (found_holds P t os all.1)
 pub answered_for : (s : State) (client id : ℕ) → IsSound s → IsCausedFor s client id
 answered_for s client id sound = found_holds (IsAnswered s) (is_asked client id) s.core.requests sound.answered
 
+-- one that is in the table is found in it
+found_one : {X : Type 0} (t : X → Bool) (xs : List X) → list_any t xs ≡ true → (x : X) × (find t xs ≡ Some x) × (t x ≡ true)
+found_one t [] some = not_so some
+found_one {X} t (x ∷ xs) some = by (t x) refl (found_one t xs) some
+  where
+    by : (b : Bool) → t x ≡ b → (list_any t xs ≡ true → (y : X) × (find t xs ≡ Some y) × (t y ≡ true)) → b || list_any t xs ≡ true → (y : X) × ((if b then Some x else find t xs) ≡ Some y) × (t y ≡ true)
+    by true is rest e = (x, refl, is)
+    by false is rest e = rest e
+
+-- it has landed as the history tells
+landed_for : (s : State) (id : ℕ) (how : Outcome) → IsSound s → list_any (is_asked 1 id) s.core.requests ≡ true → outcome_in s.core.history.facts id ≡ Some how → HasLandedSo s id how
+landed_for s id how sound held told = record { request = o; found = one.1; landed = landed; cause = subst (λ (m : Option Outcome). IfSome m (IsLandedFor s o)) landed answered }
+  where
+    one : (o : Open) × (find (is_asked 1 id) s.core.requests ≡ Some o) × (is_asked 1 id o ≡ true)
+    one = found_one (is_asked 1 id) s.core.requests held
+
+    o : Open
+    o = one.0
+
+    asked : IsAsked s.core.history.facts o
+    asked = subst (λ (m : Option Open). IfSome m (IsAsked s.core.history.facts)) one.1 (found_holds (IsAsked s.core.history.facts) (is_asked 1 id) s.core.requests sound.told.requests)
+
+    answered : IsAnswered s o
+    answered = subst (λ (m : Option Open). IfSome m (IsAnswered s)) one.1 (answered_for s 1 id sound)
+
+    own : o.request.id ≡ id
+    own = eqb-true o.request.id id (both (o.request.client == 1) (o.request.id == id) one.2).1
+
+    landed : o.landed ≡ Some how
+    landed = asked.outcome ∙ ap (outcome_in s.core.history.facts) own ∙ told
+
 -- ---- all of them
 
-pub takes_all : (first now : State) (asked : Asked) (have total n : ℕ) (fault : Option RangeFault) (answer : Result (Unit {0}) RangeFault) → IsSound first → HaveLanded asked first → have ≡ votes_there first.core → total ≡ total_votes first.core.descriptor
+pub takes_all : (first now : State) (asked : Asked) (have total n : ℕ) (fault : Option RangeFault) (answer : Result (Unit {0}) RangeFault) → IsSound first → AreHeld first.core asked → HaveLanded asked first → have ≡ votes_there first.core → total ≡ total_votes first.core.descriptor
     → n ≡ asked.pieces → TakingSoFar first now asked have total n fault → RangeEnds now.core.history.facts asked have total answer → TakesRange asked first now answer
-takes_all first now asked have total n fault answer sound landed have_is total_is last so_far ends = record {
+takes_all first now asked have total n fault answer sound held landed have_is total_is last so_far ends = record {
   landed = landed;
   shelf = so_far.shelf;
   takes = subst (λ m. Takes asked.first first.core m now.core) last so_far.takes;
   fewer = subst (λ m. length now.core.requests + m ≡ length first.core.requests) last so_far.fewer;
   power_is = so_far.power_is;
   ends = subst (λ t. RangeEnds now.core.history.facts asked (votes_there first.core) t answer) total_is (subst (λ h. RangeEnds now.core.history.facts asked h total answer) have_is ends);
-  caused = λ k less. answered_for first 1 (asked.first + k) sound;
+  caused = λ k how less told. landed_for first (asked.first + k) how sound (held k less) (sym (so_far.outcomes (asked.first + k)) ∙ told);
 }

@@ -37,7 +37,7 @@ next_so : (log : Log) → Ordered log.run [] log.facts → next_id log ≡ lengt
 next_so log ordered = next_is log ordered (record no_request { id = next_id log }) refl
 
 -- each request that the history tells of has an earlier number
-earlier : (log : Log) → Ordered log.run [] log.facts → (id : ℕ) → is_some (told log.facts id) ≡ true → id < next_id log
+pub earlier : (log : Log) → Ordered log.run [] log.facts → (id : ℕ) → is_some (told log.facts id) ≡ true → id < next_id log
 earlier log ordered id is = by (told log.facts id) refl is
   where
     by : (m : Option Request) → told log.facts id ≡ m → is_some m ≡ true → id < next_id log

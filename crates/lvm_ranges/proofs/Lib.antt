@@ -9,3 +9,5 @@ pub mod Beginning
 pub mod Blocks
 pub mod Stepping
 pub mod Finishing
+pub mod Choosing
+pub mod Causing

@@ -4,15 +4,20 @@ use Rattle.std.specs.Option.{option_map_or}
 use Rattle.lvm_num.specs.declared.descriptor.LvRow.{LvRow}
 use Rattle.lvm_num.specs.Descriptor.{volume_of}
 use Rattle.lvm_num.specs.Geometry.{volume_blocks}
+use Rattle.lvm_disk.specs.Device.{Device}
 use Rattle.lvm_vol.specs.Log.{asked as told, blocks_begun, next_id, spare_bytes, spare_entries}
 use Rattle.lvm_raw.specs.Pieces.{piece_count}
+use Rattle.lvm_session.specs.declared.open.Power.TheVariants as power
 use Rattle.lvm_session.specs.Calls.{has_numbers}
 use Rattle.lvm_session.specs.State.{Core}
+use Rattle.lvm_running.specs.Running.{RunsOn}
+use Rattle.lvm_driver.specs.Answers.{state_of}
 use Rattle.lvm_posts.specs.declared.asked.Asked.{Asked}
 use Rattle.lvm_posts.specs.Pieces.{IsLaidOut}
 use Rattle.lvm_posts.specs.Posts.{AreHeld}
 use Rattle.lvm_ranges.specs.declared.refusal.AskRangeFault.{AskRangeFault}
 use Rattle.lvm_ranges.specs.declared.refusal.AskRangeFault.TheVariants as fault
+use Rattle.lvm_ranges.specs.Keeping.{KeepsEarlier}
 use Rattle.lvm_ranges.specs.Pieces.{Submits}
 use Rattle.lvm_ranges.specs.Reading.{IsRead}
 
@@ -48,6 +53,13 @@ pub record IsAskedFor (write : Option ℕ) (count : ℕ) (old new : Core) (asked
   pub more : length new.requests ≡ length old.requests + asked.pieces
   pub behind : (id : ℕ) → is_some (told old.history.facts id) ≡ true → id < asked.first
   pub read : write ≡ None → IsRead new.history.facts asked count
+
+-- the session stays on and keeps what was asked for before, and the shelf is as it was
+pub record StaysServing {S : Type 0} (device : S → Device) (old new : S × Core) : Type 0 where
+  pub shelf : new.0 ≡ old.0
+  pub on : new.1.power ≡ power.On
+  pub others : KeepsEarlier old.1 new.1
+  pub runs : RunsOn (state_of device old) (state_of device new)
 
 -- A range is asked for whole, or isn't, and then nothing changes.
 abbrev pub AskRangeGives : Option ℕ → ℕ → ℕ → ℕ → Core → Core → Result Asked AskRangeFault → Type 0

@@ -1,9 +1,16 @@
 -- A range is waited for, and its answers are taken.
-use Rattle.std.specs.Prelude.{◌≡◌, ◌<◌, ◌+◌, ℕ, Result, Ok, Err, length}
+use Rattle.std.specs.Prelude.{◌≡◌, ◌<◌, ◌≤◌, ◌+◌, ◌*◌, ℕ, Some, Result, Ok, Err, find, length}
+use Rattle.lvm_disk.specs.Counts.{Rose}
+use Rattle.lvm_disk.specs.Device.{Device}
 use Rattle.lvm_disk.specs.Paths.{Path}
 use Rattle.lvm_num.specs.Votes.{total_votes}
+use Rattle.lvm_vol.specs.declared.entry.Outcome.{Outcome}
+use Rattle.lvm_session.specs.declared.open.Open.{Open}
+use Rattle.lvm_session.specs.declared.open.Power.TheVariants as power
+use Rattle.lvm_session.specs.Calls.{is_asked}
+use Rattle.lvm_session.specs.Causes.{AnyFailedSince, IsLandedFor}
+use Rattle.lvm_session.specs.Sound.{outcome_in}
 use Rattle.lvm_session.specs.State.{State, votes_there}
-use Rattle.lvm_driver.specs.Answers.{IsCausedFor}
 use Rattle.lvm_driver.specs.Drains.{IsAny, TurnsWhile}
 use Rattle.lvm_posts.specs.declared.asked.Asked.{Asked}
 use Rattle.lvm_posts.specs.declared.fault.RangeFault.{RangeFault}
@@ -13,6 +20,13 @@ use Rattle.lvm_ranges.specs.Landing.{AwaitCosts, HaveLanded, IsUnfinished, Turns
 use Rattle.lvm_posts.specs.Deciding.{RangeEnds}
 use Rattle.lvm_ranges.specs.Taking.{Takes}
 
+-- Client 1's request of this number has landed so, and the cause of that holds of it.
+pub record HasLandedSo (s : State) (id : ℕ) (how : Outcome) : Type 0 where
+  pub request : Open
+  pub found : find (is_asked 1 id) s.core.requests ≡ Some request
+  pub landed : request.landed ≡ Some how
+  pub cause : IsLandedFor s request how
+
 -- The answers of a range that has landed are taken, and the first that isn't well decides its own; each has its cause.
 pub record TakesRange (asked : Asked) (old new : State) (answer : Result (Unit {0}) RangeFault) : Type 0 where
   pub landed : HaveLanded asked old
@@ -21,8 +35,8 @@ pub record TakesRange (asked : Asked) (old new : State) (answer : Result (Unit {
   pub fewer : length new.core.requests + asked.pieces ≡ length old.core.requests
   pub power_is : new.core.power ≡ old.core.power
   pub ends : RangeEnds new.core.history.facts asked (votes_there old.core) (total_votes old.core.descriptor) answer
-  -- why each piece landed as it did
-  pub caused : (k : ℕ) → k < asked.pieces → IsCausedFor old 1 (asked.first + k)
+  -- why each piece landed as the history tells
+  pub caused : (k : ℕ) (how : Outcome) → k < asked.pieces → outcome_in new.core.history.facts (asked.first + k) ≡ Some how → HasLandedSo old (asked.first + k) how
 
 -- Turns are made until the first moment at which each piece has landed, and its answers are taken; or the patience has run out before.
 pub data FinishGives (asked : Asked) (left : ℕ) (old new : State) (answer : Result (Unit {0}) RangeFault) : Type 0 where
@@ -33,3 +47,19 @@ pub data FinishGives (asked : Asked) (left : ℕ) (old new : State) (answer : Re
 pub data FinishCosts (asked : Asked) (patience left : ℕ) (old new : State) (answer : Result (Unit {0}) RangeFault) : Type 0 where
   TakesBehind : (mid : State) → AwaitCosts asked patience left old mid (Ok tt) → TakesRange asked mid new answer → FinishCosts asked patience left old new answer
   TakesNone : TurnsWhile (IsUnfinished asked) patience old left new → answer ≡ Err fault.Stuck → FinishCosts asked patience left old new answer
+
+-- ---- since it was asked for
+
+-- a transfer of some disk has failed between
+abbrev pub AnyFailed : Device → Device → Type 0
+AnyFailed old new = (disk : ℕ) × Rose (old.counts.faults disk) (new.counts.faults disk)
+
+-- What a range that was asked for on this shelf, and waited for with so much patience left, ended for: the power is off; nothing was heard any more; the votes
+-- are lost, and a transfer has failed since the session began; or a transfer has failed since the range was asked for.
+abbrev pub RangeCause : ℕ → Device → State → RangeFault → Type 0
+RangeCause left first end fault.Dark = end.core.power ≡ power.Dark
+RangeCause left first end fault.Stuck = left ≡ 0
+RangeCause left first end (fault.WentOff have total) = (2 * have ≤ total) × AnyFailedSince end
+RangeCause left first end fault.Lost = AnyFailed first end.device
+RangeCause left first end fault.ReadFailed = AnyFailed first end.device
+RangeCause left first end (fault.NoFresh lp) = Unit {0}

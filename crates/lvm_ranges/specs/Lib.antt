@@ -5,5 +5,6 @@ pub mod Keeping
 pub mod Asking
 pub mod Landing
 pub mod Taking
+pub mod Choosing
 pub mod Finishing
 pub mod Stepping

@@ -6,8 +6,7 @@ ghost use Rattle.lvm_session.specs.Asking.{IsAsking};
 ghost use Rattle.lvm_session.specs.Calls.{ask_fault, has_numbers, submitted};
 ghost use Rattle.lvm_running.specs.Running.{RunsOn};
 ghost use Rattle.lvm_driver.specs.Answers.{state_of};
-ghost use Rattle.lvm_ranges.specs.Asking.{AskRangeGives, Asks, IsAskedFor, fault_in, has_room, range_fault};
-ghost use Rattle.lvm_ranges.specs.Keeping.{KeepsEarlier};
+ghost use Rattle.lvm_ranges.specs.Asking.{AskRangeGives, Asks, IsAskedFor, StaysServing, fault_in, has_room, range_fault};
 ghost use Rattle.lvm_raw.specs.Pieces.{piece_count};
 ghost use Rattle.lvm_ranges.specs.Pieces.{Submits, piece_ask, with_piece};
 
@@ -188,12 +187,9 @@ fn ask_whole<S: Shelf>(
     requires may { range_fault driver.old.1 lv at count ≡ None }
     requires fits { at + count < 2 ^ 40 }
     requires room { 131072 ≤ vec_capacity bytes.old }
-    ensures shelf { driver.new.0 ≡ driver.old.0 }
     ensures asks { Asks write lv at count driver.old.1 driver.new.1 result }
     ensures asked { IsAskedFor write count driver.old.1 driver.new.1 result }
-    ensures others { KeepsEarlier driver.old.1 driver.new.1 }
-    ensures on { driver.new.1.power ≡ power.On }
-    ensures runs { RunsOn (state_of S.device driver.old) (state_of S.device driver.new) }
+    ensures leaves { StaysServing S.device driver.old driver.new }
     ensures room { 131072 ≤ vec_capacity bytes.new }
 {
     is_sound(driver);
@@ -238,12 +234,10 @@ pub fn ask_range<S: Shelf>(
     requires some { 1 ≤ count }
     requires most { count ≤ 4096 }
     requires room { 131072 ≤ vec_capacity bytes.old }
-    ensures shelf { driver.new.0 ≡ driver.old.0 }
     ensures gives { AskRangeGives write lv at count driver.old.1 driver.new.1 result }
     ensures asked { IfOk result (IsAskedFor write count driver.old.1 driver.new.1) }
-    ensures others { KeepsEarlier driver.old.1 driver.new.1 }
-    ensures on { driver.new.1.power ≡ power.On }
-    ensures runs { RunsOn (state_of S.device driver.old) (state_of S.device driver.new) }
+    // whatever the answer
+    ensures leaves { StaysServing S.device driver.old driver.new }
     ensures room { 131072 ≤ vec_capacity bytes.new }
 {
     match range_fault(driver, lv, at, count) {

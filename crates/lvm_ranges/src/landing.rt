@@ -1,7 +1,7 @@
 //! Turns until a range has landed.
 ghost use Rattle.std.specs.Prelude.{◌≡◌, ◌≤◌, ◌<◌, ◌+◌, ◌-◌, ◌^◌, ℕ, List, true, false, MatchOption};
-ghost use Rattle.lvm_disk.specs.Counts.{RoseBy};
 ghost use Rattle.lvm_disk.specs.Paths.{Path};
+ghost use Rattle.lvm_write.specs.Parts.{Spends};
 ghost use Rattle.lvm_session.specs.declared.open.Power.TheVariants as power;
 ghost use Rattle.lvm_running.specs.Running.{RunsOn};
 ghost use Rattle.lvm_driver.specs.Answers.{state_of};
@@ -51,10 +51,9 @@ pub fn await_range<S: Shelf>(
     ensures ends { AwaitEnds asked.now patience.new.left (state_of S.device driver.new) result }
     ensures table { KeepsTable driver.old.1 driver.new.1 }
     ensures runs { RunsOn (state_of S.device driver.old) (state_of S.device driver.new) }
-    ensures patience { patience.new.left ≤ patience.old.left }
+    ensures spends { Spends patience.old.left patience.new.left (S.device driver.old.0) (S.device driver.new.0) }
     // Each turn that waits costs one of the patience.
     ensures costs { AwaitCosts asked.now patience.old.left patience.new.left (state_of S.device driver.old) (state_of S.device driver.new) result }
-    ensures waited { RoseBy (patience.old.left - patience.new.left) (S.device driver.old.0).counts.waits (S.device driver.new.0).counts.waits }
 {
     while is_unfinished(driver, asked) {
         if patience.left == 0 {

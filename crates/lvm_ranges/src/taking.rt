@@ -1,6 +1,6 @@
 //! The answers of a range that has landed.
 ghost use Rattle.std.specs.Prelude.{◌≡◌, ◌≤◌, ◌<◌, ◌+◌, ◌-◌, ℕ, List, Option};
-ghost use Rattle.lvm_disk.specs.Counts.{RoseBy};
+ghost use Rattle.lvm_write.specs.Parts.{Spends};
 ghost use Rattle.lvm_session.specs.declared.open.Power.TheVariants as power;
 ghost use Rattle.lvm_running.specs.Running.{RunsOn};
 ghost use Rattle.lvm_driver.specs.Answers.{state_of};
@@ -82,10 +82,9 @@ pub fn finish_range<S: Shelf>(
     ensures gives { FinishGives asked.now patience.new.left (state_of S.device driver.old) (state_of S.device driver.new) result }
     ensures others { KeepsOthers asked.now driver.old.1 driver.new.1 }
     ensures runs { RunsOn (state_of S.device driver.old) (state_of S.device driver.new) }
-    ensures patience { patience.new.left ≤ patience.old.left }
+    ensures spends { Spends patience.old.left patience.new.left (S.device driver.old.0) (S.device driver.new.0) }
     // Each turn that waits costs one of the patience.
     ensures costs { FinishCosts asked.now patience.old.left patience.new.left (state_of S.device driver.old) (state_of S.device driver.new) result }
-    ensures waited { RoseBy (patience.old.left - patience.new.left) (S.device driver.old.0).counts.waits (S.device driver.new.0).counts.waits }
 {
     match await_range(driver, asked, patience) {
         Ok(()) => take_range(driver, asked),

@@ -1,2 +1,3 @@
 -- Passed on from `lvm_ranges`.
-pub use Rattle.lvm_tie_commands.proofs.passed.Ranges.{answered_for, ended_well, reads_on, room_first, table_same, table_then, turn_table}
+pub use Rattle.lvm_tie_commands.proofs.passed.Ranges.{answered_for, ended_well, off_votes, range_cause, reads_on, room_first, table_same, table_then}
+pub use Rattle.lvm_tie_commands.proofs.passed.Ranges.{turn_table}

@@ -28,11 +28,11 @@ returns-in-Ok g c =
     record {
       asks = Takes c.in-Some.lv c.in-Ok.asked (subst (λ (d : Descriptor). IsNumberOf d.lvs c.args.name c.in-Some.lv) c.descriptor.ensures.same c.in-Some.ensures.some)
           (subst (λ (r : Result Asked AskRangeFault). AskRangeGives c.args.write c.in-Some.lv c.args.at c.args.count c.args.driver.now.1 c.ask_range.new.driver.1 r) c.in-Ok.is c.ask_range.ensures.gives) refl;
-      shelf = made.shelf;
+      shelf = made.leaves.shelf;
       asked = made.asked;
-      posts = earlier_posts c.args.driver.now.1 c.ask_range.new.driver.1 made.others;
-      on = made.on;
-      runs = made.runs;
+      posts = earlier_posts c.args.driver.now.1 c.ask_range.new.driver.1 made.leaves.others;
+      on = made.leaves.on;
+      runs = made.leaves.runs;
       room = made.room;
     }
 
@@ -43,10 +43,10 @@ returns-in-Err g c =
     record {
       asks = Refuses c.in-Some.lv c.in-Err.why (subst (λ (d : Descriptor). IsNumberOf d.lvs c.args.name c.in-Some.lv) c.descriptor.ensures.same c.in-Some.ensures.some) gives
           (fault_same c.args.write c.in-Some.lv c.args.at c.args.count c.args.driver.now.1 c.ask_range.new.driver.1 c.in-Err.why gives) (ap (λ why. Err why) c.ask_refusal.ensures);
-      shelf = made.shelf;
+      shelf = made.leaves.shelf;
       asked = tt;
-      posts = earlier_posts c.args.driver.now.1 c.ask_range.new.driver.1 made.others;
-      on = made.on;
-      runs = made.runs;
+      posts = earlier_posts c.args.driver.now.1 c.ask_range.new.driver.1 made.leaves.others;
+      on = made.leaves.on;
+      runs = made.leaves.runs;
       room = made.room;
     }

@@ -4,7 +4,7 @@ use Rattle.lvm_group_lines.specs.passed.Stage.{Reply, Stage, most_refusals, Have
 use Rattle.lvm_range_lines.specs.Stepping.{StepDoes, Steps}
 use Rattle.lvm_range_lines.proofs.Ending.{RunsTo, carried_ends, carried_leaves, runs_to}
 use Rattle.lvm_range_lines.proofs.Posting.{table_posts}
-use Rattle.lvm_range_lines.proofs.Steps.{step_few}
+use Rattle.lvm_range_lines.proofs.Steps.{step_few, step_stops}
 use Rattle.lvm_range_lines.proofs.stepping.step_on.Goals as goal
 
 pub returns : goal.returns
@@ -27,6 +27,7 @@ returns g c =
       moved = c.step-moved.result.0;
       how = c.step-moved.result.1;
       ends = made.ends;
+      stops = step_stops c.args.turns c.step-moved.result.0 (state_of device first) (state_of device end) c.step-moved.result.1 made.ends;
       runs = made.runs;
       sound = c.step_reply-reply.ensures.sound;
       leaves = carried_leaves device end c.args.posts c.args.bytes stage last carried;

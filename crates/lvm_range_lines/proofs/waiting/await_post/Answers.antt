@@ -26,6 +26,6 @@ returns-in-None g c =
       costs = Costs c.in-None.is made.costs;
       table = made.table;
       runs = made.runs;
-      patience = made.patience;
-      waited = made.waited;
+      patience = made.spends.falls;
+      waited = made.spends.waits;
     }

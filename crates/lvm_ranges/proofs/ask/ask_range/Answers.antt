@@ -10,8 +10,10 @@ returns-in-None-clause-gives g c = gives_asked c.args.write c.args.lv c.args.at 
 pub returns-in-Some-clause-gives : goal.returns-in-Some-clause-gives
 returns-in-Some-clause-gives g c = gives_fault c.args.write c.args.lv c.args.at c.args.count c.args.driver.now.1 c.in-Some.why (sym c.in-Some.ensures)
 
-pub returns-in-Some-clause-runs : goal.returns-in-Some-clause-runs
-returns-in-Some-clause-runs g c = runs_none (state_of g.S.Shelf.device c.args.driver.now)
-
-pub returns-in-Some-clause-others : goal.returns-in-Some-clause-others
-returns-in-Some-clause-others g c = record { held = λ other held. held; asked = λ client id told. refl; answered = λ client id is. is }
+pub returns-in-Some-clause-leaves : goal.returns-in-Some-clause-leaves
+returns-in-Some-clause-leaves g c = record {
+  shelf = refl;
+  on = c.requires.on;
+  others = record { held = λ other held. held; asked = λ client id told. refl; answered = λ client id is. is };
+  runs = runs_none (state_of g.S.Shelf.device c.args.driver.now);
+}

@@ -17,11 +17,8 @@ returns g c =
     let asks = asks_all c.args.write c.args.lv c.args.at c.args.count first new _ last pieces from submitted.id refl (ap (λ (d : Descriptor). d.mib) c.descriptor.ensures.same) (c.block_count-place.ensures ∙ ap (λ (log : Log). blocks_begun log.facts) c.history.ensures) submitted.submits in
     let laid = is_laid_out c.args.at c.args.count first c.descriptor.result.now _ last pieces from submitted.id refl refl c.descriptor.ensures.valid c.requires.some c.requires.most c.requires.fits (omega arith) in
     record {
-      shelf = submitted.shelf;
       asks = asks;
       asked = asked_for c.args.write c.args.lv c.args.at c.args.count first new _ ordered asks laid;
-      others = earlier_stay c.args.write c.args.lv c.args.at c.args.count first new _ ordered asks;
-      on = submitted.on;
-      runs = submitted.runs;
+      leaves = record { shelf = submitted.shelf; on = submitted.on; others = earlier_stay c.args.write c.args.lv c.args.at c.args.count first new _ ordered asks; runs = submitted.runs };
       room = submitted.room;
     }

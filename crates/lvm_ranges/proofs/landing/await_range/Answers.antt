@@ -34,9 +34,8 @@ returns-then-patience-eq0 g c =
       ends = (c.is_unfinished.ensures.open c.loop-driver-test.true, c.if-patience-eq0.true);
       table = so_far.on.table;
       runs = so_far.on.runs;
-      patience = so_far.fewer;
       costs = c.loop-driver.invariant.turns;
-      waited = so_far.waited;
+      spends = record { falls = so_far.fewer; waits = so_far.waited };
     }
 
 pub returns-in-Dark : goal.returns-in-Dark
@@ -55,9 +54,8 @@ returns-in-Dark g c =
       ends = landed_at_end c.args.asked.now first old new c.args.patience.now.left c.loop-driver.patience.left so_far unfinished c.is_sound.ensures c.turn.result made.makes made.tells c.in-Dark.is;
       table = ended.on.table;
       runs = ended.on.runs;
-      patience = ended.fewer;
       costs = costs_at_end c.args.asked.now first old new c.args.patience.now.left c.loop-driver.patience.left c.loop-driver.invariant unfinished c.is_sound.ensures (omega (arith, some)) c.turn.result made.makes c.in-Dark.is;
-      waited = ended.waited;
+      spends = record { falls = ended.fewer; waits = ended.waited };
     }
 
 pub returns : goal.returns
@@ -68,7 +66,6 @@ returns g c =
       ends = c.is_unfinished.ensures.landed c.loop-driver-test.false;
       table = so_far.on.table;
       runs = so_far.on.runs;
-      patience = so_far.fewer;
       costs = inl c.loop-driver.invariant.turns;
-      waited = so_far.waited;
+      spends = record { falls = so_far.fewer; waits = so_far.waited };
     }

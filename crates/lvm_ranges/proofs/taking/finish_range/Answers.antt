@@ -1,6 +1,6 @@
-use Rattle.std.proofs.Common.{◌-◌, refl, sym, subst}
-use Rattle.lvm_disk.specs.Counts.{RoseBy}
+use Rattle.std.proofs.Common.{refl, sym, subst}
 use Rattle.lvm_disk.specs.Device.{Device}
+use Rattle.lvm_write.specs.Parts.{Spends}
 use Rattle.lvm_driver.specs.Answers.{state_of}
 use Rattle.lvm_running.proofs.Running.{runs_both}
 use Rattle.lvm_ranges.specs.Finishing.{Finished, TakesBehind, TakesNone, WasStuck}
@@ -25,9 +25,8 @@ returns-in-Ok g c =
       gives = Finished mid waited.turns waited.table took.gives;
       others = others_then c.args.asked.now old.core mid.core new.core waited.table took.others;
       runs = runs_both old mid new waited.runs took.runs;
-      patience = waited.patience;
       costs = TakesBehind mid waited.costs took.gives;
-      waited = subst (λ (d : Device). RoseBy (c.args.patience.now.left - c.await_range.new.patience.left) old.device.counts.waits d.counts.waits) (sym took.gives.shelf) waited.waited;
+      spends = subst (λ (d : Device). Spends c.args.patience.now.left c.await_range.new.patience.left old.device d) (sym took.gives.shelf) waited.spends;
     }
 
 pub returns-in-Err : goal.returns-in-Err
@@ -35,7 +34,6 @@ returns-in-Err g c = record {
   gives = WasStuck c.in-Err.ensures.turns c.in-Err.ensures.table c.in-Err.ensures.ends.0 c.in-Err.ensures.ends.1 refl;
   others = others_stay c.args.asked.now c.args.driver.now.1 c.await_range.new.driver.1 c.in-Err.ensures.table;
   runs = c.in-Err.ensures.runs;
-  patience = c.in-Err.ensures.patience;
   costs = TakesNone c.in-Err.ensures.costs refl;
-  waited = c.in-Err.ensures.waited;
+  spends = c.in-Err.ensures.spends;
 }

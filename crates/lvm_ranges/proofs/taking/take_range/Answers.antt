@@ -37,7 +37,7 @@ returns-in-None g c =
     let last : c.loop-piece.piece ≡ c.args.asked.now.pieces = omega arith in
     let so_far = c.loop-piece.invariant.so_far in
     record {
-      gives = takes_all (state_of device c.args.driver.now) (state_of device c.loop-piece.driver) c.args.asked.now c.votes-have.result.0 c.votes-have.result.1 c.loop-piece.piece c.loop-piece.fault (Ok tt) c.is_sound.ensures c.requires.landed c.votes-have.ensures.have c.votes-have.ensures.total last so_far
+      gives = takes_all (state_of device c.args.driver.now) (state_of device c.loop-piece.driver) c.args.asked.now c.votes-have.result.0 c.votes-have.result.1 c.loop-piece.piece c.loop-piece.fault (Ok tt) c.is_sound.ensures c.requires.held c.requires.landed c.votes-have.ensures.have c.votes-have.ensures.total last so_far
           (ends_well c.loop-piece.driver.1.history.facts c.args.asked.now c.votes-have.result.0 c.votes-have.result.1 c.loop-piece.piece c.loop-piece.fault last c.in-None.is so_far.decides);
       others = so_far.others;
       runs = so_far.runs;
@@ -49,7 +49,7 @@ returns-in-Some g c =
     let last : c.loop-piece.piece ≡ c.args.asked.now.pieces = omega arith in
     let so_far = c.loop-piece.invariant.so_far in
     record {
-      gives = takes_all (state_of device c.args.driver.now) (state_of device c.loop-piece.driver) c.args.asked.now c.votes-have.result.0 c.votes-have.result.1 c.loop-piece.piece c.loop-piece.fault (Err c.in-Some.why) c.is_sound.ensures c.requires.landed c.votes-have.ensures.have c.votes-have.ensures.total last so_far
+      gives = takes_all (state_of device c.args.driver.now) (state_of device c.loop-piece.driver) c.args.asked.now c.votes-have.result.0 c.votes-have.result.1 c.loop-piece.piece c.loop-piece.fault (Err c.in-Some.why) c.is_sound.ensures c.requires.held c.requires.landed c.votes-have.ensures.have c.votes-have.ensures.total last so_far
           (ends_failed c.loop-piece.driver.1.history.facts c.args.asked.now c.votes-have.result.0 c.votes-have.result.1 c.loop-piece.piece c.loop-piece.fault c.in-Some.why last c.in-Some.is so_far.decides);
       others = so_far.others;
       runs = so_far.runs;

@@ -1,0 +1,182 @@
+-- Why a range that was asked for, and waited for, ended otherwise than well.
+use Rattle.std.proofs.Common.{◌≡◌, ◌≤◌, ◌+◌, ◌*◌, ◌||◌, ◌==◌, ℕ, Bool, true, false, List, [], ◌∷◌, Option, Some, None, Result, Ok, Err, position, if◌then◌else◌, refl, sym, ◌∙◌, ap, subst, arith}
+use Rattle.std.specs.Prelude.{IfSome, MatchOption, is_some, nat_lt}
+use Rattle.std.specs.List.{list_any, AllByRecursion}
+use Rattle.std.proofs.lemmas.Bool.{eqb-true, ltb-false}
+use Rattle.lvm_num.specs.Votes.{is_enough_to_write, total_votes}
+use Rattle.lvm_num.proofs.MapsLemmas.{find-Some}
+use Rattle.lvm_disk.specs.Counts.{NoneFalls}
+use Rattle.lvm_disk.specs.Device.{Device}
+use Rattle.lvm_disk.specs.Paths.{Here, Path, Then}
+use Rattle.lvm_disk.proofs.Rising.{none_falls_at_once, none_falls_on, rose_before}
+use Rattle.lvm_vol.specs.declared.entry.Outcome.{Outcome}
+use Rattle.lvm_vol.specs.declared.entry.Outcome.TheVariants as outcome
+use Rattle.lvm_vol.specs.Log.{next_id}
+use Rattle.lvm_path.specs.declared.target.Target.{Target}
+use Rattle.lvm_path.specs.Targets.{is_failed}
+use Rattle.lvm_session.specs.declared.answers.Taken.{Taken}
+use Rattle.lvm_session.specs.declared.answers.Taken.TheVariants as answered
+use Rattle.lvm_session.specs.declared.open.Open.{Open}
+use Rattle.lvm_session.specs.declared.open.Power.TheVariants as power
+use Rattle.lvm_session.specs.Calls.{TakeAt, TakeGives, TakesLanded, is_asked}
+use Rattle.lvm_session.specs.Causes.{AnyFailedSince, HasFailed}
+use Rattle.lvm_session.specs.Enabled.{is_lost}
+use Rattle.lvm_session.specs.Sound.{IsAsked, IsSound, IsTold}
+use Rattle.lvm_session.specs.State.{Core, State, state, votes_there}
+use Rattle.lvm_keeps.proofs.Lists.{all_on, all_push}
+use Rattle.lvm_keeps.proofs.Losing.{loss_is_caused}
+use Rattle.lvm_keeps.proofs.Small.{both, is_false, not_so}
+use Rattle.lvm_turn_answers.proofs.Stepping.{turn_counts}
+use Rattle.lvm_driver.specs.Drains.{IsAny}
+use Rattle.lvm_posts.specs.declared.asked.Asked.{Asked}
+use Rattle.lvm_posts.specs.declared.fault.RangeFault.{RangeFault}
+use Rattle.lvm_posts.specs.declared.fault.RangeFault.TheVariants as fault
+use Rattle.lvm_posts.specs.Deciding.{AllWell, FirstFails, RangeEnds, fault_by}
+use Rattle.lvm_posts.specs.Pieces.{piece_lp}
+use Rattle.lvm_ranges.specs.declared.refusal.AskRangeFault.{AskRangeFault}
+use Rattle.lvm_ranges.specs.Asking.{AskRangeGives, Asks, range_fault}
+use Rattle.lvm_ranges.specs.Choosing.{AreAllSince, AreSince}
+use Rattle.lvm_ranges.specs.Finishing.{AnyFailed, FinishGives, Finished, HasLandedSo, RangeCause, TakesRange, WasStuck}
+use Rattle.lvm_ranges.specs.Landing.{TurnsFor}
+use Rattle.lvm_ranges.specs.Pieces.{NoPiece, OnePiece, Submits}
+use Rattle.lvm_ranges.specs.Taking.{NoTake, OneTake, Takes}
+use Rattle.lvm_ranges.proofs.Answering.{found_holds}
+use Rattle.lvm_ranges.proofs.Beginning.{earlier}
+use Rattle.lvm_ranges.proofs.Choosing.{turn_chooses}
+
+-- ---- no target of it is chosen before it is asked for
+
+-- what was asked for before has an earlier number
+none_earlier : (core : Core) (faults : ℕ → ℕ) → IsTold core → AreAllSince faults (next_id core.history) core
+none_earlier core faults told = all_on (IsAsked core.history.facts) (λ (o : Open). next_id core.history ≤ o.request.id → AreSince faults o) (λ o its above. absurd (below o its above)) core.requests told.requests
+  where
+    below : (o : Open) → IsAsked core.history.facts o → next_id core.history ≤ o.request.id → ⊥
+    below o its above = let less = earlier core.history told.ordered o.request.id (ap is_some its.told) in absurd (omega (arith, less, above))
+
+none_chosen : {write : Option ℕ} {lv at end : ℕ} {first : Core} {from n : ℕ} {core : Core} → Submits write lv at end first from n core → (faults : ℕ → ℕ) (since : ℕ) → AreAllSince faults since first → AreAllSince faults since core
+none_chosen NoPiece faults since all = all
+none_chosen (OnePiece {core = core} before less) faults since all = all_push (λ (o : Open). since ≤ o.request.id → AreSince faults o) core.requests _ (none_chosen before faults since all) (λ above. tt)
+
+begun_since : (write : Option ℕ) (lv at count : ℕ) (old new : Core) (asked : Asked) → IsTold old → Asks write lv at count old new asked → (faults : ℕ → ℕ) → AreAllSince faults asked.first new
+begun_since write lv at count old new asked told asks faults = none_chosen asks.submits faults asked.first (subst (λ n. AreAllSince faults n old) (sym asks.first) (none_earlier old faults told))
+
+-- ---- nor while it is waited for
+
+record Turned (first now : State) : Type 0 where
+  pub counts : NoneFalls first.device.counts now.device.counts
+  pub chooses : (faults : ℕ → ℕ) (from : ℕ) → ((disk : ℕ) → faults disk ≤ first.device.counts.faults disk) → AreAllSince faults from first.core → AreAllSince faults from now.core
+
+turned : (asked : Asked) (first now : State) → Path (TurnsFor asked) IsAny first now → Turned first now
+turned asked first now (Here any) = record { counts = none_falls_at_once first.device.counts; chooses = λ faults from low all. all }
+turned asked first now (Then {m} {n} before step any) =
+    let so_far = turned asked first m before in
+    let answer = step.1.0 in
+    let made = step.1.1 in
+    record {
+      counts = none_falls_on so_far.counts (turn_counts m n answer made);
+      chooses = λ faults from low all. turn_chooses m n answer made faults from (λ d. let a = low d in let b = so_far.counts.faults d in omega (arith, a, b)) (so_far.chooses faults from low all);
+    }
+
+-- ---- a piece that has landed so
+
+-- a target that could be used has failed
+some_failed : (first last : Device) (ts : List Target) → list_any (λ (t : Target). t.usable) ts ≡ true → AllByRecursion (λ (t : Target). t.usable ≡ true → HasFailed last t) ts
+    → AllByRecursion (λ (t : Target). first.counts.faults t.pp.disk ≤ t.faults) ts → AnyFailed first last
+some_failed first last [] some failed since = not_so some
+some_failed first last (t ∷ ts) some failed since = by t.usable refl (λ rest. some_failed first last ts rest failed.1 since.1) some
+  where
+    by : (b : Bool) → t.usable ≡ b → (list_any (λ (t : Target). t.usable) ts ≡ true → AnyFailed first last) → b || list_any (λ (t : Target). t.usable) ts ≡ true → AnyFailed first last
+    by true is others e = (t.pp.disk, rose_before since.0 (failed.0 is))
+    by false is others e = others e
+
+-- votes that are too few are at most half
+few_votes : (core : Core) → is_lost core ≡ true → 2 * votes_there core ≤ total_votes core.descriptor
+few_votes core lost = go core.descriptor.quorum (is_false (is_enough_to_write core.descriptor (votes_there core)) lost)
+  where
+    go : (quorum : Bool) → (if quorum then nat_lt (total_votes core.descriptor) (2 * votes_there core) else nat_lt 0 (votes_there core)) ≡ false → 2 * votes_there core ≤ total_votes core.descriptor
+    go true is = ltb-false (total_votes core.descriptor) (2 * votes_there core) is
+    go false is = let none = ltb-false 0 (votes_there core) is in omega (arith, none)
+
+-- once it is off, a transfer has failed since it began
+pub off_votes : (s : State) → IsSound s → s.core.power ≡ power.Off → (2 * votes_there s.core ≤ total_votes s.core.descriptor) × AnyFailedSince s
+off_votes s sound off = let lost = sound.off off in (few_votes s.core lost, loss_is_caused s sound lost)
+
+-- answers that are taken leave the votes
+lost_still : (core new : Core) (client id : ℕ) (answer : Taken) → TakeGives core new client id answer → is_lost new ≡ is_lost core
+lost_still core new client id answer gives = by (position (is_asked client id) core.requests) gives
+  where
+    by : (m : Option ℕ) → MatchOption m ((answer ≡ answered.Unknown) × (new ≡ core)) (λ (place : ℕ). TakeAt core new place answer) → is_lost new ≡ is_lost core
+    by None at_once = ap is_lost at_once.1
+    by (Some place) took = of took.0.landed took.2
+      where
+        of : (m : Option Outcome) → TakesLanded core new place took.0 answer m → is_lost new ≡ is_lost core
+        of None takes = ap is_lost takes.1
+        of (Some how) takes = ap is_lost takes.1
+
+still_lost : {id : ℕ} {first : Core} {n : ℕ} {new : Core} → Takes id first n new → is_lost new ≡ is_lost first
+still_lost NoTake = refl
+still_lost (OneTake {n = n} {core = core} {new = new} before answer gives landed) = lost_still core new 1 _ answer gives ∙ still_lost before
+
+module _ (first : Device) (mid end : State) (asked : Asked) (left : ℕ) (answer : Result (Unit {0}) RangeFault) (takes : TakesRange asked mid end answer) (sound : IsSound end) (since : AreAllSince first.counts.faults asked.first mid.core) where
+  own_since : (k : ℕ) (how : Outcome) (it : HasLandedSo mid (asked.first + k) how) → AreSince first.counts.faults it.request
+  own_since k how it = its (let is = own in omega (arith, is))
+    where
+      own : it.request.request.id ≡ asked.first + k
+      own = eqb-true it.request.request.id (asked.first + k) (both (it.request.request.client == 1) (it.request.request.id == asked.first + k) (find-Some (is_asked 1 (asked.first + k)) mid.core.requests it.request it.found).0).1
+
+      its : asked.first ≤ it.request.request.id → AreSince first.counts.faults it.request
+      its = subst (λ (m : Option Open). IfSome m (λ (o : Open). asked.first ≤ o.request.id → AreSince first.counts.faults o)) it.found
+          (found_holds (λ (o : Open). asked.first ≤ o.request.id → AreSince first.counts.faults o) (is_asked 1 (asked.first + k)) mid.core.requests since)
+
+  failed_at_end : AnyFailed first mid.device → AnyFailed first end.device
+  failed_at_end = subst (λ (d : Device). AnyFailed first d) (sym takes.shelf)
+
+  off_at_end : is_lost mid.core ≡ true → (2 * votes_there mid.core ≤ total_votes mid.core.descriptor) × AnyFailedSince end
+  off_at_end lost = (few_votes mid.core lost, loss_is_caused end sound (still_lost takes.takes ∙ lost))
+
+  abbrev so : ℕ → Outcome → RangeFault → Type 0
+  so k how why = fault_by (piece_lp asked k) (votes_there mid.core) (total_votes mid.core.descriptor) how ≡ Some why
+
+  piece_cause : (k : ℕ) (how : Outcome) (why : RangeFault) → so k how why → HasLandedSo mid (asked.first + k) how → RangeCause left first end why
+  piece_cause k outcome.Done why is it = absurd (cc is)
+  piece_cause k outcome.Got why is it = absurd (cc is)
+  piece_cause k outcome.Lost why is it =
+      let same : fault.Lost ≡ why = cc is in
+      subst (RangeCause left first end) same (failed_at_end (some_failed first mid.device it.request.request.targets.items it.cause.0 it.cause.1 (own_since k outcome.Lost it)))
+  piece_cause k outcome.ReadFailed why is it =
+      let same : fault.ReadFailed ≡ why = cc is in
+      subst (RangeCause left first end) same (failed_at_end (some_failed first mid.device it.request.request.targets.items it.cause.0
+      (all_on (λ (t : Target). (is_failed t.state ≡ true) × HasFailed mid.device t) (λ (t : Target). t.usable ≡ true → HasFailed mid.device t) (λ t its usable. its.1) it.request.request.targets.items it.cause.1)
+      (own_since k outcome.ReadFailed it)))
+  piece_cause k outcome.NoFresh why is it = let same : fault.NoFresh (piece_lp asked k) ≡ why = cc is in subst (RangeCause left first end) same tt
+  piece_cause k outcome.Off why is it =
+      let same : fault.WentOff (votes_there mid.core) (total_votes mid.core.descriptor) ≡ why = cc is in
+      subst (RangeCause left first end) same (off_at_end it.cause.1)
+  piece_cause k outcome.Dark why is it = let same : fault.Dark ≡ why = cc is in subst (RangeCause left first end) same (takes.power_is ∙ it.cause)
+
+-- ---- the range
+
+asks_so : (write : Option ℕ) (lv at count : ℕ) (old new : Core) (asked : Asked) → AskRangeGives write lv at count old new (Ok asked) → Asks write lv at count old new asked
+asks_so write lv at count old new asked gives = by (range_fault old lv at count) gives
+  where
+    by : (m : Option AskRangeFault) → MatchOption m ((it : Asked) × (◌≡◌ {A = Result Asked AskRangeFault} (Ok asked) (Ok it)) × Asks write lv at count old new it) (λ (why : AskRangeFault). (◌≡◌ {A = Result Asked AskRangeFault} (Ok asked) (Err why)) × (new ≡ old))
+        → Asks write lv at count old new asked
+    by None it = let same : it.0 ≡ asked = (let e = it.1 in cc e) in subst (Asks write lv at count old new) same it.2
+    by (Some why) it = absurd (let e = it.0 in cc e)
+
+pub range_cause : (write : Option ℕ) (lv at count : ℕ) (device : Device) (old begun : Core) (asked : Asked) (left : ℕ) (end : State) (why : RangeFault)
+    → IsTold old → AskRangeGives write lv at count old begun (Ok asked) → FinishGives asked left (state device begun) end (Err why) → IsSound end → RangeCause left device end why
+range_cause write lv at count device old begun asked left end why told gives (WasStuck path table unfinished none is) sound = let same : fault.Stuck ≡ why = cc is in subst (RangeCause left device end) same none
+range_cause write lv at count device old begun asked left end why told gives (Finished mid path table takes) sound = by takes.ends
+  where
+    begins : AreAllSince device.counts.faults asked.first begun
+    begins = begun_since write lv at count old begun asked told (asks_so write lv at count old begun asked gives) device.counts.faults
+
+    since : AreAllSince device.counts.faults asked.first mid.core
+    since = (turned asked (state device begun) mid path).chooses device.counts.faults asked.first (λ d. omega arith) begins
+
+    by : RangeEnds end.core.history.facts asked (votes_there mid.core) (total_votes mid.core.descriptor) (Err why) → RangeCause left device end why
+    by (AllWell well is) = absurd (cc is)
+    by (FirstFails k failed less before fails is) =
+        let same : failed ≡ why = cc is in
+        subst (RangeCause left device end) same (piece_cause device mid end asked left (Err why) takes sound since k fails.how failed fails.fault (takes.caused k fails.how less fails.landed))

@@ -1,0 +1,125 @@
+-- When a turn chooses the targets of requests.
+use Rattle.std.proofs.Common.{◌≡◌, ◌≤◌, ℕ, zero, suc, inl, inr, Bool, true, false, List, [], ◌∷◌, map, Some, slice_get, slice_set, sym, ap, subst, if◌then◌else◌}
+use Rattle.std.specs.List.{AllByRecursion}
+use Rattle.lvm_num.specs.declared.place.Pp.{Pp}
+use Rattle.lvm_vol.specs.declared.entry.Outcome.{Outcome}
+use Rattle.lvm_vol.specs.declared.entry.Outcome.TheVariants as outcome
+use Rattle.lvm_sched.specs.declared.writes.TargetState.{TargetState}
+use Rattle.lvm_sched.specs.declared.writes.TargetState.TheVariants as stage
+use Rattle.lvm_path.specs.declared.ask.Ask.{Ask}
+use Rattle.lvm_path.specs.declared.target.Target.{Target}
+use Rattle.lvm_path.specs.Asks.{is_write}
+use Rattle.lvm_path.specs.Targets.{end_state, with_state}
+use Rattle.lvm_session.specs.declared.event.Event.{Event}
+use Rattle.lvm_session.specs.declared.event.Event.TheVariants as event
+use Rattle.lvm_session.specs.declared.flown.Owner.{Owner}
+use Rattle.lvm_session.specs.declared.flown.Owner.TheVariants as owner
+use Rattle.lvm_session.specs.declared.open.Open.{Open}
+use Rattle.lvm_session.specs.declared.answers.Turned.{Turned}
+use Rattle.lvm_session.specs.declared.answers.Turned.TheVariants as turned
+use Rattle.lvm_session.specs.Dark.{ended_as}
+use Rattle.lvm_session.specs.Ends.{Ends, Learns}
+use Rattle.lvm_session.specs.Events.{Chooses, ChoosesBy, copy_of, landed_as, target_at}
+use Rattle.lvm_session.specs.Judging.{aims, copies_for, is_running, is_waiting}
+use Rattle.lvm_session.specs.State.{Core, State}
+use Rattle.lvm_session.specs.Turns.{FinishMakes, Finishes, Makes, Moves, NoStart, OnMakes, TurnMakes, WasDark, WasOff, WasOn}
+use Rattle.lvm_keeps.proofs.Lists.{all_at, all_mapped, all_set}
+use Rattle.lvm_turn_answers.proofs.Frames.{copy_stays, marked_stays, note_stays, status_stays}
+use Rattle.lvm_ranges.specs.Choosing.{AreAllSince, AreSince, TurnChoosesSince}
+
+module _ (old new : State) (faults : ℕ → ℕ) (from : ℕ) (low : (disk : ℕ) → faults disk ≤ old.device.counts.faults disk) (all : AreAllSince faults from old.core) where
+  abbrev IsSince : Open → Type 0
+  IsSince o = from ≤ o.request.id → AreSince faults o
+
+  -- ---- the targets of a request
+
+  abbrev IsKept : Target → Type 0
+  IsKept t = faults t.pp.disk ≤ t.faults
+
+  -- one that comes to be in another state was chosen as it was
+  state_since : (ts : List Target) (place : ℕ) (state : TargetState) → AllByRecursion IsKept ts → AllByRecursion IsKept (with_state ts place state)
+  state_since [] place state kept = tt
+  state_since (t ∷ ts) zero state kept = (kept.0, kept.1)
+  state_since (t ∷ ts) (suc place) state kept = (kept.0, state_since ts place state kept.1)
+
+  -- one that is chosen now has the faults of its disk
+  copies_since : (ask : Ask) (ps : List Pp) → AllByRecursion IsKept (map (target_at old ask) ps)
+  copies_since ask [] = tt
+  copies_since ask (p ∷ ps) = (low p.disk, copies_since ask ps)
+
+  order_since : (ask : Ask) (order : List ℕ) → AllByRecursion IsKept (map (λ n. target_at old ask (copy_of (copies_for old.core ask) n)) order)
+  order_since ask [] = tt
+  order_since ask (n ∷ order) = (low (copy_of (copies_for old.core ask) n).disk, order_since ask order)
+
+  chosen_since : (ask : Ask) (targets : List Target) (order : List ℕ) → Chooses old ask targets order → AllByRecursion IsKept targets
+  chosen_since ask targets order chosen = by (is_write ask) chosen
+    where
+      by : (b : Bool) → ChoosesBy b old ask targets order → AllByRecursion IsKept targets
+      by true its = subst (λ (ts : List Target). AllByRecursion IsKept ts) (sym its.0) (copies_since ask (aims old.core ask))
+      by false reads = subst (λ (ts : List Target). AllByRecursion IsKept ts) (sym reads.targets_are) (order_since ask order)
+
+  -- ---- the requests stay, or one changes, or all land
+
+  stay : new.core.requests ≡ old.core.requests → AreAllSince faults from new.core
+  stay same = subst (λ (os : List Open). AllByRecursion IsSince os) (sym same) all
+
+  set_one : (k : ℕ) (x : Open) → new.core.requests ≡ slice_set old.core.requests k x → IsSince x → AreAllSince faults from new.core
+  set_one k x set its = subst (λ (os : List Open). AllByRecursion IsSince os) (sym set) (all_set IsSince IsSince (λ o is. is) old.core.requests k x its all)
+
+  was : (k : ℕ) (o : Open) → slice_get old.core.requests k ≡ Some o → IsSince o
+  was k o there = all_at IsSince old.core.requests k o all there
+
+  all_end : (how : Outcome) → new.core.requests ≡ map (ended_as how) old.core.requests → AreAllSince faults from new.core
+  all_end how same = subst (λ (os : List Open). AllByRecursion IsSince os) (sym same) (all_mapped IsSince IsSince (ended_as how) on old.core.requests all)
+    where
+      on : (o : Open) → IsSince o → IsSince (ended_as how o)
+      on o is = by (is_waiting o)
+        where
+          by : (b : Bool) → IsSince (if b then landed_as how o else o)
+          by true = is
+          by false = is
+
+  -- ---- the events
+
+  event_since : (it : Event) → Makes it old new → AreAllSince faults from new.core
+  event_since (event.Land place how) made = set_one place _ (ap (λ (s : State). s.core.requests) made.is) (was place made.request made.there)
+  event_since (event.Admit place) made = set_one place _ (ap (λ (s : State). s.core.requests) made.is) (λ above. chosen_since made.request.request.ask made.targets made.order made.chosen)
+  event_since (event.Pin place) made = set_one place _ (ap (λ (s : State). s.core.requests) made.is) (was place made.request made.there)
+  event_since event.StartStatus made = stay (ap (λ (s : State). s.core.requests) made.is)
+  event_since (event.StartNote place disk) made = stay (ap (λ (s : State). s.core.requests) made.is)
+  event_since (event.StartData place target) made =
+      set_one place _ (ap (λ (s : State). s.core.requests) made.is) (λ above. state_since made.its.request.request.targets.items target stage.Flying (was place made.its.request made.its.there above))
+  event_since event.ReadCopy made = stay (ap (λ (s : State). s.core.requests) made.is)
+  event_since event.WriteCopy made = stay (ap (λ (s : State). s.core.requests) made.is)
+
+  end_since : (at : ℕ) → Ends old new at → AreAllSince faults from new.core
+  end_since at it = by it.row.owner it.learns
+    where
+      by : (who : Owner) → Learns who old.core at it.ok it.buf new.core → AreAllSince faults from new.core
+      by (owner.Data id target) learns =
+          set_one learns.place _ (marked_stays _ new.core _ learns.entails.is).requests (λ above. state_since learns.its.request.request.targets.items target (end_state it.ok) (was learns.place learns.its.request learns.its.there above))
+      by (owner.Status disk) learns = stay (status_stays old.core new.core at disk it.ok it.buf learns).requests
+      by (owner.Note disk) learns = stay (note_stays old.core new.core at disk it.ok it.buf learns).requests
+      by owner.Copy learns = stay (copy_stays (is_running learns.copy) it.ok old.core new.core at learns.copy it.buf learns.learns).requests
+
+  -- ---- a turn
+
+  finish_since : (answer : Turned) → FinishMakes old new answer → AreAllSince faults from new.core
+  finish_since turned.Moved made = end_since made.0 made.1
+  finish_since turned.Idle (inl finds) = stay (ap (λ (c : Core). c.requests) finds.is)
+  finish_since turned.Idle (inr nothing) = stay (ap (λ (s : State). s.core.requests) nothing.is)
+  finish_since turned.Dark made = all_end outcome.Dark (ap (λ (c : Core). c.requests) made.1.is)
+  finish_since turned.Off made = all_end outcome.Off (ap (λ (s : State). s.core.requests) made.is)
+
+  on_since : (answer : Turned) → OnMakes old new answer → AreAllSince faults from new.core
+  on_since answer (Moves it first made is) = event_since it made
+  on_since answer (NoStart it first start dark is) = all_end outcome.Dark (ap (λ (c : Core). c.requests) dark.is)
+  on_since answer (Finishes none made) = finish_since answer made
+
+  turn_since : (answer : Turned) → TurnMakes old new answer → AreAllSince faults from new.core
+  turn_since answer (WasDark dark is same) = stay (ap (λ (s : State). s.core.requests) same)
+  turn_since answer (WasOff off is same) = stay (ap (λ (s : State). s.core.requests) same)
+  turn_since answer (WasOn on made) = on_since answer made
+
+pub turn_chooses : TurnChoosesSince
+turn_chooses old new answer made faults from low all = turn_since old new faults from low all answer made
