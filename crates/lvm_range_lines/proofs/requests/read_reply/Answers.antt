@@ -1,9 +1,9 @@
 use Rattle.std.proofs.Common.{◌-◌, subst}
-use Rattle.std.specs.Prelude.{Result}
+use Rattle.std.specs.Prelude.{Result, Ok, Err}
 use Rattle.lvm_disk.specs.Counts.{RoseBy}
 use Rattle.lvm_group_lines.specs.passed.Driver.{state_of}
 use Rattle.lvm_posts.specs.declared.fault.RangeFault.{RangeFault}
-use Rattle.lvm_group_lines.specs.passed.Ranges.{FinishGives}
+use Rattle.lvm_group_lines.specs.passed.Ranges.{FinishCosts, FinishGives}
 use Rattle.lvm_group_lines.proofs.passed.Ranges.{ended_well, reads_on}
 use Rattle.lvm_range_lines.proofs.requests.read_reply.Goals as goal
 
@@ -15,7 +15,11 @@ returns-in-Ok g c =
       finishes = (
         left,
         subst (λ (r : Result (Unit {0}) RangeFault). FinishGives c.args.asked.now left (state_of device c.args.driver.now) (state_of device c.finish_range.new.driver) r) c.in-Ok.is c.finish_range.ensures.gives,
-        subst (λ n. RoseBy (n - left) (device c.args.driver.now.0).counts.waits (device c.finish_range.new.driver.0).counts.waits) c.whole-patience.ensures c.in-Ok.ensures.spends.waits,
+        record {
+          waited = subst (λ n. RoseBy (n - left) (device c.args.driver.now.0).counts.waits (device c.finish_range.new.driver.0).counts.waits) c.whole-patience.ensures c.in-Ok.ensures.spends.waits;
+          costs = subst (λ n. FinishCosts c.args.asked.now n left (state_of device c.args.driver.now) (state_of device c.finish_range.new.driver) (Ok tt)) c.whole-patience.ensures
+              (subst (λ (r : Result (Unit {0}) RangeFault). FinishCosts c.args.asked.now c.whole-patience.result.left left (state_of device c.args.driver.now) (state_of device c.finish_range.new.driver) r) c.in-Ok.is c.finish_range.ensures.costs);
+        },
       );
       others = c.in-Ok.ensures.others;
       runs = c.in-Ok.ensures.runs;
@@ -30,7 +34,11 @@ returns-in-Err g c =
       finishes = (
         left,
         subst (λ (r : Result (Unit {0}) RangeFault). FinishGives c.args.asked.now left (state_of device c.args.driver.now) (state_of device c.finish_range.new.driver) r) c.in-Err.is c.finish_range.ensures.gives,
-        subst (λ n. RoseBy (n - left) (device c.args.driver.now.0).counts.waits (device c.finish_range.new.driver.0).counts.waits) c.whole-patience.ensures c.in-Err.ensures.spends.waits,
+        record {
+          waited = subst (λ n. RoseBy (n - left) (device c.args.driver.now.0).counts.waits (device c.finish_range.new.driver.0).counts.waits) c.whole-patience.ensures c.in-Err.ensures.spends.waits;
+          costs = subst (λ n. FinishCosts c.args.asked.now n left (state_of device c.args.driver.now) (state_of device c.finish_range.new.driver) (Err c.in-Err.why)) c.whole-patience.ensures
+              (subst (λ (r : Result (Unit {0}) RangeFault). FinishCosts c.args.asked.now c.whole-patience.result.left left (state_of device c.args.driver.now) (state_of device c.finish_range.new.driver) r) c.in-Err.is c.finish_range.ensures.costs);
+        },
       );
       others = c.in-Err.ensures.others;
       runs = c.in-Err.ensures.runs;
