@@ -1,4 +1,4 @@
-use Rattle.std.proofs.Common.{◌≡◌, ℕ, List, [], ◌/◌, length, slice_index_or, ap, ◌∙◌, sym}
+use Rattle.std.proofs.Common.{◌≡◌, ℕ, List, [], ◌/◌, length, slice_index_or, ap, ◌∙◌}
 use Rattle.std.specs.Simd.{first_chunks}
 use Rattle.lvm_image.proofs.read_buffer.ReadBuffer.sector.Goals as goal
 
