@@ -1,6 +1,6 @@
 -- What a line leaves that has brought up copies in a session that is on.
 use Rattle.std.proofs.Common.{◌≡◌, ◌≤◌, ◌+◌, ℕ, inl, inr, Bool, true, false, List, Option, Some, None, Result, Ok, Err, if◌then◌else◌, length, refl, sym, ap, subst, ◌∙◌, arith}
-use Rattle.std.specs.Prelude.{IfErr, is_some}
+use Rattle.std.specs.Prelude.{IfErr, IfSome, is_some}
 use Rattle.std.specs.Option.{option_map_or}
 use Rattle.std.specs.Global.{Vec}
 use Rattle.lvm_num.specs.declared.descriptor.LvRow.{LvRow}
@@ -25,11 +25,11 @@ use Rattle.lvm_resync.specs.Turning.{GoesBeside, StopsFor}
 use Rattle.lvm_volume_lines.specs.passed.Driver.{state_of}
 use Rattle.lvm_volume_lines.specs.passed.RangeLines.{FailsIf, serving}
 use Rattle.lvm_volume_lines.specs.passed.HolderVariants as holder
-use Rattle.lvm_volume_lines.specs.passed.Stage.{ArePosted, ComesTo, EndsUnasked, HaveRooms, IsBetweenStage, IsCarried, IsEnded, IsFitting, OfRequests, Reply, Stage, State, most_refusals, patience_of_line, state_in, without_facts}
+use Rattle.lvm_volume_lines.specs.passed.Stage.{ArePosted, ComesTo, EndsUnasked, HaveRooms, IsBetweenStage, IsCarried, IsEnded, IsFitting, OfRequests, Reply, Stage, State, is_unheard, most_refusals, patience_of_line, state_in, without_facts}
 use Rattle.lvm_volume_lines.specs.passed.RefusalVariants as refusal
 use Rattle.lvm_volume_lines.specs.passed.ReplyVariants as reply
 use Rattle.lvm_volume_lines.proofs.passed.RangeLines.{RunsTo, carried_ends, carried_leaves, ended_is_over, over_ends, stuck_ends, table_posts, unstuck}
-use Rattle.lvm_copy_lines.specs.Resyncing.{MayCome, is_unheard, numbers_reply, sync_reply}
+use Rattle.lvm_copy_lines.specs.Resyncing.{MayCome, numbers_reply, sync_reply}
 
 -- ---- what may be answered
 
@@ -37,7 +37,7 @@ abbrev pub MayBe : Option SyncFault → Type 0
 MayBe None = Unit {0}
 MayBe (Some why) = MayCome why
 
-passed_may : (c : Copy) (old new : Session) (why : SyncFault) → PassesCopy c old new (passed.Failed why) → MayCome why
+passed_may : (c : Copy) {patience left : ℕ} (old new : Session) (why : SyncFault) → PassesCopy c patience left old new (passed.Failed why) → MayCome why
 passed_may c old new fault.Dark it = tt
 passed_may c old new fault.Off it = tt
 passed_may c old new fault.Stuck it = tt
@@ -51,7 +51,7 @@ passed_may c old new (fault.SyncFailed disk) it = tt
 passed_may c old new (fault.NoFresh lp) it = tt
 passed_may c old new (fault.Missing disk) it = tt
 
-passes_may : (first : Session) (copies : List Copy) (now : Session) (tally : Tally) → Passes first no_tally copies now tally → MayBe tally.fault
+passes_may : (first : Session) {patience left : ℕ} (copies : List Copy) (now : Session) (tally : Tally) → Passes first no_tally patience copies now tally left → MayBe tally.fault
 passes_may first all now total NonePassed = tt
 passes_may first all now total (OnePassed {copies} {old} {new} {tally} c passed.Fresh rest it) = passes_may first copies old tally rest
 passes_may first all now total (OnePassed {copies} {old} {new} {tally} c passed.Made rest it) = passes_may first copies old tally rest
@@ -73,11 +73,11 @@ stops_may left core (fault.SyncFailed disk) stops = tt
 stops_may left core (fault.NoFresh lp) stops = tt
 stops_may left core (fault.Missing disk) stops = tt
 
-pub may_come : (refused : Option SyncFault) (copies : List Copy) (old new : Session) (left : ℕ) (result : Result ℕ SyncFault) → MayBe refused → SyncGives refused copies old new left result → IfErr result MayCome
-may_come (Some why) copies old new left result may gives = subst (λ (r : Result ℕ SyncFault). IfErr r MayCome) (sym gives.0) may
-may_come None copies old new left (Ok made) may gives = tt
-may_come None copies old new left (Err why) may (inl syncs) = passes_may old copies new (record { made = syncs.0; fault = Some why }) syncs.1.passes
-may_come None copies old new left (Err why) may (inr stops) = stops_may left new.core why stops
+pub may_come : (refused : Option SyncFault) (copies : List Copy) (patience left : ℕ) (old new : Session) (result : Result ℕ SyncFault) → MayBe refused → SyncGives refused copies patience left old new result → IfErr result MayCome
+may_come (Some why) copies patience left old new result may gives = subst (λ (r : Result ℕ SyncFault). IfErr r MayCome) (sym gives.0) may
+may_come None copies patience left old new (Ok made) may gives = tt
+may_come None copies patience left old new (Err why) may (inl syncs) = passes_may old copies new (record { made = syncs.0; fault = Some why }) syncs.1.passes
+may_come None copies patience left old new (Err why) may (inr stops) = stops_may left new.core why stops.stops.0
 
 numbers_may : (core : Core) → MayBe (numbers_fault core)
 numbers_may core = by (has_numbers core)
@@ -108,9 +108,13 @@ volume_may core lv none = fault_may core (option_map_or (λ (row : LvRow). numbe
 pub group_may : (core : Core) → core.copy ≡ None → MayBe (group_fault core)
 group_may core none = fault_may core (numbers_fault core) none (numbers_may core)
 
+-- the group that is on has the name
+pub name_on : (name : List ℕ) (session : Option Core) (core : Core) → session ≡ Some core → IfSome session (λ (k : Core). k.descriptor.name ≡ name) → core.descriptor.name ≡ name
+name_on name session core is on = subst (λ (m : Option Core). IfSome m (λ (k : Core). k.descriptor.name ≡ name)) is on
+
 -- ---- no copy is left open where the session goes on
 
-stopped_shut : (left : ℕ) (core : Core) (why : SyncFault) → StopsFor left core why → is_unheard (Err why) ≡ false → core.power ≡ power.On → core.copy ≡ None
+stopped_shut : (left : ℕ) (core : Core) (why : SyncFault) → StopsFor left core why → is_unheard (sync_reply core (Err why)) ≡ false → core.power ≡ power.On → core.copy ≡ None
 stopped_shut left core fault.Dark stops heard on = absurd (let e : power.Dark ≡ power.On = sym stops ∙ on in cc e)
 stopped_shut left core fault.Off stops heard on = absurd (let e : power.Off ≡ power.On = sym stops ∙ on in cc e)
 stopped_shut left core fault.Stuck stops heard on = absurd (cc heard)
@@ -122,12 +126,12 @@ stopped_shut left core (fault.SyncFailed disk) stops heard on = absurd stops
 stopped_shut left core (fault.NoFresh lp) stops heard on = absurd stops
 stopped_shut left core (fault.Missing disk) stops heard on = absurd stops
 
-pub synced_shut : (refused : Option SyncFault) (copies : List Copy) (old new : Session) (left : ℕ) (result : Result ℕ SyncFault) → SyncGives refused copies old new left result → old.core.copy ≡ None
-    → is_unheard result ≡ false → new.core.power ≡ power.On → new.core.copy ≡ None
-synced_shut (Some why) copies old new left result gives none heard on = ap (λ (s : Session). s.core.copy) gives.1 ∙ none
-synced_shut None copies old new left (Ok made) gives none heard on = gives.0.none
-synced_shut None copies old new left (Err why) (inl syncs) none heard on = syncs.1.none
-synced_shut None copies old new left (Err why) (inr stops) none heard on = stopped_shut left new.core why stops heard on
+pub synced_shut : (refused : Option SyncFault) (copies : List Copy) (patience left : ℕ) (old new : Session) (result : Result ℕ SyncFault) → SyncGives refused copies patience left old new result → old.core.copy ≡ None
+    → is_unheard (sync_reply new.core result) ≡ false → new.core.power ≡ power.On → new.core.copy ≡ None
+synced_shut (Some why) copies patience left old new result gives none heard on = ap (λ (s : Session). s.core.copy) gives.1 ∙ none
+synced_shut None copies patience left old new (Ok made) gives none heard on = gives.0.none
+synced_shut None copies patience left old new (Err why) (inl syncs) none heard on = syncs.1.none
+synced_shut None copies patience left old new (Err why) (inr stops) none heard on = stopped_shut left new.core why stops.stops.0 heard on
 
 -- ---- the reply
 
@@ -143,7 +147,7 @@ numbers_few core = by (has_numbers core)
     by true = omega arith
     by false = omega arith
 
-stuck_says : (core : Core) (result : Result ℕ SyncFault) → is_unheard result ≡ true → sync_reply core result ≡ reply.Refused refusal.Stuck
+stuck_says : (core : Core) (result : Result ℕ SyncFault) → is_unheard (sync_reply core result) ≡ true → sync_reply core result ≡ reply.Refused refusal.Stuck
 stuck_says core (Ok made) e = absurd (cc e)
 stuck_says core (Err fault.Stuck) e = refl
 stuck_says core (Err fault.Dark) e = absurd (cc e)
@@ -193,9 +197,9 @@ module _ {S : Type 0} (device : S → Device) (first : S × Core) (posts : Vec P
       by power.Dark is = over_ends device first posts bytes fits between end to Does posts bytes fits.rooms stage answer few_then does ended rooms (ap is_over is) posted
       by power.Stuck is = absurd (unstuck device first posts bytes fits between end to is)
 
-  pub synced_ends : (result : Result ℕ SyncFault) → (is_unheard result ≡ false → end.1.power ≡ power.On → end.1.copy ≡ None) → answer ≡ sync_reply end.1 result → ComesTo device (is_unheard result) (holder.Serving end) posts bytes stage → Ends
-  synced_ends result shut says it = by (is_unheard result) refl it
+  pub synced_ends : (result : Result ℕ SyncFault) → (is_unheard answer ≡ false → end.1.power ≡ power.On → end.1.copy ≡ None) → answer ≡ sync_reply end.1 result → ComesTo device (is_unheard answer) (holder.Serving end) posts bytes stage → Ends
+  synced_ends result shut says it = by (is_unheard answer) refl it
     where
-      by : (b : Bool) → is_unheard result ≡ b → ComesTo device b (holder.Serving end) posts bytes stage → Ends
+      by : (b : Bool) → is_unheard answer ≡ b → ComesTo device b (holder.Serving end) posts bytes stage → Ends
       by false heard carried = goes (shut heard) carried
-      by true stuck ended = closes (says ∙ stuck_says end.1 result stuck) ended
+      by true stuck ended = closes (says ∙ stuck_says end.1 result (sym (ap is_unheard says) ∙ stuck)) ended

@@ -1,5 +1,5 @@
 -- What `syncvg` does.
-use Rattle.std.specs.Prelude.{◌≡◌, ◌≢◌, ℕ, Bool, true, false, List, [], Option, Some, None, Result, Ok, Err, if◌then◌else◌}
+use Rattle.std.specs.Prelude.{◌≡◌, ◌≢◌, ℕ, List, [], Option, Some, None, Result, Ok, Err, IfErr, if◌then◌else◌}
 use Rattle.lvm_num.specs.Votes.{total_votes}
 use Rattle.lvm_session.specs.Calls.{has_numbers}
 use Rattle.lvm_session.specs.Sound.{IsSound}
@@ -7,11 +7,12 @@ use Rattle.lvm_session.specs.State.{Core, State as Session, votes_there}
 use Rattle.lvm_core.specs.Looking.{IsNumberOf, HasNoVolume}
 use Rattle.lvm_resync.specs.declared.fault.SyncFault.{SyncFault}
 use Rattle.lvm_resync.specs.declared.fault.SyncFault.TheVariants as fault
+use Rattle.lvm_resync.specs.Causes.{SyncCause}
 use Rattle.lvm_resync.specs.Passing.{Copy}
 use Rattle.lvm_resync.specs.Syncing.{SyncGives, group_copies, group_fault, volume_copies, volume_fault}
 use Rattle.lvm_resync.specs.Turning.{GoesBeside}
 use Rattle.lvm_volume_lines.specs.passed.RangeLines.{FailsIf, session_over}
-use Rattle.lvm_volume_lines.specs.passed.Stage.{IsNotOn, IsRefused, Refusal, Reply, State, patience_of_line}
+use Rattle.lvm_volume_lines.specs.passed.Stage.{IsNotOn, IsRefused, Refusal, Reply, State, is_unheard, patience_of_line}
 use Rattle.lvm_volume_lines.specs.passed.RefusalVariants as refusal
 use Rattle.lvm_volume_lines.specs.passed.ReplyVariants as reply
 
@@ -45,13 +46,6 @@ MayCome why = Unit {0}
 abbrev pub numbers_reply : Core → Reply
 numbers_reply core = if has_numbers core then reply.Synced 0 else reply.Refused refusal.HistoryFull
 
--- ---- what it leaves
-
--- nothing was heard of the transfers that were out
-abbrev pub is_unheard : Result ℕ SyncFault → Bool
-is_unheard (Err fault.Stuck) = true
-is_unheard result = false
-
 -- ---- the lines
 
 -- Copies of the session that is on are passed, with the patience of a line; and so it goes on, or is closed.
@@ -59,11 +53,12 @@ pub record IsSynced (refused : Core → Option SyncFault) (copies : List Copy) (
   pub end : Session
   pub left : ℕ
   pub result : Result ℕ SyncFault
-  pub gives : SyncGives (refused core) copies (session_over old core) end left result
+  pub gives : SyncGives (refused core) copies patience_of_line left (session_over old core) end result
   pub beside : GoesBeside (session_over old core) end patience_of_line left
   pub sound : IsSound end
-  pub leaves : FailsIf (is_unheard result) end old.posts old.last new
+  pub leaves : FailsIf (is_unheard answer) end old.posts old.last new
   pub says : answer ≡ sync_reply end.core result
+  pub caused : IfErr result (SyncCause left (session_over old core) end)
 
 -- It is refused while no group is on, and where the group has no volume of the name. Else the volume's copies are brought up.
 pub data SyncVolumeDoes (name : List ℕ) (old new : State) (answer : Reply) : Type 0 where
@@ -75,5 +70,6 @@ pub data SyncVolumeDoes (name : List ℕ) (old new : State) (answer : Reply) : T
 -- It is refused while the group of the name isn't on. In a group without volumes nothing is brought up; else the copies of all its volumes are.
 pub data SyncGroupDoes (name : List ℕ) (old new : State) (answer : Reply) : Type 0 where
   OtherGroupForSync : IsNotOn name old.session → IsRefused refusal.NoGroup answer old new → SyncGroupDoes name old new answer
-  NothingSyncs : (core : Core) → old.session ≡ Some core → core.descriptor.lvs ≡ [] → answer ≡ numbers_reply core → new ≡ old → SyncGroupDoes name old new answer
-  SyncsGroup : (core : Core) → old.session ≡ Some core → core.descriptor.lvs ≢ [] → IsSynced group_fault (group_copies core.descriptor) core old new answer → SyncGroupDoes name old new answer
+  NothingSyncs : (core : Core) → old.session ≡ Some core → core.descriptor.name ≡ name → core.descriptor.lvs ≡ [] → answer ≡ numbers_reply core → new ≡ old → SyncGroupDoes name old new answer
+  SyncsGroup : (core : Core) → old.session ≡ Some core → core.descriptor.name ≡ name → core.descriptor.lvs ≢ [] → IsSynced group_fault (group_copies core.descriptor) core old new answer
+      → SyncGroupDoes name old new answer

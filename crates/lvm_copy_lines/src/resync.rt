@@ -1,12 +1,11 @@
 //! The lines that bring up stale copies.
-ghost use Rattle.std.specs.Prelude.{◌≡◌, ℕ, IfErr};
+ghost use Rattle.std.specs.Prelude.{◌≡◌, IfErr};
 ghost use Rattle.lvm_session.specs.Sound.{IsSound};
 ghost use Rattle.lvm_core.specs.Looking.{IsNumberOf};
 ghost use Rattle.lvm_volume_lines.specs.passed.Driver.{state_of};
 ghost use Rattle.lvm_volume_lines.specs.passed.RangeLines.{serving};
-ghost use Rattle.lvm_volume_lines.specs.passed.HolderVariants as holder;
-ghost use Rattle.lvm_volume_lines.specs.passed.Stage.{ComesTo, EndsUnasked, OfRequests, HaveRooms, IsBetweenStage, IsFitting};
-ghost use Rattle.lvm_copy_lines.specs.Resyncing.{MayCome, SyncGroupDoes, SyncVolumeDoes, is_unheard, numbers_reply, sync_refusal, sync_reply};
+ghost use Rattle.lvm_volume_lines.specs.passed.Stage.{EndsUnasked, OfRequests, IsBetweenStage, IsFitting};
+ghost use Rattle.lvm_copy_lines.specs.Resyncing.{MayCome, SyncGroupDoes, SyncVolumeDoes, numbers_reply, sync_refusal, sync_reply};
 
 use lvm_disk::Shelf;
 use lvm_num::Name;
@@ -50,44 +49,6 @@ fn sync_reply<S: Shelf>(driver: &Driver<S>, synced: Result<u32, SyncFault>) -> R
     }
 }
 
-// Whether nothing was heard of the transfers that were out.
-fn is_unheard(synced: Result<u32, SyncFault>) -> bool
-    ensures { result ≡ is_unheard synced }
-{
-    match synced {
-        Ok(_) => false,
-        Err(why) => match why {
-            SyncFault::Stuck => true,
-            SyncFault::Dark
-            | SyncFault::Off
-            | SyncFault::Busy
-            | SyncFault::NoVolume
-            | SyncFault::OutOfRange
-            | SyncFault::HistoryFull
-            | SyncFault::SyncFailed { disk: _ }
-            | SyncFault::NoFresh { lp: _ }
-            | SyncFault::Missing { disk: _ } => false,
-        },
-    }
-}
-
-// What a resync leaves of a session. One at which nothing was heard is closed.
-fn after<S: Shelf>(
-    driver: Driver<S>,
-    posts: Vec<Post>,
-    bytes: Vec<u8>,
-    synced: Result<u32, SyncFault>,
-) -> Stage<S>
-    ensures stage { ComesTo S.device (is_unheard synced) (holder.Serving driver) posts bytes result }
-    ensures rooms { (entries : ℕ) → HaveRooms entries posts bytes → HaveRooms entries result.posts result.bytes }
-{
-    if is_unheard(synced) {
-        Stage::ended(driver, posts, bytes)
-    } else {
-        Stage::carried(driver, posts, bytes)
-    }
-}
-
 // Brings up the stale copies of a volume in a session that is on.
 fn sync_numbered<S: Shelf>(
     driver: Driver<S>,
@@ -104,7 +65,12 @@ fn sync_numbered<S: Shelf>(
     let mut driver = driver;
     let synced = sync_volume(&mut driver, lv, &mut Patience::whole());
     let reply = sync_reply(&driver, synced);
-    after(driver, posts, bytes, synced).answered(reply)
+    Stage {
+        holder: Holder::Serving { driver },
+        posts,
+        bytes,
+    }
+    .left(reply)
 }
 
 // So it does those of the volume of the name.
@@ -177,12 +143,18 @@ fn sync_group_on<S: Shelf>(
 ) -> Answered<S>
     requires fits { IsFitting (serving driver posts bytes) }
     requires between { IsBetweenStage S.device (serving driver posts bytes) }
+    requires named { driver.1.descriptor.name ≡ name }
     ensures { EndsUnasked S.device (λ _. SyncGroupDoes name) ⊥ OfRequests (serving driver posts bytes) result.stage result.reply }
 {
     let mut driver = driver;
     let synced = sync_group(&mut driver, &mut Patience::whole());
     let reply = sync_reply(&driver, synced);
-    after(driver, posts, bytes, synced).answered(reply)
+    Stage {
+        holder: Holder::Serving { driver },
+        posts,
+        bytes,
+    }
+    .left(reply)
 }
 
 /// Brings up the stale copies of the group of the name, if it is on, beside its requests.

@@ -76,12 +76,12 @@ module _ (past : List Fact) (s : Session) (tied : IsTied past s) (id : ℕ) (its
 
   once : TakenOnce v.facts q
   once = subst (λ (fs : List Fact). TakenOnce fs q) (sym tied.sees.facts) (unjoined past core.history.facts q
-      (fits_taken past core.history 1 id (legal_prefix past core.history.facts (subst Legal tied.sees.facts tied.good.told.legal)) tied.own sound.told.ordered its))
+      (fits_taken past core.history 1 id (legal_prefix past core.history.facts (subst Legal tied.sees.facts tied.good.told.legal)) tied.setting.own sound.told.ordered its))
 
   other_request : (i : ℕ) (r : Queued) → IsRequestAt core i → IsFalse (same_request (v.name i) q)
   other_request i r at =
       let asked = all_at (IsAsked core.history.facts) core.requests at.place at.request sound.told.requests at.there in
-      let named : v.name i ≡ request_of core.history.facts at.request.request.id = ap v.name (sym at.its) ∙ tied.sees.names at.place at.request at.there in
+      let named : v.name i ≡ request_of core.history.facts at.request.request.id = ap v.name (sym at.its) ∙ tied.sees.queue.names at.place at.request at.there in
       let its_id : (request_of core.history.facts at.request.request.id).id ≡ at.request.request.id = own_number core.history.facts at.request.request.id asked.request asked.told in
       let differs : (v.name i).id == q.id ≡ false = ne_eqb (v.name i).id q.id (λ e. apart_at s sound id its gone at.place at.request at.there (sym its_id ∙ sym (ap (λ (r : Request). r.id) named) ∙ e ∙ own)) in
       and_no ((v.name i).run == q.run) ((v.name i).id == q.id) differs
@@ -92,7 +92,7 @@ module _ (past : List Fact) (s : Session) (tied : IsTied past s) (id : ℕ) (its
     other = λ i r at no_step. ⊎_elim
         (λ (it : IsRequestAt core i). other_request i r it)
         (λ (it : IsStepAt core i). absurd (step_of i r at no_step it))
-        (tied.sees.only i r at);
+        (tied.sees.queue.only i r at);
   }
     where
       some_of : (a b : Queued) → Some a ≡ Some b → a ≡ b
@@ -100,7 +100,7 @@ module _ (past : List Fact) (s : Session) (tied : IsTied past s) (id : ℕ) (its
 
       step_of : (i : ℕ) (r : Queued) → v.queue i ≡ Some r → IsFalse r.step → IsStepAt core i → ⊥
       step_of i r at no_step it =
-          let a = tied.sees.a_step it.copy it.is_open it.row in
+          let a = tied.sees.queue.a_step it.copy it.is_open it.row in
           let same : a.0 ≡ r = some_of a.0 r (sym a.1 ∙ ap v.queue it.its ∙ at) in
           absurd (let e : ◌≡◌ {A = Bool} true false = sym a.2.step ∙ ap (λ (x : Queued). x.step) same ∙ no_step in cc e)
 
@@ -124,21 +124,17 @@ module _ (past : List Fact) (s : Session) (tied : IsTied past s) (id : ℕ) (its
   pub tied_beside : IsTied past (state s.device entered)
   tied_beside = record {
     votes = tied.votes;
-    are_votes = tied.are_votes;
     media = tied.media;
-    told = tied.told;
+    setting = tied.setting;
     view = w;
     sees = sees;
     good = each_keeps tied.votes (TakeEarlier q) v w (takes_it, refl) tied.good;
     describes = quiet_lasts tied.votes (TakeEarlier q) v w core.descriptor (update_of core.status) (contents_of (image_of s.device.sizes tied.media)) (takes_it, refl) tied.good tt tied.describes refl refl refl;
     write = tied.write;
     since = tied.since;
+    recorded = tied.recorded;
     orderly = record { sound = one_keeps s sound id its gone; on = tied.orderly.on; update = tied.orderly.update };
     copy_aimed = tied.copy_aimed;
     carry = carry_so s.device.flights core.flying tied.carry;
-    members = tied.members;
-    records = tied.records;
-    next = tied.next;
     notes = tied.notes;
-    own = tied.own;
   }

@@ -1,5 +1,5 @@
 -- What lines of requests are refused for.
-use Rattle.std.proofs.Common.{◌≡◌, ℕ, Bool, true, false, List, Option, Some, None, Result, Ok, Err, if◌then◌else◌, refl, subst}
+use Rattle.std.proofs.Common.{◌≡◌, ℕ, Bool, true, false, List, Option, Some, None, Result, Ok, Err, if◌then◌else◌, refl, ap, subst}
 use Rattle.lvm_session.specs.declared.answers.Turned.{Turned}
 use Rattle.lvm_session.specs.declared.answers.Turned.TheVariants as turned
 use Rattle.lvm_session.specs.Calls.{has_numbers}
@@ -10,7 +10,7 @@ use Rattle.lvm_posts.specs.declared.fault.RangeFault.TheVariants as fault
 use Rattle.lvm_posts.specs.declared.posts.Post.{Post}
 use Rattle.lvm_copy_lines.specs.passed.Ranges.{AskRangeFault}
 use Rattle.lvm_copy_lines.specs.passed.AskRangeFaultVariants as ask
-use Rattle.lvm_copy_lines.specs.Resyncing.{IsSynced, NoGroupForSync, NoVolumeForSync, NothingSyncs, OtherGroupForSync, SyncGroupDoes, SyncVolumeDoes, SyncsGroup, SyncsVolume, is_unheard, sync_reply}
+use Rattle.lvm_copy_lines.specs.Resyncing.{IsSynced, NoGroupForSync, NoVolumeForSync, NothingSyncs, OtherGroupForSync, SyncGroupDoes, SyncVolumeDoes, SyncsGroup, SyncsVolume, sync_reply}
 use Rattle.lvm_copy_lines.specs.passed.Resync.{Copy, SyncFault, group_copies, group_fault, volume_copies, volume_fault}
 use Rattle.lvm_copy_lines.specs.passed.SyncFaultVariants as sync
 use Rattle.lvm_copy_lines.specs.passed.RangeLines.{FailsIf}
@@ -19,7 +19,7 @@ use Rattle.lvm_copy_lines.specs.passed.RangeLines.{Finishes, NoMemory, NotBegun,
 use Rattle.lvm_copy_lines.specs.passed.RangeLines.{ShowsBlocks, ShowsThem, There, WhileOff, WrDoes, NoStepWhileOff, NothingMoves, StepDoes, Steps}
 use Rattle.lvm_copy_lines.specs.passed.RangeLines.{step_reply}
 use Rattle.lvm_copy_lines.specs.passed.RangeLinesWaiting.{AtRest, Awaits, Goes, InVain, Over, WaitDoes, WaitEnds, WhileOff as WaitsWhileOff}
-use Rattle.lvm_copy_lines.specs.passed.Stage.{InFull, Shows, WithoutMemory, State, Refusal, Reply}
+use Rattle.lvm_copy_lines.specs.passed.Stage.{InFull, Shows, WithoutMemory, State, Refusal, Reply, is_unheard}
 use Rattle.lvm_copy_lines.specs.passed.RefusalVariants as refusal
 use Rattle.lvm_copy_lines.specs.passed.ReplyVariants as reply
 
@@ -93,11 +93,11 @@ wait_told why old new (WaitsWhileOff waits) = told_of waits.answers why new wait
 wait_told why old new (AtRest core some none waits) = told_of waits.answers why new waits.tells
 wait_told why old new (Awaits core some volumes waits) = ends_told waits.mid waits.left why old new waits.ends
 
-sync_told : (result : Result ℕ SyncFault) (core : Core) (why : Refusal) (new : State) → reply.Refused why ≡ sync_reply core result → (is_unheard result ≡ true → new.session ≡ None) → Told why new
+sync_told : (result : Result ℕ SyncFault) (core : Core) (why : Refusal) (new : State) → reply.Refused why ≡ sync_reply core result → (is_unheard (reply.Refused why) ≡ true → new.session ≡ None) → Told why new
 sync_told (Ok made) core why new is off = absurd (cc (is))
 sync_told (Err sync.Dark) core why new is off = told_by why refusal.Dark new is (told_easy refusal.Dark new (λ e. cc) (λ h t e. cc))
 sync_told (Err sync.Off) core why new is off = told_by why _ new is (told_easy _ new (λ e. cc) (λ h t e. cc))
-sync_told (Err sync.Stuck) core why new is off = told_by why refusal.Stuck new is (record { off = λ stuck. off refl; counted = λ h t e. cc })
+sync_told (Err sync.Stuck) core why new is off = told_by why refusal.Stuck new is (record { off = λ stuck. off (ap is_unheard is); counted = λ h t e. cc })
 sync_told (Err sync.Busy) core why new is off = told_by why refusal.Busy new is (told_easy refusal.Busy new (λ e. cc) (λ h t e. cc))
 sync_told (Err sync.NoVolume) core why new is off = told_by why refusal.NoVolume new is (told_easy refusal.NoVolume new (λ e. cc) (λ h t e. cc))
 sync_told (Err sync.OutOfRange) core why new is off = told_by why refusal.NoVolume new is (told_easy refusal.NoVolume new (λ e. cc) (λ h t e. cc))
@@ -116,12 +116,12 @@ sync_volume_told name why old new (SyncsVolume core lv some of its) = synced_tol
 
 pub sync_group_told : (name : List ℕ) (why : Refusal) (old new : State) → SyncGroupDoes name old new (reply.Refused why) → Told why new
 sync_group_told name why old new (OtherGroupForSync off is) = told_by why refusal.NoGroup new is.0 (told_easy refusal.NoGroup new (λ e. cc) (λ h t e. cc))
-sync_group_told name why old new (NothingSyncs core some none is same) = by (has_numbers core) is
+sync_group_told name why old new (NothingSyncs core some named none is same) = by (has_numbers core) is
   where
     by : (b : Bool) → reply.Refused why ≡ (if b then reply.Synced 0 else reply.Refused refusal.HistoryFull) → Told why new
     by true e = absurd (cc (e))
     by false e = told_by why refusal.HistoryFull new e (told_easy refusal.HistoryFull new (λ i. cc) (λ h t i. cc))
-sync_group_told name why old new (SyncsGroup core some volumes its) = synced_told group_fault (group_copies core.descriptor) core why old new its
+sync_group_told name why old new (SyncsGroup core some named volumes its) = synced_told group_fault (group_copies core.descriptor) core why old new its
 
 pub step_told : (turns : ℕ) (why : Refusal) (old new : State) → StepDoes turns old new (reply.Refused why) → Told why new
 step_told turns why old new (NoStepWhileOff off is) = told_by why refusal.NoGroup new is.0 (told_easy refusal.NoGroup new (λ e. cc) (λ h t e. cc))

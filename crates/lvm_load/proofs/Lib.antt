@@ -1,3 +1,6 @@
+pub mod Causes
 pub mod Counting
+pub mod Gaining
 pub mod Going
+pub mod Waiting
 pub mod Weaving

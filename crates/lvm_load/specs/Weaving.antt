@@ -1,5 +1,5 @@
 -- The steps of a workload on one thread.
-use Rattle.std.specs.Prelude.{◌≡◌, ◌⊎◌, ◌≤◌, ℕ, ◌+◌, ◌-◌, ◌*◌, ◌%◌, ◌^◌, nat_le, nat_lt, Bool, true, false, List, replicate, length, Option, Some, None, is_some, Result, Ok, Err, set, slice_get}
+use Rattle.std.specs.Prelude.{◌≡◌, ◌⊎◌, ◌≤◌, ℕ, ◌+◌, ◌-◌, ◌*◌, ◌%◌, ◌^◌, ◌||◌, nat_le, nat_lt, Bool, true, false, List, replicate, length, Option, Some, None, is_some, Result, Ok, Err, set, slice_get}
 use Rattle.std.specs.List.{list_any}
 use Rattle.std.specs.Option.{option_map_or}
 use Rattle.rand_pcg.specs.Lcg.{Lcg}
@@ -12,8 +12,10 @@ use Rattle.lvm_session.specs.declared.answers.Turned.{Turned}
 use Rattle.lvm_session.specs.declared.answers.Turned.TheVariants as turned
 use Rattle.lvm_session.specs.Calls.{SubmitGives, TakeGives}
 use Rattle.lvm_session.specs.Left.{left_of}
+use Rattle.lvm_session.specs.Sound.{IsSound}
 use Rattle.lvm_session.specs.State.{Core, State}
 use Rattle.lvm_session.specs.Turns.{TurnMakes}
+use Rattle.lvm_keeps_turn.specs.Turning.{is_last}
 use Rattle.lvm_load.specs.declared.client.Client.{Client}
 use Rattle.lvm_load.specs.Requests.{ask_of, bytes_of, word_of}
 
@@ -61,13 +63,18 @@ abbrev pub TakesWhere : Bool → State → State → List Client → List Client
 TakesWhere true old new clients after = TakesEach old clients (length clients) new after
 TakesWhere false old new clients after = (new ≡ old) × (after ≡ clients)
 
--- A turn is made. Where the history has grown, as it has where something has landed, the answers of what has landed are taken.
+-- answers may have landed in a turn: the history has grown in it, or the session is over
+abbrev pub may_land : State → State → Turned → Bool
+may_land old new answer = nat_lt (length old.core.history.facts) (length new.core.history.facts) || is_last answer
+
+-- A turn of a sound session is made, and where answers may have landed in it those that have are taken.
 pub record Turns (old new : State) (clients after : List Client) (idle idle1 : ℕ) : Type 0 where
+  pub sound : IsSound old
   pub mid : State
   pub answer : Turned
   pub made : TurnMakes old mid answer
   pub idle_is : idle1 ≡ idle_after answer idle
-  pub takes : TakesWhere (nat_lt (length old.core.history.facts) (length mid.core.history.facts)) mid new clients after
+  pub takes : TakesWhere (may_land old mid answer) mid new clients after
 
 -- no more turns than this are made before one submits, or a million have moved nothing
 abbrev pub turns_left : Core → ℕ → ℕ
@@ -181,10 +188,11 @@ pub record FinishesAll (first : State) (clients : List Client) (idle : ℕ) (new
   pub turns : FinishesBy first clients idle new after idle1
   pub ends : (list_any has_open after ≡ false) ⊎ (is_unheard idle1 ≡ true)
 
--- The workload is drawn, and finished.
-pub record Weaves (lv blocks requests : ℕ) (first : Weaving) (last : State) : Type 0 where
+-- The workload is drawn, and finished, and this says whether a client still has a request open.
+pub record Weaves (lv blocks requests : ℕ) (first : Weaving) (last : State) (waits : Bool) : Type 0 where
   pub mid : Weaving
   pub after : List Client
   pub idle : ℕ
   pub draws : DrawsAll lv blocks requests first mid
   pub finishes : FinishesAll mid.session mid.clients mid.idle last after idle
+  pub waits_is : waits ≡ list_any has_open after

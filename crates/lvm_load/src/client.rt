@@ -1,7 +1,9 @@
 //! Clients whose requests one thread submits, and whose answers it takes.
-ghost use Rattle.std.specs.Prelude.{◌≡◌, ◌≤◌, ◌<◌, ◌+◌, ◌-◌, ◌*◌, ◌^◌, length, vec_capacity};
+ghost use Rattle.std.specs.Prelude.{◌≡◌, ◌≤◌, ◌<◌, ◌+◌, ◌-◌, ◌*◌, ◌^◌, ◌||◌, nat_lt, length, vec_capacity};
 ghost use Rattle.lvm_session.specs.declared.open.Power.TheVariants as power;
 ghost use Rattle.lvm_session.specs.Left.{left_of};
+ghost use Rattle.lvm_session.specs.Sound.{IsSound};
+ghost use Rattle.lvm_keeps_turn.specs.Turning.{is_last};
 ghost use Rattle.lvm_running.specs.Running.{RunsOn};
 ghost use Rattle.lvm_driver.specs.Answers.{state_of};
 ghost use Rattle.lvm_draws.specs.Draws.{after_draw};
@@ -62,6 +64,30 @@ fn idle_after(answer: Turned, idle: u32) -> u32
     }
 }
 
+// Whether a session is over behind a turn that answers so.
+fn is_last(answer: Turned) -> bool
+    ensures { result ≡ is_last answer }
+{
+    match answer {
+        Turned::Moved | Turned::Idle => false,
+        Turned::Dark | Turned::Off => true,
+    }
+}
+
+// Whether answers may have landed in a turn: the history has grown in it, or the session is over.
+fn may_land(before: u32, after: u32, answer: Turned) -> bool
+    ensures { result ≡ (nat_lt before after || is_last answer) }
+{
+    before < after || is_last(answer)
+}
+
+/// The session of a driver is sound.
+pub(crate) fn is_sound<S: Shelf>(driver: &Driver<S>)
+    ensures { IsSound (state_of S.device driver.now) }
+{
+    let _ = driver.power();
+}
+
 /// Makes a turn, and takes what has landed.
 pub(crate) fn turn<S: Shelf>(driver: &mut Driver<S>, clients: &mut [Client], idle: &mut u32)
     requires unstuck { driver.old.1.power ≡ power.Stuck → ⊥ }
@@ -71,10 +97,11 @@ pub(crate) fn turn<S: Shelf>(driver: &mut Driver<S>, clients: &mut [Client], idl
     ensures less { turns_left driver.new.1 idle.new < turns_left driver.old.1 idle.old }
     ensures runs { RunsOn (state_of S.device driver.old) (state_of S.device driver.new) }
 {
+    is_sound(driver);
     let before = driver.history().len();
     let answer = driver.turn();
     *idle = idle_after(answer, *idle);
-    if driver.history().len() > before {
+    if may_land(before, driver.history().len(), answer) {
         take_landed(driver, clients);
     }
 }

@@ -8,4 +8,4 @@ mod workload;
 
 pub use client::Client;
 pub use totals::Totals;
-pub use workload::{Workload, weave};
+pub use workload::{Workload, Woven, weave};

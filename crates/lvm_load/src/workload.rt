@@ -5,10 +5,11 @@ ghost use Rattle.lvm_draws.specs.Draws.{seeded};
 ghost use Rattle.lvm_session.specs.declared.open.Power.TheVariants as power;
 ghost use Rattle.lvm_running.specs.Running.{RunsOn};
 ghost use Rattle.lvm_driver.specs.Answers.{state_of};
+ghost use Rattle.lvm_load.specs.Ends.{HasCauses};
 ghost use Rattle.lvm_load.specs.Totals.{entries_since, totals_of};
 ghost use Rattle.lvm_load.specs.Weaving.{FinishesAll, NamesNext, DrawsAll, Weaves, first_weaving, has_open, weaving};
 
-use crate::client::{Client, ask, turn};
+use crate::client::{Client, ask, is_sound, turn};
 use crate::totals::{Totals, totals_since};
 use lvm_disk::Shelf;
 use lvm_draws::{generator, next_word};
@@ -17,6 +18,14 @@ use rand_pcg::Lcg64Xsh32;
 
 // As many turns may move nothing, one after the other.
 const PATIENCE: u32 = 1_000_000;
+
+/// How a workload ended.
+#[derive(Clone, Copy, Debug, PartialEq, Eq)]
+pub struct Woven {
+    pub totals: Totals,
+    /// Whether a client still waits for an answer, since nothing was heard of a transfer a million times.
+    pub waiting: bool,
+}
 
 /// So many requests of so many clients, 1 to 64, which are drawn from the seed.
 #[derive(Clone, Copy, Debug, PartialEq, Eq)]
@@ -112,16 +121,17 @@ pub fn weave<S: Shelf>(
     blocks: u64,
     workload: &Workload,
     bytes: &mut Vec<u8>,
-) -> Totals
+) -> Woven
     requires unstuck { driver.old.1.power ≡ power.Stuck → ⊥ }
-    requires clients { (1 ≤ workload.now.clients) × (workload.now.clients ≤ 64) }
-    requires some { 1 ≤ blocks }
+    requires some { (1 ≤ workload.now.clients) × (workload.now.clients ≤ 64) × (1 ≤ blocks) }
     requires room { 131072 ≤ vec_capacity bytes.old }
-    ensures totals { result ≡ totals_of workload.now.requests (entries_since (length driver.old.1.history.facts) driver.new.1.history.facts) }
-    ensures weaves { Weaves lv blocks workload.now.requests (first_weaving (state_of S.device driver.old) workload.now.clients workload.now.seed) (state_of S.device driver.new) }
+    ensures totals { result.totals ≡ totals_of workload.now.requests (entries_since (length driver.old.1.history.facts) driver.new.1.history.facts) }
+    ensures causes { HasCauses lv blocks workload.now.requests (state_of S.device driver.old) (state_of S.device driver.new) result }
+    ensures weaves { Weaves lv blocks workload.now.requests (first_weaving (state_of S.device driver.old) workload.now.clients workload.now.seed) (state_of S.device driver.new) result.waiting }
     ensures runs { RunsOn (state_of S.device driver.old) (state_of S.device driver.new) }
     ensures room { 131072 ≤ vec_capacity bytes.new }
 {
+    is_sound(driver);
     let from = driver.history().len();
     let mut table = [Client {
         request: None,
@@ -135,5 +145,9 @@ pub fn weave<S: Shelf>(
         driver, clients, &mut rng, &mut idle, requests, lv, blocks, bytes,
     );
     finish(driver, clients, &mut idle);
-    totals_since(driver.history(), from, requests)
+    let waiting = is_waiting(clients);
+    Woven {
+        totals: totals_since(driver.history(), from, requests),
+        waiting,
+    }
 }

@@ -1,6 +1,6 @@
 -- Why copies may be passed where nothing is against it, and what is answered of them.
 use Rattle.std.proofs.Common.{◌≡◌, ◌<◌, inl, inr, ℕ, Bool, true, false, nat_lt, List, Option, None, Some, Result, Ok, Err, if◌then◌else◌, refl, sym, ap, subst, ◌∙◌}
-use Rattle.std.specs.Prelude.{MatchOption, is_some}
+use Rattle.std.specs.Prelude.{is_some}
 use Rattle.std.specs.Option.{option_map_or}
 use Rattle.std.proofs.lemmas.Bool.{ltb-true}
 use Rattle.lvm_num.specs.declared.descriptor.LvRow.{LvRow}
@@ -14,8 +14,7 @@ use Rattle.lvm_resync.specs.declared.fault.SyncFault.{SyncFault}
 use Rattle.lvm_resync.specs.declared.fault.SyncFault.TheVariants as fault
 use Rattle.lvm_resync.specs.declared.tally.Tally.{Tally}
 use Rattle.lvm_resync.specs.Passing.{Copy}
-use Rattle.lvm_resync.specs.Syncing.{ArePassed, IsAnswer, Passes, SyncEnds, SyncGives, Syncs, fault_by, fault_on, no_tally, numbers_fault}
-use Rattle.lvm_resync.specs.Turning.{StopsFor}
+use Rattle.lvm_resync.specs.Syncing.{ArePassed, IsAnswer, Passes, StopsAmong, SyncEnds, SyncGives, Syncs, fault_by, fault_on, no_tally, numbers_fault}
 use Rattle.lvm_resync.proofs.Staying.{leaves_fresh}
 
 -- a session that goes on, of which no copy is open
@@ -48,28 +47,28 @@ within_by core lv lp e row is = by (nat_lt lp row.lps) refl (sym (ap (λ m. opti
 
 -- ---- the answer
 
-module _ (refused : Option SyncFault) (copies : List Copy) (old new : State) (left : ℕ) where
+module _ (refused : Option SyncFault) (copies : List Copy) (patience left : ℕ) (old new : State) where
   -- where it isn't begun
-  pub not_begun : (why : SyncFault) → refused ≡ Some why → new ≡ old → SyncGives refused copies old new left (Err why)
-  not_begun why is same = subst (λ (m : Option SyncFault). SyncGives m copies old new left (Err why)) (sym is) (refl, same)
+  pub not_begun : (why : SyncFault) → refused ≡ Some why → new ≡ old → left ≡ patience → SyncGives refused copies patience left old new (Err why)
+  not_begun why is same spared = subst (λ (m : Option SyncFault). SyncGives m copies patience left old new (Err why)) (sym is) (refl, same, spared)
 
-  begun : (answer : Result ℕ SyncFault) → refused ≡ None → SyncEnds copies old new left answer → SyncGives refused copies old new left answer
-  begun answer is ends = subst (λ (m : Option SyncFault). SyncGives m copies old new left answer) (sym is) ends
+  begun : (answer : Result ℕ SyncFault) → refused ≡ None → SyncEnds copies patience left old new answer → SyncGives refused copies patience left old new answer
+  begun answer is ends = subst (λ (m : Option SyncFault). SyncGives m copies patience left old new answer) (sym is) ends
 
   -- where it ends before
-  pub stopped : (why : SyncFault) → refused ≡ None → StopsFor left new.core why → SyncGives refused copies old new left (Err why)
+  pub stopped : (why : SyncFault) → refused ≡ None → StopsAmong copies patience left old new no_tally why → SyncGives refused copies patience left old new (Err why)
   stopped why is stops = begun (Err why) is (inr stops)
 
   -- and once all are passed
-  pub synced : (tally : Tally) (answer : Result ℕ SyncFault) → refused ≡ None → IsSound old → old.core.power ≡ power.On → old.core.copy ≡ None → ArePassed copies old new no_tally tally tt → IsAnswer tally answer
-      → SyncGives refused copies old new left answer
+  pub synced : (tally : Tally) (answer : Result ℕ SyncFault) → refused ≡ None → IsSound old → old.core.power ≡ power.On → old.core.copy ≡ None → ArePassed copies patience left old new no_tally tally tt → IsAnswer tally answer
+      → SyncGives refused copies patience left old new answer
   synced tally answer is sound on none passed answers = begun answer is (by answer answers)
     where
-      all : (t : Tally) → tally ≡ t → Passes old no_tally copies new t
-      all t same = subst (λ (x : Tally). Passes old no_tally copies new x) same passed.0
+      all : (t : Tally) → tally ≡ t → Passes old no_tally patience copies new t left
+      all t same = subst (λ (x : Tally). Passes old no_tally patience copies new x left) same passed.0
 
-      by : (a : Result ℕ SyncFault) → IsAnswer tally a → SyncEnds copies old new left a
+      by : (a : Result ℕ SyncFault) → IsAnswer tally a → SyncEnds copies patience left old new a
       by (Ok made) same =
-          let syncs : Syncs copies old new made None = record { passes = all (record { made = made; fault = None }) same; none = passed.1 } in
-          (syncs, leaves_fresh old sound on none copies new (record { made = made; fault = None }) syncs.passes refl)
+          let syncs : Syncs copies patience left old new made None = record { passes = all (record { made = made; fault = None }) same; none = passed.1 } in
+          (syncs, leaves_fresh old sound on none patience left copies new (record { made = made; fault = None }) syncs.passes refl)
       by (Err why) same = inl (tally.made, record { passes = all (record { made = tally.made; fault = Some why }) same; none = passed.1 })

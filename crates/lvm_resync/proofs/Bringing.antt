@@ -1,10 +1,8 @@
 -- The copy that is open is brought up until it doesn't run.
-use Rattle.std.proofs.Common.{◌≡◌, ◌-◌, ℕ, Bool, true, false, Option, Some, None, if◌then◌else◌, refl, sym, ap, subst, ◌∙◌}
+use Rattle.std.proofs.Common.{◌≡◌, inl, inr, ◌-◌, ℕ, Bool, true, false, Option, Some, None, if◌then◌else◌, refl, sym, ap, subst, ◌∙◌}
 use Rattle.std.specs.Prelude.{IfSome}
 use Rattle.std.specs.Option.{option_map_or}
-use Rattle.lvm_num.specs.declared.place.Pp.{Pp}
 use Rattle.lvm_disk.specs.Counts.{RoseBy}
-use Rattle.lvm_disk.specs.Paths.{Here, Then}
 use Rattle.lvm_session.specs.declared.answers.CopyState.TheVariants as copy
 use Rattle.lvm_session.specs.declared.bringing.CopyEnd.{CopyEnd}
 use Rattle.lvm_session.specs.declared.bringing.CopyEnd.TheVariants as ending
@@ -16,30 +14,32 @@ use Rattle.lvm_disk.specs.Device.{Device}
 use Rattle.lvm_session.specs.State.{Core, State, state}
 use Rattle.lvm_session.specs.Sound.{IsSound}
 use Rattle.lvm_driver.specs.Answers.{IsCopyCaused}
-use Rattle.lvm_driver.specs.Drains.{IsTurn}
+use Rattle.lvm_session.specs.declared.answers.Turned.TheVariants as told
+use Rattle.lvm_driver.specs.Drains.{NoTurn}
+use Rattle.lvm_resync.specs.declared.fault.SyncFault.{SyncFault}
 use Rattle.lvm_turn_marks.specs.Marks.{is_marked}
 use Rattle.lvm_running.specs.Running.{RunsOn}
 use Rattle.lvm_ranges.specs.Keeping.{KeepsTable}
-use Rattle.lvm_resync.specs.Passing.{HasEnded, IsEnded, IsJustOpened, Runs, EachTurnWhile}
-use Rattle.lvm_resync.specs.Turning.{GoesBeside, IsUnderWay}
+use Rattle.lvm_resync.specs.Passing.{HasEnded, IsEnded, IsJustOpened, IsSameCopy, Runs, RunsOut, EachTurnWhile}
+use Rattle.lvm_resync.specs.Turning.{GoesBeside, IsUnderWay, MakesLast, MakesTurn}
 use Rattle.lvm_resync.proofs.Open.{IsOpenStill, just_opened, turn_open}
 use Rattle.lvm_resync.proofs.Standing.{still_ended}
-use Rattle.lvm_resync.proofs.Turning.{beside_both, beside_none, unstuck_beside}
+use Rattle.lvm_resync.proofs.Turning.{beside_both, beside_none, last_turn, one_turn, unstuck_beside}
 
 -- So far turns were made while it ran, and it is open still, where the session isn't over.
 pub record BroughtSoFar (first now : State) (patience left : ℕ) : Type 0 where
-  pub turns : EachTurnWhile Runs first now
-  pub pp : Pp
-  pub its : IfSome first.core.copy (λ (c : OpenCopy). c.pp ≡ pp)
-  pub still : IsOpenStill pp now.core
+  pub turns : EachTurnWhile Runs patience left first now
+  pub begun : OpenCopy
+  pub its : first.core.copy ≡ Some begun
+  pub still : IsOpenStill begun now.core
   pub unstuck : now.core.power ≡ power.Stuck → ⊥
   pub beside : GoesBeside first now patience left
 
 pub begins : (first : State) (left : ℕ) → (first.core.power ≡ power.Stuck → ⊥) → IsJustOpened first.core → BroughtSoFar first first left left
 begins first left unstuck just = record {
-  turns = Here tt;
-  pp = just.0.pp;
-  its = subst (λ (m : Option OpenCopy). IfSome m (λ (c : OpenCopy). c.pp ≡ just.0.pp)) (sym just.1) refl;
+  turns = NoTurn;
+  begun = just.0;
+  its = just.1;
   still = just_opened first.core just.0 just.1 just.2;
   unstuck = unstuck;
   beside = beside_none first left;
@@ -76,18 +76,26 @@ done_end c e = by (is_out c.step) c.end refl e
     by false (Some ending.Ended) is f = absurd (cc f)
 
 module _ (first old new : State) (patience left after : ℕ) (so_far : BroughtSoFar first old patience left) where
-  pub turned : IsSound old → Runs old.core → IsTurn old new → new.core.power ≡ power.On → GoesBeside old new left after → BroughtSoFar first new patience after
+  pub turned : IsSound old → Runs old.core → MakesTurn old new left after → new.core.power ≡ power.On → GoesBeside old new left after → BroughtSoFar first new patience after
   turned sound runs made on beside = record {
-    turns = Then so_far.turns (runs, made) tt;
-    pp = so_far.pp;
+    turns = one_turn Runs patience left after first old new so_far.turns runs made;
+    begun = so_far.begun;
     its = so_far.its;
-    still = turn_open so_far.pp old new sound so_far.still runs made.0 made.1 on;
+    still = by made;
     unstuck = unstuck_beside old new left after beside so_far.unstuck;
     beside = beside_both first old new patience left after so_far.beside beside;
   }
+    where
+      by : MakesTurn old new left after → IsOpenStill so_far.begun new.core
+      by (inl moved) = turn_open so_far.begun old new sound so_far.still runs told.Moved moved.2 on
+      by (inr waited) = turn_open so_far.begun old new sound so_far.still runs told.Idle waited.1 on
 
   pub stops : GoesBeside old new left after → GoesBeside first new patience after
   stops beside = beside_both first old new patience left after so_far.beside beside
+
+  -- the turns up to one behind which it doesn't go on
+  pub last_turns : Runs old.core → (why : SyncFault) → MakesLast old new left after why → RunsOut Runs patience after first new why
+  last_turns runs why made = last_turn Runs patience left after first old new so_far.turns runs why made
 
 -- ---- it is closed
 
@@ -113,17 +121,16 @@ module _ (first old : State) (patience left : ℕ) (so_far : BroughtSoFar first 
   ends_as over = subst HasEnded (sym state_is) (has_ended it so_far.still.goes (λ cursor e. over (cursor, state_is ∙ e)))
 
   fresh : (new : State) → new ≡ state old.device (closed old.core) → copy_state old.core ≡ copy.Done → IfSome first.core.copy (λ (c : OpenCopy). is_marked new.core c.pp ≡ false)
-  fresh new is done = by first.core.copy so_far.its
+  fresh new is done = subst (λ (m : Option OpenCopy). IfSome m (λ (c : OpenCopy). is_marked new.core c.pp ≡ false)) (sym so_far.its) (ap (is_marked new.core) (sym so_far.still.its.0) ∙ here)
     where
       here : is_marked new.core it.pp ≡ false
       here = ap (λ (s : State). is_marked s.core it.pp) is ∙ (so_far.still.cleared (done_end it (sym state_is ∙ done))).1
 
-      by : (m : Option OpenCopy) → IfSome m (λ (c : OpenCopy). c.pp ≡ so_far.pp) → IfSome m (λ (c : OpenCopy). is_marked new.core c.pp ≡ false)
-      by None e = tt
-      by (Some c) e = ap (is_marked new.core) (e ∙ sym so_far.still.its) ∙ here
+  same : IfSome first.core.copy (λ (c : OpenCopy). IfSome old.core.copy (IsSameCopy c))
+  same = subst (λ (m : Option OpenCopy). IfSome m (λ (c : OpenCopy). IfSome old.core.copy (IsSameCopy c))) (sym so_far.its) (subst (λ (m : Option OpenCopy). IfSome m (IsSameCopy so_far.begun)) (sym so_far.still.is_open) so_far.still.its)
 
-  pub closes : (new : State) → IsCopyCaused old → new ≡ state old.device (closed old.core) → RunsOn old new → IsEnded first new (copy_state old.core) × GoesBeside first new patience left
-  closes new caused is runs = (record { ended = old; turns = so_far.turns; how_is = refl; caused = caused; is = is; fresh = fresh new is }, beside_both first old new patience left left so_far.beside here)
+  pub closes : (new : State) → IsCopyCaused old → new ≡ state old.device (closed old.core) → RunsOn old new → IsEnded patience left first new (copy_state old.core) × GoesBeside first new patience left
+  closes new caused is runs = (record { ended = old; turns = so_far.turns; how_is = refl; same = same; caused = caused; is = is; fresh = fresh new is }, beside_both first old new patience left left so_far.beside here)
     where
       none : GoesBeside old old left left
       none = beside_none old left

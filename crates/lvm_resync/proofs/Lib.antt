@@ -10,3 +10,4 @@ pub mod Staying
 pub mod Passing
 pub mod Passed
 pub mod Asking
+pub mod Causing

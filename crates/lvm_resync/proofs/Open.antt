@@ -18,7 +18,7 @@ use Rattle.lvm_session.specs.declared.event.Event.TheVariants as event
 use Rattle.lvm_session.specs.declared.flown.Owner.{Owner}
 use Rattle.lvm_session.specs.declared.flown.Owner.TheVariants as owner
 use Rattle.lvm_session.specs.declared.open.Power.TheVariants as power
-use Rattle.lvm_session.specs.Bringing.{after_copy_end, copy_ends, end_by_sources, end_of, ends_if, is_cleared, is_idle, is_out, is_whole, next_source, sources_of, step_place, with_copy_end, with_end}
+use Rattle.lvm_session.specs.Bringing.{after_copy_end, copy_ends, end_of, ends_if, is_cleared, is_idle, is_out, is_whole, next_source, sources_of, step_place, with_copy_end, with_end}
 use Rattle.lvm_session.specs.Calls.{copy_state, state_at_end, state_of_copy}
 use Rattle.lvm_session.specs.Ends.{CopyLearns, GoesOn, Learns, NoteLearns, StepLearns, StepLeaves, after_data, learned, with_copy, with_return, without_step}
 use Rattle.lvm_session.specs.Judging.{is_missing, is_running, is_stale, is_wanted_stale}
@@ -28,37 +28,37 @@ use Rattle.lvm_session.specs.State.{Core, State}
 use Rattle.lvm_session.specs.Turns.{FinishMakes, Finishes, Makes, Moves, NoStart, OnMakes, TurnMakes, WasDark, WasOff, WasOn}
 use Rattle.lvm_turn_marks.specs.Marks.{is_marked}
 use Rattle.lvm_turn_marks.proofs.Reviewing.{reviewed}
-use Rattle.lvm_resync.specs.Passing.{Runs}
+use Rattle.lvm_resync.specs.Passing.{IsSameCopy, Runs}
 
 -- no transfer of it is out, and it is stale by nothing
 abbrev pub IsCleared : Core → OpenCopy → Type 0
 IsCleared core c = (is_out c.step ≡ false) × (is_marked core c.pp ≡ false)
 
--- One on this partition is open, which didn't end with the session; where it is done it is cleared.
-pub record IsOpenStill (p : Pp) (core : Core) : Type 0 where
+-- The one that was opened so is open, and didn't end with the session; where it is done it is cleared.
+pub record IsOpenStill (begun : OpenCopy) (core : Core) : Type 0 where
   pub copy : OpenCopy
   pub is_open : core.copy ≡ Some copy
-  pub its : copy.pp ≡ p
+  pub its : IsSameCopy begun copy
   pub goes : copy.end ≡ Some ending.Ended → ⊥
   pub cleared : copy.end ≡ Some ending.Done → IsCleared core copy
 
--- One is that isn't done.
-pub record IsUndone (p : Pp) (core : Core) : Type 0 where
+-- So it is, and isn't done.
+pub record IsUndone (begun : OpenCopy) (core : Core) : Type 0 where
   pub copy : OpenCopy
   pub is_open : core.copy ≡ Some copy
-  pub its : copy.pp ≡ p
+  pub its : IsSameCopy begun copy
   pub goes : copy.end ≡ Some ending.Ended → ⊥
   pub undone : copy.end ≡ Some ending.Done → ⊥
 
-still : (p : Pp) (core : Core) → IsUndone p core → IsOpenStill p core
-still p core it = record { copy = it.copy; is_open = it.is_open; its = it.its; goes = it.goes; cleared = λ e. absurd (it.undone e) }
+still : (begun : OpenCopy) (core : Core) → IsUndone begun core → IsOpenStill begun core
+still begun core it = record { copy = it.copy; is_open = it.is_open; its = it.its; goes = it.goes; cleared = λ e. absurd (it.undone e) }
 
-pub just_opened : (core : Core) (c : OpenCopy) → core.copy ≡ Some c → c.end ≡ None → IsOpenStill c.pp core
-just_opened core c is runs = record { copy = c; is_open = is; its = refl; goes = λ e. (let f : None ≡ Some ending.Ended = sym runs ∙ e in cc f); cleared = λ e. absurd (let f : None ≡ Some ending.Done = sym runs ∙ e in cc f) }
+pub just_opened : (core : Core) (c : OpenCopy) → core.copy ≡ Some c → c.end ≡ None → IsOpenStill c core
+just_opened core c is runs = record { copy = c; is_open = is; its = (refl, refl, refl, refl, refl); goes = λ e. (let f : None ≡ Some ending.Ended = sym runs ∙ e in cc f); cleared = λ e. absurd (let f : None ≡ Some ending.Done = sym runs ∙ e in cc f) }
 
 -- while it runs it isn't done
-undone_of : (p : Pp) (core : Core) → IsOpenStill p core → Runs core → IsUndone p core
-undone_of p core it runs = record { copy = it.copy; is_open = it.is_open; its = it.its; goes = it.goes; undone = λ e. not_done e (it.cleared e).0 }
+undone_of : (begun : OpenCopy) (core : Core) → IsOpenStill begun core → Runs core → IsUndone begun core
+undone_of begun core it runs = record { copy = it.copy; is_open = it.is_open; its = it.its; goes = it.goes; undone = λ e. not_done e (it.cleared e).0 }
   where
     state : copy_state core ≡ state_of_copy it.copy
     state = ap (λ m. option_map_or state_of_copy m copy.Closed) it.is_open
@@ -71,16 +71,16 @@ undone_of p core it runs = record { copy = it.copy; is_open = it.is_open; its = 
 
 -- ---- an end of it
 
-module _ (p : Pp) where
-  same_copy : (old new : Core) → new.copy ≡ old.copy → IsUndone p old → IsUndone p new
+module _ (begun : OpenCopy) where
+  same_copy : (old new : Core) → new.copy ≡ old.copy → IsUndone begun old → IsUndone begun new
   same_copy old new same it = record { copy = it.copy; is_open = same ∙ it.is_open; its = it.its; goes = it.goes; undone = it.undone }
 
   -- it is now this one
-  abbrev put : (core : Core) (c : OpenCopy) → core.copy ≡ Some c → c.pp ≡ p → (c.end ≡ Some ending.Ended → ⊥) → (c.end ≡ Some ending.Done → ⊥) → IsUndone p core
+  abbrev put : (core : Core) (c : OpenCopy) → core.copy ≡ Some c → IsSameCopy begun c → (c.end ≡ Some ending.Ended → ⊥) → (c.end ≡ Some ending.Done → ⊥) → IsUndone begun core
   put core c is its goes undone = record { copy = c; is_open = is; its = its; goes = goes; undone = undone }
 
   -- it fails, where this is so
-  fail_open : (core : Core) (b : Bool) → IsUndone p core → IsUndone p (with_end core (ends_if b ending.SyncFailed))
+  fail_open : (core : Core) (b : Bool) → IsUndone begun core → IsUndone begun (with_end core (ends_if b ending.SyncFailed))
   fail_open core false it = it
   fail_open core true it = put _ (with_copy_end it.copy ending.SyncFailed) (ap (λ m. (option_map_or (λ (c : OpenCopy). after_copy_end core c ending.SyncFailed) m core).copy) it.is_open) it.its (λ e. cc e) (λ e. cc e)
 
@@ -121,7 +121,7 @@ done_by core c e = by (is_running c) (is_missing core c.pp.disk) (is_whole core 
 
 -- ---- a review
 
-module _ (p : Pp) (old new : Core) (it : Reviews old new) (was : IsUndone p old) (rests : is_running was.copy ≡ true → is_whole old was.copy ≡ true → is_out was.copy.step ≡ false) where
+module _ (begun : OpenCopy) (old new : Core) (it : Reviews old new) (was : IsUndone begun old) (rests : is_running was.copy ≡ true → is_whole old was.copy ≡ true → is_out was.copy.step ≡ false) where
   ends : copy_ends old ≡ end_of old was.copy
   ends = ap (λ m. option_map_or (end_of old) m None) was.is_open
 
@@ -152,11 +152,11 @@ module _ (p : Pp) (old new : Core) (it : Reviews old new) (was : IsUndone p old)
       by false e = refl
       by true e = of ((reviewed old new it).marked q e)
 
-  review_open : IsOpenStill p new
+  review_open : IsOpenStill begun new
   review_open = by (end_of old was.copy) refl
     where
-      by : (m : Option CopyEnd) → end_of old was.copy ≡ m → IsOpenStill p new
-      by None is = still p new (same_copy p old new (copy_is None is) was)
+      by : (m : Option CopyEnd) → end_of old was.copy ≡ m → IsOpenStill begun new
+      by None is = still begun new (same_copy begun old new (copy_is None is) was)
       by (Some how) is = record {
         copy = with_copy_end was.copy how;
         is_open = copy_is (Some how) is ∙ ap (λ m. (option_map_or (λ (c : OpenCopy). after_copy_end old c how) m old).copy) was.is_open;
@@ -167,7 +167,7 @@ module _ (p : Pp) (old new : Core) (it : Reviews old new) (was : IsUndone p old)
 
 -- ---- a transfer ends
 
-module _ (p : Pp) (old : State) (sound : IsSound old) (on : old.core.power ≡ power.On) (was : IsUndone p old.core) where
+module _ (begun : OpenCopy) (old : State) (sound : IsSound old) (on : old.core.power ≡ power.On) (was : IsUndone begun old.core) where
   bring : IsCopy old.core was.copy
   bring = subst (λ m. IfSome m (IsCopy old.core)) was.is_open ((sound.on on).going).copy
 
@@ -184,17 +184,17 @@ module _ (p : Pp) (old : State) (sound : IsSound old) (on : old.core.power ≡ p
       by (step.Read buf) is = refl
       by step.Writing is = busy step.Writing is refl
 
-  note_open : (new : Core) (at disk : ℕ) (ok : Bool) (buf : Buffer) → NoteLearns old.core at disk ok buf new → IsOpenStill p new
-  note_open new at disk true buf it = still p new (same_copy p old.core new (ap (λ (c : Core). c.copy) it) was)
-  note_open new at disk false buf it = review_open p _ new it.2 (put p _ was.copy was.is_open was.its was.goes was.undone) rests
+  note_open : (new : Core) (at disk : ℕ) (ok : Bool) (buf : Buffer) → NoteLearns old.core at disk ok buf new → IsOpenStill begun new
+  note_open new at disk true buf it = still begun new (same_copy begun old.core new (ap (λ (c : Core). c.copy) it) was)
+  note_open new at disk false buf it = review_open begun _ new it.2 (put begun _ was.copy was.is_open was.its was.goes was.undone) rests
 
   goes_on : (b : Bool) (core : Core) (c : OpenCopy) (next : Core) → GoesOn b core c next → next.copy ≡ Some c
   goes_on false core c next it = ap (λ (x : Core). x.copy) it
   goes_on true core c next it = ap (λ (x : Core). x.copy) it.1
 
   module _ (c : OpenCopy) (same : was.copy ≡ c) where
-    its : c.pp ≡ p
-    its = sym (ap (λ (k : OpenCopy). k.pp) same) ∙ was.its
+    its : IsSameCopy begun c
+    its = subst (IsSameCopy begun) same was.its
 
     goes : c.end ≡ Some ending.Ended → ⊥
     goes e = was.goes (ap (λ (k : OpenCopy). k.end) same ∙ e)
@@ -202,51 +202,51 @@ module _ (p : Pp) (old : State) (sound : IsSound old) (on : old.core.power ≡ p
     undone : c.end ≡ Some ending.Done → ⊥
     undone e = was.undone (ap (λ (k : OpenCopy). k.end) same ∙ e)
 
-    step_open : (at_step : Step) (ok : Bool) (new : Core) (at : ℕ) (buf : Buffer) → StepLeaves at_step ok old.core at c buf new → IsOpenStill p new
+    step_open : (at_step : Step) (ok : Bool) (new : Core) (at : ℕ) (buf : Buffer) → StepLeaves at_step ok old.core at c buf new → IsOpenStill begun new
     step_open step.Idle ok new at buf it = absurd it
     step_open (step.Read hand) ok new at buf it = absurd it
-    step_open (step.Reading source) true new at buf it = still p new (put p new _ (ap (λ (x : Core). x.copy) it) its goes undone)
-    step_open (step.Reading source) false new at buf it = review_open p _ new it.reviews (put p _ (record c { step = step.Idle; tried = it.tried }) refl its goes undone) (λ runs whole. refl)
-    step_open step.Writing true new at buf it = review_open p it.on new it.reviews (put p it.on (record c { cursor = c.cursor + 1; step = step.Idle; tried = it.next.tried; place = step_place (without_step (with_return old.core at buf) c) }) (goes_on (is_whole (without_step (with_return old.core at buf) c) it.next) (without_step (with_return old.core at buf) c) it.next it.on it.goes ∙ ap (λ (k : OpenCopy). Some k) it.moves.is) its goes undone) (λ runs whole. refl)
-    step_open step.Writing false new at buf it = still p new (same_copy p (with_end (with_copy (with_return old.core at buf) (record c { step = step.Idle })) (ends_if true ending.SyncFailed)) new (ap (λ (x : Core). x.copy) it.is)
-        (fail_open p (with_copy (with_return old.core at buf) (record c { step = step.Idle })) true (put p (with_copy (with_return old.core at buf) (record c { step = step.Idle })) (record c { step = step.Idle }) refl its goes undone)))
+    step_open (step.Reading source) true new at buf it = still begun new (put begun new _ (ap (λ (x : Core). x.copy) it) its goes undone)
+    step_open (step.Reading source) false new at buf it = review_open begun _ new it.reviews (put begun _ (record c { step = step.Idle; tried = it.tried }) refl its goes undone) (λ runs whole. refl)
+    step_open step.Writing true new at buf it = review_open begun it.on new it.reviews (put begun it.on (record c { cursor = c.cursor + 1; step = step.Idle; tried = it.next.tried; place = step_place (without_step (with_return old.core at buf) c) }) (goes_on (is_whole (without_step (with_return old.core at buf) c) it.next) (without_step (with_return old.core at buf) c) it.next it.on it.goes ∙ ap (λ (k : OpenCopy). Some k) it.moves.is) its goes undone) (λ runs whole. refl)
+    step_open step.Writing false new at buf it = still begun new (same_copy begun (with_end (with_copy (with_return old.core at buf) (record c { step = step.Idle })) (ends_if true ending.SyncFailed)) new (ap (λ (x : Core). x.copy) it.is)
+        (fail_open begun (with_copy (with_return old.core at buf) (record c { step = step.Idle })) true (put begun (with_copy (with_return old.core at buf) (record c { step = step.Idle })) (record c { step = step.Idle }) refl its goes undone)))
 
-  copy_open : (new : Core) (at : ℕ) (ok : Bool) (buf : Buffer) → CopyLearns old.core at ok buf new → IsOpenStill p new
+  copy_open : (new : Core) (at : ℕ) (ok : Bool) (buf : Buffer) → CopyLearns old.core at ok buf new → IsOpenStill begun new
   copy_open new at ok buf it = by (is_running it.copy) it.learns
     where
       same : was.copy ≡ it.copy
       same = let e : Some was.copy ≡ Some it.copy = sym was.is_open ∙ it.is_open in cc e
 
-      by : (b : Bool) → StepLearns b old.core at it.copy ok buf new → IsOpenStill p new
+      by : (b : Bool) → StepLearns b old.core at it.copy ok buf new → IsOpenStill begun new
       by true leaves = step_open it.copy same it.copy.step ok new at buf leaves
-      by false quits = still p new (put p new _ (ap (λ (x : Core). x.copy) quits) (its it.copy same) (goes it.copy same) (undone it.copy same))
+      by false quits = still begun new (put begun new _ (ap (λ (x : Core). x.copy) quits) (its it.copy same) (goes it.copy same) (undone it.copy same))
 
-  learned_open : (whose : Owner) (ok : Bool) (new : Core) (at : ℕ) (buf : Buffer) → Learns whose old.core at ok buf new → IsOpenStill p new
+  learned_open : (whose : Owner) (ok : Bool) (new : Core) (at : ℕ) (buf : Buffer) → Learns whose old.core at ok buf new → IsOpenStill begun new
   learned_open (owner.Data id target) ok new at buf it =
-      still p new (same_copy p (with_end after (end_by_write after (learned it.its.request target ok buf) ok it.its.aim.pp)) new (ap (λ (c : Core). c.copy) it.entails.is)
-      (fail_open p after (option_map_or (hits_copy after (learned it.its.request target ok buf) ok it.its.aim.pp) after.copy false) (put p after was.copy was.is_open was.its was.goes was.undone)))
+      still begun new (same_copy begun (with_end after (end_by_write after (learned it.its.request target ok buf) ok it.its.aim.pp)) new (ap (λ (c : Core). c.copy) it.entails.is)
+      (fail_open begun after (option_map_or (hits_copy after (learned it.its.request target ok buf) ok it.its.aim.pp) after.copy false) (put begun after was.copy was.is_open was.its was.goes was.undone)))
     where
       after : Core
       after = after_data old.core at it.place it.its.request target ok buf
-  learned_open (owner.Status disk) ok new at buf it = review_open p _ new it.reviews (put p _ was.copy was.is_open was.its was.goes was.undone) rests
+  learned_open (owner.Status disk) ok new at buf it = review_open begun _ new it.reviews (put begun _ was.copy was.is_open was.its was.goes was.undone) rests
   learned_open (owner.Note disk) ok new at buf it = note_open new at disk ok buf it
   learned_open owner.Copy ok new at buf it = copy_open new at ok buf it
 
   -- ---- an event is made
 
-  event_open : (it : Event) (new : State) → Makes it old new → IsUndone p new.core
-  event_open (event.Land place how) new made = same_copy p old.core new.core (ap (λ (s : State). s.core.copy) made.is) was
-  event_open (event.Admit place) new made = same_copy p old.core new.core (ap (λ (s : State). s.core.copy) made.is) was
-  event_open (event.Pin place) new made = same_copy p old.core new.core (ap (λ (s : State). s.core.copy) made.is) was
-  event_open event.StartStatus new made = same_copy p old.core new.core (ap (λ (s : State). s.core.copy) made.is) was
-  event_open (event.StartNote place disk) new made = same_copy p old.core new.core (ap (λ (s : State). s.core.copy) made.is) was
-  event_open (event.StartData place target) new made = same_copy p old.core new.core (ap (λ (s : State). s.core.copy) made.is) was
+  event_open : (it : Event) (new : State) → Makes it old new → IsUndone begun new.core
+  event_open (event.Land place how) new made = same_copy begun old.core new.core (ap (λ (s : State). s.core.copy) made.is) was
+  event_open (event.Admit place) new made = same_copy begun old.core new.core (ap (λ (s : State). s.core.copy) made.is) was
+  event_open (event.Pin place) new made = same_copy begun old.core new.core (ap (λ (s : State). s.core.copy) made.is) was
+  event_open event.StartStatus new made = same_copy begun old.core new.core (ap (λ (s : State). s.core.copy) made.is) was
+  event_open (event.StartNote place disk) new made = same_copy begun old.core new.core (ap (λ (s : State). s.core.copy) made.is) was
+  event_open (event.StartData place target) new made = same_copy begun old.core new.core (ap (λ (s : State). s.core.copy) made.is) was
   event_open event.ReadCopy new made =
       let same : was.copy ≡ made.copy = (let e : Some was.copy ≡ Some made.copy = sym was.is_open ∙ made.is_open in cc e) in
-      put p new.core _ (ap (λ (s : State). s.core.copy) made.is) (its made.copy same) (goes made.copy same) (undone made.copy same)
+      put begun new.core _ (ap (λ (s : State). s.core.copy) made.is) (its made.copy same) (goes made.copy same) (undone made.copy same)
   event_open event.WriteCopy new made =
       let same : was.copy ≡ made.copy = (let e : Some was.copy ≡ Some made.copy = sym was.is_open ∙ made.is_open in cc e) in
-      put p new.core _ (ap (λ (s : State). s.core.copy) made.is) (its made.copy same) (goes made.copy same) (undone made.copy same)
+      put begun new.core _ (ap (λ (s : State). s.core.copy) made.is) (its made.copy same) (goes made.copy same) (undone made.copy same)
 
   -- ---- a turn
 
@@ -254,20 +254,20 @@ module _ (p : Pp) (old : State) (sound : IsSound old) (on : old.core.power ≡ p
     dark_not : {X : Type 0} → new.core.power ≡ power.Dark → X
     dark_not is = absurd (let e : power.Dark ≡ power.On = sym is ∙ goes_still in cc e)
 
-    finish_open : (answer : Turned) → FinishMakes old new answer → IsOpenStill p new.core
+    finish_open : (answer : Turned) → FinishMakes old new answer → IsOpenStill begun new.core
     finish_open turned.Moved made = learned_open made.1.row.owner made.1.ok new.core made.0 made.1.buf made.1.learns
-    finish_open turned.Idle (inl finds) = still p new.core (same_copy p old.core new.core (ap (λ (c : Core). c.copy) finds.is) was)
-    finish_open turned.Idle (inr nothing) = still p new.core (same_copy p old.core new.core (ap (λ (s : State). s.core.copy) nothing.is) was)
+    finish_open turned.Idle (inl finds) = still begun new.core (same_copy begun old.core new.core (ap (λ (c : Core). c.copy) finds.is) was)
+    finish_open turned.Idle (inr nothing) = still begun new.core (same_copy begun old.core new.core (ap (λ (s : State). s.core.copy) nothing.is) was)
     finish_open turned.Dark made = dark_not (ap (λ (c : Core). c.power) made.1.is)
     finish_open turned.Off made = absurd (let e : power.Off ≡ power.On = sym (ap (λ (s : State). s.core.power) made.is) ∙ goes_still in cc e)
 
-    on_open : (answer : Turned) → OnMakes old new answer → IsOpenStill p new.core
-    on_open answer (Moves it first made is) = still p new.core (event_open it new made)
+    on_open : (answer : Turned) → OnMakes old new answer → IsOpenStill begun new.core
+    on_open answer (Moves it first made is) = still begun new.core (event_open it new made)
     on_open answer (NoStart it first start dark is) = dark_not (ap (λ (c : Core). c.power) dark.is)
     on_open answer (Finishes none made) = finish_open answer made
 
 -- a session that goes on behind a turn that is made while it runs has it open still
-pub turn_open : (p : Pp) (old new : State) → IsSound old → IsOpenStill p old.core → Runs old.core → (answer : Turned) → TurnMakes old new answer → new.core.power ≡ power.On → IsOpenStill p new.core
-turn_open p old new sound it runs answer (WasDark dark is same) on = absurd (let e : power.Dark ≡ power.On = sym dark ∙ sym (ap (λ (s : State). s.core.power) same) ∙ on in cc e)
-turn_open p old new sound it runs answer (WasOff off is same) on = absurd (let e : power.Off ≡ power.On = sym off ∙ sym (ap (λ (s : State). s.core.power) same) ∙ on in cc e)
-turn_open p old new sound it runs answer (WasOn was made) on = on_open p old sound was (undone_of p old.core it runs) new on answer made
+pub turn_open : (begun : OpenCopy) (old new : State) → IsSound old → IsOpenStill begun old.core → Runs old.core → (answer : Turned) → TurnMakes old new answer → new.core.power ≡ power.On → IsOpenStill begun new.core
+turn_open begun old new sound it runs answer (WasDark dark is same) on = absurd (let e : power.Dark ≡ power.On = sym dark ∙ sym (ap (λ (s : State). s.core.power) same) ∙ on in cc e)
+turn_open begun old new sound it runs answer (WasOff off is same) on = absurd (let e : power.Off ≡ power.On = sym off ∙ sym (ap (λ (s : State). s.core.power) same) ∙ on in cc e)
+turn_open begun old new sound it runs answer (WasOn was made) on = on_open begun old sound was (undone_of begun old.core it runs) new on answer made

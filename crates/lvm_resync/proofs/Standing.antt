@@ -1,5 +1,5 @@
 -- A session in which something isn't settled doesn't stand still.
-use Rattle.std.proofs.Common.{◌≡◌, ◌⊎◌, inl, inr, ◌≤◌, ℕ, zero, suc, Bool, true, false, ◌&&◌, ◌||◌, not, List, [], ◌∷◌, Option, Some, None, length, if◌then◌else◌, refl, sym, ap, subst, ◌∙◌, arith}
+use Rattle.std.proofs.Common.{◌≡◌, ◌⊎◌, inl, inr, ◌≤◌, ℕ, Bool, true, false, ◌&&◌, ◌||◌, not, List, [], ◌∷◌, Option, Some, None, length, if◌then◌else◌, refl, sym, ap, subst, ◌∙◌, arith}
 use Rattle.std.specs.Prelude.{IfSome, count_by, is_none, slice_index_or}
 use Rattle.std.specs.List.{list_any, AllByRecursion}
 use Rattle.std.specs.Option.{option_map_or}
@@ -25,7 +25,7 @@ use Rattle.lvm_session.specs.declared.flown.Owner.TheVariants as owner
 use Rattle.lvm_session.specs.declared.open.Open.{Open}
 use Rattle.lvm_session.specs.State.{Core, State, is_there, votes_there}
 use Rattle.lvm_session.specs.Bringing.{is_out}
-use Rattle.lvm_session.specs.Calls.{copy_state, state_at_end, state_of_copy}
+use Rattle.lvm_session.specs.Calls.{state_at_end, state_of_copy}
 use Rattle.lvm_session.specs.Dark.{hand_of_copy}
 use Rattle.lvm_session.specs.Enabled.{first_of, has_buffer, is_status_due, landing, or_next, parts_to_settle, parts_to_start, same_status}
 use Rattle.lvm_session.specs.Judging.{is_running, is_waiting}

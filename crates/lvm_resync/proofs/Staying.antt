@@ -39,10 +39,11 @@ use Rattle.lvm_driver.specs.Drains.{IsTurn}
 use Rattle.lvm_resync.specs.declared.copies.Passed.TheVariants as passed
 use Rattle.lvm_resync.specs.declared.fault.SyncFault.{SyncFault}
 use Rattle.lvm_resync.specs.declared.tally.Tally.{Tally}
-use Rattle.lvm_resync.specs.Passing.{Copy, EachTurnWhile, IsEnded, IsFresh, IsMadeFresh, IsOpened, IsUnsettled, Runs}
+use Rattle.lvm_resync.specs.Passing.{Copy, IsEnded, IsFresh, IsMadeFresh, IsOpened, IsUnsettled, Runs}
 use Rattle.lvm_resync.specs.Syncing.{IsStaleFor, LeavesFresh, NonePassed, OnePassed, Passes, is_made_among, no_tally, or_first}
-use Rattle.lvm_resync.proofs.Making.{its_pp}
+use Rattle.lvm_resync.proofs.Making.{as_opened, its_pp}
 use Rattle.lvm_resync.proofs.Open.{IsOpenStill, just_opened, turn_open}
+use Rattle.lvm_resync.proofs.Turning.{TurnsIn, turns_in}
 
 -- ---- why something is stale
 
@@ -109,7 +110,7 @@ module _ (first old new : State) (made free : Pp → Bool) (so_far : Stays first
 shut_none : (core : Core) → core.copy ≡ None → (p : Pp) → is_open_at core p ≡ false
 shut_none core none p = ap (λ m. option_map_or (λ (c : OpenCopy). is_pp p c.pp) m false) none
 
-settle_stays : (c : Copy) (first old new : State) (made : Pp → Bool) → Stays first old made nothing → old.core.copy ≡ None → EachTurnWhile (IsUnsettled c) old new → Stays first new made nothing × (new.core.copy ≡ None)
+settle_stays : (c : Copy) (first old new : State) (made : Pp → Bool) → Stays first old made nothing → old.core.copy ≡ None → TurnsIn (IsUnsettled c) old new → Stays first new made nothing × (new.core.copy ≡ None)
 settle_stays c first old new made so_far none (Here any) = (so_far, none)
 settle_stays c first old new made so_far none (Then {m} path step any) =
     let before = settle_stays c first old m made so_far none path in
@@ -160,8 +161,11 @@ module _ (c : Copy) (first judged new : State) (made : Pp → Bool) (so_far : St
       by q (inl why) = inl (still_for first judged new q (more q) (λ gone. ap (λ (k : Core). is_missing k q.disk) opens.is ∙ gone) why)
       by q (inr was) = inr was
 
-  pub opened_still : IsOpenStill p new.core
-  opened_still = subst (λ (q : Pp). IsOpenStill q new.core) its (just_opened new.core _ (ap (λ (k : Core). k.copy) opens.is) refl)
+  abbrev its_copy : OpenCopy
+  its_copy = as_opened (counts_seen judged.device judged.core) judged.core new.core c.lv c.lp c.number opens
+
+  pub opened_still : IsOpenStill its_copy new.core
+  opened_still = just_opened new.core its_copy (ap (λ (k : Core). k.copy) opens.is) refl
 
 -- ---- it is brought up
 
@@ -195,17 +199,17 @@ goes_on s sound runs = by s.core.power refl
     by power.Stuck is = absurd (none_open (sound.stuck is).copy)
 
 -- other partitions than that of the copy aren't open
-shut_beside : (core : Core) (p : Pp) → IsOpenStill p core → (q : Pp) → is_pp q p ≡ false → is_open_at core q ≡ false
-shut_beside core p it q other = ap (λ m. option_map_or (λ (c : OpenCopy). is_pp q c.pp) m false) it.is_open ∙ ap (is_pp q) it.its ∙ other
+shut_beside : (core : Core) (begun : OpenCopy) → IsOpenStill begun core → (q : Pp) → is_pp q begun.pp ≡ false → is_open_at core q ≡ false
+shut_beside core begun it q other = ap (λ m. option_map_or (λ (c : OpenCopy). is_pp q c.pp) m false) it.is_open ∙ ap (is_pp q) it.its.0 ∙ other
 
-bring_stays : (first opened ended : State) (made : Pp → Bool) (p : Pp) → Stays first opened made (λ q. is_pp q p) → IsOpenStill p opened.core → EachTurnWhile Runs opened ended
-    → Stays first ended made (λ q. is_pp q p) × (Runs ended.core → IsOpenStill p ended.core)
-bring_stays first opened ended made p so_far begun (Here any) = (so_far, λ runs. begun)
-bring_stays first opened ended made p so_far begun (Then {m} path turn any) =
-    let before = bring_stays first opened m made p so_far begun path in
+bring_stays : (first opened ended : State) (made : Pp → Bool) (begun : OpenCopy) → Stays first opened made (λ q. is_pp q begun.pp) → IsOpenStill begun opened.core → TurnsIn Runs opened ended
+    → Stays first ended made (λ q. is_pp q begun.pp) × (Runs ended.core → IsOpenStill begun ended.core)
+bring_stays first opened ended made begun so_far is_open (Here any) = (so_far, λ runs. is_open)
+bring_stays first opened ended made begun so_far is_open (Then {m} path turn any) =
+    let before = bring_stays first opened m made begun so_far is_open path in
     let still = before.1 turn.0 in
-    let after = turn_stays first m ended made (λ q. is_pp q p) before.0 turn.1 (λ q other. shut_beside m.core p still q other) in
-    (after, λ runs. turn_open p m ended before.0.sound still turn.0 turn.1.0 turn.1.1 (goes_on ended after.sound runs))
+    let after = turn_stays first m ended made (λ q. is_pp q begun.pp) before.0 turn.1 (λ q other. shut_beside m.core begun still q other) in
+    (after, λ runs. turn_open begun m ended before.0.sound still turn.0 turn.1.0 turn.1.1 (goes_on ended after.sound runs))
 
 -- ---- it is made fresh
 
@@ -216,31 +220,34 @@ pp_turned p q other = by (is_pp p q) refl
     by false e = refl
     by true e = absurd (let f : true ≡ false = sym (own_pp q) ∙ sym (ap (is_pp q) (pp_same p q e)) ∙ other in cc f)
 
-module _ (c : Copy) (first old new : State) (made : Pp → Bool) (so_far : Stays first old made nothing) (none : old.core.copy ≡ None) (it : IsMadeFresh c old new) where
+module _ (c : Copy) (first old new : State) (made : Pp → Bool) (so_far : Stays first old made nothing) (none : old.core.copy ≡ None) (patience left : ℕ) (it : IsMadeFresh c patience left old new) where
   abbrev opened : State
   opened = it.brings.opened
 
-  opens : IsOpened c old opened
+  opens : IsOpened c patience it.brings.before old opened
   opens = it.brings.opens
 
-  ends : IsEnded opened new copy.Done
+  ends : IsEnded it.brings.before left opened new copy.Done
   ends = it.brings.ends
 
   abbrev q : Pp
   q = opens.opens.pp
 
   judged_stays : Stays first opens.judged made nothing × (opens.judged.core.copy ≡ None)
-  judged_stays = settle_stays c first old opens.judged made so_far none opens.settles
+  judged_stays = settle_stays c first old opens.judged made so_far none (turns_in (IsUnsettled c) opens.settles)
 
   begun : Stays first opened made (λ x. is_pp x q)
   begun = open_stays c first opens.judged opened made judged_stays.0 judged_stays.1 opens.may opens.opens opens.device q refl
 
-  brought : Stays first ends.ended made (λ x. is_pp x q) × (Runs ends.ended.core → IsOpenStill q ends.ended.core)
-  brought = bring_stays first opened ends.ended made q begun (opened_still c first opens.judged opened made judged_stays.0 judged_stays.1 opens.may opens.opens opens.device q refl) ends.turns
+  abbrev begun_copy : OpenCopy
+  begun_copy = as_opened (counts_seen opens.judged.device opens.judged.core) opens.judged.core opened.core c.lv c.lp c.number opens.opens
+
+  brought : Stays first ends.ended made (λ x. is_pp x q) × (Runs ends.ended.core → IsOpenStill begun_copy ends.ended.core)
+  brought = bring_stays first opened ends.ended made begun_copy begun (opened_still c first opens.judged opened made judged_stays.0 judged_stays.1 opens.may opens.opens opens.device q refl) (turns_in Runs ends.turns)
 
   -- on the partition that was asked for
   its : q ≡ c.pp
-  its = its_pp c old opened opens
+  its = its_pp c patience it.brings.before old opened opens
 
   abbrev pub made_too : Pp → Bool
   made_too p = is_pp c.pp p || made p
@@ -334,11 +341,11 @@ module _ (first : State) (sound : IsSound first) (on : first.core.power ≡ powe
 
   -- one more is passed
   module _ (copies : List Copy) (old new : State) (made : Pp → Bool) (c : Copy) (left : Left first old copies made) where
-    fresh_left : IsFresh c old new → Left first new (copies ++ c ∷ []) made
-    fresh_left it = record { stays = after.0; none = after.1; made_is = λ place d at settled. by place d settled (at_behind copies c d place at) }
+    fresh_left : (patience after : ℕ) → IsFresh c patience after old new → Left first new (copies ++ c ∷ []) made
+    fresh_left patience spare it = record { stays = after.0; none = after.1; made_is = λ place d at settled. by place d settled (at_behind copies c d place at) }
       where
         after : Stays first new made nothing × (new.core.copy ≡ None)
-        after = settle_stays c first old new made left.stays left.none it.settles
+        after = settle_stays c first old new made left.stays left.none (turns_in (IsUnsettled c) it.settles)
 
         of : (b : Bool) → made c.pp ≡ b → is_settled first.core c.pp ≡ true → b ≡ true
         of true e settled = refl
@@ -352,10 +359,10 @@ module _ (first : State) (sound : IsSound first) (on : first.core.power ≡ powe
         by place d settled (inl before) = left.made_is place d before settled
         by place d settled (inr same) = ap (λ (x : Copy). made x.pp) same ∙ of (made c.pp) refl (sym (ap (λ (x : Copy). is_settled first.core x.pp) same) ∙ settled)
 
-    made_left : IsMadeFresh c old new → Left first new (copies ++ c ∷ []) (λ p. is_pp c.pp p || made p)
-    made_left it = record {
-      stays = made_stays c first old new made left.stays left.none it;
-      none = made_none c first old new made left.stays left.none it;
+    made_left : (patience after : ℕ) → IsMadeFresh c patience after old new → Left first new (copies ++ c ∷ []) (λ p. is_pp c.pp p || made p)
+    made_left patience after it = record {
+      stays = made_stays c first old new made left.stays left.none patience after it;
+      none = made_none c first old new made left.stays left.none patience after it;
       made_is = λ place d at settled. by place d settled (at_behind copies c d place at);
     }
       where
@@ -363,25 +370,25 @@ module _ (first : State) (sound : IsSound first) (on : first.core.power ≡ powe
         by place d settled (inl before) = or_right (is_pp c.pp d.pp) (made d.pp) (left.made_is place d before settled)
         by place d settled (inr same) = ap (λ b. b || made d.pp) (ap (λ (x : Copy). is_pp c.pp x.pp) same ∙ own_pp c.pp)
 
-  passes_left : (copies : List Copy) (now : State) (tally : Tally) (passes : Passes first no_tally copies now tally) → tally.fault ≡ None → Left first now copies (λ p. is_made_among p passes)
-  passes_left all now total NonePassed well = record { stays = begins_so; none = shut; made_is = λ place c at settled. absurd (cc at) }
-  passes_left all now total (OnePassed {copies} {old} {new} {tally} c passed.Fresh rest it) well = fresh_left copies old new (λ p. is_made_among p rest) c (passes_left copies old tally rest well) it
-  passes_left all now total (OnePassed {copies} {old} {new} {tally} c passed.Made rest it) well = made_left copies old new (λ p. is_made_among p rest) c (passes_left copies old tally rest well) it
-  passes_left all now total (OnePassed {copies} {old} {new} {tally} c (passed.Failed why) rest it) well = absurd (none tally.fault well)
+  passes_left : (patience rest : ℕ) (copies : List Copy) (now : State) (tally : Tally) (passes : Passes first no_tally patience copies now tally rest) → tally.fault ≡ None → Left first now copies (λ p. is_made_among p passes)
+  passes_left patience spare all now total NonePassed well = record { stays = begins_so; none = shut; made_is = λ place c at settled. absurd (cc at) }
+  passes_left patience spare all now total (OnePassed {copies} {old} {new} {tally} {before} c passed.Fresh rest it) well = fresh_left copies old new (λ p. is_made_among p rest) c (passes_left patience before copies old tally rest well) before spare it
+  passes_left patience spare all now total (OnePassed {copies} {old} {new} {tally} {before} c passed.Made rest it) well = made_left copies old new (λ p. is_made_among p rest) c (passes_left patience before copies old tally rest well) before spare it
+  passes_left patience spare all now total (OnePassed {copies} {old} {new} {tally} c (passed.Failed why) rest it) well = absurd (none tally.fault well)
     where
       none : (m : Option SyncFault) → or_first m why ≡ None → ⊥
       none None e = cc e
       none (Some first_one) e = cc e
 
-  pub leaves_fresh : (copies : List Copy) (new : State) (tally : Tally) (passes : Passes first no_tally copies new tally) → tally.fault ≡ None → LeavesFresh copies first new tally passes
-  leaves_fresh copies new tally passes well = record {
+  pub leaves_fresh : (patience left : ℕ) (copies : List Copy) (new : State) (tally : Tally) (passes : Passes first no_tally patience copies new tally left) → tally.fault ≡ None → LeavesFresh copies patience left first new tally passes
+  leaves_fresh patience rest copies new tally passes well = record {
     made = left.made_is;
     others = λ p settled unmade. left.stays.lasting p settled unmade refl;
     stale = λ place c at stale. by place c at (left.stays.marked c.pp (marked (is_stale new.core c.pp) (calls_stale (unwrap_or new.core.status.in_flight new.core.status.committed) c.pp) (is_wanted_stale new.core c.pp) stale));
   }
     where
       left : Left first new copies (λ p. is_made_among p passes)
-      left = passes_left copies new tally passes well
+      left = passes_left patience rest copies new tally passes well
 
       marked : (a f w : Bool) → a ≡ true → (a || f) || w ≡ true
       marked true f w e = refl

@@ -18,8 +18,7 @@ use Rattle.lvm_resync.specs.declared.copies.Passed.TheVariants as passed
 use Rattle.lvm_resync.specs.declared.fault.SyncFault.{SyncFault}
 use Rattle.lvm_resync.specs.declared.fault.SyncFault.TheVariants as fault
 use Rattle.lvm_resync.specs.declared.tally.Tally.{Tally}
-use Rattle.lvm_resync.specs.Passing.{Copy, PassesCopy}
-use Rattle.lvm_resync.specs.Turning.{StopsFor}
+use Rattle.lvm_resync.specs.Passing.{Copy, PassesCopy, StopsAt}
 
 -- ---- the copies that are asked for
 
@@ -61,15 +60,27 @@ with_passed t passed.Fresh = t
 with_passed t passed.Made = record t { made = min (t.made + 1) (2 ^ 32 - 1) }
 with_passed t (passed.Failed why) = record t { fault = or_first t.fault why }
 
--- These copies are passed in order, each once.
-pub data Passes (first : State) (from : Tally) : List Copy → State → Tally → Type 0 where
-  NonePassed : Passes first from [] first from
-  OnePassed : {copies : List Copy} {old new : State} {tally : Tally} (c : Copy) (how : Passed)
-      → Passes first from copies old tally → PassesCopy c old new how → Passes first from (copies ++ c ∷ []) new (with_passed tally how)
+-- These copies are passed in order, each once, and the patience that is left.
+pub data Passes (first : State) (from : Tally) (patience : ℕ) : List Copy → State → Tally → ℕ → Type 0 where
+  NonePassed : Passes first from patience [] first from patience
+  OnePassed : {copies : List Copy} {old new : State} {tally : Tally} {before left : ℕ} (c : Copy) (how : Passed)
+      → Passes first from patience copies old tally before → PassesCopy c before left old new how → Passes first from patience (copies ++ c ∷ []) new (with_passed tally how) left
 
 -- all of them are, and no copy is left open
-abbrev pub ArePassed : List Copy → State → State → Tally → Tally → Unit {0} → Type 0
-ArePassed copies old new from to done = Passes old from copies new to × (new.core.copy ≡ None)
+abbrev pub ArePassed : List Copy → ℕ → ℕ → State → State → Tally → Tally → Unit {0} → Type 0
+ArePassed copies patience left old new from to done = Passes old from patience copies new to left × (new.core.copy ≡ None)
+
+-- The resync ends at once at one of these copies; those before it are passed, and none behind it.
+pub record StopsAmong (copies : List Copy) (patience left : ℕ) (old new : State) (from : Tally) (why : SyncFault) : Type 0 where
+  pub passed : List Copy
+  pub one : Copy
+  pub rest : List Copy
+  pub all : copies ≡ passed ++ one ∷ rest
+  pub mid : State
+  pub tally : Tally
+  pub before : ℕ
+  pub passes : Passes old from patience passed mid tally before
+  pub stops : StopsAt one before left mid new why
 
 -- ---- what is answered
 
@@ -78,14 +89,14 @@ abbrev pub no_tally : Tally
 no_tally = record { made = 0; fault = None }
 
 -- all copies that were asked for are passed, with so many made fresh, and this is the first thing by which one stays stale
-pub record Syncs (copies : List Copy) (old new : State) (made : ℕ) (first : Option SyncFault) : Type 0 where
-  pub passes : Passes old no_tally copies new (record { made = made; fault = first })
+pub record Syncs (copies : List Copy) (patience left : ℕ) (old new : State) (made : ℕ) (first : Option SyncFault) : Type 0 where
+  pub passes : Passes old no_tally patience copies new (record { made = made; fault = first }) left
   pub none : new.core.copy ≡ None
 
 -- ---- what they leave
 
 -- whether a copy on this partition is made fresh among them
-abbrev pub is_made_among : Pp → {first : State} {from : Tally} {copies : List Copy} {now : State} {tally : Tally} → Passes first from copies now tally → Bool
+abbrev pub is_made_among : Pp → {first : State} {from : Tally} {patience : ℕ} {copies : List Copy} {now : State} {tally : Tally} {left : ℕ} → Passes first from patience copies now tally left → Bool
 is_made_among p NonePassed = false
 is_made_among p (OnePassed c passed.Fresh rest it) = is_made_among p rest
 is_made_among p (OnePassed c passed.Made rest it) = is_pp c.pp p || is_made_among p rest
@@ -100,19 +111,20 @@ abbrev pub IsStaleFor : State → State → Pp → Type 0
 IsStaleFor old new p = (is_missing new.core p.disk ≡ true) ⊎ Rose (old.device.counts.faults p.disk) (new.device.counts.faults p.disk) ⊎ (is_to_be_stale old.core p ≡ true) ⊎ (has_failed_on old.core p ≡ true)
 
 -- Where none stays stale: what was settled as stale was made fresh, if it was asked for, and else it stays so; and what was asked for is stale for such a cause alone.
-pub record LeavesFresh (copies : List Copy) (old new : State) (tally : Tally) (passes : Passes old no_tally copies new tally) : Type 0 where
+pub record LeavesFresh (copies : List Copy) (patience left : ℕ) (old new : State) (tally : Tally) (passes : Passes old no_tally patience copies new tally left) : Type 0 where
   pub made : (place : ℕ) (c : Copy) → slice_get copies place ≡ Some c → is_settled old.core c.pp ≡ true → is_made_among c.pp passes ≡ true
   pub others : (p : Pp) → is_settled old.core p ≡ true → is_made_among p passes ≡ false → is_lasting new.core p ≡ true
   pub stale : (place : ℕ) (c : Copy) → slice_get copies place ≡ Some c → is_stale new.core c.pp ≡ true → IsStaleFor old new c.pp
 
 -- How many copies are made fresh, where none stays stale; else the first thing by which one does; or why it ended before.
-abbrev pub SyncEnds : List Copy → State → State → ℕ → Result ℕ SyncFault → Type 0
-SyncEnds copies old new left (Ok made) = (syncs : Syncs copies old new made None) × LeavesFresh copies old new (record { made = made; fault = None }) syncs.passes
-SyncEnds copies old new left (Err why) = ((made : ℕ) × Syncs copies old new made (Some why)) ⊎ StopsFor left new.core why
+abbrev pub SyncEnds : List Copy → ℕ → ℕ → State → State → Result ℕ SyncFault → Type 0
+SyncEnds copies patience left old new (Ok made) = (syncs : Syncs copies patience left old new made None) × LeavesFresh copies patience left old new (record { made = made; fault = None }) syncs.passes
+SyncEnds copies patience left old new (Err why) = ((made : ℕ) × Syncs copies patience left old new made (Some why)) ⊎ StopsAmong copies patience left old new no_tally why
 
 -- and where it isn't begun nothing changes
-abbrev pub SyncGives : Option SyncFault → List Copy → State → State → ℕ → Result ℕ SyncFault → Type 0
-SyncGives refused copies old new left answer = MatchOption refused (SyncEnds copies old new left answer) (λ (why : SyncFault). (answer ≡ Err why) × (new ≡ old))
+abbrev pub SyncGives : Option SyncFault → List Copy → ℕ → ℕ → State → State → Result ℕ SyncFault → Type 0
+SyncGives refused copies patience left old new answer =
+    MatchOption refused (SyncEnds copies patience left old new answer) (λ (why : SyncFault). (answer ≡ Err why) × (new ≡ old) × (left ≡ patience))
 
 -- the answer by what was made of the copies
 abbrev pub IsAnswer : Tally → Result ℕ SyncFault → Type 0

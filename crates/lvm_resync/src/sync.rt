@@ -1,7 +1,8 @@
 //! Copies are brought up.
-ghost use Rattle.std.specs.Prelude.{◌≡◌, is_some};
+ghost use Rattle.std.specs.Prelude.{◌≡◌, IfErr, is_some};
 ghost use Rattle.lvm_session.specs.declared.open.Power.TheVariants as power;
 ghost use Rattle.lvm_driver.specs.Answers.{state_of};
+ghost use Rattle.lvm_resync.specs.Causes.{SyncCause};
 ghost use Rattle.lvm_resync.specs.Syncing.{IsAnswer, SyncGives, fault_by, fault_on, group_copies, group_fault, no_tally, numbers_fault, partition_copies, partition_fault, volume_copies, volume_fault};
 ghost use Rattle.lvm_resync.specs.Turning.{GoesBeside};
 
@@ -113,7 +114,8 @@ pub fn sync_partition<S: Shelf>(
     patience: &mut Patience,
 ) -> Result<u32, SyncFault>
     requires unstuck { driver.old.1.power ≡ power.Stuck → ⊥ }
-    ensures gives { SyncGives (partition_fault driver.old.1 lv lp) (partition_copies driver.old.1.descriptor lv lp) (state_of S.device driver.old) (state_of S.device driver.new) patience.new.left result }
+    ensures gives { SyncGives (partition_fault driver.old.1 lv lp) (partition_copies driver.old.1.descriptor lv lp) patience.old.left patience.new.left (state_of S.device driver.old) (state_of S.device driver.new) result }
+    ensures caused { IfErr result (SyncCause patience.new.left (state_of S.device driver.old) (state_of S.device driver.new)) }
     ensures beside { GoesBeside (state_of S.device driver.old) (state_of S.device driver.new) patience.old.left patience.new.left }
 {
     match partition_fault(driver, lv, lp) {
@@ -138,7 +140,8 @@ pub fn sync_volume<S: Shelf>(
     patience: &mut Patience,
 ) -> Result<u32, SyncFault>
     requires unstuck { driver.old.1.power ≡ power.Stuck → ⊥ }
-    ensures gives { SyncGives (volume_fault driver.old.1 lv) (volume_copies driver.old.1.descriptor lv) (state_of S.device driver.old) (state_of S.device driver.new) patience.new.left result }
+    ensures gives { SyncGives (volume_fault driver.old.1 lv) (volume_copies driver.old.1.descriptor lv) patience.old.left patience.new.left (state_of S.device driver.old) (state_of S.device driver.new) result }
+    ensures caused { IfErr result (SyncCause patience.new.left (state_of S.device driver.old) (state_of S.device driver.new)) }
     ensures beside { GoesBeside (state_of S.device driver.old) (state_of S.device driver.new) patience.old.left patience.new.left }
 {
     match volume_fault(driver, lv) {
@@ -162,7 +165,8 @@ pub fn sync_group<S: Shelf>(
     patience: &mut Patience,
 ) -> Result<u32, SyncFault>
     requires unstuck { driver.old.1.power ≡ power.Stuck → ⊥ }
-    ensures gives { SyncGives (group_fault driver.old.1) (group_copies driver.old.1.descriptor) (state_of S.device driver.old) (state_of S.device driver.new) patience.new.left result }
+    ensures gives { SyncGives (group_fault driver.old.1) (group_copies driver.old.1.descriptor) patience.old.left patience.new.left (state_of S.device driver.old) (state_of S.device driver.new) result }
+    ensures caused { IfErr result (SyncCause patience.new.left (state_of S.device driver.old) (state_of S.device driver.new)) }
     ensures beside { GoesBeside (state_of S.device driver.old) (state_of S.device driver.new) patience.old.left patience.new.left }
 {
     match group_fault(driver) {

@@ -70,7 +70,7 @@ module _ (past : List Fact) (s : Session) (tied : IsTied past s) where
 
   -- settled as stale is the same in both
   settled_same : (p : Pp) → is_settled_stale v p ≡ is_settled core p
-  settled_same p = (λ t. stale_seen past s tied p t && stale_in (tied.sees.in_flight t) p) ∙ by core.status.in_flight
+  settled_same p = (λ t. stale_seen past s tied p t && stale_in (tied.sees.status.in_flight t) p) ∙ by core.status.in_flight
     where
       by : (u : Option Status) → is_stale core p && stale_in (option_map as_marks (option_map (λ (t : Status). let r : Stamped Status = record { stamp = core.status.stamp; value = t } in r) u)) p
           ≡ is_stale core p && calls_stale (unwrap_or u core.status.committed) p
@@ -86,12 +86,12 @@ module _ (past : List Fact) (s : Session) (tied : IsTied past s) where
         let parts = and_both (is_member group c.disk) (not (is_missing core c.disk)) it.there in
         record {
           copy = it.copy;
-          shows = tied.members c.disk parts.0 (there_first past s tied c.disk (not_true (is_missing core c.disk) parts.1));
+          shows = tied.recorded.members c.disk parts.0 (there_first past s tied c.disk (not_true (is_missing core c.disk) parts.1));
           fresh = ap (λ t. t && calls_stale (unwrap_or core.status.in_flight core.status.committed) c) it.fresh;
         }
 
     isnt_missing : (c : Pp) → IsUsableOf core row lp c → IsFalse (v.missing c.disk)
-    isnt_missing c it = tied.sees.missing c.disk ∙ ap not it.there
+    isnt_missing c it = tied.sees.status.missing c.disk ∙ ap not it.there
 
     shown_at : (p : Pp) → Live v row.number b p → v.media.block row.number b p ≡ stands_at s tied.media p b
     shown_at p it = tied.describes.shown.blocks row.number b p it.copy
@@ -99,11 +99,11 @@ module _ (past : List Fact) (s : Session) (tied : IsTied past s) where
     -- ---- the block
 
     none_goes : (i : ℕ) (r : Queued) → Started v i r → IsTrue (covers r row.number b) → ⊥
-    none_goes i r started over = ⊎_elim by_request by_step (tied.sees.only i r started.there)
+    none_goes i r started over = ⊎_elim by_request by_step (tied.sees.queue.only i r started.there)
       where
         by_request : IsRequestAt core i → ⊥
         by_request k =
-            let q = tied.sees.requests k.place k.request k.there in
+            let q = tied.sees.queue.requests k.place k.request k.there in
             let same : q.0 ≡ r = some_same q.0 r (sym q.1 ∙ ap v.queue k.its ∙ started.there) in
             let seen : SeesRequest k.request r = subst (SeesRequest k.request) same q.2 in
             let calm = at.calm k.place k.request k.there (sym seen.write ∙ started.write) (going_started k.request.request.phase (is_begun k.request.request.targets.items) (sym seen.phase ∙ started.going)) in
@@ -112,7 +112,7 @@ module _ (past : List Fact) (s : Session) (tied : IsTied past s) where
 
         by_step : IsStepAt core i → ⊥
         by_step k =
-            let q = tied.sees.a_step k.copy k.is_open k.row in
+            let q = tied.sees.queue.a_step k.copy k.is_open k.row in
             let same : q.0 ≡ r = some_same q.0 r (sym q.1 ∙ ap v.queue k.its ∙ started.there) in
             not_both r.write started.write (ap (λ (x : Queued). x.write) (sym same) ∙ q.2.write)
 

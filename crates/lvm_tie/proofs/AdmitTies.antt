@@ -43,7 +43,6 @@ use Rattle.lvm_session.specs.declared.open.Open.{Open}
 use Rattle.lvm_session.specs.declared.bringing.OpenCopy.{OpenCopy as Bringing}
 use Rattle.lvm_session.specs.declared.bringing.Step.{Step}
 use Rattle.lvm_session.specs.declared.bringing.Step.TheVariants as step
-use Rattle.lvm_session.specs.declared.flown.Flown.{Flown}
 use Rattle.lvm_session.specs.declared.flown.Owner.{Owner}
 use Rattle.lvm_session.specs.declared.flown.Owner.TheVariants as owner
 use Rattle.lvm_session.specs.State.{Core, State as Session, state}
@@ -66,6 +65,7 @@ use Rattle.lvm_tie_shelf.specs.Owned.{OnlyUpdateSince}
 use Rattle.lvm_tie_shelf.proofs.Owned.{covered}
 use Rattle.lvm_tie_shelf.proofs.Quiet.{quiet_lasts}
 use Rattle.lvm_tie_shelf.proofs.Writing.{and_both, pp_same}
+use Rattle.lvm_tie.proofs.Ties.{carry_on}
 use Rattle.lvm_tie.proofs.Changing.{step_apart, sees_changed}
 use Rattle.lvm_tie.proofs.Judged.{there_is_copy, on_member, missing_seen, usable_seen, wanted_seen}
 use Rattle.lvm_tie.proofs.Modes.{active_is}
@@ -73,7 +73,7 @@ use Rattle.lvm_tie.proofs.Rows.{HaveRows, rows_are}
 use Rattle.lvm_tie.proofs.Orderly.{HaveNumbers, numbers_of, open_one, waiting_one}
 use Rattle.lvm_tie.proofs.Words.{or_left, or_either, any_none, filter_one, not_true, clash, stage_of_one, target_of, one_there}
 use Rattle.lvm_tie.proofs.Wanted.{dirty_rest, next_same, records_wanted, sees_wanted, stamp_same, update_same, write_same}
-use Rattle.lvm_tie.specs.Out.{CarriesStep, CarryTheirs, IsWriteOf}
+use Rattle.lvm_tie.specs.Out.{CarriesStep, IsWriteOf}
 use Rattle.lvm_tie.specs.Seen.{stage_at, phase_seen, update_of, SeesRequest, SeesOpen, SeesRunning, SeesCopy, IsRequestAt, IsStepAt, Sees}
 use Rattle.lvm_tie.specs.Tied.{IsOrderly, IsTied}
 use Rattle.lvm_tie.specs.Requests.{AdmitTies}
@@ -170,13 +170,13 @@ module _ (past : List Fact) (old new : Session) (place : ℕ) (admits : Admits o
   i = place_of o.request.id
 
   abbrev q : Queued
-  q = (tied.sees.requests place o admits.there).0
+  q = (tied.sees.queue.requests place o admits.there).0
 
   at : v.queue i ≡ Some q
-  at = (tied.sees.requests place o admits.there).1
+  at = (tied.sees.queue.requests place o admits.there).1
 
   sees : SeesRequest o q
-  sees = (tied.sees.requests place o admits.there).2
+  sees = (tied.sees.queue.requests place o admits.there).2
 
   abbrev several : Bool
   several = nat_le 2 (length admits.targets)
@@ -218,11 +218,11 @@ module _ (past : List Fact) (old new : Session) (place : ℕ) (admits : Admits o
     where
       by_request : is_held_back core o.request ≡ false → (r : IsRequestAt core j) → (b : Bool) → is_waiting r.request ≡ b → IsTrue (has_landed e.phase)
       by_request unblocked r false over =
-          let s = tied.sees.requests r.place r.request r.there in
+          let s = tied.sees.queue.requests r.place r.request r.there in
           let same : s.0 ≡ e = some_of s.0 e (sym s.1 ∙ ap v.queue r.its ∙ there) in
           ap (λ (x : Queued). has_landed x.phase) (sym same) ∙ ap has_landed s.2.phase ∙ ap (λ (p : RequestPhase). has_landed (phase_seen p (is_begun r.request.request.targets.items))) (rows.landed r.place r.request r.there over)
       by_request unblocked r true waiting =
-          let s = tied.sees.requests r.place r.request r.there in
+          let s = tied.sees.queue.requests r.place r.request r.there in
           let same : s.0 ≡ e = some_of s.0 e (sym s.1 ∙ ap v.queue r.its ∙ there) in
           let row : Row = record { id = place_of r.request.request.id; ask = held_of r.request.request.ask } in
           let block = common e conflict.lv conflict.block conflict.first conflict.second (held_of r.request.request.ask) (sym s.2.lv ∙ ap (λ (x : Queued). x.lv) same) (sym s.2.first ∙ ap (λ (x : Queued). x.first) same) (sym s.2.count ∙ ap (λ (x : Queued). x.count) same) in
@@ -237,7 +237,7 @@ module _ (past : List Fact) (old new : Session) (place : ℕ) (admits : Admits o
 
       by_step : is_held_back core o.request ≡ false → IsStepAt core j → IsTrue (has_landed e.phase)
       by_step unblocked r =
-          let s = tied.sees.a_step r.copy r.is_open r.row in
+          let s = tied.sees.queue.a_step r.copy r.is_open r.row in
           let same : s.0 ≡ e = some_of s.0 e (sym s.1 ∙ ap v.queue r.its ∙ there) in
           let row : Row = step_row core r.copy in
           let block = common e conflict.lv conflict.block conflict.first conflict.second row.ask (sym s.2.lv ∙ ap (λ (x : Queued). x.lv) same) (sym s.2.first ∙ ap (λ (x : Queued). x.first) same) (sym s.2.count ∙ ap (λ (x : Queued). x.count) same) in
@@ -255,7 +255,7 @@ module _ (past : List Fact) (old new : Session) (place : ℕ) (admits : Admits o
       past_by (inr is) = ap is_past (sees.phase ∙ is)
 
       by : Early (is_held_back core o.request) o.request.phase (is_begun o.request.targets.items) → IsTrue (has_landed e.phase)
-      by (First is unblocked) = ⊎_elim (λ r. by_request unblocked r (is_waiting r.request) refl) (λ r. by_step unblocked r) (tied.sees.only j e there)
+      by (First is unblocked) = ⊎_elim (λ r. by_request unblocked r (is_waiting r.request) refl) (λ r. by_step unblocked r) (tied.sees.queue.only j e there)
       by (Again is) = tied.good.sound.holds.order i j q e at there less conflict (past_by is)
 
   -- what is chosen is a copy that the state sees
@@ -345,11 +345,6 @@ module _ (past : List Fact) (old new : Session) (place : ℕ) (admits : Admits o
         | inr ne ↦ let test : (c.place == i) ≡ false = grind (arith, nat_tests) in ap (λ b. if b then Some q2 else v.queue c.place) test
       ]
 
-  carry_so : (fs : List Flight) (them : List Flown) → CarryTheirs core v fs them → CarryTheirs core2 w fs them
-  carry_so [] them carry = tt
-  carry_so (f ∷ fs) [] carry = tt
-  carry_so (f ∷ fs) (r ∷ rs) carry = (carries f r.owner carry.0, carry_so fs rs carry.1)
-
   orderly : IsWriteOf new.core.status core.homes new.core.status.in_flight tied.write → IsOrderly (state old.device (record core2 { status = new.core.status })) tied.write
   orderly update = record { sound = subst IsSound whole sound; on = tied.orderly.on; update = update }
 
@@ -370,9 +365,8 @@ module _ (past : List Fact) (old new : Session) (place : ℕ) (admits : Admits o
       tied_same : IsOrderly (state old.device core2) tied.write → IsTied past (state old.device core2)
       tied_same its = record {
         votes = tied.votes;
-        are_votes = tied.are_votes;
         media = tied.media;
-        told = tied.told;
+        setting = tied.setting;
         view = w;
         sees = sees_w;
         good = good_w;
@@ -380,13 +374,10 @@ module _ (past : List Fact) (old new : Session) (place : ℕ) (admits : Admits o
         write = tied.write;
         orderly = its;
         since = tied.since;
-        next = tied.next;
+        recorded = tied.recorded;
         notes = tied.notes;
         copy_aimed = tied.copy_aimed;
-        carry = carry_so old.device.flights core.flying tied.carry;
-        members = tied.members;
-        records = tied.records;
-        own = tied.own;
+        carry = carry_on core core2 v w old.device.flights core.flying carries tied.carry;
       }
 
   -- its volume is wanted dirty
@@ -414,7 +405,7 @@ module _ (past : List Fact) (old new : Session) (place : ℕ) (admits : Admits o
     may_want = record {
       missing_still = λ d is. is;
       still = λ c is. wanted_is c ∙ is;
-      still_dirty = λ lv is. still_dirty lv (sym (ap (λ (m : Marks). m.dirty lv) tied.sees.wanted) ∙ is);
+      still_dirty = λ lv is. still_dirty lv (sym (ap (λ (m : Marks). m.dirty lv) tied.sees.status.wanted) ∙ is);
       added = λ c is. inl (sym (wanted_is c) ∙ is);
       open_same = inl refl;
       open_there = tied.good.sound.statuses.open_there;
@@ -430,9 +421,8 @@ module _ (past : List Fact) (old new : Session) (place : ℕ) (admits : Admits o
     pub marked : IsTied past new
     marked = subst (IsTied past) (sym whole) (record {
       votes = tied.votes;
-      are_votes = tied.are_votes;
       media = tied.media;
-      told = tied.told;
+      setting = tied.setting;
       view = w2;
       sees = sees_wanted core.status stored wanted_rest wants.wants.missing past core2 w refl sees_w;
       good = each_keeps tied.votes (Want (marks_of stored.wanted) w.missing w.open_copy) w w2 want_step good_w;
@@ -441,13 +431,14 @@ module _ (past : List Fact) (old new : Session) (place : ℕ) (admits : Admits o
       write = tied.write;
       orderly = orderly (write_same core.status stored wanted_rest wants.wants.missing core.homes tied.write tied.orderly.update);
       since = subst (OnlyUpdateSince old.device tied.write) (sym (update_same core.status stored wanted_rest wants.wants.missing)) tied.since;
-      next = next_same core.status stored wanted_rest wants.wants.missing core.descriptor core.homes (image_of old.device.sizes tied.media) tied.next;
+      recorded = record {
+        next = next_same core.status stored wanted_rest wants.wants.missing core.descriptor core.homes (image_of old.device.sizes tied.media) tied.recorded.next;
+        members = tied.recorded.members;
+        records = records_wanted core.status stored wanted_rest wants.wants.missing core.descriptor (contents_of (image_of old.device.sizes tied.media)) tied.recorded.records;
+      };
       notes = λ d items flies. subst (λ st. IsNote (record { stamp = st.epoch; entries = items.items })) (sym (stamp_same core.status stored wanted_rest wants.wants.missing)) (tied.notes d items flies);
       copy_aimed = tied.copy_aimed;
-      carry = carry_so old.device.flights core.flying tied.carry;
-      members = tied.members;
-      records = records_wanted core.status stored wanted_rest wants.wants.missing core.descriptor (contents_of (image_of old.device.sizes tied.media)) tied.records;
-      own = tied.own;
+      carry = carry_on core core2 v w old.device.flights core.flying carries tied.carry;
     })
 
   pub tied_after : IsTied past new

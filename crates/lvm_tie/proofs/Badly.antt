@@ -1,5 +1,5 @@
 -- The write of a note that fails, tied: its disk is missing.
-use Rattle.std.proofs.Common.{◌≡◌, inl, inr, ⊎_elim, ℕ, ◌^◌, ◌<◌, Bool, true, false, ◌&&◌, ◌==◌, not, List, Option, Some, None, refl, sym, ap, subst, ◌∙◌, arith}
+use Rattle.std.proofs.Common.{◌≡◌, inl, inr, ℕ, ◌^◌, ◌<◌, Bool, true, false, ◌&&◌, ◌==◌, not, List, Option, Some, None, refl, sym, ap, subst, ◌∙◌, arith}
 use Rattle.std.specs.Prelude.{IsTrue, ◌≢◌, if◌then◌else◌}
 use Rattle.std.specs.List.{remove}
 use Rattle.std.specs.Option.{option_map, option_map_or}
@@ -55,7 +55,7 @@ use Rattle.lvm_tie.proofs.Tied.{tied_matches}
 use Rattle.lvm_tie.proofs.Words.{clash, not_true}
 use Rattle.lvm_tie.proofs.Recorded.{NoMoreThere, no_update_of, records_last, shows_last, shows_update, status_lasts}
 use Rattle.lvm_tie.specs.Out.{AreNotes, CarriesStep, CarryTheirs, IsWriteOf, MayUpdate}
-use Rattle.lvm_tie.specs.Seen.{IsRequestAt, IsStepAt, Sees, SeesNote, update_of}
+use Rattle.lvm_tie.specs.Seen.{Sees, SeesNote, update_of}
 use Rattle.lvm_tie.specs.Tied.{IsOrderly, IsTied, ShowsRecords, ShowsStatus}
 use Rattle.lvm_tie.proofs.Ended.{HasEnded}
 use Rattle.lvm_tie.specs.Near.{IsNear, IsRunning, open_after}
@@ -162,7 +162,7 @@ module _ (past : List Fact) (old new : Session) (at disk : ℕ) (row : Flown) (b
   members = members_there (contents_of was) group
 
   shows : (d : ℕ) → IsTrue (is_there core2 d) → IsTrue (members d)
-  shows d there = let w = was_there d there in tied.members d w.member (there_first past old tied d w.there)
+  shows d there = let w = was_there d there in tied.recorded.members d w.member (there_first past old tied d w.there)
 
   -- as the status was, with one disk less
   committed_lost : lost.committed ≡ core.status.committed
@@ -176,10 +176,10 @@ module _ (past : List Fact) (old new : Session) (at disk : ℕ) (row : Flown) (b
     where
       by : (b : Bool) → is_there core2 d ≡ b → IsTrue (not b)
       by false there = refl
-      by true there = clash (is_there core d) (was_in d there) (not_true (is_there core d) (sym (tied.sees.missing d) ∙ gone))
+      by true there = clash (is_there core d) (was_in d there) (not_true (is_there core d) (sym (tied.sees.status.missing d) ∙ gone))
 
   sees_marks : SeesMarks core2 v missing
-  sees_marks = record { committed = tied.sees.committed ∙ ap marks_of (sym committed_lost); wanted = tied.sees.wanted ∙ sym marks_lost; missing_is = λ d. refl; still = still }
+  sees_marks = record { committed = tied.sees.status.committed ∙ ap marks_of (sym committed_lost); wanted = tied.sees.status.wanted ∙ sym marks_lost; missing_is = λ d. refl; still = still }
 
   keeps : KeepsFresh v
   keeps lv b c copy = let k = tied.good.sound.statuses.kept lv b c copy in (k.0, k.1, k.2.committed, k.2.wanted)
@@ -210,7 +210,7 @@ module _ (past : List Fact) (old new : Session) (at disk : ℕ) (row : Flown) (b
 
   matches1 : Matches v1 v1.facts group (update_of core.status) old.device tied.media
   matches1 = record {
-    told = tied.told;
+    told = tied.setting.told;
     describes = describes1;
     out = losing.wanted_out v (marks_of status.wanted) missing (open_after how v.open_copy) group (update_of core.status) old.device tied.media (tied_matches past old tied).out;
   }
@@ -257,7 +257,7 @@ module _ (past : List Fact) (old new : Session) (at disk : ℕ) (row : Flown) (b
   after = subst IsAfter (sym update_is) (by over refl)
     where
       goes : IsAfter (update_of core.status)
-      goes = subst (λ (m : Option (Stamped Marks)). Good tied.votes (record v2 { in_flight = m }) × Describes (record v2 { in_flight = m }) v.facts group (update_of core.status) (contents_of is)) tied.sees.in_flight (good2, landed.describes)
+      goes = subst (λ (m : Option (Stamped Marks)). Good tied.votes (record v2 { in_flight = m }) × Describes (record v2 { in_flight = m }) v.facts group (update_of core.status) (contents_of is)) tied.sees.status.in_flight (good2, landed.describes)
 
       ends_now : over ≡ true → IsAfter None
       ends_now ends =
@@ -265,8 +265,8 @@ module _ (past : List Fact) (old new : Session) (at disk : ℕ) (row : Flown) (b
           let u : Stamped Status = record { stamp = core.status.stamp; value = core.status.committed } in
           let flies : update_of core.status ≡ Some u = ap (option_map (λ (t : Status). let r : Stamped Status = record { stamp = core.status.stamp; value = t } in r)) flew.0 in
           updates_last.ends tied.votes v2 group (contents_of is) u good2 (subst (λ (x : Option (Stamped Status)). Describes v2 v.facts group x (contents_of is)) flies landed.describes)
-          (tied.sees.held u flies flew.1)
-          (λ d. tied.sees.started d ∙ losing.none_started core.status lost status disk group going.fitting.group going.status loses rest ends d)
+          (tied.sees.status.held u flies flew.1)
+          (λ d. tied.sees.status.started d ∙ losing.none_started core.status lost status disk group going.fitting.group going.status loses rest ends d)
 
       by : (b : Bool) → over ≡ b → IsAfter (if b then None else update_of core.status)
       by true ends = ends_now ends
@@ -285,7 +285,7 @@ module _ (past : List Fact) (old new : Session) (at disk : ℕ) (row : Flown) (b
   home_now d lv g n there its =
       let w = was_out d there in
       let ne : d ≡ f.disk → ⊥ = λ e. clash (d == disk) (let e2 : f.disk ≡ disk = its_out.disk_is in grind (arith, nat_tests)) w.other in
-      ap (λ (x : Groups). x lv g) (landed.others d ne) ∙ tied.sees.home d lv g n (was_in d (sym (there_same d) ∙ there)) (sym (beside core.cache disk false d w.other) ∙ its)
+      ap (λ (x : Groups). x lv g) (landed.others d ne) ∙ tied.sees.notes.home d lv g n (was_in d (sym (there_same d) ∙ there)) (sym (beside core.cache disk false d w.other) ∙ its)
 
   flying_now : (d : ℕ) → SeesNote (flying_after v1 f.disk d) (flight_on core3.cache d)
   flying_now d = elim (cases_eq d disk) [
@@ -294,7 +294,7 @@ module _ (past : List Fact) (old new : Session) (at disk : ℕ) (row : Flown) (b
     | inr ne ↦
         let test : (d == f.disk) ≡ false = let nowhere : d ≡ f.disk → ⊥ = not_here past old new at disk false row buf its_owner returns tied d ne in grind (arith, nat_tests) in
         subst (λ (x : Option Groups). SeesNote x (flight_on core3.cache d)) (sym (ap (λ b. if b then None else v.flying_note d) test))
-        (subst (SeesNote (v.flying_note d)) (sym (flight_beside core.cache disk false d (apart d disk ne))) (tied.sees.flying d))
+        (subst (SeesNote (v.flying_note d)) (sym (flight_beside core.cache disk false d (apart d disk ne))) (tied.sees.notes.flying d))
   ]
 
   none_flies : {X : Type 0} (u : Stamped Status) → over ≡ true → update_of status ≡ Some u → X
@@ -308,35 +308,33 @@ module _ (past : List Fact) (old new : Session) (at disk : ℕ) (row : Flown) (b
     where
       by : (b : Bool) → over ≡ b → (if b then false else has core.status.writes.written d) ≡ true → v.media.status d ≡ option_map as_marks (update_of status)
       by true ends h = absurd (cc h)
-      by false goes_on h = tied.sees.written d h ∙ tied.sees.in_flight ∙ ap (option_map as_marks) (sym (flies_on goes_on))
+      by false goes_on h = tied.sees.status.written d h ∙ tied.sees.status.in_flight ∙ ap (option_map as_marks) (sym (flies_on goes_on))
 
   held_now : (u : Stamped Status) → update_of status ≡ Some u → is_held (seen status) ≡ true → v.committed ≡ as_marks u
   held_now u flies enough = by over refl
     where
       by : (b : Bool) → over ≡ b → v.committed ≡ as_marks u
       by true ends = none_flies u ends flies
-      by false goes_on = tied.sees.held u (sym (flies_on goes_on) ∙ flies) (sym (losing.held_same core.status lost status disk group going.fitting.group going.status loses rest goes_on) ∙ enough)
+      by false goes_on = tied.sees.status.held u (sym (flies_on goes_on) ∙ flies) (sym (losing.held_same core.status lost status disk group going.fitting.group going.status loses rest goes_on) ∙ enough)
 
   sees : Sees past core3 (record v3 { open_copy = v.open_copy })
   sees = record {
-    requests = tied.sees.requests;
-    a_step = λ c its at_row. let s = tied.sees.a_step c its at_row in (s.0, s.1, record { lv = s.2.lv; first = s.2.first; count = s.2.count; write = s.2.write; step = s.2.step; hand = s.2.hand; failed = s.2.failed });
-    only = λ i q its. ⊎_elim
-        (λ (r : IsRequestAt core i). inl (record { place = r.place; request = r.request; there = r.there; its = r.its }))
-        (λ (r : IsStepAt core i). inr (record { copy = r.copy; is_open = r.is_open; row = r.row; its = r.its }))
-        (tied.sees.only i q its);
-    names = tied.sees.names;
+    queue = tied.sees.queue;
     facts = tied.sees.facts;
-    committed = tied.sees.committed ∙ ap marks_of (sym (losing.committed_same core.status lost status disk group going.fitting.group going.status loses rest));
-    in_flight = refl;
-    wanted = refl;
-    started = λ d. tied.sees.started d ∙ sym (losing.started_same core.status lost status disk group going.fitting.group going.status loses rest d);
-    written = written_now;
-    held = held_now;
-    missing = λ d. ap not (sym (there_same d));
-    cache = tied.sees.cache;
-    home = home_now;
-    flying = flying_now;
+    status = record {
+      committed = tied.sees.status.committed ∙ ap marks_of (sym (losing.committed_same core.status lost status disk group going.fitting.group going.status loses rest));
+      in_flight = refl;
+      wanted = refl;
+      started = λ d. tied.sees.status.started d ∙ sym (losing.started_same core.status lost status disk group going.fitting.group going.status loses rest d);
+      written = written_now;
+      held = held_now;
+      missing = λ d. ap not (sym (there_same d));
+    };
+    notes = record {
+      cache = tied.sees.notes.cache;
+      home = home_now;
+      flying = flying_now;
+    };
     open_copy = tied.sees.open_copy;
     step_write = tied.sees.step_write;
   }
@@ -377,11 +375,11 @@ module _ (past : List Fact) (old new : Session) (at disk : ℕ) (row : Flown) (b
 
   next_before : MayUpdate group status core.homes was
   next_before = record {
-    some_epoch = subst (λ (st : Stamp). st.epoch ≢ 0) (sym stamp_same) tied.next.some_epoch;
-    epoch = subst (λ (st : Stamp). st.epoch < 2 ^ 64) (sym stamp_same) tied.next.epoch;
-    whole = tied.next.whole;
-    before = subst (λ (st : Stamp). StampsBefore (next_stamp st) was) (sym stamp_same) tied.next.before;
-    spare = λ d there owed. let w = was_out d there in tied.next.spare d (was_in d (sym (there_same d) ∙ there)) (losing.owed_was core.status lost status disk group going.fitting.group going.status loses rest d w.member w.other owed);
+    some_epoch = subst (λ (st : Stamp). st.epoch ≢ 0) (sym stamp_same) tied.recorded.next.some_epoch;
+    epoch = subst (λ (st : Stamp). st.epoch < 2 ^ 64) (sym stamp_same) tied.recorded.next.epoch;
+    whole = tied.recorded.next.whole;
+    before = subst (λ (st : Stamp). StampsBefore (next_stamp st) was) (sym stamp_same) tied.recorded.next.before;
+    spare = λ d there owed. let w = was_out d there in tied.recorded.next.spare d (was_in d (sym (there_same d) ∙ there)) (losing.owed_was core.status lost status disk group going.fitting.group going.status loses rest d w.member w.other owed);
   }
 
   next_now : MayUpdate group status core.homes is
@@ -417,8 +415,8 @@ module _ (past : List Fact) (old new : Session) (at disk : ℕ) (row : Flown) (b
         stated = λ d there.
             let w = was_there d (sym (there_same d) ∙ there) in
             shows_update v2 v.facts group committed_update (contents_of is) describes_it d
-            (tied.sees.written d (losing.all_written core.status lost status disk group going.fitting.group going.status loses rest ends d w.member w.there w.other) ∙ tied.sees.in_flight ∙ ap (option_map as_marks) update_now);
-        last = shows_last tied.votes v2 v.facts group committed_update (contents_of is) describes_it good2.found (tied.sees.held committed_update update_now (losing.flew core.status lost status disk group going.fitting.group going.status loses rest ends).1) (tied.sees.in_flight ∙ ap (option_map as_marks) update_now);
+            (tied.sees.status.written d (losing.all_written core.status lost status disk group going.fitting.group going.status loses rest ends d w.member w.there w.other) ∙ tied.sees.status.in_flight ∙ ap (option_map as_marks) update_now);
+        last = shows_last tied.votes v2 v.facts group committed_update (contents_of is) describes_it good2.found (tied.sees.status.held committed_update update_now (losing.flew core.status lost status disk group going.fitting.group going.status loses rest ends).1) (tied.sees.status.in_flight ∙ ap (option_map as_marks) update_now);
       }
 
   no_more : NoMoreThere group core.status status
@@ -428,11 +426,11 @@ module _ (past : List Fact) (old new : Session) (at disk : ℕ) (row : Flown) (b
   still_shows : over ≡ false → status.in_flight ≡ None → ShowsStatus group status (contents_of is)
   still_shows goes_on none =
       let still : core.status.in_flight ≡ None = sym (ap (λ b. if b then None else core.status.in_flight) goes_on) ∙ sym (losing.in_flight_is core.status lost status disk group going.fitting.group going.status loses rest) ∙ none in
-      status_lasts group core.status status (contents_of was) (contents_of is) (tied.records.settled still) no_more (losing.committed_same core.status lost status disk group going.fitting.group going.status loses rest)
+      status_lasts group core.status status (contents_of was) (contents_of is) (tied.recorded.records.settled still) no_more (losing.committed_same core.status lost status disk group going.fitting.group going.status loses rest)
       (same_statuses tied.votes v1 group (update_of core.status) old.device new.device.flights tied.media its_end.media f false good1 matches1 its_end.removes own1 its_end.lands (no_update_of core.status still))
 
   records_now : ShowsRecords group status (contents_of is)
-  records_now = records_last group core.status status (contents_of was) (contents_of is) tied.records no_more
+  records_now = records_last group core.status status (contents_of was) (contents_of is) tied.recorded.records no_more
       (same_descriptors tied.votes v1 group (update_of core.status) old.device new.device.flights tied.media its_end.media f false good1 matches1 its_end.removes own1 its_end.lands)
       (λ none. by over refl none)
     where
@@ -445,9 +443,12 @@ module _ (past : List Fact) (old new : Session) (at disk : ℕ) (row : Flown) (b
   near : IsNear past new.device core3 how
   near = record {
     votes = tied.votes;
-    are_votes = tied.are_votes;
     media = its_end.media;
-    told = its_end.told;
+    setting = record {
+      are_votes = tied.setting.are_votes;
+      told = its_end.told;
+      own = tied.setting.own;
+    };
     view = v3;
     open_copy = v.open_copy;
     sees = sees;
@@ -456,14 +457,15 @@ module _ (past : List Fact) (old new : Session) (at disk : ℕ) (row : Flown) (b
     describes = subst (λ (sizes : List ℕ). Describes v3 v3.facts group (update_of status) (contents_of (image_of sizes its_end.media))) (sym its_end.sizes) after.1;
     write = write_by over;
     since = since_now;
-    next = subst (λ (sizes : List ℕ). MayUpdate group status core.homes (image_of sizes its_end.media)) (sym its_end.sizes) next_now;
+    recorded = record {
+      next = subst (λ (sizes : List ℕ). MayUpdate group status core.homes (image_of sizes its_end.media)) (sym its_end.sizes) next_now;
+      members = λ d member first. subst (λ (sizes : List ℕ). IsTrue (members_there (contents_of (image_of sizes its_end.media)) group d)) (sym its_end.sizes) (members_now d ∙ tied.recorded.members d member first);
+      records = subst (λ (sizes : List ℕ). ShowsRecords group status (contents_of (image_of sizes its_end.media))) (sym its_end.sizes) records_now;
+    };
     notes = notes_fit;
     copy_aimed = tied.copy_aimed;
     carry = subst (λ (fs : List Flight). CarryTheirs core3 v3 fs (remove core.flying at)) (sym its_end.removes.is)
         ((its_row past old new at disk false row buf its_owner returns tied core3 v3).carry carries (subst (λ (fs : List Flight). CarryTheirs core v fs core.flying) its_end.removes.was tied.carry));
-    members = λ d member first. subst (λ (sizes : List ℕ). IsTrue (members_there (contents_of (image_of sizes its_end.media)) group d)) (sym its_end.sizes) (members_now d ∙ tied.members d member first);
-    own = tied.own;
-    records = subst (λ (sizes : List ℕ). ShowsRecords group status (contents_of (image_of sizes its_end.media))) (sym its_end.sizes) records_now;
   }
 
   new_is : new.core ≡ with_end core3 how

@@ -110,44 +110,42 @@ module _ (past : List Fact) (core : Core) (v : State) (place : ℕ) (o o2 : Open
   -- and so has a step
   pub step_apart : (c : Bringing) → core.copy ≡ Some c → has_row core c ≡ true → c.place ≡ i → ⊥
   step_apart c is row e =
-      let a = sees.a_step c is row in
-      let b = sees.requests place o there in
+      let a = sees.queue.a_step c is row in
+      let b = sees.queue.requests place o there in
       let same : a.0 ≡ b.0 = some_of a.0 b.0 (sym a.1 ∙ ap v.queue e ∙ b.1) in
       let no : ◌≡◌ {A = Bool} true false = sym a.2.step ∙ ap (λ (x : Queued). x.step) same ∙ b.2.step in
       absurd cc
 
   pub sees_changed : Sees past new w
   sees_changed = record {
-    requests = λ k p at. elim (cases_eq k place) [
-      | inl e ↦ let own : p ≡ o2 = some_of p o2 (sym at ∙ ap (slice_get (slice_set core.requests place o2)) e ∙ set_here core.requests place o2 within) in
-          (q2, put_here (place_of p.request.id) (ap (λ (x : Open). place_of x.request.id) own ∙ ap place_of same_id), subst (λ (x : Open). SeesRequest x q2) (sym own) sees_new)
-      | inr ne ↦ let was = sym (set_there core.requests place k o2 ne) ∙ at in let s = sees.requests k p was in (s.0, put_there (place_of p.request.id) (other_place k p ne was) ∙ s.1, s.2)
-    ];
-    a_step = λ c is row. let s = sees.a_step c is row in (s.0, put_there c.place (step_apart c is row) ∙ s.1, record { lv = s.2.lv; first = s.2.first; count = s.2.count; write = s.2.write; step = s.2.step; hand = s.2.hand; failed = s.2.failed });
-    only = λ j q at. elim (cases_eq j i) [
-      | inl e ↦ inl (record { place = place; request = o2; there = set_here core.requests place o2 within; its = ap place_of same_id ∙ sym e })
-      | inr ne ↦ ⊎_elim
-          (λ (r : IsRequestAt core j). inl (record { place = r.place; request = r.request; there = set_there core.requests place r.place o2 (λ e. ne (sym r.its ∙ ap (λ (x : Open). place_of x.request.id) (some_of r.request o (sym r.there ∙ ap (slice_get core.requests) e ∙ there)))) ∙ r.there; its = r.its }))
-          (λ (r : IsStepAt core j). inr (record { copy = r.copy; is_open = r.is_open; row = r.row; its = r.its }))
-          (sees.only j q (sym (put_there j ne) ∙ at))
-    ];
-    names = λ k p at. elim (cases_eq k place) [
-      | inl e ↦ let own : p ≡ o2 = some_of p o2 (sym at ∙ ap (slice_get (slice_set core.requests place o2)) e ∙ set_here core.requests place o2 within) in
-          let id : p.request.id ≡ o.request.id = ap (λ (x : Open). x.request.id) own ∙ same_id in
-          ap (λ n. v.name (place_of n)) id ∙ sees.names place o there ∙ ap (Rattle.lvm_vol.specs.Log.request_of core.history.facts) (sym id)
-      | inr ne ↦ sees.names k p (sym (set_there core.requests place k o2 ne) ∙ at)
-    ];
+    queue = record {
+      requests = λ k p at. elim (cases_eq k place) [
+        | inl e ↦ let own : p ≡ o2 = some_of p o2 (sym at ∙ ap (slice_get (slice_set core.requests place o2)) e ∙ set_here core.requests place o2 within) in
+            (q2, put_here (place_of p.request.id) (ap (λ (x : Open). place_of x.request.id) own ∙ ap place_of same_id), subst (λ (x : Open). SeesRequest x q2) (sym own) sees_new)
+        | inr ne ↦ let was = sym (set_there core.requests place k o2 ne) ∙ at in let s = sees.queue.requests k p was in (s.0, put_there (place_of p.request.id) (other_place k p ne was) ∙ s.1, s.2)
+      ];
+      a_step = λ c is row. let s = sees.queue.a_step c is row in (s.0, put_there c.place (step_apart c is row) ∙ s.1, s.2);
+      only = λ j q at. elim (cases_eq j i) [
+        | inl e ↦ inl (record { place = place; request = o2; there = set_here core.requests place o2 within; its = ap place_of same_id ∙ sym e })
+        | inr ne ↦ ⊎_elim
+            (λ (r : IsRequestAt core j). inl (record { place = r.place; request = r.request; there = set_there core.requests place r.place o2 (λ e. ne (sym r.its ∙ ap (λ (x : Open). place_of x.request.id) (some_of r.request o (sym r.there ∙ ap (slice_get core.requests) e ∙ there)))) ∙ r.there; its = r.its }))
+            (λ (r : IsStepAt core j). inr r)
+            (sees.queue.only j q (sym (put_there j ne) ∙ at))
+      ];
+      names = λ k p at. elim (cases_eq k place) [
+        | inl e ↦ let own : p ≡ o2 = some_of p o2 (sym at ∙ ap (slice_get (slice_set core.requests place o2)) e ∙ set_here core.requests place o2 within) in
+            let id : p.request.id ≡ o.request.id = ap (λ (x : Open). x.request.id) own ∙ same_id in
+            ap (λ n. v.name (place_of n)) id ∙ sees.queue.names place o there ∙ ap (Rattle.lvm_vol.specs.Log.request_of core.history.facts) (sym id)
+        | inr ne ↦ sees.queue.names k p (sym (set_there core.requests place k o2 ne) ∙ at)
+      ];
+    };
     facts = sees.facts;
-    committed = sees.committed;
-    in_flight = sees.in_flight;
-    wanted = sees.wanted;
-    started = sees.started;
-    written = sees.written;
-    missing = sees.missing;
-    cache = λ lv g. sees.cache lv g ∙ sym (same_entries lv g);
-    home = sees.home;
-    flying = sees.flying;
+    status = sees.status;
+    notes = record {
+      cache = λ lv g. sees.notes.cache lv g ∙ sym (same_entries lv g);
+      home = sees.notes.home;
+      flying = sees.notes.flying;
+    };
     open_copy = sees.open_copy;
     step_write = sees.step_write;
-    held = sees.held;
   }

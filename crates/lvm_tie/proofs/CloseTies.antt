@@ -71,24 +71,18 @@ module _ (past : List Fact) (s : Session) (tied : IsTied past s) (ended : (curso
 
   sees : Sees past (closed core) v
   sees = record {
-    requests = tied.sees.requests;
-    a_step = λ c is. absurd (cc is);
-    only = λ j q at. ⊎_elim
-        (λ (r : IsRequestAt core j). inl (record { place = r.place; request = r.request; there = r.there; its = r.its }))
-        (λ (r : IsStepAt core j). absurd (let e : true ≡ false = sym r.row ∙ no_row core r.copy (ended_of core ended r.copy r.is_open) in cc))
-        (tied.sees.only j q at);
-    names = tied.sees.names;
+    queue = record {
+      requests = tied.sees.queue.requests;
+      a_step = λ c is. absurd (cc is);
+      only = λ j q at. ⊎_elim
+          (λ (r : IsRequestAt core j). inl r)
+          (λ (r : IsStepAt core j). absurd (let e : true ≡ false = sym r.row ∙ no_row core r.copy (ended_of core ended r.copy r.is_open) in cc))
+          (tied.sees.queue.only j q at);
+      names = tied.sees.queue.names;
+    };
     facts = tied.sees.facts;
-    committed = tied.sees.committed;
-    in_flight = tied.sees.in_flight;
-    wanted = tied.sees.wanted;
-    started = tied.sees.started;
-    written = tied.sees.written;
-    held = tied.sees.held;
-    missing = tied.sees.missing;
-    cache = tied.sees.cache;
-    home = tied.sees.home;
-    flying = tied.sees.flying;
+    status = tied.sees.status;
+    notes = tied.sees.notes;
     open_copy = not_open;
     step_write = no_write;
   }
@@ -107,9 +101,8 @@ module _ (past : List Fact) (s : Session) (tied : IsTied past s) (ended : (curso
   pub closed_ties : IsTied past (state s.device (closed core))
   closed_ties = record {
     votes = tied.votes;
-    are_votes = tied.are_votes;
     media = tied.media;
-    told = tied.told;
+    setting = tied.setting;
     view = v;
     sees = sees;
     good = tied.good;
@@ -117,13 +110,10 @@ module _ (past : List Fact) (s : Session) (tied : IsTied past s) (ended : (curso
     write = tied.write;
     orderly = orderly_same s (state s.device (closed core)) tied.write tied.orderly sound refl refl refl;
     since = tied.since;
-    next = tied.next;
+    recorded = tied.recorded;
     notes = tied.notes;
     copy_aimed = λ c is. absurd (cc is);
     carry = carry_none s.device.flights core.flying;
-    members = tied.members;
-    records = tied.records;
-    own = tied.own;
   }
 
 pub close_ties : CloseTies

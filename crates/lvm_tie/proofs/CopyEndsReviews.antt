@@ -15,7 +15,6 @@ use Rattle.lvm_session.specs.declared.bringing.OpenCopy.{OpenCopy as Bringing}
 use Rattle.lvm_session.specs.declared.bringing.Step.{Step}
 use Rattle.lvm_session.specs.declared.bringing.Step.TheVariants as step
 use Rattle.lvm_session.specs.declared.bringing.CopyEnd.{CopyEnd}
-use Rattle.lvm_session.specs.declared.flown.Flown.{Flown}
 use Rattle.lvm_session.specs.declared.flown.Owner.{Owner}
 use Rattle.lvm_session.specs.declared.flown.Owner.TheVariants as owner
 use Rattle.lvm_session.specs.State.{Core, state}
@@ -32,8 +31,9 @@ use Rattle.lvm_invariant.specs.Events.{EndStep, Take}
 use Rattle.lvm_invariant.proofs.Each.{each_keeps}
 use Rattle.lvm_crash.specs.Session.{Describes}
 use Rattle.lvm_tie_shelf.proofs.Quiet.{quiet_lasts}
+use Rattle.lvm_tie.proofs.Ties.{carry_on}
 use Rattle.lvm_tie.proofs.Words.{clash, or_true}
-use Rattle.lvm_tie.specs.Out.{CarriesStep, CarryTheirs}
+use Rattle.lvm_tie.specs.Out.{CarriesStep}
 use Rattle.lvm_tie.specs.Seen.{IsRequestAt, IsStepAt, Sees, SeesHand, SeesStep, step_write_in, step_write_of, update_of}
 use Rattle.lvm_tie.specs.Tied.{IsOrderly, IsTied}
 use Rattle.lvm_tie.specs.Near.{IsNear, IsRunning, NearTies}
@@ -84,12 +84,6 @@ same_write c d (step.Reading source) pp place = refl
 same_write c d (step.Read buf) pp place = refl
 same_write c d step.Writing pp place = λ t. Some (record { target = pp t; place = place t })
 
--- what steps carry goes on where the rows do
-carry_on : (core next : Core) (v w : State) (fs : List Flight) (rows : List Flown) → ((g : Flight) (o : Owner) → CarriesStep core v g o → CarriesStep next w g o) → CarryTheirs core v fs rows → CarryTheirs next w fs rows
-carry_on core next v w [] rows each carry = tt
-carry_on core next v w (f ∷ fs) [] each carry = tt
-carry_on core next v w (f ∷ fs) (row ∷ rows) each carry = (each f row.owner carry.0, carry_on core next v w fs rows each carry.1)
-
 -- ---- its end
 
 module _ (past : List Fact) (device : Device) (core : Core) (how : CopyEnd) (near : IsNear past device core (Some how)) (its : IsRunning core) where
@@ -126,28 +120,22 @@ module _ (past : List Fact) (device : Device) (core : Core) (how : CopyEnd) (nea
 
   sees_out : is_out c.step ≡ true → Sees past core_out v
   sees_out out = record {
-    requests = near.sees.requests;
-    a_step = λ d is row.
-        let same : c_out ≡ d = some_of c_out d is in
-        let s = near.sees.a_step c its.is_open (row_out out) in
-        subst (λ (x : Bringing). (q : Queued) × (v.queue x.place ≡ Some q) × SeesStep core_out x q) same
-        (s.0, s.1, record { lv = s.2.lv; first = s.2.first; count = s.2.count; write = s.2.write; step = s.2.step; hand = s.2.hand; failed = s.2.failed });
-    only = λ j q at. ⊎_elim
-        (λ (r : IsRequestAt core j). inl (record { place = r.place; request = r.request; there = r.there; its = r.its }))
-        (λ (r : IsStepAt core j). inr (record { copy = c_out; is_open = refl; row = or_true (is_out c.step) (is_running c_out && not (is_whole core c)) (inl out); its = ap (λ (x : Bringing). x.place) (sym (own r.copy r.is_open)) ∙ r.its }))
-        (near.sees.only j q at);
-    names = near.sees.names;
+    queue = record {
+      requests = near.sees.queue.requests;
+      a_step = λ d is row.
+          let same : c_out ≡ d = some_of c_out d is in
+          let s = near.sees.queue.a_step c its.is_open (row_out out) in
+          subst (λ (x : Bringing). (q : Queued) × (v.queue x.place ≡ Some q) × SeesStep core_out x q) same
+          (s.0, s.1, record { lv = s.2.lv; first = s.2.first; count = s.2.count; write = s.2.write; step = s.2.step; hand = s.2.hand; failed = s.2.failed });
+      only = λ j q at. ⊎_elim
+          (λ (r : IsRequestAt core j). inl r)
+          (λ (r : IsStepAt core j). inr (record { copy = c_out; is_open = refl; row = or_true (is_out c.step) (is_running c_out && not (is_whole core c)) (inl out); its = ap (λ (x : Bringing). x.place) (sym (own r.copy r.is_open)) ∙ r.its }))
+          (near.sees.queue.only j q at);
+      names = near.sees.queue.names;
+    };
     facts = near.sees.facts;
-    committed = near.sees.committed;
-    in_flight = near.sees.in_flight;
-    wanted = near.sees.wanted;
-    started = near.sees.started;
-    written = near.sees.written;
-    held = near.sees.held;
-    missing = near.sees.missing;
-    cache = near.sees.cache;
-    home = near.sees.home;
-    flying = near.sees.flying;
+    status = near.sees.status;
+    notes = near.sees.notes;
     open_copy = none;
     step_write = write_out;
   }
@@ -163,9 +151,8 @@ module _ (past : List Fact) (device : Device) (core : Core) (how : CopyEnd) (nea
   tied_out : is_out c.step ≡ true → IsOrderly (state device core_out) near.write → IsTied past (state device core_out)
   tied_out out orderly = record {
     votes = near.votes;
-    are_votes = near.are_votes;
     media = near.media;
-    told = near.told;
+    setting = near.setting;
     view = v;
     sees = sees_out out;
     good = near.good;
@@ -173,14 +160,11 @@ module _ (past : List Fact) (device : Device) (core : Core) (how : CopyEnd) (nea
     write = near.write;
     orderly = orderly;
     since = near.since;
-    next = near.next;
+    recorded = near.recorded;
     notes = near.notes;
     copy_aimed = λ d is row.
         subst (λ (x : Bringing). IsTrue (v.is_copy x.lv (block_at core x) x.pp) × ((source : Pp) → x.step ≡ step.Reading source → IsTrue (v.is_copy x.lv (block_at core x) source))) (some_of c_out d is) (near.copy_aimed c its.is_open (row_out out));
     carry = carry_on core core_out v v device.flights core.flying carries_out near.carry;
-    members = near.members;
-    records = near.records;
-    own = near.own;
   }
 
   -- ---- where it isn't
@@ -212,9 +196,8 @@ module _ (past : List Fact) (device : Device) (core : Core) (how : CopyEnd) (nea
   tied_in : (w : State) → Sees past core_in w → Good near.votes w → Describes w w.facts core.descriptor (update_of core.status) (contents_of (image_of device.sizes near.media)) → IsOrderly (state device core_in) near.write → IsTied past (state device core_in)
   tied_in w sees good describes orderly = record {
     votes = near.votes;
-    are_votes = near.are_votes;
     media = near.media;
-    told = near.told;
+    setting = near.setting;
     view = w;
     sees = sees;
     good = good;
@@ -222,36 +205,27 @@ module _ (past : List Fact) (device : Device) (core : Core) (how : CopyEnd) (nea
     write = near.write;
     orderly = orderly;
     since = near.since;
-    next = near.next;
+    recorded = near.recorded;
     notes = near.notes;
     copy_aimed = λ d is row. absurd (no_row d is row);
     carry = carry_on core core_in v w device.flights core.flying (carries_in w) near.carry;
-    members = near.members;
-    records = near.records;
-    own = near.own;
   }
 
   -- its step had left the queue, since all is copied
   left_before : is_out c.step ≡ false → has_row core c ≡ false → Sees past core_in v
   left_before out none_there = record {
-    requests = near.sees.requests;
-    a_step = λ d is row. absurd (no_row d is row);
-    only = λ j q at. ⊎_elim
-        (λ (r : IsRequestAt core j). inl (record { place = r.place; request = r.request; there = r.there; its = r.its }))
-        (λ (r : IsStepAt core j). clash (has_row core c) (ap (has_row core) (sym (own r.copy r.is_open)) ∙ r.row) none_there)
-        (near.sees.only j q at);
-    names = near.sees.names;
+    queue = record {
+      requests = near.sees.queue.requests;
+      a_step = λ d is row. absurd (no_row d is row);
+      only = λ j q at. ⊎_elim
+          (λ (r : IsRequestAt core j). inl r)
+          (λ (r : IsStepAt core j). clash (has_row core c) (ap (has_row core) (sym (own r.copy r.is_open)) ∙ r.row) none_there)
+          (near.sees.queue.only j q at);
+      names = near.sees.queue.names;
+    };
     facts = near.sees.facts;
-    committed = near.sees.committed;
-    in_flight = near.sees.in_flight;
-    wanted = near.sees.wanted;
-    started = near.sees.started;
-    written = near.sees.written;
-    held = near.sees.held;
-    missing = near.sees.missing;
-    cache = near.sees.cache;
-    home = near.sees.home;
-    flying = near.sees.flying;
+    status = near.sees.status;
+    notes = near.sees.notes;
     open_copy = none;
     step_write = write_in out;
   }
@@ -262,13 +236,13 @@ module _ (past : List Fact) (device : Device) (core : Core) (how : CopyEnd) (nea
     i = c.place
 
     abbrev q : Queued
-    q = (near.sees.a_step c its.is_open row).0
+    q = (near.sees.queue.a_step c its.is_open row).0
 
     at : v.queue i ≡ Some q
-    at = (near.sees.a_step c its.is_open row).1
+    at = (near.sees.queue.a_step c its.is_open row).1
 
     sees_q : SeesStep core c q
-    sees_q = (near.sees.a_step c its.is_open row).2
+    sees_q = (near.sees.queue.a_step c its.is_open row).2
 
     abbrev landed : State
     landed = with_req v i (land q)
@@ -300,7 +274,7 @@ module _ (past : List Fact) (device : Device) (core : Core) (how : CopyEnd) (nea
     -- a request has another place
     apart : (place : ℕ) (o : Open) → slice_get core.requests place ≡ Some o → place_of o.request.id ≡ i → ⊥
     apart place o there e =
-        let r = near.sees.requests place o there in
+        let r = near.sees.queue.requests place o there in
         let same : r.0 ≡ q = some_of r.0 q (sym r.1 ∙ ap v.queue e ∙ at) in
         let no : ◌≡◌ {A = Bool} true false = sym sees_q.step ∙ ap (λ (x : Queued). x.step) (sym same) ∙ r.2.step in
         cc
@@ -313,27 +287,21 @@ module _ (past : List Fact) (device : Device) (core : Core) (how : CopyEnd) (nea
 
     sees_w : Sees past core_in w
     sees_w = record {
-      requests = λ place o there. let r = near.sees.requests place o there in (r.0, elsewhere (place_of o.request.id) (apart place o there) ∙ r.1, r.2);
-      a_step = λ d is there. absurd (no_row d is there);
-      only = λ j p here. elim (cases_eq j i) [
-        | inl e ↦ absurd (let no : None ≡ Some p = sym (gone j e) ∙ here in cc)
-        | inr ne ↦ ⊎_elim
-            (λ (r : IsRequestAt core j). inl (record { place = r.place; request = r.request; there = r.there; its = r.its }))
-            (λ (r : IsStepAt core j). absurd (ne (sym r.its ∙ ap (λ (x : Bringing). x.place) (own r.copy r.is_open))))
-            (near.sees.only j p (sym (elsewhere j ne) ∙ here))
-      ];
-      names = near.sees.names;
+      queue = record {
+        requests = λ place o there. let r = near.sees.queue.requests place o there in (r.0, elsewhere (place_of o.request.id) (apart place o there) ∙ r.1, r.2);
+        a_step = λ d is there. absurd (no_row d is there);
+        only = λ j p here. elim (cases_eq j i) [
+          | inl e ↦ absurd (let no : None ≡ Some p = sym (gone j e) ∙ here in cc)
+          | inr ne ↦ ⊎_elim
+              (λ (r : IsRequestAt core j). inl r)
+              (λ (r : IsStepAt core j). absurd (ne (sym r.its ∙ ap (λ (x : Bringing). x.place) (own r.copy r.is_open))))
+              (near.sees.queue.only j p (sym (elsewhere j ne) ∙ here))
+        ];
+        names = near.sees.queue.names;
+      };
       facts = ap (λ b. if b then v.facts else v.facts ++ Taken (v.name i) ∷ []) sees_q.step ∙ near.sees.facts;
-      committed = near.sees.committed;
-      in_flight = near.sees.in_flight;
-      wanted = near.sees.wanted;
-      started = near.sees.started;
-      written = near.sees.written;
-      held = near.sees.held;
-      missing = near.sees.missing;
-      cache = near.sees.cache;
-      home = near.sees.home;
-      flying = near.sees.flying;
+      status = near.sees.status;
+      notes = near.sees.notes;
       open_copy = none;
       step_write = write_in out;
     }
@@ -350,9 +318,8 @@ module _ (past : List Fact) (device : Device) (core : Core) (how : CopyEnd) (nea
 pub near_ties : NearTies
 near_ties past device core None near runs orderly = record {
   votes = near.votes;
-  are_votes = near.are_votes;
   media = near.media;
-  told = near.told;
+  setting = near.setting;
   view = near.view;
   sees = subst (λ (o : Option OpenCopy). Sees past core (record near.view { open_copy = o })) (sym near.ended) near.sees;
   good = near.good;
@@ -360,12 +327,9 @@ near_ties past device core None near runs orderly = record {
   write = near.write;
   orderly = orderly;
   since = near.since;
-  next = near.next;
+  recorded = near.recorded;
   notes = near.notes;
   copy_aimed = near.copy_aimed;
   carry = near.carry;
-  members = near.members;
-  records = near.records;
-  own = near.own;
 }
 near_ties past device core (Some how) near runs orderly = ended_ties past device core how near (runs how refl) orderly

@@ -110,13 +110,13 @@ module _ (past : List Fact) (old new : Session) (tied : IsTied past old) (sound 
   less = let h : not (nat_lt c.cursor (groups_of core)) ≡ false = may_now.part in let k : nat_lt c.cursor (groups_of core) ≡ true = Rattle.lvm_tie.proofs.Words.not_false (nat_lt c.cursor (groups_of core)) h in grind (arith, nat_tests)
 
   abbrev q : Queued
-  q = (tied.sees.a_step c reads.is_open row).0
+  q = (tied.sees.queue.a_step c reads.is_open row).0
 
   at : v.queue i ≡ Some q
-  at = (tied.sees.a_step c reads.is_open row).1
+  at = (tied.sees.queue.a_step c reads.is_open row).1
 
   sees : SeesStep core c q
-  sees = (tied.sees.a_step c reads.is_open row).2
+  sees = (tied.sees.queue.a_step c reads.is_open row).2
 
   hand : (has_landed q.phase ≡ false) × (q.got ≡ None)
   hand = subst (λ (s : Step). SeesHand s q) at_rest sees.hand
@@ -159,7 +159,7 @@ module _ (past : List Fact) (old new : Session) (tied : IsTied past old) (sound 
 
   -- nothing earlier is in its way
   free : (j : ℕ) (e : Queued) → v.queue j ≡ Some e → j < i → Conflict e q → IsTrue (has_landed e.phase)
-  free j e here before conflict = ⊎_elim of_request of_step (tied.sees.only j e here)
+  free j e here before conflict = ⊎_elim of_request of_step (tied.sees.queue.only j e here)
     where
       of_step : IsStepAt core j → IsTrue (has_landed e.phase)
       of_step r = absurd (let own : r.copy ≡ c = (let x : Some r.copy ≡ Some c = sym r.is_open ∙ reads.is_open in cc) in let k : i ≡ j = ap (λ (x : Bringing). x.place) (sym own) ∙ r.its in omega (arith, k, before))
@@ -168,7 +168,7 @@ module _ (past : List Fact) (old new : Session) (tied : IsTied past old) (sound 
       of_request r = by (is_waiting r.request) refl
         where
           s : (x : Queued) × (v.queue (place_of r.request.request.id) ≡ Some x) × SeesRequest r.request x
-          s = tied.sees.requests r.place r.request r.there
+          s = tied.sees.queue.requests r.place r.request r.there
 
           same : s.0 ≡ e
           same = (let x : Some s.0 ≡ Some e = sym s.1 ∙ ap v.queue r.its ∙ here in cc)

@@ -48,36 +48,30 @@ module _ (past : List Fact) (core : Core) (v : State) (c : Bringing) (st : Step)
 
   apart : (k : ℕ) (p : Open) → slice_get core.requests k ≡ Some p → place_of p.request.id ≡ c.place → ⊥
   apart k p there e =
-      let a = sees.a_step c is row in
-      let b = sees.requests k p there in
+      let a = sees.queue.a_step c is row in
+      let b = sees.queue.requests k p there in
       let same : a.0 ≡ b.0 = (let x : Some a.0 ≡ Some b.0 = sym a.1 ∙ ap v.queue (sym e) ∙ b.1 in cc) in
       let no : ◌≡◌ {A = Bool} true false = sym a.2.step ∙ ap (λ (x : Queued). x.step) same ∙ b.2.step in
       cc
 
   pub sees_step_on : Sees past core2 w
   sees_step_on = record {
-    requests = λ k p at. let s = sees.requests k p at in (s.0, elsewhere (place_of p.request.id) (apart k p at) ∙ s.1, s.2);
-    a_step = λ d at r. let own : c2 ≡ d = (let e : Some c2 ≡ Some d = at in cc) in
-        (q2, ap (λ (x : Bringing). queue x.place) (sym own) ∙ here, subst (λ (x : Bringing). SeesStep core2 x q2) own (record { lv = its.lv; first = its.first; count = its.count; write = its.write; step = its.step; hand = its.hand; failed = its.failed }));
-    only = λ j q at. elim (cases_eq j c.place) [
-      | inl e ↦ inr (record { copy = c2; is_open = refl; row = row_now; its = sym e })
-      | inr ne ↦ ⊎_elim
-          (λ (r : IsRequestAt core j). inl (record { place = r.place; request = r.request; there = r.there; its = r.its }))
-          (λ (r : IsStepAt core j). let own : r.copy ≡ c = (let e : Some r.copy ≡ Some c = sym r.is_open ∙ is in cc) in absurd (ne (sym r.its ∙ ap (λ (x : Bringing). x.place) own)))
-          (sees.only j q (sym (elsewhere j ne) ∙ at))
-    ];
-    names = sees.names;
+    queue = record {
+      requests = λ k p at. let s = sees.queue.requests k p at in (s.0, elsewhere (place_of p.request.id) (apart k p at) ∙ s.1, s.2);
+      a_step = λ d at r. let own : c2 ≡ d = (let e : Some c2 ≡ Some d = at in cc) in
+          (q2, ap (λ (x : Bringing). queue x.place) (sym own) ∙ here, subst (λ (x : Bringing). SeesStep core2 x q2) own its);
+      only = λ j q at. elim (cases_eq j c.place) [
+        | inl e ↦ inr (record { copy = c2; is_open = refl; row = row_now; its = sym e })
+        | inr ne ↦ ⊎_elim
+            (λ (r : IsRequestAt core j). inl r)
+            (λ (r : IsStepAt core j). let own : r.copy ≡ c = (let e : Some r.copy ≡ Some c = sym r.is_open ∙ is in cc) in absurd (ne (sym r.its ∙ ap (λ (x : Bringing). x.place) own)))
+            (sees.queue.only j q (sym (elsewhere j ne) ∙ at))
+      ];
+      names = sees.queue.names;
+    };
     facts = sees.facts;
-    committed = sees.committed;
-    in_flight = sees.in_flight;
-    wanted = sees.wanted;
-    started = sees.started;
-    written = sees.written;
-    held = sees.held;
-    missing = sees.missing;
-    cache = sees.cache;
-    home = sees.home;
-    flying = sees.flying;
+    status = sees.status;
+    notes = sees.notes;
     open_copy = running_on (is_running c) (groups_of core) c st v.open_copy (subst (λ (m : Option Bringing). SeesCopy (groups_of core) m v.open_copy) is sees.open_copy);
     step_write = refl;
   }
@@ -117,9 +111,12 @@ module _ (past : List Fact) (old : Session) (device : Device) (c : Bringing) (st
         → ((source : Pp) → st ≡ step.Reading source → IsTrue (w.is_copy c.lv (block_at old.core c) source)) → IsSound (state device new) → IsTied past (state device new)
     copy_started sees good describes same_copies source_aimed sound = record {
       votes = tied.votes;
-      are_votes = tied.are_votes;
       media = tied.media;
-      told = ap (λ (d : Device). d.media) starts.new_is ∙ tied.told;
+      setting = record {
+        are_votes = tied.setting.are_votes;
+        told = ap (λ (d : Device). d.media) starts.new_is ∙ tied.setting.told;
+        own = tied.setting.own;
+      };
       view = w;
       sees = sees;
       good = good;
@@ -127,13 +124,14 @@ module _ (past : List Fact) (old : Session) (device : Device) (c : Bringing) (st
       write = tied.write;
       orderly = orderly_same old (state device new) tied.write tied.orderly sound refl refl refl;
       since = since_start old.device device f tied.write (update_of old.core.status) starts low tied.since;
-      next = subst (λ (sizes : List ℕ). MayUpdate old.core.descriptor old.core.status old.core.homes (image_of sizes tied.media)) (sym sizes_is) tied.next;
+      recorded = record {
+        next = subst (λ (sizes : List ℕ). MayUpdate old.core.descriptor old.core.status old.core.homes (image_of sizes tied.media)) (sym sizes_is) tied.recorded.next;
+        members = λ d member first. subst (λ (sizes : List ℕ). IsTrue (members_there (contents_of (image_of sizes tied.media)) old.core.descriptor d)) (sym sizes_is) (tied.recorded.members d member first);
+        records = subst (λ (sizes : List ℕ). ShowsRecords old.core.descriptor old.core.status (contents_of (image_of sizes tied.media))) (sym sizes_is) tied.recorded.records;
+      };
       notes = tied.notes;
       copy_aimed = λ d at r. let own : record c { step = st } ≡ d = (let e : Some (record c { step = st }) ≡ Some d = at in cc) in
           subst (λ (x : Bringing). IsTrue (w.is_copy x.lv (block_at old.core x) x.pp) × ((source : Pp) → x.step ≡ step.Reading source → IsTrue (w.is_copy x.lv (block_at old.core x) source))) own
           ((λ t. same_copies t c.lv (block_at old.core c) c.pp) ∙ (tied.copy_aimed c is row).0, source_aimed);
       carry = subst (λ (fs : List Flight). CarryTheirs new w fs (old.core.flying ++ flown_row ∷ [])) (sym (ap (λ (d : Device). d.flights) starts.new_is)) (carry_on old.device.flights old.core.flying (out_of old tied.write tied.orderly tied.notes));
-      members = λ d member first. subst (λ (sizes : List ℕ). IsTrue (members_there (contents_of (image_of sizes tied.media)) old.core.descriptor d)) (sym sizes_is) (tied.members d member first);
-      own = tied.own;
-      records = subst (λ (sizes : List ℕ). ShowsRecords old.core.descriptor old.core.status (contents_of (image_of sizes tied.media))) (sym sizes_is) tied.records;
     }

@@ -52,13 +52,13 @@ module _ (past : List Fact) (old new : Session) (tied : IsTied past old) (sound 
   row = or_true (is_out c.step) (is_running c && not (is_whole core c)) (inr (λ t. runs t && not (part t)))
 
   abbrev q : Queued
-  q = (tied.sees.a_step c writes.is_open row).0
+  q = (tied.sees.queue.a_step c writes.is_open row).0
 
   at : v.queue c.place ≡ Some q
-  at = (tied.sees.a_step c writes.is_open row).1
+  at = (tied.sees.queue.a_step c writes.is_open row).1
 
   sees : SeesStep core c q
-  sees = (tied.sees.a_step c writes.is_open row).2
+  sees = (tied.sees.queue.a_step c writes.is_open row).2
 
   hand : SeesHand (step.Read writes.buf) q
   hand = subst (λ (s : Step). SeesHand s q) writes.in_hand sees.hand

@@ -58,19 +58,19 @@ module _ (past : List Fact) (s : Session) (tied : IsTied past s) where
   only i q there asked = ⊎_elim
       (λ (r : IsRequestAt core i). r)
       (λ (st : IsStepAt core i).
-      let a = tied.sees.a_step st.copy st.is_open st.row in
+      let a = tied.sees.queue.a_step st.copy st.is_open st.row in
       let same : a.0 ≡ q = some_of a.0 q (sym a.1 ∙ ap v.queue st.its ∙ there) in
       let e : ◌≡◌ {A = Bool} true false = sym a.2.step ∙ ap (λ (x : Queued). x.step) same ∙ asked in absurd (cc e))
-      (tied.sees.only i q there)
+      (tied.sees.queue.only i q there)
     where
       some_of : (a b : Queued) → Some a ≡ Some b → a ≡ b
       some_of a b e = cc
 
   abbrev has_started : ℕ → Bool
-  has_started = started core v (rises_of past s tied) tied.sees.requests only (shaped_of past s tied) (over_of past s tied)
+  has_started = started core v (rises_of past s tied) tied.sees.queue.requests only (shaped_of past s tied) (over_of past s tied)
 
   now_open : AreOpen v (places core.requests) has_started
-  now_open = are_open core v (rises_of past s tied) tied.sees.requests only (shaped_of past s tied) (over_of past s tied)
+  now_open = are_open core v (rises_of past s tied) tied.sees.queue.requests only (shaped_of past s tied) (over_of past s tied)
 
   open_in : (xs ys : List Open) → core.requests ≡ xs ++ ys → AreOpen v (places xs ++ places ys) has_started
   open_in xs ys split = subst (λ (l : List ℕ). AreOpen v l has_started) (ap places split ∙ places_append xs ys) now_open
@@ -78,7 +78,7 @@ module _ (past : List Fact) (s : Session) (tied : IsTied past s) where
   named_in : (base : List Fact) → ((k : ℕ) (o : Open) → slice_get core.requests k ≡ Some o → v.name (place_of o.request.id) ≡ request_of base o.request.id)
       → (xs ys : List Open) → core.requests ≡ xs ++ ys → AreNamed base v.name has_started xs
   named_in base names xs ys split = named_first base v.name has_started xs ys (subst (λ (l : List Open). AreNamed base v.name has_started l) split
-      (are_named core v (rises_of past s tied) tied.sees.requests only (shaped_of past s tied) (over_of past s tied) base names))
+      (are_named core v (rises_of past s tied) tied.sees.queue.requests only (shaped_of past s tied) (over_of past s tied) base names))
 
   module _ (device : Device) (leaves : LeavesNoMore s.device device) where
     -- ---- with a cut
@@ -88,14 +88,14 @@ module _ (past : List Fact) (s : Session) (tied : IsTied past s) where
     cut_holds xs ys split =
         let cut : List Fact = facts ++ Cut ∷ [] in
         let landed : List Fact = landings outcome.Dark v.name has_started (places xs) in
-        let same = same_landings outcome.Dark refl (facts ++ Cut ∷ []) v.name has_started xs (named_in (facts ++ Cut ∷ []) (sees_entered past core v Cut refl tied.sees).names xs ys split) in
+        let same = same_landings outcome.Dark refl (facts ++ Cut ∷ []) v.name has_started xs (named_in (facts ++ Cut ∷ []) (sees_entered past core v Cut refl tied.sees).queue.names xs ys split) in
         let now : (v.facts ++ Cut ∷ []) ++ landed ≡ past ++ (cut ++ all_landings outcome.Dark cut xs) =
         ap (λ (l : List Fact). (l ++ Cut ∷ []) ++ landed) tied.sees.facts ∙ ap (λ (l : List Fact). l ++ landed) (append_assoc past facts (Cut ∷ [])) ∙ append_assoc past cut landed
         ∙ ap (λ (l : List Fact). past ++ (cut ++ l)) (sym same) in
         record {
           legal = subst Legal now (cut_keeps tied.votes v (places xs) (places ys) has_started (open_in xs ys split) tied.good).legal;
           kept = λ image may. subst (Kept (contents_of image)) now
-              (cut_kept tied.votes v core.descriptor (update_of core.status) s.device tied.media image (places xs) (places ys) has_started tied.are_votes tied.good (open_in xs ys split) (tied_matches past s tied)
+              (cut_kept tied.votes v core.descriptor (update_of core.status) s.device tied.media image (places xs) (places ys) has_started tied.setting.are_votes tied.good (open_in xs ys split) (tied_matches past s tied)
               (leaves image may));
         }
 
@@ -103,17 +103,17 @@ module _ (past : List Fact) (s : Session) (tied : IsTied past s) where
 
     module _ (uncut : is_uncut facts ≡ false) where
       -- then no write waits
-      no_write : (k : ℕ) (o : Open) (there : slice_get core.requests k ≡ Some o) → is_waiting o ≡ true → (b : Bool) → (tied.sees.requests k o there).0.write ≡ b → b ≡ false
+      no_write : (k : ℕ) (o : Open) (there : slice_get core.requests k ≡ Some o) → is_waiting o ≡ true → (b : Bool) → (tied.sees.queue.requests k o there).0.write ≡ b → b ≡ false
       no_write k o there waits false is = refl
       no_write k o there waits true is =
-          let r = tied.sees.requests k o there in
+          let r = tied.sees.queue.requests k o there in
           let q : Queued = r.0 in
           let asked = asked_one s tied.write tied.orderly k o there in
           let began = (found_of facts o.request.id (ap (λ (m : Option Asked). is_some m) asked.told)).began in
           let calm : Calm (past ++ facts) = calm_if_uncut device past facts (request_of facts o.request.id) began uncut in
           let none : (told v q.lv q.first).open_writes ≡ [] = ap (λ (l : List Fact). (known l (Lv q.lv) q.first).open_writes) tied.sees.facts ∙ calm (Lv q.lv) q.first in
           let own = tied.good.sound.tied.open_writes (place_of o.request.id) q r.1 is
-          (unlanded_one core v (rises_of past s tied) tied.sees.requests only (shaped_of past s tied) (over_of past s tied) k o there waits) q.lv q.first in
+          (unlanded_one core v (rises_of past s tied) tied.sees.queue.requests only (shaped_of past s tied) (over_of past s tied) k o there waits) q.lv q.first in
           let some : 1 ≤ count_of o.request.ask = (open_one s tied.write tied.orderly k o there).laid.within.some in
           let count : q.count ≡ count_of o.request.ask = r.2.count in
           let high : nat_lt q.first (q.first + q.count) ≡ true = above q.first q.count (subst (λ n. 1 ≤ n) (sym count) some) in
@@ -133,7 +133,7 @@ module _ (past : List Fact) (s : Session) (tied : IsTied past s) where
       reads : (i : ℕ) → Stands i (places core.requests) → (v.name i).write ≡ false
       reads i h =
           let r = waits_at core.requests i h in
-          let s = tied.sees.requests r.number r.request r.there in
+          let s = tied.sees.queue.requests r.number r.request r.there in
           let no : s.0.write ≡ false = no_write r.number r.request r.there r.waiting s.0.write refl in
           subst (λ j. (v.name j).write ≡ false) r.its ((tied.good.told.same (place_of r.request.request.id) s.0 s.1 s.2.step).write ∙ no)
 
@@ -145,7 +145,7 @@ module _ (past : List Fact) (s : Session) (tied : IsTied past s) where
       reads_hold xs ys split =
           let landed : List Fact = landings outcome.Dark v.name has_started (places xs) in
           let is_open = open_in xs ys split in
-          let same = same_landings outcome.Dark refl facts v.name has_started xs (named_in facts tied.sees.names xs ys split) in
+          let same = same_landings outcome.Dark refl facts v.name has_started xs (named_in facts tied.sees.queue.names xs ys split) in
           let now : v.facts ++ landed ≡ past ++ (facts ++ all_landings outcome.Dark facts xs) =
           ap (λ (l : List Fact). l ++ landed) tied.sees.facts ∙ append_assoc past facts landed ∙ ap (λ (l : List Fact). past ++ (facts ++ l)) (sym same) in
           let way = reads_land v tied.good.told has_started (λ c. Kept c v.facts) (places xs) (places ys) v.facts is_open.once is_open.each
@@ -158,7 +158,7 @@ module _ (past : List Fact) (s : Session) (tied : IsTied past s) where
           record {
             legal = subst Legal now way.legal;
             kept = λ image may. subst (Kept (contents_of image)) now
-                (way.kept (contents_of image) (images_kept tied.votes v core.descriptor (update_of core.status) s.device tied.media image tied.are_votes tied.good (tied_matches past s tied) (leaves image may)));
+                (way.kept (contents_of image) (images_kept tied.votes v core.descriptor (update_of core.status) s.device tied.media image tied.setting.are_votes tied.good (tied_matches past s tied) (leaves image may)));
           }
 
 -- ---- the span

@@ -51,7 +51,7 @@ some_passes test None is none = absurd (cc is)
 some_passes test (Some r) is none = cc none
 
 -- a disk that shows a descriptor has room for records
-shows_records : (image : Image) (id : ℕ) (d : ℕ) → passes (is_of id) ((contents_of image).descriptor d) ≡ true → has_records image d ≡ true
+pub shows_records : (image : Image) (id : ℕ) (d : ℕ) → passes (is_of id) ((contents_of image).descriptor d) ≡ true → has_records image d ≡ true
 unfolding descriptor_on
 shows_records image id d is = by (has_records image d) refl
   where
@@ -67,7 +67,7 @@ module _ (past : List Fact) (old new : Session) (at disk : ℕ) (ok : Bool) (row
   v = tied.view
 
   pub ended : HasEnded old.device new.device row.ticket ok buf tied.media
-  ended = has_ended old.device new.device row.ticket ok buf tied.media returns.ends tied.told
+  ended = has_ended old.device new.device row.ticket ok buf tied.media returns.ends tied.setting.told
 
   abbrev f : Flight
   f = ended.flight
@@ -107,7 +107,7 @@ module _ (past : List Fact) (old new : Session) (at disk : ℕ) (ok : Bool) (row
     pub names : (lv g : ℕ) → note lv g ≡ names_group out.items.items lv g
 
   flying_is : IsFlying
-  flying_is = by (v.flying_note disk) refl (subst (SeesNote (v.flying_note disk)) out.flies (tied.sees.flying disk))
+  flying_is = by (v.flying_note disk) refl (subst (SeesNote (v.flying_note disk)) out.flies (tied.sees.notes.flying disk))
     where
       by : (n : Option Groups) → v.flying_note disk ≡ n → SeesNote n (Some out.items) → IsFlying
       by None flies sees = absurd sees
@@ -153,7 +153,7 @@ module _ (past : List Fact) (old new : Session) (at disk : ℕ) (ok : Bool) (row
   pub room : IsFalse (v.missing f.disk) → has_records was f.disk ≡ true
   room there =
       let here : is_missing core disk ≡ false = sym (missing_seen past old tied disk member) ∙ ap v.missing (sym out.disk_is) ∙ there in
-      let shown : IsTrue (members_there (contents_of was) core.descriptor disk) = tied.members disk member (there_first past old tied disk here) in
+      let shown : IsTrue (members_there (contents_of was) core.descriptor disk) = tied.recorded.members disk member (there_first past old tied disk here) in
       ap (has_records was) out.disk_is ∙ shows_records was core.descriptor.id disk (and_both (passes (is_of core.descriptor.id) ((contents_of was).descriptor disk)) (has_room (contents_of was) disk core.descriptor) shown).0
 
   pub since_ended : (x : Option RecordWrite) (u : Option (Stamped Status)) → OnlyUpdateSince old.device x u → OnlyUpdateSince new.device x u

@@ -1,5 +1,5 @@
 -- An entry of the history that begins no request.
-use Rattle.std.proofs.Common.{◌≡◌, inl, inr, ⊎_elim, ℕ, List, [], ◌∷◌, ◌++◌, Option, None, sym, ap, ◌∙◌}
+use Rattle.std.proofs.Common.{◌≡◌, ℕ, List, [], ◌∷◌, ◌++◌, Option, None, sym, ap, ◌∙◌}
 use Rattle.std.specs.Prelude.{find, unwrap_or}
 use Rattle.std.specs.List.{cons_option}
 use Rattle.std.proofs.lemmas.List.{append_assoc, append-nil}
@@ -8,7 +8,7 @@ use Rattle.lvm_vol.specs.Log.{has_id, no_request, request_of, with_fact}
 use Rattle.lvm_vol.proofs.Order.{begun-push}
 use Rattle.lvm_session.specs.State.{Core}
 use Rattle.lvm_invariant.specs.State.{State}
-use Rattle.lvm_tie.specs.Seen.{IsRequestAt, IsStepAt, Sees}
+use Rattle.lvm_tie.specs.Seen.{Sees}
 
 same_request : (facts : List Fact) (f : Fact) (id : ℕ) → begun_by f ≡ None → request_of (facts ++ f ∷ []) id ≡ request_of facts id
 same_request facts f id aside =
@@ -17,24 +17,15 @@ same_request facts f id aside =
 
 pub sees_entered : (past : List Fact) (core : Core) (v : State) (f : Fact) → begun_by f ≡ None → Sees past core v → Sees past (record core { history = with_fact core.history f }) (record v { facts = v.facts ++ f ∷ [] })
 sees_entered past core v f aside sees = record {
-  requests = sees.requests;
-  a_step = λ c is row. let s = sees.a_step c is row in (s.0, s.1, record { lv = s.2.lv; first = s.2.first; count = s.2.count; write = s.2.write; step = s.2.step; hand = s.2.hand; failed = s.2.failed });
-  only = λ j q at. ⊎_elim
-      (λ (r : IsRequestAt core j). inl (record { place = r.place; request = r.request; there = r.there; its = r.its }))
-      (λ (r : IsStepAt core j). inr (record { copy = r.copy; is_open = r.is_open; row = r.row; its = r.its }))
-      (sees.only j q at);
-  names = λ k p at. sees.names k p at ∙ sym (same_request core.history.facts f p.request.id aside);
+  queue = record {
+    requests = sees.queue.requests;
+    a_step = sees.queue.a_step;
+    only = sees.queue.only;
+    names = λ k p at. sees.queue.names k p at ∙ sym (same_request core.history.facts f p.request.id aside);
+  };
   facts = ap (λ (fs : List Fact). fs ++ f ∷ []) sees.facts ∙ append_assoc past core.history.facts (f ∷ []);
-  committed = sees.committed;
-  in_flight = sees.in_flight;
-  wanted = sees.wanted;
-  started = sees.started;
-  written = sees.written;
-  missing = sees.missing;
-  cache = sees.cache;
-  home = sees.home;
-  flying = sees.flying;
+  status = sees.status;
+  notes = sees.notes;
   open_copy = sees.open_copy;
   step_write = sees.step_write;
-  held = sees.held;
 }

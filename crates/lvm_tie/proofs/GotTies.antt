@@ -108,13 +108,13 @@ module _ (past : List Fact) (old new : Session) (place : ℕ) (result : Outcome)
   i = place_of o.request.id
 
   abbrev q : Queued
-  q = (tied.sees.requests place o lands.there).0
+  q = (tied.sees.queue.requests place o lands.there).0
 
   at : v.queue i ≡ Some q
-  at = (tied.sees.requests place o lands.there).1
+  at = (tied.sees.queue.requests place o lands.there).1
 
   sees : SeesRequest o q
-  sees = (tied.sees.requests place o lands.there).2
+  sees = (tied.sees.queue.requests place o lands.there).2
 
   its : HasTargets old.core o
   its = targets_of old tied.write tied.orderly place o lands.there waits
@@ -129,7 +129,7 @@ module _ (past : List Fact) (old new : Session) (place : ℕ) (result : Outcome)
   lands_got has =
       let seen = sees.got has.buf has.in_hand in
       let got : got_blocks (count_of o.request.ask) o.got ≡ take (count_of o.request.ask) has.buf.sectors = ap (got_blocks (count_of o.request.ask)) has.in_hand in
-      let name : v.name i ≡ request_of old.core.history.facts o.request.id = tied.sees.names place o lands.there in
+      let name : v.name i ≡ request_of old.core.history.facts o.request.id = tied.sees.queue.names place o lands.there in
       record {
         there = at;
         request = sees.step;

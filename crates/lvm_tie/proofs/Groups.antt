@@ -28,15 +28,11 @@ use Rattle.lvm_tie.specs.Tied.{IsTied}
 use Rattle.lvm_tie.proofs.Judged.{IsOfItsPartition, there_first}
 use Rattle.lvm_tie.proofs.Orderly.{all_at}
 use Rattle.lvm_tie.proofs.StepBlocks.{one_is_copy_of, step_placed}
-use Rattle.lvm_tie.proofs.Words.{clash, not_false, or_either}
+use Rattle.lvm_tie.proofs.Words.{clash, not_false, or_either, and_false}
 use Rattle.lvm_tie.proofs.Leaving.{Stands, gone, gone_here, gone_there, put_here, put_there, step_entered}
 use Rattle.lvm_tie.proofs.Landed.{landed_write, now, q}
 use Rattle.lvm_tie.proofs.Stepped.{IsStepped, apart, ended_ties, stepped_ties, wanted_stale}
 use Rattle.lvm_tie.proofs.Passing.{d, goes, its, landed, left, member, mid, o2, part, stands_left, there}
-
-and_false : (b : Bool) → b && false ≡ false
-and_false true = refl
-and_false false = refl
 
 module _ (past : List Fact) (old new : Session) (at : ℕ) (tied : IsTied past old) (sound : IsSound new) (sectors : HasSectors new.device) (event : EndsGroup old new at)
     (short : is_whole old.core (d past old new at tied sectors event) ≡ false) where
@@ -118,7 +114,7 @@ module _ (past : List Fact) (old new : Session) (at : ℕ) (tied : IsTied past o
     | inr ne ↦ ⊎_elim
         (λ (r : IsRequestAt core j). let lt = low r.place r.request r.there in let k = r.its in omega (arith, lt, k))
         (λ (r : IsStepAt core j). absurd (let own : r.copy ≡ c = (let k : Some r.copy ≡ Some c = sym r.is_open ∙ event.is_open in cc) in ne (sym r.its ∙ ap (λ (y : Bringing). y.place) own)))
-        (tied.sees.only j x (sym (gone_there v.queue c.place step_q j ne) ∙ at_j))
+        (tied.sees.queue.only j x (sym (gone_there v.queue c.place step_q j ne) ∙ at_j))
   ]
 
   may_enter : StepEnters was i next

@@ -99,13 +99,13 @@ module _ (past : List Fact) (s : Session) (tied : IsTied past s) where
   members = members_there (contents_of (image_of s.device.sizes tied.media)) group
 
   pub stale_seen : (p : Pp) → v.committed.value.stale p ≡ is_stale core p
-  stale_seen p = ap (λ (m : Marks). m.stale p) tied.sees.committed
+  stale_seen p = ap (λ (m : Marks). m.stale p) tied.sees.status.committed
 
   pub wanted_seen : (p : Pp) → v.wanted.stale p ≡ is_wanted_stale core p
-  wanted_seen p = ap (λ (m : Marks). m.stale p) tied.sees.wanted
+  wanted_seen p = ap (λ (m : Marks). m.stale p) tied.sees.status.wanted
 
   pub missing_seen : (disk : ℕ) → is_member group disk ≡ true → v.missing disk ≡ is_missing core disk
-  missing_seen disk member = tied.sees.missing disk ∙ ap (λ b. not (b && not (is_missing core disk))) member ∙ not_not (is_missing core disk)
+  missing_seen disk member = tied.sees.status.missing disk ∙ ap (λ b. not (b && not (is_missing core disk))) member ∙ not_not (is_missing core disk)
 
   pub usable_seen : (p : Pp) → is_member group p.disk ≡ true → sees_usable v p ≡ is_usable core p
   usable_seen p member = let a = stale_seen p in let b = missing_seen p.disk member in λ t. not (a t) && not (b t)
@@ -114,7 +114,7 @@ module _ (past : List Fact) (s : Session) (tied : IsTied past s) where
   pub settled_seen : (p : Pp) → is_settled core p ≡ true → IsTrue (is_settled_stale v p)
   settled_seen p settled =
       let both = and_both (calls_stale core.status.committed p) (calls_stale (unwrap_or core.status.in_flight core.status.committed) p) settled in
-      (λ t. stale_seen p t && stale_in (tied.sees.in_flight t) p) ∙ by core.status.in_flight both
+      (λ t. stale_seen p t && stale_in (tied.sees.status.in_flight t) p) ∙ by core.status.in_flight both
     where
       by : (u : Option Status) → IsTrue (calls_stale core.status.committed p) × IsTrue (calls_stale (unwrap_or u core.status.committed) p)
           → IsTrue (is_stale core p && stale_in (option_map as_marks (option_map (λ (t : Status). let r : Stamped Status = record { stamp = core.status.stamp; value = t } in r) u)) p)
@@ -179,11 +179,11 @@ module _ (past : List Fact) (s : Session) (tied : IsTied past s) where
 
     -- a copy on a disk that isn't missing is one that the state sees
     pub there_is_copy : (p : Pp) → IsOneOf (copies_for core ask) p → is_missing core p.disk ≡ false → IsTrue (v.is_copy (lv_of ask) (at_of ask) p)
-    there_is_copy p one there = one_is_copy p one (tied.members p.disk (on_member p one) (there_first p.disk there))
+    there_is_copy p one there = one_is_copy p one (tied.recorded.members p.disk (on_member p one) (there_first p.disk there))
 
     -- so is a target of the request
     pub target_is_copy : (t : Target) → IsTarget core ask t → IsTrue (v.is_copy (lv_of ask) (at_of ask) t.pp)
-    target_is_copy t its = let one = among_one (copies_for core ask) t.pp its.copy in one_is_copy t.pp one (tied.members t.pp.disk (on_member t.pp one) its.there)
+    target_is_copy t its = let one = among_one (copies_for core ask) t.pp its.copy in one_is_copy t.pp one (tied.recorded.members t.pp.disk (on_member t.pp one) its.there)
 
     -- its track group, counted in its volume
     groups : groups_of core ≡ 8 * group.mib

@@ -27,7 +27,6 @@ use Rattle.lvm_session.specs.declared.open.Open.{Open}
 use Rattle.lvm_session.specs.declared.bringing.OpenCopy.{OpenCopy as Bringing}
 use Rattle.lvm_session.specs.declared.bringing.Step.{Step}
 use Rattle.lvm_session.specs.declared.bringing.Step.TheVariants as step
-use Rattle.lvm_session.specs.declared.flown.Flown.{Flown}
 use Rattle.lvm_session.specs.declared.flown.Owner.{Owner}
 use Rattle.lvm_session.specs.declared.flown.Owner.TheVariants as owner
 use Rattle.lvm_session.specs.State.{Core, State as Session, state}
@@ -40,11 +39,12 @@ use Rattle.lvm_invariant.specs.Events.{Event, Step as GoodStep}
 use Rattle.lvm_invariant.proofs.Each.{each_keeps}
 use Rattle.lvm_crash.specs.Lasting.{AsksOf}
 use Rattle.lvm_tie_shelf.proofs.Quiet.{quiet_lasts}
+use Rattle.lvm_tie.proofs.Ties.{carry_on}
 use Rattle.lvm_tie.proofs.Changing.{step_apart, sees_changed}
 use Rattle.lvm_tie.proofs.Entered.{sees_entered}
 use Rattle.lvm_tie.proofs.Judged.{copy_is_one, on_member, usable_seen}
 use Rattle.lvm_tie.proofs.Words.{any_none}
-use Rattle.lvm_tie.specs.Out.{CarriesStep, CarryTheirs}
+use Rattle.lvm_tie.specs.Out.{CarriesStep}
 use Rattle.lvm_tie.specs.Seen.{update_of, SeesRequest, Sees, phase_seen}
 use Rattle.lvm_tie.proofs.Orderly.{HaveNumbers, numbers_of}
 use Rattle.lvm_tie.specs.Tied.{IsOrderly, IsTied}
@@ -86,7 +86,7 @@ module _ (past : List Fact) (old new : Session) (place : ℕ) (how : Outcome) (l
   told = Landed (v.name i) how (is_begun o.request.targets.items) (got_blocks (count_of o.request.ask) o.got)
 
   fact_is : told ≡ fact
-  fact_is = ap (λ (r : Asked). Landed r how (is_begun o.request.targets.items) (got_blocks (count_of o.request.ask) o.got)) (tied.sees.names place o lands.there)
+  fact_is = ap (λ (r : Asked). Landed r how (is_begun o.request.targets.items) (got_blocks (count_of o.request.ask) o.got)) (tied.sees.queue.names place o lands.there)
 
   abbrev done : Core
   done = after_landing core place o how
@@ -124,31 +124,22 @@ module _ (past : List Fact) (old new : Session) (place : ℕ) (how : Outcome) (l
         | inr ne ↦ let test : (c.place == i) ≡ false = grind (arith, nat_tests) in ap (λ b. if b then Some q2 else v.queue c.place) test
       ]
 
-  carry_so : (fs : List Flight) (them : List Flown) → CarryTheirs core v fs them → CarryTheirs core2 w fs them
-  carry_so [] them carry = tt
-  carry_so (f ∷ fs) [] carry = tt
-  carry_so (f ∷ fs) (r ∷ rs) carry = (carries f r.owner carry.0, carry_so fs rs carry.1)
-
   pub lands_tied : GoodStep tied.votes event v w → AsksOf core.descriptor event → IsOrderly new tied.write → IsTied past new
   lands_tied step asks orderly = subst (IsTied past) (sym whole) (record {
     votes = tied.votes;
-    are_votes = tied.are_votes;
     media = tied.media;
-    told = tied.told;
+    setting = tied.setting;
     view = w;
     sees = sees_all;
     good = each_keeps tied.votes event v w step tied.good;
     describes = quiet_lasts tied.votes event v w core.descriptor (update_of core.status) (contents_of (image_of old.device.sizes tied.media)) step tied.good asks tied.describes refl refl refl;
     write = tied.write;
     since = tied.since;
+    recorded = tied.recorded;
     orderly = subst (λ (x : Session). IsOrderly x tied.write) whole orderly;
     copy_aimed = tied.copy_aimed;
-    carry = carry_so old.device.flights core.flying tied.carry;
-    members = tied.members;
-    records = tied.records;
-    next = tied.next;
+    carry = carry_on core core2 v w old.device.flights core.flying carries tied.carry;
     notes = tied.notes;
-    own = tied.own;
   })
 
 -- ---- without a usable copy
@@ -237,7 +228,7 @@ module _ (past : List Fact) (old new : Session) (place : ℕ) (how : Outcome) (l
   no_fresh_ties empty early orderly =
       let o : Open = lands.request in
       let v : State = tied.view in
-      let seen = tied.sees.requests place o lands.there in
+      let seen = tied.sees.queue.requests place o lands.there in
       let q : Queued = seen.0 in
       let i : ℕ = place_of o.request.id in
       let none : got_blocks (count_of o.request.ask) o.got ≡ [] = ap (got_blocks (count_of o.request.ask)) empty in

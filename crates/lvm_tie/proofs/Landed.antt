@@ -110,7 +110,7 @@ module _ (past : List Fact) (old new : Session) (at : ℕ) (row : Flown) (ok : B
   v = tied.view
 
   pub ended : HasEnded old.device new.device row.ticket ok buf tied.media
-  ended = has_ended old.device new.device row.ticket ok buf tied.media returns.ends tied.told
+  ended = has_ended old.device new.device row.ticket ok buf tied.media returns.ends tied.setting.told
 
   abbrev pub f : Flight
   f = ended.flight
@@ -140,13 +140,13 @@ module _ (past : List Fact) (old new : Session) (at : ℕ) (row : Flown) (ok : B
 
   -- its step, as it stands in the queue
   abbrev pub q : Queued
-  q = (tied.sees.a_step c is_open row_there).0
+  q = (tied.sees.queue.a_step c is_open row_there).0
 
   pub at_q : v.queue c.place ≡ Some q
-  at_q = (tied.sees.a_step c is_open row_there).1
+  at_q = (tied.sees.queue.a_step c is_open row_there).1
 
   pub sees : SeesStep core c q
-  sees = (tied.sees.a_step c is_open row_there).2
+  sees = (tied.sees.queue.a_step c is_open row_there).2
 
   pub hand : (st : Step) → c.step ≡ st → SeesHand st q
   hand st is = subst (λ (x : Step). SeesHand x q) is sees.hand
@@ -200,13 +200,13 @@ module _ (past : List Fact) (old new : Session) (at : ℕ) (row : Flown) (ok : B
     })
 
     pub read_next : MayUpdate core.descriptor core.status core.homes (image_of new.device.sizes ended.media)
-    read_next = subst (λ (i : Image). MayUpdate core.descriptor core.status core.homes i) (sym same_image) tied.next
+    read_next = subst (λ (i : Image). MayUpdate core.descriptor core.status core.homes i) (sym same_image) tied.recorded.next
 
     pub read_members : (d : ℕ) → is_member core.descriptor d ≡ true → calls_missing core.origin.table d ≡ false → IsTrue (members_there now core.descriptor d)
-    read_members d member first = subst (λ (i : Image). IsTrue (members_there (contents_of i) core.descriptor d)) (sym same_image) (tied.members d member first)
+    read_members d member first = subst (λ (i : Image). IsTrue (members_there (contents_of i) core.descriptor d)) (sym same_image) (tied.recorded.members d member first)
 
     pub read_records : ShowsRecords core.descriptor core.status now
-    read_records = subst (λ (i : Image). ShowsRecords core.descriptor core.status (contents_of i)) (sym same_image) tied.records
+    read_records = subst (λ (i : Image). ShowsRecords core.descriptor core.status (contents_of i)) (sym same_image) tied.recorded.records
 
     abbrev pub landed_read : HasLanded v.open_copy
     landed_read = record { block = v.media.block; stands = read_stands; next = read_next; members = read_members; records = read_records }
@@ -255,9 +255,9 @@ module _ (past : List Fact) (old new : Session) (at : ℕ) (row : Flown) (ok : B
             describes = subst (λ (sizes : List ℕ). Describes (copied v block open_copy None) v.facts core.descriptor (update_of core.status) (contents_of (image_of sizes ended.media))) (sym ended.sizes) its.describes;
           };
           next = next_below core.descriptor core.status core.homes (image_of old.device.sizes tied.media) (image_of new.device.sizes ended.media)
-              (subst (λ (sizes : List ℕ). SameRecords (image_of old.device.sizes tied.media) (image_of sizes ended.media)) (sym ended.sizes) same_below) whole tied.next;
+              (subst (λ (sizes : List ℕ). SameRecords (image_of old.device.sizes tied.media) (image_of sizes ended.media)) (sym ended.sizes) same_below) whole tied.recorded.next;
           members = λ d member first. subst (λ (sizes : List ℕ). IsTrue (members_there (contents_of (image_of sizes ended.media)) core.descriptor d)) (sym ended.sizes)
-              (ap (λ (x : Contents). members_there x core.descriptor d) kept.rest ∙ tied.members d member first);
+              (ap (λ (x : Contents). members_there x core.descriptor d) kept.rest ∙ tied.recorded.members d member first);
           records = subst (λ (sizes : List ℕ). ShowsRecords core.descriptor core.status (contents_of (image_of sizes ended.media))) (sym ended.sizes)
-              (records_kept core.descriptor core.status (image_of old.device.sizes tied.media) (image_of old.device.sizes ended.media) same_below tied.records);
+              (records_kept core.descriptor core.status (image_of old.device.sizes tied.media) (image_of old.device.sizes ended.media) same_below tied.recorded.records);
         }

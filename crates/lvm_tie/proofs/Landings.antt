@@ -235,7 +235,7 @@ module _ (past : List Fact) (old new : Session) (place : ℕ) (how : Outcome) (l
       let said : IsPhase phase.WantStatus o = subst (λ (p : Phase). IsPhase p o) at its.shape.phase_is in
       let some : 1 ≤ length ts = some_long ts (λ (t : Target). t.usable) (its.shape.usable (ap Rattle.lvm_session.specs.Requests.is_past_held at)) in
       let begun : is_begun ts ≡ true = over_begun ts some said.1 in
-      let seen = tied.sees.requests place o lands.there in
+      let seen = tied.sees.queue.requests place o lands.there in
       tied_after past old new place how lands tied at said.0 begun said.1 (uncaught said.0) seen.0 seen.1 seen.2 (no_hand said.0)
       (how_is past old new place how lands tied at said.0 begun said.1 (uncaught said.0) seen.0 seen.1 seen.2) orderly
     where

@@ -68,7 +68,7 @@ pub first_start_ties : (past : List Fact) (old new : Session) (place number : �
     → is_write starts.its.request.request.ask ≡ true → is_begun starts.its.request.request.targets.items ≡ false → IsOrderly new tied.write → IsTied past new
 first_start_ties past old new place number starts tied waits writes early orderly =
     let o : Open = starts.its.request in
-    let seen = tied.sees.requests place o starts.its.there in
+    let seen = tied.sees.queue.requests place o starts.its.there in
     let q : Queued = seen.0 in
     let may = may_start past old tied o number starts.its.aim q place starts.its.there writes early starts.its.due starts.its.aim_is seen.1 seen.2 in
     let c = starts.its.aim.pp in
@@ -84,7 +84,7 @@ later_start_ties past old new place number starts tied waits writes moving begun
     let o : Open = starts.its.request in
     let c = starts.its.aim.pp in
     let i : ℕ = place_of o.request.id in
-    let seen = tied.sees.requests place o starts.its.there in
+    let seen = tied.sees.queue.requests place o starts.its.there in
     let q : Queued = seen.0 in
     let sees : SeesRequest o q = seen.2 in
     let v : State = tied.view in
@@ -107,7 +107,7 @@ read_start_ties past old new place number starts tied waits reads moving orderly
     let o : Open = starts.its.request in
     let c = starts.its.aim.pp in
     let i : ℕ = place_of o.request.id in
-    let seen = tied.sees.requests place o starts.its.there in
+    let seen = tied.sees.queue.requests place o starts.its.there in
     let q : Queued = seen.0 in
     let sees : SeesRequest o q = seen.2 in
     let v : State = tied.view in

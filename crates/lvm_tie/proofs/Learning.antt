@@ -1,5 +1,5 @@
 -- The status once a write of the update has ended, and the marks that it entails are wanted.
-use Rattle.std.proofs.Common.{◌≡◌, ◌⊎◌, inl, inr, ℕ, Bool, true, false, ◌&&◌, ◌||◌, ◌==◌, not, eqb-true, List, [], ◌∷◌, Option, Some, None, refl, sym, ap, subst, ◌∙◌, arith}
+use Rattle.std.proofs.Common.{◌≡◌, ◌⊎◌, inl, inr, ℕ, Bool, true, false, ◌&&◌, ◌||◌, ◌==◌, not, eqb-true, List, [], Option, Some, None, refl, sym, ap, subst, ◌∙◌, arith}
 use Rattle.std.specs.Prelude.{if◌then◌else◌, unwrap_or}
 use Rattle.std.specs.List.{list_any}
 use Rattle.std.proofs.lemmas.Bool.Decides.{nat_tests}
@@ -14,7 +14,8 @@ use Rattle.lvm_status.specs.Update.{Stored, Updates, is_held, is_owed, no_disks,
 use Rattle.lvm_status.specs.Calls.{WantsAtEnd, after_end, comes_held, with_commit, with_end}
 use Rattle.lvm_status.specs.Runs.{IsSound as IsSoundStatus}
 use Rattle.lvm_crash.specs.Session.{marks_of}
-use Rattle.lvm_tie.proofs.Words.{clash, not_true, or_left, or_true}
+use Rattle.lvm_tie.proofs.Words.{clash, not_true, or_true}
+use Rattle.lvm_tie.proofs.Losing.{not_owed_by}
 use Rattle.lvm_tie.specs.Out.{is_owed_on}
 use Rattle.lvm_tie_shelf.proofs.Writing.{and_both}
 
@@ -84,16 +85,6 @@ marks_then disk true old new wants = ap marks_of wants
 marks_then disk false old new wants = λ t. record { stale = λ p. wants.stale p t; dirty = λ lv. list_any (λ n. n == lv) (wants.dirty t) }
 
 -- ---- which writes are owed
-
-not_owed_by : (test : ℕ → Bool) (rows : List PvRow) (d : ℕ) → list_any (λ (row : PvRow). row.disk == d) rows ≡ true → list_any (λ (row : PvRow). test row.disk) rows ≡ false → test d ≡ false
-not_owed_by test [] d member none = absurd (cc member)
-not_owed_by test (r ∷ rows) d member none =
-    let parts = or_left (test r.disk) (list_any (λ (row : PvRow). test row.disk) rows) none in
-    by (r.disk == d) refl member parts.0 (λ there. not_owed_by test rows d there parts.1)
-  where
-    by : (b : Bool) → (r.disk == d) ≡ b → (b || list_any (λ (row : PvRow). row.disk == d) rows) ≡ true → test r.disk ≡ false → (list_any (λ (row : PvRow). row.disk == d) rows ≡ true → test d ≡ false) → test d ≡ false
-    by true here h own rest = ap test (sym (eqb-true r.disk d here)) ∙ own
-    by false there h own rest = rest h
 
 and_true : (a : Bool) → (a && true) ≡ a
 and_true true = refl

@@ -25,7 +25,8 @@ use Rattle.lvm_tie.proofs.Words.{not_true, or_left}
 use Rattle.lvm_tie.specs.Out.{is_owed_on}
 use Rattle.lvm_tie.specs.Seen.{update_of}
 
-not_owed_by : (test : ℕ → Bool) (rows : List PvRow) (d : ℕ) → list_any (λ (row : PvRow). row.disk == d) rows ≡ true → list_any (λ (row : PvRow). test row.disk) rows ≡ false → test d ≡ false
+-- a test that no row's disk passes isn't passed by that of a member
+pub not_owed_by : (test : ℕ → Bool) (rows : List PvRow) (d : ℕ) → list_any (λ (row : PvRow). row.disk == d) rows ≡ true → list_any (λ (row : PvRow). test row.disk) rows ≡ false → test d ≡ false
 not_owed_by test [] d member none = absurd (cc member)
 not_owed_by test (r ∷ rows) d member none =
     let parts = or_left (test r.disk) (list_any (λ (row : PvRow). test row.disk) rows) none in

@@ -10,19 +10,17 @@ use Rattle.lvm_num.specs.declared.record.Kind.TheVariants as kind
 use Rattle.lvm_num.specs.declared.record.Stamp.{Stamp}
 use Rattle.lvm_num.specs.declared.status.Status.{Status}
 use Rattle.lvm_num.specs.Descriptor.{is_member}
-use Rattle.lvm_num.specs.DescriptorBytes.{descriptor_of}
 use Rattle.lvm_num.specs.Record.{Frames, Stamped, longest_content, stamp_lt}
 use Rattle.lvm_num.specs.Status.{IsValidStatus, calls_missing}
 use Rattle.lvm_num.specs.StatusBytes.{status_bytes, status_of}
 use Rattle.lvm_num.specs.Votes.{all_disks, is_enough_to_write, total_votes, votes_in, votes_of}
 use Rattle.lvm_vol.specs.Facts.{Fact}
 use Rattle.lvm_disk.specs.Device.{Image, image_of}
-use Rattle.lvm_rec.specs.Slots.{newest_on}
 use Rattle.lvm_rec.proofs.SlotLaws.{may_write}
 use Rattle.lvm_vgsa.proofs.RoundTrip.{is_read_again}
 use Rattle.lvm_commit.proofs.Sizes.{status_fits}
 use Rattle.lvm_commit.specs.Committed.{next_stamp}
-use Rattle.lvm_kept.specs.Contents.{Contents, contents_of, descriptor_on, has_records}
+use Rattle.lvm_kept.specs.Contents.{Contents, contents_of, has_records}
 use Rattle.lvm_kept.specs.Group.{is_of, is_status_of, members_in, passes}
 use Rattle.lvm_kept.proofs.Finding.{finding_reads}
 use Rattle.lvm_kept.specs.Torn.{MayWriteAll, RecordWrite, on_disk}
@@ -43,6 +41,7 @@ use Rattle.lvm_tie.specs.Out.{IsUpdateWrite, is_owed_on}
 use Rattle.lvm_tie.specs.Seen.{update_of}
 use Rattle.lvm_tie.specs.Tied.{IsTied}
 use Rattle.lvm_tie.proofs.Judged.{there_first}
+use Rattle.lvm_tie.proofs.EndedNotes.{shows_records}
 
 -- This record may go out: to slots that don't hold the newest, under a stamp later than all that stand; and no disk at all has votes enough to write.
 pub record MayBegin (v : State) (votes : Descriptor) (group : Descriptor) (image : Image) (w : RecordWrite) (u : Stamped Status) : Type 0 where
@@ -79,19 +78,6 @@ and_parts false b is = absurd (cc is)
 slot_below : (b : Bool) → (if b then 1 else 0) < 2
 slot_below true = omega arith
 slot_below false = omega arith
-
-some_passes : (test : Descriptor → Bool) (o : Option (Stamped Descriptor)) → passes test o ≡ true → o ≡ None → ⊥
-some_passes test None is none = absurd (cc is)
-some_passes test (Some r) is none = cc none
-
--- a disk that shows a descriptor has room for records
-shows_records : (image : Image) (id : ℕ) (d : ℕ) → passes (is_of id) ((contents_of image).descriptor d) ≡ true → has_records image d ≡ true
-unfolding descriptor_on
-shows_records image id d is = by (has_records image d) refl
-  where
-    by : (b : Bool) → has_records image d ≡ b → b ≡ true
-    by true there = refl
-    by false there = absurd (some_passes (is_of id) (descriptor_on image d) is (ap (λ b. if b then newest_on descriptor_of kind.Descriptor (image.sector d) else None) there))
 
 marks_of_some : (id : ℕ) (o : Option (Stamped Status)) (m : Stamped Marks) → marks_shown id o ≡ Some m → (r : Stamped Status) × (o ≡ Some r) × (as_marks r ≡ m)
 marks_of_some id None m is = absurd (cc is)
@@ -130,8 +116,8 @@ module _ (past : List Fact) (old new : Session) (tied : IsTied past old) (sound 
 
   frames : Frames kind.Status fresh_write.framed
   frames = record {
-    some_epoch = subst (λ (s : Stamp). s.epoch ≢ 0) (sym stamp_is) tied.next.some_epoch;
-    epoch = subst (λ (s : Stamp). s.epoch < 2 ^ 64) (sym stamp_is) tied.next.epoch;
+    some_epoch = subst (λ (s : Stamp). s.epoch ≢ 0) (sym stamp_is) tied.recorded.next.some_epoch;
+    epoch = subst (λ (s : Stamp). s.epoch < 2 ^ 64) (sym stamp_is) tied.recorded.next.epoch;
     some_seq = subst (λ (s : Stamp). s.seq ≢ 0) (sym stamp_is) (λ e. omega (arith, e));
     seq = let low = (sound.on on_then).going.numbers in omega (arith, low);
     content = subst (λ (x : Status). length (status_bytes x) ≤ longest_content kind.Status) (sym value_is) (status_fits core.status.wanted valid);
@@ -146,7 +132,7 @@ module _ (past : List Fact) (old new : Session) (tied : IsTied past old) (sound 
   shows : (d : ℕ) → IsTrue (is_there core d) → IsTrue (members_there c core.descriptor d)
   shows d there =
       let parts = and_parts (is_member core.descriptor d) (not (calls_missing core.status.wanted d)) there in
-      tied.members d parts.0 (there_first past old tied d (not_true_is (calls_missing core.status.wanted d) parts.1))
+      tied.recorded.members d parts.0 (there_first past old tied d (not_true_is (calls_missing core.status.wanted d) parts.1))
     where
       not_true_is : (b : Bool) → not b ≡ true → b ≡ false
       not_true_is true h = absurd (cc h)
@@ -160,7 +146,7 @@ module _ (past : List Fact) (old new : Session) (tied : IsTied past old) (sound 
 
   -- of the stamps that stand all are before its own
   all_before : ShowsBefore (next_stamp core.status.stamp) c
-  all_before = shown_is_before (next_stamp core.status.stamp) image tied.next.whole tied.next.before
+  all_before = shown_is_before (next_stamp core.status.stamp) image tied.recorded.next.whole tied.recorded.next.before
 
   lower : (d : ℕ) (r : Stamped Status) → c.status d ≡ Some r → stamp_lt r.stamp u.stamp ≡ true
   lower d r at = ap (stamp_lt r.stamp) stamp_is ∙ all_before.statuses d r at
@@ -176,10 +162,10 @@ module _ (past : List Fact) (old new : Session) (tied : IsTied past old) (sound 
       later_by : (f : Found tied.votes v) → stamp_lt v.committed.stamp u.stamp ≡ true
       later_by f =
           let reads = finding_reads c all_disks core.descriptor.id core.descriptor tied.describes.stands.found in
-          let meets = tied.votes.meet (members_in c all_disks core.descriptor.id core.descriptor) f.set (tied.are_votes.reads (members_in c all_disks core.descriptor.id core.descriptor) ∙ reads.reads.enough) f.enough in
+          let meets = tied.votes.meet (members_in c all_disks core.descriptor.id core.descriptor) f.set (tied.setting.are_votes.reads (members_in c all_disks core.descriptor.id core.descriptor) ∙ reads.reads.enough) f.enough in
           let disk = meets.0 in
           let shown : v.media.status disk ≡ Some v.committed = ⊎_elim (λ (same : v.media.status disk ≡ Some v.committed). same)
-          (λ (x : (y : Stamped Marks) × (v.in_flight ≡ Some y) × (v.media.status disk ≡ Some y)). absurd (let e : None ≡ Some x.0 = sym (tied.sees.in_flight ∙ no_update) ∙ x.1 in cc)) (f.have disk meets.2) in
+          (λ (x : (y : Stamped Marks) × (v.in_flight ≡ Some y) × (v.media.status disk ≡ Some y)). absurd (let e : None ≡ Some x.0 = sym (tied.sees.status.in_flight ∙ no_update) ∙ x.1 in cc)) (f.have disk meets.2) in
           let r = marks_of_some core.descriptor.id (c.status disk) v.committed (sym (tied.describes.shown.status disk) ∙ shown) in
           ap (λ (m : Stamped Marks). stamp_lt m.stamp u.stamp) (sym r.2) ∙ lower disk r.0 r.1
 
@@ -191,8 +177,8 @@ module _ (past : List Fact) (old new : Session) (tied : IsTied past old) (sound 
       frames = frames;
       slots = λ d. slot_below (second_slots kind.Status core.homes d);
       there = records_there;
-      each = λ d there. may_write Status status_of (on_disk fresh_write d) starts.status (image.sector d) frames reads (tied.next.spare d there (not_owed d))
-          (later_may_go fresh_write (next_stamp core.status.stamp) image d tied.next.whole tied.next.before (ap (λ (s : Stamp). stamp_lt s (next_stamp core.status.stamp)) stamp_is ∙ not_itself (next_stamp core.status.stamp)) (records_there d there));
+      each = λ d there. may_write Status status_of (on_disk fresh_write d) starts.status (image.sector d) frames reads (tied.recorded.next.spare d there (not_owed d))
+          (later_may_go fresh_write (next_stamp core.status.stamp) image d tied.recorded.next.whole tied.recorded.next.before (ap (λ (s : Stamp). stamp_lt s (next_stamp core.status.stamp)) stamp_is ∙ not_itself (next_stamp core.status.stamp)) (records_there d there));
     };
     none_has = not_enough core.status.group;
     own = ap (λ (x : Status). x.id) value_is ∙ tied.orderly.sound.fitting.id;

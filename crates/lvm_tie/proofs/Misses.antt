@@ -25,15 +25,11 @@ use Rattle.lvm_tie_shelf.proofs.Writing.{pp_same}
 use Rattle.lvm_tie.specs.Seen.{SeesHand, SeesStep, update_of}
 use Rattle.lvm_tie.specs.Tied.{IsTied}
 use Rattle.lvm_tie.proofs.Judged.{copy_is}
-use Rattle.lvm_tie.proofs.Words.{clash, or_either, or_true}
+use Rattle.lvm_tie.proofs.Words.{clash, or_either, or_true, and_false}
 use Rattle.lvm_tie.proofs.Leaving.{Stands, quiet}
 use Rattle.lvm_tie.proofs.Landed.{at_q, hand, landed_read, now, q, read_stands, sees}
 use Rattle.lvm_tie.proofs.Stepped.{ended_ties, going_ties, wanted_stale}
 use Rattle.lvm_tie.specs.Steps.{CopyMissTies}
-
-and_false : (b : Bool) → b && false ≡ false
-and_false true = refl
-and_false false = refl
 
 module _ (past : List Fact) (old new : Session) (at : ℕ) (tied : IsTied past old) (sound : IsSound new) (event : EndsMiss old new at) where
   abbrev core : Core

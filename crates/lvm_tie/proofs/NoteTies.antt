@@ -1,5 +1,5 @@
 -- The start of a note, tied.
-use Rattle.std.proofs.Common.{◌≡◌, inl, inr, ⊎_elim, ℕ, suc, ◌+◌, ◌<◌, Bool, true, false, ◌&&◌, ◌==◌, not, List, [], ◌∷◌, ◌++◌, Option, Some, None, refl, sym, ap, subst, ◌∙◌, arith, eqb-true}
+use Rattle.std.proofs.Common.{◌≡◌, inl, inr, ℕ, suc, ◌+◌, ◌<◌, Bool, true, false, ◌&&◌, ◌==◌, not, List, [], ◌∷◌, ◌++◌, Option, Some, None, refl, sym, ap, subst, ◌∙◌, arith, eqb-true}
 use Rattle.std.specs.Prelude.{IsTrue, IsFalse, if◌then◌else◌, find, slice_get, is_none, is_some, option_and_then, length}
 use Rattle.std.specs.Option.{option_map}
 use Rattle.std.proofs.lemmas.Bool.{cases_eq}
@@ -51,7 +51,7 @@ use Rattle.lvm_tie.proofs.Judged.{aimed_of, copy_is_one, on_member, missing_seen
 use Rattle.lvm_tie.proofs.Orderly.{open_one, orderly_same, out_of}
 use Rattle.lvm_tie.proofs.Words.{not_true}
 use Rattle.lvm_tie.specs.Out.{AreNotes, CarriesStep, CarryTheirs, MayUpdate}
-use Rattle.lvm_tie.specs.Seen.{SeesNote, IsRequestAt, IsStepAt, update_of, Sees}
+use Rattle.lvm_tie.specs.Seen.{SeesNote, update_of, Sees}
 use Rattle.lvm_tie.specs.Tied.{IsOrderly, IsTied, ShowsRecords}
 use Rattle.lvm_tie.specs.Records.{NoteStartTies}
 use Rattle.lvm_tie.proofs.Ties.{carry_more}
@@ -183,7 +183,7 @@ module _ (past : List Fact) (old new : Session) (place disk : ℕ) (starts : Sta
   may = record {
     disk = disk;
     there = is_due.there;
-    none = note_none (v.flying_note disk) (subst (SeesNote (v.flying_note disk)) is_due.none (tied.sees.flying disk));
+    none = note_none (v.flying_note disk) (subst (SeesNote (v.flying_note disk)) is_due.none (tied.sees.notes.flying disk));
     each = λ d. elim (cases_eq d disk) [ inl e ↦ inr (e, own d e) | inr ne ↦ inl (others d ne) ];
   }
 
@@ -208,35 +208,25 @@ module _ (past : List Fact) (old new : Session) (place disk : ℕ) (starts : Sta
 
   sees : Sees past next w
   sees = record {
-    requests = tied.sees.requests;
-    a_step = λ c is at. let s = tied.sees.a_step c is at in (s.0, s.1, record { lv = s.2.lv; first = s.2.first; count = s.2.count; write = s.2.write; step = s.2.step; hand = s.2.hand; failed = s.2.failed });
-    only = λ i q at. ⊎_elim
-        (λ (r : IsRequestAt core i). inl (record { place = r.place; request = r.request; there = r.there; its = r.its }))
-        (λ (r : IsStepAt core i). inr (record { copy = r.copy; is_open = r.is_open; row = r.row; its = r.its }))
-        (tied.sees.only i q at);
-    names = tied.sees.names;
+    queue = tied.sees.queue;
     facts = tied.sees.facts;
-    committed = tied.sees.committed;
-    in_flight = tied.sees.in_flight;
-    wanted = tied.sees.wanted;
-    started = tied.sees.started;
-    written = tied.sees.written;
-    missing = tied.sees.missing;
-    cache = tied.sees.cache;
-    home = λ d lv g n there is. elim (cases_eq d disk) [
-      | inl e ↦ let its : n ≡ started core.cache.entries has_notes.notes = some_of n (started core.cache.entries has_notes.notes) (sym is ∙ ap (notes_on next.cache) e ∙ has_notes.is) in
-          ap (λ k. v.home_note k lv g) e ∙ tied.sees.home disk lv g has_notes.notes (subst (λ k. IsTrue (is_there core k)) e there) has_notes.was ∙ ap (λ (m : DiskNotes). names_group m.written.items lv g) (sym its)
-      | inr ne ↦ tied.sees.home d lv g n there (sym (elsewhere d ne) ∙ is)
-    ];
-    flying = λ d. elim (cases_eq d disk) [
-      | inl e ↦ subst (λ k. SeesNote (flying k) (flight_on next.cache k)) (sym e)
-          (subst (λ x. SeesNote x (flight_on next.cache disk)) (sym (own disk refl)) (subst (SeesNote (Some v.cache)) (sym (ap (λ (o : Option DiskNotes). option_and_then (λ (n : DiskNotes). n.flight) o) has_notes.is))
-          (λ lv g. tied.sees.cache lv g ∙ sym (note-names core.cache.entries lv g))))
-      | inr ne ↦ subst (λ x. SeesNote x (flight_on next.cache d)) (sym (others d ne)) (subst (SeesNote (v.flying_note d)) (sym (ap (λ (o : Option DiskNotes). option_and_then (λ (n : DiskNotes). n.flight) o) (elsewhere d ne))) (tied.sees.flying d))
-    ];
+    status = tied.sees.status;
+    notes = record {
+      cache = tied.sees.notes.cache;
+      home = λ d lv g n there is. elim (cases_eq d disk) [
+        | inl e ↦ let its : n ≡ started core.cache.entries has_notes.notes = some_of n (started core.cache.entries has_notes.notes) (sym is ∙ ap (notes_on next.cache) e ∙ has_notes.is) in
+            ap (λ k. v.home_note k lv g) e ∙ tied.sees.notes.home disk lv g has_notes.notes (subst (λ k. IsTrue (is_there core k)) e there) has_notes.was ∙ ap (λ (m : DiskNotes). names_group m.written.items lv g) (sym its)
+        | inr ne ↦ tied.sees.notes.home d lv g n there (sym (elsewhere d ne) ∙ is)
+      ];
+      flying = λ d. elim (cases_eq d disk) [
+        | inl e ↦ subst (λ k. SeesNote (flying k) (flight_on next.cache k)) (sym e)
+            (subst (λ x. SeesNote x (flight_on next.cache disk)) (sym (own disk refl)) (subst (SeesNote (Some v.cache)) (sym (ap (λ (o : Option DiskNotes). option_and_then (λ (n : DiskNotes). n.flight) o) has_notes.is))
+            (λ lv g. tied.sees.notes.cache lv g ∙ sym (note-names core.cache.entries lv g))))
+        | inr ne ↦ subst (λ x. SeesNote x (flight_on next.cache d)) (sym (others d ne)) (subst (SeesNote (v.flying_note d)) (sym (ap (λ (o : Option DiskNotes). option_and_then (λ (n : DiskNotes). n.flight) o) (elsewhere d ne))) (tied.sees.notes.flying d))
+      ];
+    };
     open_copy = tied.sees.open_copy;
     step_write = tied.sees.step_write;
-    held = tied.sees.held;
   }
 
   carries : (g : Flight) (who : Owner) → CarriesStep core v g who → CarriesStep next w g who
@@ -252,7 +242,7 @@ module _ (past : List Fact) (old new : Session) (place disk : ℕ) (starts : Sta
         let own : flight_on next.cache d ≡ Some (record { items = note_of core.cache.entries }) = ap (flight_on next.cache) e ∙ ap (λ (o : Option DiskNotes). option_and_then (λ (n : DiskNotes). n.flight) o) has_notes.is in
         let same : record { items = note_of core.cache.entries } ≡ items = some_of (record { items = note_of core.cache.entries }) items (sym own ∙ flies) in
         subst (λ (x : ArrayVec NoteEntry). IsNote (record { stamp = core.status.stamp.epoch; entries = x.items })) same (record {
-          stamp = tied.next.epoch;
+          stamp = tied.recorded.next.epoch;
           count = let n : length (note_of core.cache.entries) ≡ length core.cache.entries = length-map core.cache.entries (λ (e : CacheEntry). let named : NoteEntry = record { lv = e.lv; group = e.group } in named) in let most = tied.orderly.sound.fitting.entries.most in omega (arith, n, most);
           entries = tied.orderly.sound.fitting.entries.counting;
         })
@@ -268,9 +258,12 @@ module _ (past : List Fact) (old new : Session) (place disk : ℕ) (starts : Sta
   pub note_tied : IsTied past new
   note_tied = subst (IsTied past) (sym starts.is) (let its : IsTied past (state new.device next) = record {
     votes = tied.votes;
-    are_votes = tied.are_votes;
     media = tied.media;
-    told = ap (λ (d : Device). d.media) starts.launches.starts.new_is ∙ tied.told;
+    setting = record {
+      are_votes = tied.setting.are_votes;
+      told = ap (λ (d : Device). d.media) starts.launches.starts.new_is ∙ tied.setting.told;
+      own = tied.setting.own;
+    };
     view = w;
     sees = sees;
     good = each_keeps tied.votes (StartNote flying) v w (may, refl) tied.good;
@@ -278,15 +271,16 @@ module _ (past : List Fact) (old new : Session) (place disk : ℕ) (starts : Sta
         (quiet_lasts tied.votes (StartNote flying) v w core.descriptor (update_of core.status) (contents_of (image_of old.device.sizes tied.media)) (may, refl) tied.good tt tied.describes refl refl refl);
     write = tied.write;
     since = since_note old.device new.device f tied.write (update_of core.status) starts.launches.starts starts.writes.first starts.writes.count tied.since;
+    recorded = record {
+      next = subst (λ (sizes : List ℕ). MayUpdate core.descriptor core.status core.homes (image_of sizes tied.media)) (sym sizes_is) tied.recorded.next;
+      members = λ d member first. subst (λ (sizes : List ℕ). IsTrue (members_there (contents_of (image_of sizes tied.media)) core.descriptor d)) (sym sizes_is) (tied.recorded.members d member first);
+      records = subst (λ (sizes : List ℕ). ShowsRecords core.descriptor core.status (contents_of (image_of sizes tied.media))) (sym sizes_is) tied.recorded.records;
+    };
     orderly = subst (λ (x : Session). IsOrderly x tied.write) starts.is orderly_now;
     copy_aimed = tied.copy_aimed;
     carry = subst (λ (fs : List Flight). CarryTheirs next w fs (core.flying ++ row ∷ [])) (sym (ap (λ (d : Device). d.flights) starts.launches.starts.new_is))
         (carry_more core next v w old.device.flights core.flying tied.write f row (out_of old tied.write tied.orderly tied.notes) carries tt tied.carry);
-    next = subst (λ (sizes : List ℕ). MayUpdate core.descriptor core.status core.homes (image_of sizes tied.media)) (sym sizes_is) tied.next;
     notes = notes_fit;
-    members = λ d member first. subst (λ (sizes : List ℕ). IsTrue (members_there (contents_of (image_of sizes tied.media)) core.descriptor d)) (sym sizes_is) (tied.members d member first);
-    own = tied.own;
-    records = subst (λ (sizes : List ℕ). ShowsRecords core.descriptor core.status (contents_of (image_of sizes tied.media))) (sym sizes_is) tied.records;
   } in its)
 
 pub note_start_ties : NoteStartTies

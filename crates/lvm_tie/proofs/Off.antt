@@ -76,13 +76,13 @@ module _ (past : List Fact) (s : Session) (tied : IsTied past s) (lost : is_lost
 
   few : IsFalse (tied.votes.writes (λ d. not (w.missing d)))
   few =
-      let each : (d : ℕ) → not (v.missing d) ≡ is_there core d = λ d. ap not (tied.sees.missing d) ∙ not_not (is_there core d) in
+      let each : (d : ℕ) → not (v.missing d) ≡ is_there core d = λ d. ap not (tied.sees.status.missing d) ∙ not_not (is_there core d) in
       let same : (λ (d : ℕ). not (v.missing d)) ≡ is_there core = λ t d. each d t in
-      tied.are_votes.writes (λ d. not (v.missing d)) ∙ ap (λ (set : Disks). is_enough_to_write core.descriptor (votes_in core.descriptor set)) same
+      tied.setting.are_votes.writes (λ d. not (v.missing d)) ∙ ap (λ (set : Disks). is_enough_to_write core.descriptor (votes_in core.descriptor set)) same
       ∙ not_true (is_enough_to_write core.descriptor (votes_in core.descriptor (is_there core))) lost
 
   no_note : (d : ℕ) → w.flying_note d ≡ None
-  no_note d = by (v.flying_note d) (flight_on core.cache d) (flies_none past s tied idle (owner.Note d)) (tied.sees.flying d)
+  no_note d = by (v.flying_note d) (flight_on core.cache d) (flies_none past s tied idle (owner.Note d)) (tied.sees.notes.flying d)
     where
       by : (n : Option Groups) (m : Option (ArrayVec NoteEntry)) → is_some m ≡ false → SeesNote n m → n ≡ None
       by None m none sees = refl
@@ -106,7 +106,7 @@ module _ (past : List Fact) (s : Session) (tied : IsTied past s) (lost : is_lost
   goes_off = record {
     lost = few;
     no_data = no_data past s tied idle quiet;
-    no_status = λ d. tied.sees.started d ∙ flies_none past s tied idle (owner.Status d);
+    no_status = λ d. tied.sees.status.started d ∙ flies_none past s tied idle (owner.Status d);
     no_note = no_note;
     no_copy = no_copy;
     requests = are_open core w (rises_of past s tied) quiet.sees (λ i q at no. quiet.only i q at) (shaped_of past s tied) (over_of past s tied);
@@ -117,7 +117,7 @@ module _ (past : List Fact) (s : Session) (tied : IsTied past s) (lost : is_lost
   off_holds xs ys split =
       let places_are : places core.requests ≡ places xs ++ places ys = ap places split ∙ places_append xs ys in
       let off : GoesOff tied.votes w (places xs ++ places ys) has_started = subst (λ (l : List ℕ). GoesOff tied.votes w l has_started) places_are goes_off in
-      let named = are_named core w (rises_of past s tied) quiet.sees (λ i q at no. quiet.only i q at) (shaped_of past s tied) (over_of past s tied) core.history.facts tied.sees.names in
+      let named = are_named core w (rises_of past s tied) quiet.sees (λ i q at no. quiet.only i q at) (shaped_of past s tied) (over_of past s tied) core.history.facts tied.sees.queue.names in
       let same = same_landings outcome.Off refl core.history.facts w.name has_started xs
       (named_first core.history.facts w.name has_started xs ys (subst (λ (l : List Open). Rattle.lvm_tie.proofs.Waiting.AreNamed core.history.facts w.name has_started l) split named)) in
       let now : w.facts ++ landings outcome.Off w.name has_started (places xs) ≡ past ++ (core.history.facts ++ all_landings outcome.Off core.history.facts xs) =
@@ -126,7 +126,7 @@ module _ (past : List Fact) (s : Session) (tied : IsTied past s) (lost : is_lost
       record {
         legal = subst Legal now (off_keeps tied.votes w (places xs) (places ys) has_started off quiet.good).legal;
         kept = λ image may. subst (Kept (contents_of image)) now
-            (off_kept tied.votes w core.descriptor (update_of core.status) s.device tied.media image (places xs) (places ys) has_started tied.are_votes quiet.good off (quiet_matches past s tied quiet.queue idle) may);
+            (off_kept tied.votes w core.descriptor (update_of core.status) s.device tied.media image (places xs) (places ys) has_started tied.setting.are_votes quiet.good off (quiet_matches past s tied quiet.queue idle) may);
       }
 
 pub off_goes_on : OffGoesOn

@@ -192,7 +192,7 @@ module _ (past : List Fact) (s : Session) (new : Core) (counts : Counts) (lv lp 
       newest = λ j e at. ⊎_elim
           (λ (r : IsRequestAt core j). let less = low r.place r.request r.there in let e2 = r.its in omega (arith, less, e2))
           (λ (r : IsStepAt core j). absurd (let e2 : None ≡ Some r.copy = sym may.none ∙ r.is_open in cc))
-          (tied.sees.only j e at);
+          (tied.sees.queue.only j e at);
       placed = let p = step_placed past s tied c its some_groups q refl refl refl in record { place = p.place; inside = p.inside };
       step = refl;
       reads = refl;
@@ -214,42 +214,36 @@ module _ (past : List Fact) (s : Session) (new : Core) (counts : Counts) (lv lp 
 
   sees : Sees past core2 w
   sees = record {
-    requests = λ k p at.
-        let was = aged_was core.requests k p at in
-        let t = tied.sees.requests k was.0 was.1 in
-        let its2 : SeesRequest was.0 t.0 = t.2 in (
-          t.0,
-          ap (λ (x : Open). w.queue (place_of x.request.id)) was.2 ∙ put_there (place_of was.0.request.id) (apart k was.0 was.1) ∙ t.1,
-          subst (λ (x : Open). SeesRequest x t.0) (sym was.2) (record { lv = its2.lv; first = its2.first; count = its2.count; write = its2.write; step = its2.step; phase = its2.phase; several = its2.several; targets = its2.targets; got = its2.got }),
-        );
-    a_step = λ d is row. let same : c ≡ d = (let e : Some c ≡ Some d = is in cc) in (
-      q,
-      ap (λ (x : Bringing). w.queue x.place) (sym same) ∙ put_here,
-      subst (λ (x : Bringing). SeesStep core2 x q) same (record { lv = refl; first = refl; count = refl; write = refl; step = refl; hand = (refl, refl); failed = λ p bad. absurd (cc bad) }),
-    );
-    only = λ j e at. elim (cases_eq j i) [
-      | inl is ↦ inr (record { copy = c; is_open = refl; row = row_now; its = sym is })
-      | inr ne ↦ ⊎_elim
-          (λ (r : IsRequestAt core j). inl (record { place = r.place; request = aged r.request; there = aged_is core.requests r.place r.request r.there; its = r.its }))
-          (λ (r : IsStepAt core j). absurd (let e2 : None ≡ Some r.copy = sym may.none ∙ r.is_open in cc))
-          (tied.sees.only j e (sym (put_there j ne) ∙ at))
-    ];
-    names = λ k p at.
-        let was = aged_was core.requests k p at in
-        let test : (place_of was.0.request.id == i) ≡ false = (let ne = apart k was.0 was.1 in grind (arith, nat_tests)) in
-        ap (λ (x : Open). w.name (place_of x.request.id)) was.2 ∙ ap (λ b. if b then no_request else v.name (place_of was.0.request.id)) test ∙ tied.sees.names k was.0 was.1
-        ∙ ap (λ (x : Open). Rattle.lvm_vol.specs.Log.request_of core.history.facts x.request.id) (sym was.2);
+    queue = record {
+      requests = λ k p at.
+          let was = aged_was core.requests k p at in
+          let t = tied.sees.queue.requests k was.0 was.1 in
+          let its2 : SeesRequest was.0 t.0 = t.2 in (
+            t.0,
+            ap (λ (x : Open). w.queue (place_of x.request.id)) was.2 ∙ put_there (place_of was.0.request.id) (apart k was.0 was.1) ∙ t.1,
+            subst (λ (x : Open). SeesRequest x t.0) (sym was.2) (record { lv = its2.lv; first = its2.first; count = its2.count; write = its2.write; step = its2.step; phase = its2.phase; several = its2.several; targets = its2.targets; got = its2.got }),
+          );
+      a_step = λ d is row. let same : c ≡ d = (let e : Some c ≡ Some d = is in cc) in (
+        q,
+        ap (λ (x : Bringing). w.queue x.place) (sym same) ∙ put_here,
+        subst (λ (x : Bringing). SeesStep core2 x q) same (record { lv = refl; first = refl; count = refl; write = refl; step = refl; hand = (refl, refl); failed = λ p bad. absurd (cc bad) }),
+      );
+      only = λ j e at. elim (cases_eq j i) [
+        | inl is ↦ inr (record { copy = c; is_open = refl; row = row_now; its = sym is })
+        | inr ne ↦ ⊎_elim
+            (λ (r : IsRequestAt core j). inl (record { place = r.place; request = aged r.request; there = aged_is core.requests r.place r.request r.there; its = r.its }))
+            (λ (r : IsStepAt core j). absurd (let e2 : None ≡ Some r.copy = sym may.none ∙ r.is_open in cc))
+            (tied.sees.queue.only j e (sym (put_there j ne) ∙ at))
+      ];
+      names = λ k p at.
+          let was = aged_was core.requests k p at in
+          let test : (place_of was.0.request.id == i) ≡ false = (let ne = apart k was.0 was.1 in grind (arith, nat_tests)) in
+          ap (λ (x : Open). w.name (place_of x.request.id)) was.2 ∙ ap (λ b. if b then no_request else v.name (place_of was.0.request.id)) test ∙ tied.sees.queue.names k was.0 was.1
+          ∙ ap (λ (x : Open). Rattle.lvm_vol.specs.Log.request_of core.history.facts x.request.id) (sym was.2);
+    };
     facts = tied.sees.facts;
-    committed = tied.sees.committed;
-    in_flight = tied.sees.in_flight;
-    wanted = tied.sees.wanted;
-    started = tied.sees.started;
-    written = tied.sees.written;
-    held = tied.sees.held;
-    missing = tied.sees.missing;
-    cache = tied.sees.cache;
-    home = tied.sees.home;
-    flying = tied.sees.flying;
+    status = tied.sees.status;
+    notes = tied.sees.notes;
     open_copy = record { copy = o; is_open = refl; target = refl; passed = λ l g. refl };
     step_write = tied.sees.step_write ∙ ap Rattle.lvm_tie.specs.Seen.step_write_in may.none;
   }
@@ -268,9 +262,8 @@ module _ (past : List Fact) (s : Session) (new : Core) (counts : Counts) (lv lp 
   pub opened_ties : IsTied past (state s.device core2)
   opened_ties = record {
     votes = tied.votes;
-    are_votes = tied.are_votes;
     media = tied.media;
-    told = tied.told;
+    setting = tied.setting;
     view = w;
     sees = sees;
     good = each_keeps tied.votes (EnterStep i no_request q) v1 w enter_step good1;
@@ -278,15 +271,12 @@ module _ (past : List Fact) (s : Session) (new : Core) (counts : Counts) (lv lp 
     write = tied.write;
     orderly = orderly_same s (state s.device core2) tied.write tied.orderly sound2 refl refl refl;
     since = tied.since;
-    next = tied.next;
+    recorded = tied.recorded;
     notes = tied.notes;
     copy_aimed = λ d is row. let same : c ≡ d = (let e : Some c ≡ Some d = is in cc) in
         subst (λ (x : Bringing). IsTrue (v.is_copy x.lv (block_at core x) x.pp) × ((source : Pp) → x.step ≡ step.Reading source → IsTrue (v.is_copy x.lv (block_at core x) source))) same
         (one_is_copy_of past s tied c its some_groups opens.pp its.among member (there_first past s tied opens.pp.disk may.there), λ source reads. absurd (let e : step.Idle ≡ step.Reading source = reads in cc));
     carry = carry_so s.device.flights core.flying;
-    members = tied.members;
-    records = tied.records;
-    own = tied.own;
   }
 
 pub open_ties : OpenTies

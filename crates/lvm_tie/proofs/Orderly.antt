@@ -53,6 +53,7 @@ use Rattle.lvm_session.specs.Requests.{IsOpenOne, IsPhase, IsRequest, IsTarget}
 use Rattle.lvm_session.specs.Sound.{IsAsked, IsGoing, IsOn, IsSound}
 use Rattle.lvm_tie.specs.Out.{AreNotes, IsWriteOf, is_owed_on}
 use Rattle.lvm_tie.specs.Tied.{IsOrderly}
+use Rattle.lvm_keeps_events.proofs.Finding.{some_there}
 
 -- ---- lists
 
@@ -75,15 +76,6 @@ false_so e = absurd (cc e)
 pub any_there : {A : Type 0} (t : A → Bool) (xs : List A) → list_any t xs ≡ true → (k : ℕ) × (x : A) × (slice_get xs k ≡ Some x) × (t x ≡ true)
 any_there t [] is = false_so is
 any_there t (x ∷ xs) is = ⊎_elim (λ here. (0, x, refl, here)) (λ later. let r = any_there t xs later in (suc r.0, r.1, r.2, r.3)) (either_true (t x) (list_any t xs) is)
-
-there_any : {A : Type 0} (t : A → Bool) (xs : List A) (k : ℕ) (x : A) → slice_get xs k ≡ Some x → t x ≡ true → list_any t xs ≡ true
-there_any t [] k x there is = absurd (cc there)
-there_any t (y ∷ xs) zero x there is = let same : y ≡ x = cc there in ap (λ b. b || list_any t xs) (ap t same ∙ is)
-there_any t (y ∷ xs) (suc k) x there is = by (t y) (there_any t xs k x there is)
-  where
-    by : (b : Bool) → list_any t xs ≡ true → b || list_any t xs ≡ true
-    by true rest = refl
-    by false rest = rest
 
 all_there : {A : Type 0} (t : A → Bool) (xs : List A) (k : ℕ) (x : A) → list_all t xs ≡ true → slice_get xs k ≡ Some x → t x ≡ true
 all_there t [] k x all there = absurd (cc there)
@@ -121,11 +113,11 @@ tickets_differ (r ∷ rows) differ zero zero a b at too same = refl
 tickets_differ (r ∷ rows) differ zero (suc k) a b at too same =
     let first : r ≡ a = cc at in
     let is : (b.ticket == r.ticket) ≡ true = eq-eqb b.ticket r.ticket (sym same ∙ ap (λ (x : Flown). x.ticket) (sym first)) in
-    absurd (let e : true ≡ false = sym (there_any (λ (other : Flown). other.ticket == r.ticket) rows k b too is) ∙ differ.0 in cc)
+    absurd (let e : true ≡ false = sym (some_there (λ (other : Flown). other.ticket == r.ticket) rows k b too is) ∙ differ.0 in cc)
 tickets_differ (r ∷ rows) differ (suc j) zero a b at too same =
     let first : r ≡ b = cc too in
     let is : (a.ticket == r.ticket) ≡ true = eq-eqb a.ticket r.ticket (same ∙ ap (λ (x : Flown). x.ticket) (sym first)) in
-    absurd (let e : true ≡ false = sym (there_any (λ (other : Flown). other.ticket == r.ticket) rows j a at is) ∙ differ.0 in cc)
+    absurd (let e : true ≡ false = sym (some_there (λ (other : Flown). other.ticket == r.ticket) rows j a at is) ∙ differ.0 in cc)
 tickets_differ (r ∷ rows) differ (suc j) (suc k) a b at too same = ap (λ n. suc n) (tickets_differ rows differ.1 j k a b at too same)
 
 -- partitions of targets differ
@@ -154,7 +146,7 @@ pub record HasTargets (core : Core) (o : Open) : Type 0 where
   pub blocks : is_write o.request.ask ≡ true → length (request_of core.history.facts o.request.id).blocks ≡ count_of o.request.ask
 
 pub begun_by : (ts : List Target) (number : ℕ) (t : Target) → slice_get ts number ≡ Some t → is_unstarted t.state ≡ false → is_begun ts ≡ true
-begun_by ts number t there started = there_any (λ (u : Target). not (is_unstarted u.state)) ts number t there (ap not started)
+begun_by ts number t there started = some_there (λ (u : Target). not (is_unstarted u.state)) ts number t there (ap not started)
 
 -- ---- what is out
 
@@ -278,7 +270,7 @@ module _ (s : Session) (w : Option RecordWrite) (orderly : IsOrderly s w) where
       by true is = refl
       by false is =
           let none = none_counted (λ (f : Flown). same_owner row.owner f.owner) core.flying (going.owned row.owner ∙ ap (λ b. if b then 1 else 0) is) in
-          sym none ∙ there_any (λ (f : Flown). same_owner row.owner f.owner) core.flying k row there (same_self row.owner)
+          sym none ∙ some_there (λ (f : Flown). same_owner row.owner f.owner) core.flying k row there (same_self row.owner)
 
   -- a request of which a transfer is out has not landed, and moves its data
   pub record IsMoving (o : Open) : Type 0 where
@@ -301,7 +293,7 @@ module _ (s : Session) (w : Option RecordWrite) (orderly : IsOrderly s w) where
 
       by : (b : Bool) → is_waiting o ≡ b → IsMoving o
       by true waits = record { waiting = waits; moving = by_phase o.request.phase refl (waiting_one k o there waits).shape.phase_is }
-      by false over = absurd (let e : false ≡ true = sym ((open_one k o there).still over) ∙ there_any (λ (u : Target). is_flying u.state) o.request.targets.items number t at (ap is_flying flying) in cc)
+      by false over = absurd (let e : false ≡ true = sym ((open_one k o there).still over) ∙ some_there (λ (u : Target). is_flying u.state) o.request.targets.items number t at (ap is_flying flying) in cc)
 
   is_flying_state : (x : TargetState) → is_flying x ≡ true → x ≡ target.Flying
   is_flying_state target.Waiting is = false_so is

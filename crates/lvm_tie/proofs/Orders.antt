@@ -1,9 +1,7 @@
 -- Orders of a client to the shelf of a session.
-use Rattle.std.proofs.Common.{◌≡◌, ℕ, Bool, true, false, if◌then◌else◌, List, [], ◌∷◌, ◌++◌, Option, Some, None, refl, sym, ap, subst, ◌∙◌}
+use Rattle.std.proofs.Common.{◌≡◌, ℕ, Bool, true, false, if◌then◌else◌, List, [], ◌∷◌, ◌++◌, refl, sym, ap, subst, ◌∙◌}
 use Rattle.std.proofs.lemmas.List.{append-nil}
 use Rattle.std.specs.List.{AllByRecursion}
-use Rattle.lvm_num.specs.declared.status.Status.{Status}
-use Rattle.lvm_num.specs.Record.{Stamped}
 use Rattle.lvm_disk.specs.declared.shelf.Arrange.{Arrange}
 use Rattle.lvm_disk.specs.declared.shelf.Arrange.TheVariants as arrange
 use Rattle.lvm_disk.specs.Device.{Device}
@@ -15,7 +13,6 @@ use Rattle.lvm_vol.specs.declared.entry.Outcome.TheVariants as outcome
 use Rattle.lvm_vol.specs.Facts.{Fact, Cut}
 use Rattle.lvm_vol.specs.Log.{Log, is_uncut, cut_log, with_fact, landed_fact}
 use Rattle.lvm_kept.specs.Moments.{Moment}
-use Rattle.lvm_kept.specs.Torn.{RecordWrite}
 use Rattle.lvm_steps.specs.Moments.{Keeps}
 use Rattle.lvm_steps.specs.Requests.{at}
 use Rattle.lvm_steps.proofs.Entering.{quiet_goes_on}
@@ -27,11 +24,10 @@ use Rattle.lvm_session.specs.State.{Core, State as Session, state}
 use Rattle.lvm_session.specs.Dark.{landings as all_landings, after_arrange, all_dark}
 use Rattle.lvm_session.specs.Requests.{IsLanded}
 use Rattle.lvm_session.specs.Sound.{IsSound}
-use Rattle.lvm_tie_shelf.specs.Owned.{OnlyUpdateSince}
-use Rattle.lvm_tie.specs.Seen.{update_of}
 use Rattle.lvm_tie.specs.Tied.{IsTied, IsGood}
 use Rattle.lvm_tie.specs.Over.{OrderGoesOn, OrderTies}
 use Rattle.lvm_tie.proofs.Dark.{shelf_goes_on, darkness_goes_on}
+use Rattle.lvm_tie.proofs.Spanning.{shelf_noted}
 
 -- ---- where the session is over
 
@@ -85,35 +81,9 @@ order_goes_on run first old new what done sound good order span =
 
 -- ---- the tie
 
-same_since : (device : Device) (what : Arrange) (w : Option RecordWrite) (u : Option (Stamped Status)) → OnlyUpdateSince device w u → OnlyUpdateSince (with_order device what) w u
-same_since device what None None since = tt
-same_since device what (Some w) None since = since
-same_since device what None (Some u) since = since
-same_since device what (Some w) (Some u) since =
-    record { is_status = since.is_status; stamp = since.stamp; began = since.began; may = since.may; way = record { images = since.way.images; flights = since.way.flights } }
-
 -- an order that is noted changes nothing that the tie is about
 ordered : (past : List Fact) (s : Session) (what : Arrange) → IsTied past s → IsSound (state (with_order s.device what) s.core) → IsTied past (state (with_order s.device what) s.core)
-ordered past s what tied sound = record {
-  votes = tied.votes;
-  are_votes = tied.are_votes;
-  media = tied.media;
-  told = tied.told;
-  view = tied.view;
-  sees = tied.sees;
-  good = tied.good;
-  describes = tied.describes;
-  write = tied.write;
-  orderly = record { sound = sound; on = tied.orderly.on; update = tied.orderly.update };
-  since = same_since s.device what tied.write (update_of s.core.status) tied.since;
-  next = tied.next;
-  notes = tied.notes;
-  copy_aimed = tied.copy_aimed;
-  carry = tied.carry;
-  members = tied.members;
-  records = tied.records;
-  own = tied.own;
-}
+ordered past s what = shelf_noted past s s.device.counts (with_order s.device what).orders
 
 pub order_ties : OrderTies
 order_ties run first old new what done good sound order on past begins = by done what order.device order.is

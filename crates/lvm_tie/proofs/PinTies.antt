@@ -26,7 +26,6 @@ use Rattle.lvm_session.specs.declared.open.Open.{Open}
 use Rattle.lvm_session.specs.declared.bringing.OpenCopy.{OpenCopy as Bringing}
 use Rattle.lvm_session.specs.declared.bringing.Step.{Step}
 use Rattle.lvm_session.specs.declared.bringing.Step.TheVariants as step
-use Rattle.lvm_session.specs.declared.flown.Flown.{Flown}
 use Rattle.lvm_session.specs.declared.flown.Owner.{Owner}
 use Rattle.lvm_session.specs.declared.flown.Owner.TheVariants as owner
 use Rattle.lvm_session.specs.State.{Core, State as Session, state}
@@ -44,7 +43,8 @@ use Rattle.lvm_invariant.specs.Events.{Pin, Step as GoodStep}
 use Rattle.lvm_invariant.proofs.Each.{each_keeps}
 use Rattle.lvm_tie_shelf.proofs.Quiet.{quiet_lasts}
 use Rattle.lvm_tie_shelf.proofs.Writing.{and_both}
-use Rattle.lvm_tie.specs.Out.{CarriesStep, CarryTheirs}
+use Rattle.lvm_tie.proofs.Ties.{carry_on}
+use Rattle.lvm_tie.specs.Out.{CarriesStep}
 use Rattle.lvm_tie.specs.Seen.{IsRequestAt, IsStepAt, Sees, SeesRequest, phase_seen, update_of}
 use Rattle.lvm_tie.specs.Tied.{IsOrderly, IsTied}
 use Rattle.lvm_tie.proofs.Changing.{sees_changed, set_here, set_there, step_apart}
@@ -63,24 +63,14 @@ after_pin_is c lv g = by (are_all_pinned c.entries lv g)
 
 sees_cache : (past : List Fact) (core : Core) (v : State) (entries : List CacheEntry) → Sees past core v → Sees past (record core { cache = record core.cache { entries = entries } }) (record v { cache = has_entry entries })
 sees_cache past core v entries sees = record {
-  requests = sees.requests;
-  a_step = λ c is row. let s = sees.a_step c is row in (s.0, s.1, record { lv = s.2.lv; first = s.2.first; count = s.2.count; write = s.2.write; step = s.2.step; hand = s.2.hand; failed = s.2.failed });
-  only = λ j q at. ⊎_elim
-      (λ (r : IsRequestAt core j). inl (record { place = r.place; request = r.request; there = r.there; its = r.its }))
-      (λ (r : IsStepAt core j). inr (record { copy = r.copy; is_open = r.is_open; row = r.row; its = r.its }))
-      (sees.only j q at);
-  names = sees.names;
+  queue = sees.queue;
   facts = sees.facts;
-  committed = sees.committed;
-  in_flight = sees.in_flight;
-  wanted = sees.wanted;
-  started = sees.started;
-  written = sees.written;
-  held = sees.held;
-  missing = sees.missing;
-  cache = λ lv g. refl;
-  home = sees.home;
-  flying = sees.flying;
+  status = sees.status;
+  notes = record {
+    cache = λ lv g. refl;
+    home = sees.notes.home;
+    flying = sees.notes.flying;
+  };
   open_copy = sees.open_copy;
   step_write = sees.step_write;
 }
@@ -127,13 +117,13 @@ module _ (past : List Fact) (old new : Session) (place : ℕ) (event : Pins old 
   k = facts_of core o.request
 
   abbrev q : Queued
-  q = (tied.sees.requests place o event.there).0
+  q = (tied.sees.queue.requests place o event.there).0
 
   at : v.queue i ≡ Some q
-  at = (tied.sees.requests place o event.there).1
+  at = (tied.sees.queue.requests place o event.there).1
 
   sees : SeesRequest o q
-  sees = (tied.sees.requests place o event.there).2
+  sees = (tied.sees.queue.requests place o event.there).2
 
   abbrev q2 : Queued
   q2 = record q { phase = Ready }
@@ -208,17 +198,17 @@ module _ (past : List Fact) (old new : Session) (place : ℕ) (event : Pins old 
 
   keeps : (j : ℕ) (e : Queued) → v.queue j ≡ Some e → IsTrue e.write → IsTrue (is_pinning e.phase) → IsTrue (v.is_active e.lv) → IsTrue e.several
       → IsTrue (v.cache e.lv (track_group_of e.first)) → IsTrue (has_entry entries e.lv (track_group_of e.first))
-  keeps j e here write pinning active several was = ⊎_elim of_request of_step (tied.sees.only j e here)
+  keeps j e here write pinning active several was = ⊎_elim of_request of_step (tied.sees.queue.only j e here)
     where
       of_step : IsStepAt core j → IsTrue (has_entry entries e.lv (track_group_of e.first))
       of_step r =
-          let s = tied.sees.a_step r.copy r.is_open r.row in
+          let s = tied.sees.queue.a_step r.copy r.is_open r.row in
           let same : s.0 ≡ e = let x : Some s.0 ≡ Some e = sym s.1 ∙ ap v.queue r.its ∙ here in cc in
           absurd (let x : false ≡ true = sym s.2.write ∙ ap (λ (y : Queued). y.write) same ∙ write in cc)
 
       of_request : IsRequestAt core j → IsTrue (has_entry entries e.lv (track_group_of e.first))
       of_request r =
-          let s = tied.sees.requests r.place r.request r.there in
+          let s = tied.sees.queue.requests r.place r.request r.there in
           let same : s.0 ≡ e = let x : Some s.0 ≡ Some e = sym s.1 ∙ ap v.queue r.its ∙ here in cc in
           let its : SeesRequest r.request e = subst (SeesRequest r.request) same s.2 in
           let is : r.request.request.pinned ≡ true = has_pinned r.place r.request e r.there its write pinning active several in
@@ -251,20 +241,14 @@ module _ (past : List Fact) (old new : Session) (place : ℕ) (event : Pins old 
         | inr ne ↦ let test : (c.place == i) ≡ false = grind (arith, nat_tests) in ap (λ b. if b then Some q2 else v.queue c.place) test
       ]
 
-  carry_so : (fs : List Flight) (them : List Flown) → CarryTheirs core v fs them → CarryTheirs core2 w fs them
-  carry_so [] them carry = tt
-  carry_so (f ∷ fs) [] carry = tt
-  carry_so (f ∷ fs) (r ∷ rs) carry = (carries f r.owner carry.0, carry_so fs rs carry.1)
-
   step_is : GoodStep tied.votes (Pin i q (has_entry entries)) v w
   step_is = (may, refl)
 
   pub pin_tied : IsTied past new
   pin_tied = subst (IsTied past) (sym whole) (record {
     votes = tied.votes;
-    are_votes = tied.are_votes;
     media = tied.media;
-    told = tied.told;
+    setting = tied.setting;
     view = w;
     sees = sees_all;
     good = each_keeps tied.votes (Pin i q (has_entry entries)) v w step_is tied.good;
@@ -272,13 +256,10 @@ module _ (past : List Fact) (old new : Session) (place : ℕ) (event : Pins old 
     write = tied.write;
     orderly = orderly;
     since = tied.since;
-    next = tied.next;
+    recorded = tied.recorded;
     notes = tied.notes;
     copy_aimed = tied.copy_aimed;
-    carry = carry_so old.device.flights core.flying tied.carry;
-    members = tied.members;
-    records = tied.records;
-    own = tied.own;
+    carry = carry_on core core2 v w old.device.flights core.flying carries tied.carry;
   })
 
 pub pin_ties : PinTies

@@ -1,7 +1,6 @@
 -- At a session to which nothing is out: a good state that has no step of a copy in the queue describes what stands on the media too.
-use Rattle.std.proofs.Common.{◌≡◌, ⊎_elim, ℕ, zero, suc, Bool, true, false, ◌&&◌, ◌||◌, ◌==◌, if◌then◌else◌, List, [], ◌∷◌, ◌++◌, Option, Some, None, slice_get, refl, sym, ap, subst, ◌∙◌, eq-eqb, eqb-true}
+use Rattle.std.proofs.Common.{◌≡◌, ⊎_elim, ℕ, suc, Bool, true, false, ◌&&◌, ◌==◌, if◌then◌else◌, List, [], ◌∷◌, ◌++◌, Option, Some, None, slice_get, refl, sym, ap, subst, ◌∙◌, eq-eqb, eqb-true}
 use Rattle.std.specs.Prelude.{count_by}
-use Rattle.std.specs.List.{list_any}
 use Rattle.std.specs.Option.{option_map_or}
 use Rattle.lvm_num.specs.declared.place.Pp.{Pp}
 use Rattle.lvm_num.specs.declared.descriptor.Descriptor.{Descriptor}
@@ -37,6 +36,7 @@ use Rattle.lvm_crash.specs.Flights.{OnlyUpdateIsOut, Matches}
 use Rattle.lvm_tie.specs.Seen.{stage_seen, stage_at, SeesRequest, SeesHand, SeesStep, IsRequestAt, IsStepAt, update_of}
 use Rattle.lvm_tie.specs.Tied.{IsTied}
 use Rattle.lvm_tie.proofs.Tied.{tied_matches}
+use Rattle.lvm_keeps_events.proofs.Finding.{some_there}
 
 -- ---- nothing is out
 
@@ -44,15 +44,6 @@ none_out : (core : Core) (rows : List Flown) (flights : List Flight) → AreRows
 none_out core [] fs its none = refl
 none_out core (row ∷ rows) [] its none = absurd its
 none_out core (row ∷ rows) (f ∷ fs) its none = absurd (cc none)
-
-there_any : {A : Type 0} (t : A → Bool) (xs : List A) (k : ℕ) (x : A) → slice_get xs k ≡ Some x → t x ≡ true → list_any t xs ≡ true
-there_any t [] k x there is = absurd (cc there)
-there_any t (y ∷ xs) zero x there is = let same : y ≡ x = cc there in ap (λ b. b || list_any t xs) (ap t same ∙ is)
-there_any t (y ∷ xs) (suc k) x there is = by (t y) (there_any t xs k x there is)
-  where
-    by : (b : Bool) → list_any t xs ≡ true → b || list_any t xs ≡ true
-    by true rest = refl
-    by false rest = rest
 
 flying_seen : (x : TargetState) → stage_seen x ≡ Flying → is_flying x ≡ true
 flying_seen target.Waiting e = absurd (cc e)
@@ -105,19 +96,19 @@ module _ (past : List Fact) (s : Session) (tied : IsTied past s) where
   as_it_is none = record {
     queue = v.queue;
     good = tied.good;
-    sees = tied.sees.requests;
-    only = λ i q at. ⊎_elim (λ (r : IsRequestAt core i). r) (λ (st : IsStepAt core i). absurd (none i st)) (tied.sees.only i q at);
+    sees = tied.sees.queue.requests;
+    only = λ i q at. ⊎_elim (λ (r : IsRequestAt core i). r) (λ (st : IsStepAt core i). absurd (none i st)) (tied.sees.queue.only i q at);
   }
 
   module _ (c : Bringing) (is_open : core.copy ≡ Some c) (row : has_row core c ≡ true) where
     abbrev q : Queued
-    q = (tied.sees.a_step c is_open row).0
+    q = (tied.sees.queue.a_step c is_open row).0
 
     there : v.queue c.place ≡ Some q
-    there = (tied.sees.a_step c is_open row).1
+    there = (tied.sees.queue.a_step c is_open row).1
 
     its : SeesStep core c q
-    its = (tied.sees.a_step c is_open row).2
+    its = (tied.sees.queue.a_step c is_open row).2
 
     abbrev left : ℕ → Option Queued
     left = without (put v.queue c.place (land q)) c.place
@@ -140,7 +131,7 @@ module _ (past : List Fact) (s : Session) (tied : IsTied past s) where
     apart : (k : ℕ) (o : Open) → slice_get core.requests k ≡ Some o → (b : Bool) → (place_of o.request.id == c.place) ≡ b → b ≡ false
     apart k o at false is = refl
     apart k o at true is =
-        let r = tied.sees.requests k o at in
+        let r = tied.sees.queue.requests k o at in
         let same : r.0 ≡ q = same_row r.0 q (sym r.1 ∙ ap v.queue (eqb-true (place_of o.request.id) c.place is) ∙ there) in
         no_one (sym its.step ∙ ap (λ (x : Queued). x.step) (sym same) ∙ r.2.step)
 
@@ -148,7 +139,7 @@ module _ (past : List Fact) (s : Session) (tied : IsTied past s) where
     without_step = record {
       queue = left;
       good = good_left;
-      sees = λ k o at. let r = tied.sees.requests k o at in (r.0, elsewhere (place_of o.request.id) (apart k o at (place_of o.request.id == c.place) refl) ∙ r.1, r.2);
+      sees = λ k o at. let r = tied.sees.queue.requests k o at in (r.0, elsewhere (place_of o.request.id) (apart k o at (place_of o.request.id == c.place) refl) ∙ r.1, r.2);
       only = λ i x at. by i x at (i == c.place) refl;
     }
       where
@@ -159,7 +150,7 @@ module _ (past : List Fact) (s : Session) (tied : IsTied past s) where
             (λ (st : IsStepAt core i).
             let same : st.copy ≡ c = same_row st.copy c (sym st.is_open ∙ is_open) in
             no_one (sym (eq-eqb i c.place (sym st.its ∙ ap (λ (x : Bringing). x.place) same)) ∙ is))
-            (tied.sees.only i x (sym (elsewhere i is) ∙ at))
+            (tied.sees.queue.only i x (sym (elsewhere i is) ∙ at))
 
   pub quieted : Quieted
   quieted = by core.copy refl
@@ -237,5 +228,5 @@ module _ (past : List Fact) (s : Session) (tied : IsTied past s) where
         let own : target_flies t.0 at.request ≡ true = ap (λ (m : Option Target). option_map_or (λ (u : Target). is_flying u.state) m false) t.2 ∙ t.3 in
         let id = at.request.request.id in
         let has : flies core (owner.Data id t.0) ≡ true =
-        there_any (λ (o : Open). o.request.id == id && target_flies t.0 o) core.requests at.place at.request at.there (ap (λ b. b && target_flies t.0 at.request) (eq-eqb id id refl) ∙ own) in
+        some_there (λ (o : Open). o.request.id == id && target_flies t.0 o) core.requests at.place at.request at.there (ap (λ b. b && target_flies t.0 at.request) (eq-eqb id id refl) ∙ own) in
         no_one (sym has ∙ flies_none (owner.Data id t.0))

@@ -132,19 +132,19 @@ module _ (past : List Fact) (old new : Session) (index : ℕ) (ends : Ends old n
   learned_is = ap (λ b. record o { request = with_end o.request number ends.ok; got = if b then Some ends.buf else o.got }) kept_buffer
 
   ended : HasEnded old.device new.device ends.row.ticket ends.ok ends.buf tied.media
-  ended = has_ended old.device new.device ends.row.ticket ends.ok ends.buf tied.media ends.returns.ends tied.told
+  ended = has_ended old.device new.device ends.row.ticket ends.ok ends.buf tied.media ends.returns.ends tied.setting.told
 
   abbrev f : Flight
   f = ended.flight
 
   abbrev q : Queued
-  q = (tied.sees.requests learns.place o learns.its.there).0
+  q = (tied.sees.queue.requests learns.place o learns.its.there).0
 
   at : v.queue i ≡ Some q
-  at = (tied.sees.requests learns.place o learns.its.there).1
+  at = (tied.sees.queue.requests learns.place o learns.its.there).1
 
   sees : SeesRequest o q
-  sees = (tied.sees.requests learns.place o learns.its.there).2
+  sees = (tied.sees.queue.requests learns.place o learns.its.there).2
 
   its_row : (u : State) → IsRow old.core core2 tied.write v u ended.removes.before ended.removes.after f old.core.flying index ends.row
   its_row u = is_row old.core core2 tied.write v u ended.removes.before ended.removes.after f old.core.flying index ends.row
@@ -292,9 +292,12 @@ module _ (past : List Fact) (old new : Session) (index : ℕ) (ends : Ends old n
       let whole : new ≡ state new.device core2 = λ k. record { device = new.device; core = is k } in
       subst (IsTied past) (sym whole) (record {
         votes = tied.votes;
-        are_votes = tied.are_votes;
         media = tied.media;
-        told = ended.told ∙ ap (λ (m : Media). Some m) same_media;
+        setting = record {
+          are_votes = tied.setting.are_votes;
+          told = ended.told ∙ ap (λ (m : Media). Some m) same_media;
+          own = tied.setting.own;
+        };
         view = w;
         sees = sees_changed past old.core v learns.place o o2 q2 core2.pool core2.flying old.core.last old.core.queue old.core.cache.entries v.media.block tied.sees numbers learns.its.there refl sees2 (λ lv g. refl);
         good = each_keeps tied.votes (Read i q t.pp (stage_of ends.ok) (got2 ends.ok)) v w (may, refl) tied.good;
@@ -303,14 +306,15 @@ module _ (past : List Fact) (old new : Session) (index : ℕ) (ends : Ends old n
         write = tied.write;
         orderly = orderly_same old (state new.device core2) tied.write tied.orderly (subst IsSound whole sound) refl refl refl;
         since = since_ended tied.write (update_of old.core.status) tied.since;
-        next = subst (λ (sizes : List ℕ). MayUpdate old.core.descriptor old.core.status old.core.homes (image_of sizes tied.media)) (sym ended.sizes) tied.next;
+        recorded = record {
+          next = subst (λ (sizes : List ℕ). MayUpdate old.core.descriptor old.core.status old.core.homes (image_of sizes tied.media)) (sym ended.sizes) tied.recorded.next;
+          members = λ d member first. subst (λ (sizes : List ℕ). IsTrue (members_there (contents_of (image_of sizes tied.media)) old.core.descriptor d)) (sym ended.sizes) (tied.recorded.members d member first);
+          records = subst (λ (sizes : List ℕ). ShowsRecords old.core.descriptor old.core.status (contents_of (image_of sizes tied.media))) (sym ended.sizes) tied.recorded.records;
+        };
         notes = tied.notes;
         copy_aimed = tied.copy_aimed;
         carry = subst (λ (fs : List Flight). CarryTheirs core2 w fs (remove old.core.flying index)) (sym ended.removes.is)
             ((its_row w).carry carries (subst (λ (fs : List Flight). CarryTheirs old.core v fs old.core.flying) ended.removes.was tied.carry));
-        members = λ d member first. subst (λ (sizes : List ℕ). IsTrue (members_there (contents_of (image_of sizes tied.media)) old.core.descriptor d)) (sym ended.sizes) (tied.members d member first);
-        own = tied.own;
-        records = subst (λ (sizes : List ℕ). ShowsRecords old.core.descriptor old.core.status (contents_of (image_of sizes tied.media))) (sym ended.sizes) tied.records;
       })
 
 pub read_end_ties : ReadEndTies

@@ -138,7 +138,7 @@ module _ (past : List Fact) (old new : Session) (index disk : ℕ) (ok : Bool) (
   stale_same p = ap (λ (m : Marks). m.stale p) (marks_then disk ok core.status.wanted stored.wanted learns.wants)
 
   wanted_seen : v.wanted ≡ marks_of stored.wanted
-  wanted_seen = tied.sees.wanted ∙ sym (marks_then disk ok core.status.wanted stored.wanted learns.wants)
+  wanted_seen = tied.sees.status.wanted ∙ sym (marks_then disk ok core.status.wanted stored.wanted learns.wants)
 
   abbrev members : Disks
   members = members_there now group
@@ -158,7 +158,7 @@ module _ (past : List Fact) (old new : Session) (index disk : ℕ) (ok : Bool) (
   shows : (d : ℕ) → IsTrue (is_there core1 d) → IsTrue (members d)
   shows d there =
       let parts = and_both (is_member group d) (not (is_missing core d)) (was_there d there) in
-      ap (λ (c : Contents). members_there c group d) (kept past old new index disk ok row buf its_owner returns tied).rest ∙ tied.members d parts.0 (there_first past old tied d (not_true_is (is_missing core d) parts.1))
+      ap (λ (c : Contents). members_there c group d) (kept past old new index disk ok row buf its_owner returns tied).rest ∙ tied.recorded.members d parts.0 (there_first past old tied d (not_true_is (is_missing core d) parts.1))
 
   owners : HasOwners v
   owners = tied.good.sound.tied.owner
@@ -180,10 +180,10 @@ module _ (past : List Fact) (old new : Session) (index disk : ℕ) (ok : Bool) (
       where
         by : (b : Bool) → is_there core1 d ≡ b → IsTrue (not b)
         by false is = refl
-        by true is = clash (is_there core d) (was_there d is) (not_true_is (is_there core d) (sym (tied.sees.missing d) ∙ gone))
+        by true is = clash (is_there core d) (was_there d is) (not_true_is (is_there core d) (sym (tied.sees.status.missing d) ∙ gone))
 
     sees : SeesMarks core1 v1 missing
-    sees = record { committed = tied.sees.committed ∙ ap marks_of (sym committed_same); wanted = wanted_seen; missing_is = λ d. refl; still = still }
+    sees = record { committed = tied.sees.status.committed ∙ ap marks_of (sym committed_same); wanted = wanted_seen; missing_is = λ d. refl; still = still }
 
     brought : (c : Bringing) → core1.copy ≡ Some c → is_running c ≡ true → IsBrought core1 v1 c
     brought c is runs = let b = (opened past old tied c is runs).0 in record {
@@ -203,8 +203,8 @@ module _ (past : List Fact) (old new : Session) (index disk : ℕ) (ok : Bool) (
       missing = missing;
       good = each_keeps tied.votes (Want (marks_of status.wanted) missing (open_after how v.open_copy)) v1 (after v.committed missing) (wants, refl) good1;
       describes = quiet_lasts tied.votes (Want (marks_of status.wanted) missing (open_after how v.open_copy)) v1 (after v.committed missing) group (Some u) now (wants, refl) good1 tt left.describes refl refl refl;
-      marks = tied.sees.committed ∙ ap marks_of (sym committed_same);
-      held = λ enough_now. tied.sees.held u (was_update past old new index disk ok row buf its_owner returns tied)
+      marks = tied.sees.status.committed ∙ ap marks_of (sym committed_same);
+      held = λ enough_now. tied.sees.status.held u (was_update past old new index disk ok row buf its_owner returns tied)
           (held_mid core.status stored status group disk ok t going.fitting.group going.status its.flies its.out.started learns.wants learns.ended review.marks.rest none enough_now);
       missing_is = λ d. refl;
     }
@@ -243,7 +243,7 @@ module _ (past : List Fact) (old new : Session) (index disk : ℕ) (ok : Bool) (
     keeps_done lv b c copy = let k = tied.good.sound.statuses.kept lv b c copy in (k.0, k.1, k.2.flying (as_marks u) flies, k.2.wanted)
 
     sees_done : SeesMarks core1 cleared v.missing
-    sees_done = record { committed = ap marks_of (sym committed_is); wanted = wanted_seen; missing_is = λ d. tied.sees.missing d ∙ ap not (sym (there_same d)); still = λ d gone. gone }
+    sees_done = record { committed = ap marks_of (sym committed_is); wanted = wanted_seen; missing_is = λ d. tied.sees.status.missing d ∙ ap not (sym (there_same d)); still = λ d gone. gone }
 
     volumes : HasVolumes cleared v.facts group members
     volumes = let x = left.describes.volumes in record { copies = x.copies; inside = x.inside; some = x.some; notes = x.notes; mark = x.mark; modes = x.modes; history = x.history }
@@ -338,7 +338,7 @@ module _ (past : List Fact) (old new : Session) (index disk : ℕ) (ok : Bool) (
 
         of : (c : Bringing) → core.copy ≡ Some c → is_running c ≡ true → IsBrought core v c → (w : Bool) → is_whole core1 c ≡ w → (how ≡ None) ⊎ ((e : CopyEnd) × (how ≡ Some e) × (is_done_end e ≡ false))
             → IsTrue (calls_stale t c.pp) ⊎ IsTrue (v.wanted.stale c.pp)
-        of c is runs b false part which = inr (ap (λ (m : Marks). m.stale c.pp) tied.sees.wanted ∙ b.part part)
+        of c is runs b false part which = inr (ap (λ (m : Marks). m.stale c.pp) tied.sees.status.wanted ∙ b.part part)
         of c is runs b true all (inl none) = parts c.pp (is_stale core1 c.pp) (calls_stale (unwrap_or stored.in_flight stored.committed) c.pp) (is_wanted_stale core1 c.pp) refl refl refl ((goes_on core1 c runs (end_at c is ∙ none)).1 all)
         of c is runs b true all (inr some) = clash (is_done_end some.0) (ap is_done_end (whole_done c is runs some.0 some.1 all).1) some.2
 
@@ -381,14 +381,14 @@ module _ (past : List Fact) (old new : Session) (index disk : ℕ) (ok : Bool) (
 
     have : (d : ℕ) → IsTrue (has_it d) → v1.media.status d ≡ Some (as_marks u)
     have d is = ⊎_elim
-        (λ before. still_stands past old new index disk ok row buf its_owner returns tied d (tied.sees.written d before ∙ flies))
+        (λ before. still_stands past old new index disk ok row buf its_owner returns tied d (tied.sees.status.written d before ∙ flies))
         (λ here. ap (statuses_of group.id now) (eqb-true d disk here) ∙ stands_here past old new index disk ok row buf its_owner returns tied well)
         (or_either (has core.status.writes.written d) (d == disk) is)
 
     may_commit : Commit tied.votes v1 (as_marks u) has_it done (marks_of status.wanted) (open_after how v.open_copy)
     may_commit = record {
       commits = commits_so;
-      enough = tied.are_votes.writes has_it ∙ enough core.status stored status group disk ok t going.fitting.group going.status its.flies its.out.started learns.wants learns.ended review.marks.rest commit;
+      enough = tied.setting.are_votes.writes has_it ∙ enough core.status stored status group disk ok t going.fitting.group going.status its.flies its.out.started learns.wants learns.ended review.marks.rest commit;
       have = have;
       marks = wants_done;
     }
@@ -401,5 +401,5 @@ module _ (past : List Fact) (old new : Session) (index disk : ℕ) (ok : Bool) (
       describes = quiet_lasts tied.votes (CommitUpdate (as_marks u) has_it done (marks_of status.wanted) (open_after how v.open_copy)) v1 (after (as_marks u) v.missing) group (Some u) now (may_commit, refl) good1 tt left.describes refl refl refl;
       marks = ap marks_of (sym committed_is);
       held = λ enough_now. refl;
-      missing_is = λ d. tied.sees.missing d ∙ ap not (sym (there_same d));
+      missing_is = λ d. tied.sees.status.missing d ∙ ap not (sym (there_same d));
     }

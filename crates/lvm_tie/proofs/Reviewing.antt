@@ -88,11 +88,11 @@ opened past s tied c is runs =
     let own = copy_is past s tied c is in
     let open_there : IsFalse (v.missing sees.copy.target.disk) = tied.good.sound.statuses.open_there sees.copy sees.is_open in
     let at : IsFalse (v.missing c.pp.disk) = ap (λ (p : Pp). v.missing p.disk) (sym sees.target) ∙ open_there in
-    let there : is_there core c.pp.disk ≡ true = not_false (is_there core c.pp.disk) (sym (tied.sees.missing c.pp.disk) ∙ at) in
+    let there : is_there core c.pp.disk ≡ true = not_false (is_there core c.pp.disk) (sym (tied.sees.status.missing c.pp.disk) ∙ at) in
     let both = and_both (is_member core.descriptor c.pp.disk) (not (is_missing core c.pp.disk)) there in
     let gone = not_true (is_missing core c.pp.disk) both.1 in
     let b = first_block core.descriptor (valid_of s tied.write tied.orderly) its.row c.lp its.lp in
-    let shown = tied.members c.pp.disk both.0 (there_first past s tied c.pp.disk gone) in (
+    let shown = tied.recorded.members c.pp.disk both.0 (there_first past s tied c.pp.disk gone) in (
       record {
         target = λ o at_o. ap (λ (x : OpenCopy). x.target) (some_of o sees.copy (sym at_o ∙ sees.is_open)) ∙ sees.target;
         member = both.0;

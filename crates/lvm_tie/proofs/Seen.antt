@@ -146,7 +146,7 @@ module _ (past first : List Fact) (s : Session) (w : Faults) (tied : IsTied past
   still_is d is = by (is_member core.descriptor d) refl
     where
       by : (b : Bool) → is_member core.descriptor d ≡ b → IsTrue (v.missing d)
-      by false other = tied.sees.missing d ∙ ap (λ b. not (b && not (is_missing core d))) other
+      by false other = tied.sees.status.missing d ∙ ap (λ b. not (b && not (is_missing core d))) other
       by true member = missing_seen past s tied d member ∙ sound.origin.still_missing d (known_by (is_member core.descriptor d) (calls_missing core.origin.table d) member (sym (faults.missing d) ∙ is))
 
   -- ---- what is stale
@@ -173,7 +173,7 @@ module _ (past first : List Fact) (s : Session) (w : Faults) (tied : IsTied past
   of_wanted p is = cause_of p (or_right (is_held_stale core p) (is_wanted_stale core p) is)
 
   in_flight_is : (c : Pp) (u : Stamped Marks) → v.in_flight ≡ Some u → IsTrue (u.value.stale c) → HasCause w c
-  in_flight_is c u flies is = by core.status.in_flight refl (sym tied.sees.in_flight ∙ flies)
+  in_flight_is c u flies is = by core.status.in_flight refl (sym tied.sees.status.in_flight ∙ flies)
     where
       by : (m : Option Status) → core.status.in_flight ≡ m → option_map as_marks (option_map (λ (t : Status). let r : Stamped Status = record { stamp = core.status.stamp; value = t } in r) m) ≡ Some u → HasCause w c
       by None none e = absurd (cc e)
@@ -233,18 +233,18 @@ module _ (past first : List Fact) (s : Session) (w : Faults) (tied : IsTied past
       (caused.tried one.0 one.1 one.2 (ap (has copy.tried) same ∙ tried))))
 
   failed_is : (i : ℕ) (q : Queued) (c : Pp) → v.queue i ≡ Some q → q.targets c ≡ Some Badly → Rose (w.asked i c.disk) (w.now c.disk)
-  failed_is i q c at bad = by (tied.sees.only i q at)
+  failed_is i q c at bad = by (tied.sees.queue.only i q at)
     where
       of_request : IsRequestAt core i → Rose (w.asked i c.disk) (w.now c.disk)
       of_request it =
-          let seen = tied.sees.requests it.place it.request it.there in
+          let seen = tied.sees.queue.requests it.place it.request it.there in
           let same : seen.0 ≡ q = (let e : Some seen.0 ≡ Some q = sym seen.1 ∙ ap v.queue it.its ∙ at in cc e) in
           let stage : stage_at it.request.request.targets.items c ≡ Some Badly = sym (seen.2.targets c) ∙ ap (λ (x : Queued). x.targets c) same ∙ bad in
           subst (λ (j : ℕ). Rose (w.asked j c.disk) (w.now c.disk)) it.its (request_failed it.place it.request it.there c (failed_on it.request.request.targets.items c stage))
 
       of_step : IsStepAt core i → Rose (w.asked i c.disk) (w.now c.disk)
       of_step it =
-          let seen = tied.sees.a_step it.copy it.is_open it.row in
+          let seen = tied.sees.queue.a_step it.copy it.is_open it.row in
           let same : seen.0 ≡ q = (let e : Some seen.0 ≡ Some q = sym seen.1 ∙ ap v.queue it.its ∙ at in cc e) in
           subst (λ (j : ℕ). Rose (w.asked j c.disk) (w.now c.disk)) it.its (tried_failed it.copy it.is_open c.disk (seen.2.failed c (ap (λ (x : Queued). x.targets c) same ∙ bad)))
 

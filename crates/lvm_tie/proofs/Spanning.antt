@@ -2,7 +2,7 @@
 use Rattle.std.proofs.Common.{◌≡◌, ℕ, List, [], ◌∷◌, ◌++◌, Option, Some, None, sym, subst}
 use Rattle.lvm_vol.specs.Facts.{Fact}
 use Rattle.lvm_disk.specs.Counts.{Counts}
-use Rattle.lvm_disk.specs.Device.{Device}
+use Rattle.lvm_disk.specs.Device.{Device, Orders}
 use Rattle.lvm_disk.specs.Paths.{DeviceStep, Then}
 use Rattle.lvm_kept.specs.Moments.{Moment, Moves, Enters}
 use Rattle.lvm_steps.specs.Moments.{Upholds}
@@ -48,32 +48,31 @@ module _ (run : ℕ) (old new : Session) (tie : (past : List Fact) → IsTied pa
 
 -- ---- a transfer that is waited for
 
-same_since : (device : Device) (counts : Counts) (w : Option RecordWrite) (u : Option (Stamped Status)) → OnlyUpdateSince device w u → OnlyUpdateSince (record device { counts = counts }) w u
-same_since device counts None None since = tt
-same_since device counts (Some w) None since = since
-same_since device counts None (Some u) since = since
-same_since device counts (Some w) (Some u) since =
+same_since : (device : Device) (counts : Counts) (orders : Orders) (w : Option RecordWrite) (u : Option (Stamped Status)) → OnlyUpdateSince device w u → OnlyUpdateSince (record device { counts = counts; orders = orders }) w u
+same_since device counts orders None None since = tt
+same_since device counts orders (Some w) None since = since
+same_since device counts orders None (Some u) since = since
+same_since device counts orders (Some w) (Some u) since =
     record { is_status = since.is_status; stamp = since.stamp; began = since.began; may = since.may; way = record { images = since.way.images; flights = since.way.flights } }
 
--- what the shelf counts is none of the tie
-pub counted : (past : List Fact) (s : Session) (counts : Counts) → IsTied past s → IsSound (state (record s.device { counts = counts }) s.core) → IsTied past (state (record s.device { counts = counts }) s.core)
-counted past s counts tied sound = record {
+-- what the shelf counts and the orders that it notes are none of the tie
+pub shelf_noted : (past : List Fact) (s : Session) (counts : Counts) (orders : Orders) → IsTied past s → IsSound (state (record s.device { counts = counts; orders = orders }) s.core) → IsTied past (state (record s.device { counts = counts; orders = orders }) s.core)
+shelf_noted past s counts orders tied sound = record {
   votes = tied.votes;
-  are_votes = tied.are_votes;
   media = tied.media;
-  told = tied.told;
+  setting = tied.setting;
   view = tied.view;
   sees = tied.sees;
   good = tied.good;
   describes = tied.describes;
   write = tied.write;
   orderly = record { sound = sound; on = tied.orderly.on; update = tied.orderly.update };
-  since = same_since s.device counts tied.write (update_of s.core.status) tied.since;
-  next = tied.next;
+  since = same_since s.device counts orders tied.write (update_of s.core.status) tied.since;
+  recorded = tied.recorded;
   notes = tied.notes;
   copy_aimed = tied.copy_aimed;
   carry = tied.carry;
-  members = tied.members;
-  own = tied.own;
-  records = tied.records;
 }
+
+pub counted : (past : List Fact) (s : Session) (counts : Counts) → IsTied past s → IsSound (state (record s.device { counts = counts }) s.core) → IsTied past (state (record s.device { counts = counts }) s.core)
+counted past s counts = shelf_noted past s counts s.device.orders

@@ -178,7 +178,7 @@ module _ (past : List Fact) (s : Session) (tied : IsTied past s) (o : Open) (num
       (counts_seen e a)
     where
       by_missing : (b : Bool) → v.missing e.disk ≡ b → not (v.missing e.disk) ≡ true → IsTrue (is_there core e.disk)
-      by_missing b is gone = not_false (is_there core e.disk) (sym (tied.sees.missing e.disk) ∙ not_true (v.missing e.disk) gone)
+      by_missing b is gone = not_false (is_there core e.disk) (sym (tied.sees.status.missing e.disk) ∙ not_true (v.missing e.disk) gone)
 
   listed : (e : Pp) (stage : Stage) → q.targets e ≡ Some stage → IsOneOf (pps_of ts) e × (stage ≡ Todo)
   listed e stage is = stage_of_one ts e stage early (sym (sees.targets e) ∙ is)
@@ -230,8 +230,8 @@ module _ (past : List Fact) (s : Session) (tied : IsTied past s) (o : Open) (num
       let notes = names_of e.disk (notes_on core.cache e.disk) on_disk in
       let both = and_both (names_group notes.0.written.items (lv_of ask) (group_of ask)) (option_map_or (λ (flight : ArrayVec NoteEntry). names_group flight.items (lv_of ask) (group_of ask)) notes.0.flight true) notes.2 in
       let flight_is : flight_on core.cache e.disk ≡ notes.0.flight = ap (λ (x : Option DiskNotes). option_and_then (λ (n : DiskNotes). n.flight) x) notes.1 in (
-        (λ t. v.home_note e.disk (sees.lv t) (track_group_of (sees.first t))) ∙ tied.sees.home e.disk (lv_of ask) (group_of ask) notes.0 (there_too e (aim_of e one)) notes.1 ∙ both.0,
-        λ n flies. (λ t. n (sees.lv t) (track_group_of (sees.first t))) ∙ in_flight n notes.0.flight both.1 (subst (λ x. SeesNote x notes.0.flight) flies (subst (SeesNote (v.flying_note e.disk)) flight_is (tied.sees.flying e.disk))),
+        (λ t. v.home_note e.disk (sees.lv t) (track_group_of (sees.first t))) ∙ tied.sees.notes.home e.disk (lv_of ask) (group_of ask) notes.0 (there_too e (aim_of e one)) notes.1 ∙ both.0,
+        λ n flies. (λ t. n (sees.lv t) (track_group_of (sees.first t))) ∙ in_flight n notes.0.flight both.1 (subst (λ x. SeesNote x notes.0.flight) flies (subst (SeesNote (v.flying_note e.disk)) flight_is (tied.sees.notes.flying e.disk))),
       )
     where
       in_flight : (n : Groups) (f : Option (ArrayVec NoteEntry)) → option_map_or (λ (flight : ArrayVec NoteEntry). names_group flight.items (lv_of ask) (group_of ask)) f true ≡ true → SeesNote (Some n) f → IsTrue (n (lv_of ask) (group_of ask))
@@ -244,7 +244,7 @@ module _ (past : List Fact) (s : Session) (tied : IsTied past s) (o : Open) (num
       let its = recorded (sym sees.several ∙ several) in
       let mark = subst (λ (x : Mode). has_dirty_mark core x o.request ≡ true) m its.1 in
       let both = and_both (calls_dirty core.status.committed (lv_of ask)) _ mark in
-      ap (λ (x : Marks). x.dirty q.lv) tied.sees.committed ∙ ap (calls_dirty core.status.committed) sees.lv ∙ both.0
+      ap (λ (x : Marks). x.dirty q.lv) tied.sees.status.committed ∙ ap (calls_dirty core.status.committed) sees.lv ∙ both.0
 
   pub may_start : MayStart v (place_of o.request.id) q t.pp
   may_start = record {

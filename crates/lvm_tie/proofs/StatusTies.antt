@@ -49,7 +49,7 @@ use Rattle.lvm_tie.proofs.Tied.{tied_owns}
 use Rattle.lvm_tie.proofs.Words.{clash}
 use Rattle.lvm_tie.proofs.Recorded.{records_last}
 use Rattle.lvm_tie.specs.Out.{AreNotes, CarriesStep, CarryTheirs, IsUpdateWrite, IsWriteOf, MayUpdate, is_owed_on}
-use Rattle.lvm_tie.specs.Seen.{update_of, IsRequestAt, IsStepAt, Sees}
+use Rattle.lvm_tie.specs.Seen.{update_of, Sees}
 use Rattle.lvm_tie.specs.Tied.{IsOrderly, IsTied, ShowsRecords}
 use Rattle.lvm_tie.specs.Records.{StatusStartTies}
 use Rattle.lvm_tie.proofs.MayBegin.{MayBegin, begins, fresh_update, fresh_write}
@@ -130,7 +130,7 @@ module _ (past : List Fact) (old new : Session) (starts : StartsStatus old new) 
       goes_on was =
           let is : seen status ≡ with_start (seen old.core.status) (Some starts.disk) = starts.started ∙ ap (λ (s : Stored). with_start (seen s) (Some starts.disk)) was.1 in
           let update_was : update_of old.core.status ≡ Some u = sym (λ k. option_map (λ (x : Status). let r : Stamped Status = record { stamp = (is k).stamp; value = x } in r) (is k).in_flight) ∙ update_now in
-          let flies : v.in_flight ≡ Some (as_marks u) = tied.sees.in_flight ∙ ap (option_map as_marks) update_was in
+          let flies : v.in_flight ≡ Some (as_marks u) = tied.sees.status.in_flight ∙ ap (option_map as_marks) update_was in
           record {
             good = subst (λ (o : Option (Stamped Marks)). Good tied.votes (record v { in_flight = o })) flies tied.good;
             describes = subst (λ (o : Option (Stamped Marks)). Describes (record v { in_flight = o }) v.facts group (Some u) (contents_of (image_of old.device.sizes tied.media))) flies
@@ -138,8 +138,8 @@ module _ (past : List Fact) (old new : Session) (starts : StartsStatus old new) 
             since = subst (λ (o : Option (Stamped Status)). OnlyUpdateSince old.device (Some write) o) update_was (subst (λ (x : Option RecordWrite). OnlyUpdateSince old.device x (update_of old.core.status)) (same was.0) tied.since);
             committed = ap (λ (x : Updates). x.committed) is;
             wanted = ap (λ (x : Updates). x.wanted) is;
-            written = λ d had. tied.sees.written d (sym (ap (λ (x : Updates). x.written d) is) ∙ had) ∙ flies;
-            held = λ x now enough. tied.sees.held x (update_was ∙ sym update_now ∙ now) (sym (ap is_held is) ∙ enough);
+            written = λ d had. tied.sees.status.written d (sym (ap (λ (x : Updates). x.written d) is) ∙ had) ∙ flies;
+            held = λ x now enough. tied.sees.status.held x (update_was ∙ sym update_now ∙ now) (sym (ap is_held is) ∙ enough);
           }
 
       begins : MayStart (seen old.core.status) × (seen starts.begun ≡ with_update (seen old.core.status)) → IsBegun v tied.votes group old.device tied.media write u old.core.status status
@@ -152,11 +152,11 @@ module _ (past : List Fact) (old new : Session) (starts : StartsStatus old new) 
           let value : starts.status ≡ old.core.status.wanted = let e : Some starts.status ≡ Some old.core.status.wanted = sym starts.flies ∙ ap (λ (x : Updates). x.in_flight) is in cc in
           let first = updates_last.begins tied.votes v group (contents_of (image_of old.device.sizes tied.media)) u tied.good
           (subst (λ (o : Option (Stamped Status)). Describes v v.facts group o (contents_of (image_of old.device.sizes tied.media))) no_update tied.describes)
-          its.own (ap marks_of value ∙ sym tied.sees.wanted) its.later its.last in
+          its.own (ap marks_of value ∙ sym tied.sees.status.wanted) its.later its.last in
           record {
             good = first.0;
             describes = first.1;
-            since = record { is_status = its.is_status; stamp = its.stamp; began = image_of old.device.sizes tied.media; may = its.may; way = plan_begins (IsOtherOrRecord write) old.device tied.media tied.told (nothing_out past old tied write its.is_status no_write) };
+            since = record { is_status = its.is_status; stamp = its.stamp; began = image_of old.device.sizes tied.media; may = its.may; way = plan_begins (IsOtherOrRecord write) old.device tied.media tied.setting.told (nothing_out past old tied write its.is_status no_write) };
             committed = ap (λ (x : Updates). x.committed) is;
             wanted = ap (λ (x : Updates). x.wanted) is;
             written = λ d had. clash (has status.writes.written d) had (ap (λ (x : Updates). x.written d) is);
@@ -222,26 +222,24 @@ module _ (past : List Fact) (old new : Session) (starts : StartsStatus old new) 
 
   sees : Sees past core2 w
   sees = record {
-    requests = tied.sees.requests;
-    a_step = λ c is has. let s = tied.sees.a_step c is has in (s.0, s.1, record { lv = s.2.lv; first = s.2.first; count = s.2.count; write = s.2.write; step = s.2.step; hand = s.2.hand; failed = s.2.failed });
-    only = λ j q at. ⊎_elim
-        (λ (r : IsRequestAt old.core j). inl (record { place = r.place; request = r.request; there = r.there; its = r.its }))
-        (λ (r : IsStepAt old.core j). inr (record { copy = r.copy; is_open = r.is_open; row = r.row; its = r.its }))
-        (tied.sees.only j q at);
-    names = tied.sees.names;
+    queue = tied.sees.queue;
     facts = tied.sees.facts;
-    committed = tied.sees.committed ∙ ap marks_of (sym begun.committed);
-    in_flight = ap (option_map as_marks) (sym update_now);
-    wanted = tied.sees.wanted ∙ ap marks_of (sym begun.wanted);
-    started = λ d. refl;
-    written = begun.written;
-    missing = λ d. tied.sees.missing d ∙ ap not (sym (missing_new d));
-    cache = tied.sees.cache;
-    home = λ d lv g n there. tied.sees.home d lv g n (sym (missing_new d) ∙ there);
-    flying = tied.sees.flying;
+    status = record {
+      committed = tied.sees.status.committed ∙ ap marks_of (sym begun.committed);
+      in_flight = ap (option_map as_marks) (sym update_now);
+      wanted = tied.sees.status.wanted ∙ ap marks_of (sym begun.wanted);
+      started = λ d. refl;
+      written = begun.written;
+      held = begun.held;
+      missing = λ d. tied.sees.status.missing d ∙ ap not (sym (missing_new d));
+    };
+    notes = record {
+      cache = tied.sees.notes.cache;
+      home = λ d lv g n there. tied.sees.notes.home d lv g n (sym (missing_new d) ∙ there);
+      flying = tied.sees.notes.flying;
+    };
     open_copy = tied.sees.open_copy;
     step_write = tied.sees.step_write;
-    held = begun.held;
   }
 
   carries : (g : Flight) (o : Owner) → CarriesStep old.core v g o → CarriesStep core2 w g o
@@ -253,11 +251,11 @@ module _ (past : List Fact) (old new : Session) (starts : StartsStatus old new) 
   -- what stands is before the update after this one, and where nothing is owed the slot is still the other one
   next2 : MayUpdate group status old.core.homes (image_of old.device.sizes tied.media)
   next2 = record {
-    some_epoch = subst (λ (n : ℕ). n ≢ 0) (sym epoch_is) tied.next.some_epoch;
-    epoch = subst (λ (n : ℕ). n < 2 ^ 64) (sym epoch_is) tied.next.epoch;
-    whole = tied.next.whole;
-    before = later_is_after_too (next_stamp old.core.status.stamp) (next_stamp status.stamp) (image_of old.device.sizes tied.media) later tied.next.before;
-    spare = λ d there owed. tied.next.spare d (sym (missing_new d) ∙ there) (was_owed d (sym (missing_new d) ∙ there) owed);
+    some_epoch = subst (λ (n : ℕ). n ≢ 0) (sym epoch_is) tied.recorded.next.some_epoch;
+    epoch = subst (λ (n : ℕ). n < 2 ^ 64) (sym epoch_is) tied.recorded.next.epoch;
+    whole = tied.recorded.next.whole;
+    before = later_is_after_too (next_stamp old.core.status.stamp) (next_stamp status.stamp) (image_of old.device.sizes tied.media) later tied.recorded.next.before;
+    spare = λ d there owed. tied.recorded.next.spare d (sym (missing_new d) ∙ there) (was_owed d (sym (missing_new d) ∙ there) owed);
   }
     where
       later : IsNoLater (next_stamp old.core.status.stamp) (next_stamp status.stamp)
@@ -290,9 +288,12 @@ module _ (past : List Fact) (old new : Session) (starts : StartsStatus old new) 
   pub started : IsTied past new
   started = subst (IsTied past) (sym whole) (record {
     votes = tied.votes;
-    are_votes = tied.are_votes;
     media = tied.media;
-    told = ap (λ (d : Device). d.media) starts.launches.starts.new_is ∙ tied.told;
+    setting = record {
+      are_votes = tied.setting.are_votes;
+      told = ap (λ (d : Device). d.media) starts.launches.starts.new_is ∙ tied.setting.told;
+      own = tied.setting.own;
+    };
     view = w;
     sees = sees;
     good = each_keeps tied.votes (MoveStatus (as_marks u) v0.media.status flying) v0 w (record { flies = refl; each = λ d. inl refl }, refl) begun.good;
@@ -301,17 +302,18 @@ module _ (past : List Fact) (old new : Session) (starts : StartsStatus old new) 
         (quiet_lasts tied.votes (MoveStatus (as_marks u) v0.media.status flying) v0 w group (Some u) (contents_of (image_of old.device.sizes tied.media)) (record { flies = refl; each = λ d. inl refl }, refl) begun.good tt begun.describes refl refl refl));
     write = Some write;
     since = subst (λ (o : Option (Stamped Status)). OnlyUpdateSince new.device (Some write) o) (sym update_now) (update_goes_on write u old.device new.device (Started f starts.launches.starts) planned begun.since);
+    recorded = record {
+      next = subst (λ (sizes : List ℕ). MayUpdate group status old.core.homes (image_of sizes tied.media)) (sym sizes_are) next2;
+      members = λ d member first. subst (λ (sizes : List ℕ). IsTrue (members_there (contents_of (image_of sizes tied.media)) group d)) (sym sizes_are) (tied.recorded.members d member first);
+      records = subst (λ (sizes : List ℕ). ShowsRecords group status (contents_of (image_of sizes tied.media))) (sym sizes_are)
+          (records_last group old.core.status status (contents_of (image_of old.device.sizes tied.media)) (contents_of (image_of old.device.sizes tied.media)) tied.recorded.records (λ d there. sym (missing_new d) ∙ there) (λ d. refl)
+          (λ none. absurd (let e : None ≡ Some starts.status = sym none ∙ starts.flies in cc)));
+    };
     orderly = orderly2;
     copy_aimed = tied.copy_aimed;
     carry = subst (λ (fs : List Flight). CarryTheirs core2 w fs (old.core.flying ++ row ∷ [])) (sym flights_are)
         (carry_more old.core core2 v w old.device.flights old.core.flying tied.write f row (out_of old tied.write tied.orderly tied.notes) carries tt tied.carry);
-    next = subst (λ (sizes : List ℕ). MayUpdate group status old.core.homes (image_of sizes tied.media)) (sym sizes_are) next2;
     notes = notes2;
-    members = λ d member first. subst (λ (sizes : List ℕ). IsTrue (members_there (contents_of (image_of sizes tied.media)) group d)) (sym sizes_are) (tied.members d member first);
-    own = tied.own;
-    records = subst (λ (sizes : List ℕ). ShowsRecords group status (contents_of (image_of sizes tied.media))) (sym sizes_are)
-        (records_last group old.core.status status (contents_of (image_of old.device.sizes tied.media)) (contents_of (image_of old.device.sizes tied.media)) tied.records (λ d there. sym (missing_new d) ∙ there) (λ d. refl)
-        (λ none. absurd (let e : None ≡ Some starts.status = sym none ∙ starts.flies in cc)));
   })
 
 -- ---- of a sound session

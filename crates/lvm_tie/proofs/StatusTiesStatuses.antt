@@ -1,5 +1,5 @@
 -- The end of a write of the update, tied.
-use Rattle.std.proofs.Common.{◌≡◌, inl, inr, ⊎_elim, ℕ, Bool, true, false, ◌&&◌, ◌==◌, not, eqb-true, List, Option, Some, None, refl, sym, ap, subst, ◌∙◌}
+use Rattle.std.proofs.Common.{◌≡◌, ⊎_elim, ℕ, Bool, true, false, ◌&&◌, ◌==◌, not, eqb-true, List, Option, Some, None, refl, sym, ap, subst, ◌∙◌}
 use Rattle.std.specs.Prelude.{IsTrue}
 use Rattle.std.specs.List.{remove}
 use Rattle.std.specs.Option.{option_map, option_map_or}
@@ -37,7 +37,7 @@ use Rattle.lvm_tie_shelf.specs.Records.{statuses_of}
 use Rattle.lvm_tie.proofs.Recorded.{records_last, shows_last, shows_update}
 use Rattle.lvm_tie.proofs.Words.{clash, not_true, or_either}
 use Rattle.lvm_tie.specs.Out.{AreNotes, CarriesStep, CarryTheirs, IsUpdateWrite, IsWriteOf, MayUpdate}
-use Rattle.lvm_tie.specs.Seen.{IsRequestAt, IsStepAt, Sees, update_of}
+use Rattle.lvm_tie.specs.Seen.{Sees, update_of}
 use Rattle.lvm_tie.specs.Tied.{IsOrderly, IsTied, ShowsRecords, ShowsStatus}
 use Rattle.lvm_tie.proofs.Ended.{HasEnded}
 use Rattle.lvm_tie.specs.Near.{IsRunning}
@@ -162,7 +162,7 @@ module _ (past : List Fact) (old new : Session) (index disk : ℕ) (ok : Bool) (
   have d = by ok refl
     where
       before_it : has core.status.writes.written d ≡ true → moved_view.media.status d ≡ Some (as_marks u)
-      before_it had = still_stands past old new index disk ok row buf its_owner returns tied d (tied.sees.written d had ∙ (moves past old new index disk ok row buf its_owner returns tied (λ n. false)).may.flies)
+      before_it had = still_stands past old new index disk ok row buf its_owner returns tied d (tied.sees.status.written d had ∙ (moves past old new index disk ok row buf its_owner returns tied (λ n. false)).may.flies)
 
       here : ok ≡ true → (d == disk) ≡ true → moved_view.media.status d ≡ Some (as_marks u)
       here well same = ap (statuses_of group.id now) (eqb-true d disk same) ∙ stands_here past old new index disk ok row buf its_owner returns tied well
@@ -172,7 +172,7 @@ module _ (past : List Fact) (old new : Session) (index disk : ℕ) (ok : Bool) (
       by true well had = ⊎_elim before_it (here well) (or_either (has core.status.writes.written d) (d == disk) had)
 
   recorded : (status.in_flight ≡ None → ShowsStatus group status now) → ShowsRecords group status now
-  recorded settled = records_last group core.status status (contents_of (image_of old.device.sizes tied.media)) now tied.records was_here
+  recorded settled = records_last group core.status status (contents_of (image_of old.device.sizes tied.media)) now tied.recorded.records was_here
       (λ d. ap (λ (c : Contents). c.descriptor d) (kept past old new index disk ok row buf its_owner returns tied).rest) settled
 
   module _ (reviewed : IsReviewed past old new index disk ok row buf its_owner returns tied learns) where
@@ -186,24 +186,22 @@ module _ (past : List Fact) (old new : Session) (index disk : ℕ) (ok : Bool) (
     sees : (x : Option (Stamped Marks)) → x ≡ option_map as_marks (update_of status) → ((d : ℕ) → has status.writes.written d ≡ true → moved_view.media.status d ≡ x)
         → ((y : Stamped Status) → update_of status ≡ Some y → is_held (seen status) ≡ true → reviewed.committed ≡ as_marks y) → Sees past core2 (record (with_update_in x) { open_copy = v.open_copy })
     sees x flies stands held = record {
-      requests = tied.sees.requests;
-      a_step = λ c is there. let s = tied.sees.a_step c is there in (s.0, s.1, record { lv = s.2.lv; first = s.2.first; count = s.2.count; write = s.2.write; step = s.2.step; hand = s.2.hand; failed = s.2.failed });
-      only = λ j q at. ⊎_elim
-          (λ (r : IsRequestAt core j). inl (record { place = r.place; request = r.request; there = r.there; its = r.its }))
-          (λ (r : IsStepAt core j). inr (record { copy = r.copy; is_open = r.is_open; row = r.row; its = r.its }))
-          (tied.sees.only j q at);
-      names = tied.sees.names;
+      queue = tied.sees.queue;
       facts = tied.sees.facts;
-      committed = reviewed.marks ∙ ap marks_of (sym (committed_new core.status stored status group disk ok t going.fitting.group going.status its.flies its.out.started learns.wants learns.ended learns.reviews.marks.rest));
-      in_flight = flies;
-      wanted = refl;
-      started = λ d. refl;
-      written = stands;
-      held = held;
-      missing = λ d. reviewed.missing_is d ∙ ap not (sym (there_new d));
-      cache = tied.sees.cache;
-      home = λ d lv g n there. tied.sees.home d lv g n (was_here d there);
-      flying = tied.sees.flying;
+      status = record {
+        committed = reviewed.marks ∙ ap marks_of (sym (committed_new core.status stored status group disk ok t going.fitting.group going.status its.flies its.out.started learns.wants learns.ended learns.reviews.marks.rest));
+        in_flight = flies;
+        wanted = refl;
+        started = λ d. refl;
+        written = stands;
+        held = held;
+        missing = λ d. reviewed.missing_is d ∙ ap not (sym (there_new d));
+      };
+      notes = record {
+        cache = tied.sees.notes.cache;
+        home = λ d lv g n there. tied.sees.notes.home d lv g n (was_here d there);
+        flying = tied.sees.notes.flying;
+      };
       open_copy = tied.sees.open_copy;
       step_write = tied.sees.step_write;
     }
@@ -223,9 +221,12 @@ module _ (past : List Fact) (old new : Session) (index disk : ℕ) (ok : Bool) (
         → (status.in_flight ≡ None → ShowsStatus group status now) → IsTied past new
     tied_with x write sees_it good_it describes_it since update settled = subst (IsTied past) (sym whole) (near_ties past new.device core2 end (record {
       votes = tied.votes;
-      are_votes = tied.are_votes;
       media = back.media;
-      told = back.told;
+      setting = record {
+        are_votes = tied.setting.are_votes;
+        told = back.told;
+        own = tied.setting.own;
+      };
       view = with_update_in x;
       open_copy = v.open_copy;
       sees = sees_it;
@@ -234,15 +235,16 @@ module _ (past : List Fact) (old new : Session) (index disk : ℕ) (ok : Bool) (
       describes = subst (λ (sizes : List ℕ). Describes (with_update_in x) v.facts group (update_of status) (contents_of (image_of sizes back.media))) (sym back.sizes) describes_it;
       write = write;
       since = since;
-      next = subst (λ (sizes : List ℕ). MayUpdate group status learns.homes (image_of sizes back.media)) (sym back.sizes) next;
+      recorded = record {
+        next = subst (λ (sizes : List ℕ). MayUpdate group status learns.homes (image_of sizes back.media)) (sym back.sizes) next;
+        members = λ d member first. subst (λ (sizes : List ℕ). IsTrue (members_there (contents_of (image_of sizes back.media)) group d)) (sym back.sizes)
+            (ap (λ (c : Contents). members_there c group d) (kept past old new index disk ok row buf its_owner returns tied).rest ∙ tied.recorded.members d member first);
+        records = subst (λ (sizes : List ℕ). ShowsRecords group status (contents_of (image_of sizes back.media))) (sym back.sizes) (recorded settled);
+      };
       notes = notes;
       copy_aimed = tied.copy_aimed;
       carry = subst (λ (fs : List Flight). CarryTheirs core2 (with_update_in x) fs (remove core.flying index)) (sym back.removes.is)
           ((its_row past old new index disk ok row buf its_owner returns tied core2 (with_update_in x)).carry (carries (with_update_in x) (λ j. refl)) (subst (λ (fs : List Flight). CarryTheirs core v fs core.flying) back.removes.was tied.carry));
-      members = λ d member first. subst (λ (sizes : List ℕ). IsTrue (members_there (contents_of (image_of sizes back.media)) group d)) (sym back.sizes)
-          (ap (λ (c : Contents). members_there c group d) (kept past old new index disk ok row buf its_owner returns tied).rest ∙ tied.members d member first);
-      own = tied.own;
-      records = subst (λ (sizes : List ℕ). ShowsRecords group status (contents_of (image_of sizes back.media))) (sym back.sizes) (recorded settled);
     }) runs (orderly write update))
 
     flies : v.in_flight ≡ Some (as_marks u)

@@ -87,7 +87,7 @@ module _ (past : List Fact) (s : Session) (tied : IsTied past s) (c : Bringing) 
   -- a copy of its logical partition on a member that wasn't missing at first is one of each of the blocks
   pub one_is_copy_of : (p : Pp) → IsOneOf (copies_of its.row c.lp) p → is_member group p.disk ≡ true → calls_missing core.origin.table p.disk ≡ false → IsTrue (v.is_copy c.lv first p)
   one_is_copy_of p one member there =
-      subst (λ n. IsTrue (v.is_copy n first p)) row_number ((tied.describes.volumes.copies its.row c.lp first p row_one first_block).1 (one, tied.members p.disk member there))
+      subst (λ n. IsTrue (v.is_copy n first p)) row_number ((tied.describes.volumes.copies its.row c.lp first p row_one first_block).1 (one, tied.recorded.members p.disk member there))
 
   -- a step of them lies where a request may lie
   pub step_placed : (q : Queued) → q.lv ≡ c.lv → q.first ≡ first → q.count ≡ 256 → IsPlaced v q

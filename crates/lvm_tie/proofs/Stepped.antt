@@ -58,34 +58,28 @@ module _ (past : List Fact) (core : Core) (v : State) (c d : Bringing) (pool : L
   w = record v { queue = queue; name = name; media = with_block v.media block; open_copy = open_copy; step_write = None }
 
   step_of_it : (r : has_row core d ≡ true) → (x : Queued) × (queue d.place ≡ Some x) × SeesStep core2 d x
-  step_of_it r = let s = its.a_step r in (s.0, s.1, record { lv = s.2.lv; first = s.2.first; count = s.2.count; write = s.2.write; step = s.2.step; hand = s.2.hand; failed = s.2.failed })
+  step_of_it r = its.a_step r
 
   step_here : (e : Bringing) → d ≡ e → has_row core e ≡ true → (x : Queued) × (queue e.place ≡ Some x) × SeesStep core2 e x
   step_here e same r = subst (λ (y : Bringing). (x : Queued) × (queue y.place ≡ Some x) × SeesStep core2 y x) same (step_of_it (subst (λ (y : Bringing). has_row core y ≡ true) (sym same) r))
 
   pub sees_stepped : Sees past core2 w
   sees_stepped = record {
-    requests = λ k p at. let s = sees_v.requests k p at in (s.0, its.queue_still k p at ∙ s.1, s.2);
-    a_step = λ e there r. step_here e (let k : Some d ≡ Some e = there in cc) r;
-    only = λ j x at. ⊎_elim
-        (λ (was : (j ≡ c.place → ⊥) × (v.queue j ≡ Some x)). ⊎_elim
-        (λ (r : IsRequestAt core j). inl (record { place = r.place; request = r.request; there = r.there; its = r.its }))
-        (λ (r : IsStepAt core j). let own : r.copy ≡ c = (let e : Some r.copy ≡ Some c = sym r.is_open ∙ is in cc) in absurd (was.0 (sym r.its ∙ ap (λ (y : Bringing). y.place) own)))
-        (sees_v.only j x was.1))
-        (λ (here : (has_row core d ≡ true) × (d.place ≡ j)). inr (record { copy = d; is_open = refl; row = here.0; its = here.1 }))
-        (its.only j x at);
-    names = λ k p at. its.name_still k p at ∙ sees_v.names k p at;
+    queue = record {
+      requests = λ k p at. let s = sees_v.queue.requests k p at in (s.0, its.queue_still k p at ∙ s.1, s.2);
+      a_step = λ e there r. step_here e (let k : Some d ≡ Some e = there in cc) r;
+      only = λ j x at. ⊎_elim
+          (λ (was : (j ≡ c.place → ⊥) × (v.queue j ≡ Some x)). ⊎_elim
+          (λ (r : IsRequestAt core j). inl r)
+          (λ (r : IsStepAt core j). let own : r.copy ≡ c = (let e : Some r.copy ≡ Some c = sym r.is_open ∙ is in cc) in absurd (was.0 (sym r.its ∙ ap (λ (y : Bringing). y.place) own)))
+          (sees_v.queue.only j x was.1))
+          (λ (here : (has_row core d ≡ true) × (d.place ≡ j)). inr (record { copy = d; is_open = refl; row = here.0; its = here.1 }))
+          (its.only j x at);
+      names = λ k p at. its.name_still k p at ∙ sees_v.queue.names k p at;
+    };
     facts = sees_v.facts;
-    committed = sees_v.committed;
-    in_flight = sees_v.in_flight;
-    wanted = sees_v.wanted;
-    started = sees_v.started;
-    written = sees_v.written;
-    held = sees_v.held;
-    missing = sees_v.missing;
-    cache = sees_v.cache;
-    home = sees_v.home;
-    flying = sees_v.flying;
+    status = sees_v.status;
+    notes = sees_v.notes;
     open_copy = its.open_seen;
     step_write = sym (step_none d d.step its.rests);
   }
@@ -132,7 +126,7 @@ module _ (past : List Fact) (old new : Session) (at : ℕ) (row : Flown) (ok : B
   -- the places of requests aren't its
   pub apart : (k : ℕ) (p : Open) → slice_get old.core.requests k ≡ Some p → place_of p.request.id ≡ c.place → ⊥
   apart k p there e =
-      let b = tied.sees.requests k p there in
+      let b = tied.sees.queue.requests k p there in
       let same : step_q ≡ b.0 = (let x : Some step_q ≡ Some b.0 = sym (at_q past old new at row ok buf tied returns own c is_open) ∙ ap v.queue (sym e) ∙ b.1 in cc) in
       let no : ◌≡◌ {A = Bool} true false = sym sees_q.step ∙ ap (λ (x : Queued). x.step) same ∙ b.2.step in
       cc
@@ -167,9 +161,12 @@ module _ (past : List Fact) (old new : Session) (at : ℕ) (row : Flown) (ok : B
         → (has_row old.core d ≡ true → IsTrue (tied.view.is_copy d.lv (block_at old.core d) d.pp)) → IsSound (state new.device new_core) → IsTied past (state new.device new_core)
     stepped_ties oc landed open_copy queue name its stands aimed sound = record {
       votes = tied.votes;
-      are_votes = tied.are_votes;
       media = its_ended.media;
-      told = its_ended.told;
+      setting = record {
+        are_votes = tied.setting.are_votes;
+        told = its_ended.told;
+        own = tied.setting.own;
+      };
       view = record (copied v landed.block open_copy None) { queue = queue; name = name };
       sees = sees_stepped past core v c d pool (remove core.flying at) waiting queue name landed.block open_copy tied.sees is_open its;
       good = stands.good;
@@ -177,15 +174,16 @@ module _ (past : List Fact) (old new : Session) (at : ℕ) (row : Flown) (ok : B
       write = tied.write;
       orderly = orderly_same old (state new.device new_core) tied.write tied.orderly sound refl refl refl;
       since = since past old new at row ok buf tied returns own c is_open tied.write (update_of core.status) tied.since;
-      next = landed.next;
+      recorded = record {
+        next = landed.next;
+        members = landed.members;
+        records = landed.records;
+      };
       notes = tied.notes;
       copy_aimed = λ e there r. let same : d ≡ e = (let k : Some d ≡ Some e = there in cc) in
           subst (λ (x : Bringing). IsTrue (v.is_copy x.lv (block_at core x) x.pp) × ((source : Pp) → x.step ≡ step.Reading source → IsTrue (v.is_copy x.lv (block_at core x) source))) same
           (aimed ((λ t. has_row core (same t)) ∙ r), λ source reads. absurd (let k : true ≡ false = sym (ap is_out reads) ∙ its.rests in cc));
       carry = carry_none new_core (record (copied v landed.block open_copy None) { queue = queue; name = name }) d new.device.flights (remove core.flying at) refl its.rests;
-      members = landed.members;
-      records = landed.records;
-      own = tied.own;
     }
 
     -- It has ended, or ends with this: its step leaves the queue.

@@ -26,7 +26,6 @@ use Rattle.lvm_path.specs.declared.ask.Ask.{Ask}
 use Rattle.lvm_path.specs.Asks.{lv_of, at_of, count_of, is_write}
 use Rattle.lvm_session.specs.declared.open.Open.{Open}
 use Rattle.lvm_session.specs.declared.bringing.OpenCopy.{OpenCopy as Bringing}
-use Rattle.lvm_session.specs.declared.flown.Flown.{Flown}
 use Rattle.lvm_session.specs.declared.flown.Owner.{Owner}
 use Rattle.lvm_session.specs.declared.flown.Owner.TheVariants as owner
 use Rattle.lvm_session.specs.State.{Core, State as Session, state}
@@ -44,9 +43,10 @@ use Rattle.lvm_invariant.specs.Events.{Event, Submit}
 use Rattle.lvm_invariant.proofs.Each.{each_keeps}
 use Rattle.lvm_tie_shelf.proofs.Owned.{covered}
 use Rattle.lvm_tie_shelf.proofs.Quiet.{quiet_lasts}
+use Rattle.lvm_tie.proofs.Ties.{carry_on}
 use Rattle.lvm_tie.proofs.Judged.{copy_is}
 use Rattle.lvm_tie.proofs.Orderly.{all_at, asked_one, open_one, valid_of}
-use Rattle.lvm_tie.specs.Out.{CarriesStep, CarryTheirs}
+use Rattle.lvm_tie.specs.Out.{CarriesStep}
 use Rattle.lvm_tie.specs.Seen.{update_of, SeesRequest, IsRequestAt, IsStepAt, Sees}
 use Rattle.lvm_tie.specs.Tied.{IsOrderly, IsTied}
 use Rattle.lvm_tie.specs.Requests.{SubmitTies}
@@ -196,7 +196,7 @@ module _ (past : List Fact) (old : Session) (client : ℕ) (ask : Ask) (bytes : 
   newest j e at = ⊎_elim
       (λ (r : IsRequestAt core j). let less : r.request.request.id < id = (may.table r.place r.request r.there).0 in let its : 2 * r.request.request.id ≡ j = r.its in omega arith)
       (λ (r : IsStepAt core j). let less : r.copy.place < i = may.step r.copy r.is_open r.row in let its : r.copy.place ≡ j = r.its in omega arith)
-      (tied.sees.only j e at)
+      (tied.sees.queue.only j e at)
 
   counted : asks.id ≡ count_by (begins_in core.history.run) v.facts + 1
   counted = next_joined core.history.run past core.history.facts may.own ∙ sym (ap (λ (fs : List Fact). count_by (begins_in core.history.run) fs + 1) tied.sees.facts)
@@ -227,7 +227,7 @@ module _ (past : List Fact) (old : Session) (client : ℕ) (ask : Ask) (bytes : 
   name_there place p there =
       let lt = earlier place p there in
       let test : (place_of p.request.id == i) ≡ false = grind (arith, nat_tests) in
-      ap (λ b. if b then asks else v.name (place_of p.request.id)) test ∙ tied.sees.names place p there ∙ by (asked core.history.facts p.request.id) refl ((may.table place p there).1)
+      ap (λ b. if b then asks else v.name (place_of p.request.id)) test ∙ tied.sees.queue.names place p there ∙ by (asked core.history.facts p.request.id) refl ((may.table place p there).1)
     where
       by : (x : Option Asked) → asked core.history.facts p.request.id ≡ x → is_some (asked core.history.facts p.request.id) ≡ true → request_of core.history.facts p.request.id ≡ request_of (core.history.facts ++ Begun asks ∷ []) p.request.id
       by None is some2 = absurd (let e : false ≡ true = sym (ap (λ (y : Option Asked). is_some y) is) ∙ some2 in cc)
@@ -242,39 +242,33 @@ module _ (past : List Fact) (old : Session) (client : ℕ) (ask : Ask) (bytes : 
 
   sees : Sees past new w
   sees = record {
-    requests = λ k p at. ⊎_elim
-        (λ was. let s = tied.sees.requests k p was in (s.0, put_there (place_of p.request.id) (earlier k p was) ∙ s.1, s.2))
-        (λ is. (
-          q,
-          put_here (place_of p.request.id) (ap (λ (x : Open). place_of x.request.id) is.1),
-          subst (λ (x : Open). SeesRequest x q) (sym is.1) (record { lv = refl; first = refl; count = refl; write = refl; step = refl; phase = refl; several = refl; targets = λ c. refl; got = λ buf none. absurd cc }),
-        ))
-        (one_more core.requests o p k at);
-    a_step = λ c is has. let s = tied.sees.a_step c is has in (s.0, put_there c.place (may.step c is has) ∙ s.1, record { lv = s.2.lv; first = s.2.first; count = s.2.count; write = s.2.write; step = s.2.step; hand = s.2.hand; failed = s.2.failed });
-    only = λ j e at. elim (cases_eq j i) [
-      | inl is ↦ inl (record { place = length core.requests; request = o; there = last_there core.requests o; its = sym is })
-      | inr ne ↦ let test : (j == i) ≡ false = grind (arith, nat_tests) in ⊎_elim
-          (λ (r : IsRequestAt core j). inl (record { place = r.place; request = r.request; there = still_there core.requests o r.request r.place r.there; its = r.its }))
-          (λ (r : IsStepAt core j). inr (record { copy = r.copy; is_open = r.is_open; row = r.row; its = r.its }))
-          (tied.sees.only j e (sym (ap (λ b. if b then Some q else v.queue j) test) ∙ at))
-    ];
-    names = λ k p at. ⊎_elim
-        (λ was. name_there k p was)
-        (λ is. subst (λ (x : Open). w.name (place_of x.request.id) ≡ request_of new.history.facts x.request.id) (sym is.1) name_here)
-        (one_more core.requests o p k at);
+    queue = record {
+      requests = λ k p at. ⊎_elim
+          (λ was. let s = tied.sees.queue.requests k p was in (s.0, put_there (place_of p.request.id) (earlier k p was) ∙ s.1, s.2))
+          (λ is. (
+            q,
+            put_here (place_of p.request.id) (ap (λ (x : Open). place_of x.request.id) is.1),
+            subst (λ (x : Open). SeesRequest x q) (sym is.1) (record { lv = refl; first = refl; count = refl; write = refl; step = refl; phase = refl; several = refl; targets = λ c. refl; got = λ buf none. absurd cc }),
+          ))
+          (one_more core.requests o p k at);
+      a_step = λ c is has. let s = tied.sees.queue.a_step c is has in (s.0, put_there c.place (may.step c is has) ∙ s.1, s.2);
+      only = λ j e at. elim (cases_eq j i) [
+        | inl is ↦ inl (record { place = length core.requests; request = o; there = last_there core.requests o; its = sym is })
+        | inr ne ↦ let test : (j == i) ≡ false = grind (arith, nat_tests) in ⊎_elim
+            (λ (r : IsRequestAt core j). inl (record { place = r.place; request = r.request; there = still_there core.requests o r.request r.place r.there; its = r.its }))
+            (λ (r : IsStepAt core j). inr r)
+            (tied.sees.queue.only j e (sym (ap (λ b. if b then Some q else v.queue j) test) ∙ at))
+      ];
+      names = λ k p at. ⊎_elim
+          (λ was. name_there k p was)
+          (λ is. subst (λ (x : Open). w.name (place_of x.request.id) ≡ request_of new.history.facts x.request.id) (sym is.1) name_here)
+          (one_more core.requests o p k at);
+    };
     facts = ap (λ (fs : List Fact). fs ++ Begun asks ∷ []) tied.sees.facts ∙ append_assoc past core.history.facts (Begun asks ∷ []);
-    committed = tied.sees.committed;
-    in_flight = tied.sees.in_flight;
-    wanted = tied.sees.wanted;
-    started = tied.sees.started;
-    written = tied.sees.written;
-    missing = tied.sees.missing;
-    cache = tied.sees.cache;
-    home = tied.sees.home;
-    flying = tied.sees.flying;
+    status = tied.sees.status;
+    notes = tied.sees.notes;
     open_copy = tied.sees.open_copy;
     step_write = tied.sees.step_write;
-    held = tied.sees.held;
   }
 
   carries : (g : Flight) (who : Owner) → CarriesStep core v g who → CarriesStep new w g who
@@ -284,17 +278,11 @@ module _ (past : List Fact) (old : Session) (client : ℕ) (ask : Ask) (bytes : 
   carries g owner.Copy its = λ c p is writing here.
       its c p is writing (sym (put_there c.place (may.step c is (ap (λ (st : Step). is_out st || (is_running c && not (is_whole core c))) writing))) ∙ here)
 
-  carry_so : (fs : List Flight) (rows : List Flown) → CarryTheirs core v fs rows → CarryTheirs new w fs rows
-  carry_so [] rows carry = tt
-  carry_so (f ∷ fs) [] carry = tt
-  carry_so (f ∷ fs) (r ∷ rs) carry = (carries f r.owner carry.0, carry_so fs rs carry.1)
-
   pub tied_after : IsOrderly (state old.device new) tied.write → IsTied past (state old.device new)
   tied_after orderly = record {
     votes = tied.votes;
-    are_votes = tied.are_votes;
     media = tied.media;
-    told = tied.told;
+    setting = tied.setting;
     view = w;
     sees = sees;
     good = each_keeps tied.votes event v w (submits, refl) tied.good;
@@ -302,14 +290,11 @@ module _ (past : List Fact) (old : Session) (client : ℕ) (ask : Ask) (bytes : 
         (ap (λ (x : Option LvRow). is_some x) may.inside.volume) tied.describes refl refl refl;
     write = tied.write;
     since = tied.since;
+    recorded = tied.recorded;
     orderly = orderly;
     copy_aimed = tied.copy_aimed;
-    carry = carry_so old.device.flights core.flying tied.carry;
-    members = tied.members;
-    records = tied.records;
-    next = tied.next;
+    carry = carry_on core new v w old.device.flights core.flying carries tied.carry;
     notes = tied.notes;
-    own = tied.own;
   }
 
 -- ---- of a sound session
@@ -352,7 +337,7 @@ module _ (past : List Fact) (s : Session) (client : ℕ) (ask : Ask) (bytes : Op
     inside = within;
     group = asking.group.group;
     given = asking.write;
-    own = tied.own;
+    own = tied.setting.own;
     next = none_yet;
     table = λ k o there. (low k o there, ap (λ (m : Option Asked). is_some m) (asked_one s tied.write tied.orderly k o there).told);
     step = λ c is row. let its = (copy_is past s tied c is).place in let less : its.0 < next = its.1 in let e : c.place ≡ 2 * its.0 + 1 = its.2 in omega arith;

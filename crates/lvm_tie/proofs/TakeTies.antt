@@ -16,7 +16,6 @@ use Rattle.lvm_path.specs.Targets.{is_begun}
 use Rattle.lvm_session.specs.declared.open.Open.{Open}
 use Rattle.lvm_session.specs.declared.bringing.OpenCopy.{OpenCopy as Bringing}
 use Rattle.lvm_session.specs.declared.bringing.Step.{Step}
-use Rattle.lvm_session.specs.declared.flown.Flown.{Flown}
 use Rattle.lvm_session.specs.declared.flown.Owner.{Owner}
 use Rattle.lvm_session.specs.declared.flown.Owner.TheVariants as owner
 use Rattle.lvm_session.specs.State.{Core, State as Session, state}
@@ -31,9 +30,10 @@ use Rattle.lvm_invariant.specs.Take.{Takes, taken}
 use Rattle.lvm_invariant.specs.Events.{Take}
 use Rattle.lvm_invariant.proofs.Each.{each_keeps}
 use Rattle.lvm_tie_shelf.proofs.Quiet.{quiet_lasts}
+use Rattle.lvm_tie.proofs.Ties.{carry_on}
 use Rattle.lvm_tie.proofs.Entered.{sees_entered}
 use Rattle.lvm_tie.proofs.Orderly.{HaveNumbers, numbers_of, open_one}
-use Rattle.lvm_tie.specs.Out.{CarriesStep, CarryTheirs}
+use Rattle.lvm_tie.specs.Out.{CarriesStep}
 use Rattle.lvm_tie.specs.Seen.{update_of, phase_seen, SeesRequest, IsRequestAt, IsStepAt, Sees}
 use Rattle.lvm_tie.specs.Tied.{IsOrderly, IsTied}
 use Rattle.lvm_tie.specs.Lands.{TakeTies}
@@ -73,19 +73,19 @@ module _ (past : List Fact) (old : Session) (place : ℕ) (o : Open) (tied : IsT
   i = place_of o.request.id
 
   abbrev q : Queued
-  q = (tied.sees.requests place o there).0
+  q = (tied.sees.queue.requests place o there).0
 
   at : v.queue i ≡ Some q
-  at = (tied.sees.requests place o there).1
+  at = (tied.sees.queue.requests place o there).1
 
   sees : SeesRequest o q
-  sees = (tied.sees.requests place o there).2
+  sees = (tied.sees.queue.requests place o there).2
 
   abbrev fact : Fact
   fact = Taken (request_of core.history.facts o.request.id)
 
   fact_is : Taken (v.name i) ≡ fact
-  fact_is = ap (λ (r : Asked). Taken r) (tied.sees.names place o there)
+  fact_is = ap (λ (r : Asked). Taken r) (tied.sees.queue.names place o there)
 
   abbrev core1 : Core
   core1 = record core { requests = remove core.requests place }
@@ -107,34 +107,28 @@ module _ (past : List Fact) (old : Session) (place : ℕ) (o : Open) (tied : IsT
 
   step_apart : (c : Bringing) → core.copy ≡ Some c → has_row core c ≡ true → c.place ≡ i → ⊥
   step_apart c is row e =
-      let a = tied.sees.a_step c is row in
+      let a = tied.sees.queue.a_step c is row in
       let same : a.0 ≡ q = some_of a.0 q (sym a.1 ∙ ap v.queue e ∙ at) in
       let no : ◌≡◌ {A = Bool} true false = sym a.2.step ∙ ap (λ (x : Queued). x.step) same ∙ sees.step in
       absurd cc
 
   sees1 : Sees past core1 (record v { queue = left })
   sees1 = record {
-    requests = λ k p is. let r = was_there core.requests place k p is in let s = tied.sees.requests r.at p r.there in (s.0, elsewhere (place_of p.request.id) (apart r.at p r.there r.other) ∙ s.1, s.2);
-    a_step = λ c is row. let s = tied.sees.a_step c is row in (s.0, elsewhere c.place (step_apart c is row) ∙ s.1, record { lv = s.2.lv; first = s.2.first; count = s.2.count; write = s.2.write; step = s.2.step; hand = s.2.hand; failed = s.2.failed });
-    only = λ j e is. elim (cases_eq j i) [
-      | inl same ↦ absurd (let n : None ≡ Some e = sym (gone j same) ∙ is in cc)
-      | inr ne ↦ ⊎_elim
-          (λ (r : IsRequestAt core j). inl (let l = is_left core.requests place r.place r.request r.there (λ e2. ne (sym r.its ∙ ap (λ (x : Open). place_of x.request.id) (some_of r.request o (sym r.there ∙ ap (slice_get core.requests) e2 ∙ there)))) in record { place = l.0; request = r.request; there = l.1; its = r.its }))
-          (λ (r : IsStepAt core j). inr (record { copy = r.copy; is_open = r.is_open; row = r.row; its = r.its }))
-          (tied.sees.only j e (sym (elsewhere j ne) ∙ is))
-    ];
-    names = λ k p is. let r = was_there core.requests place k p is in tied.sees.names r.at p r.there;
+    queue = record {
+      requests = λ k p is. let r = was_there core.requests place k p is in let s = tied.sees.queue.requests r.at p r.there in (s.0, elsewhere (place_of p.request.id) (apart r.at p r.there r.other) ∙ s.1, s.2);
+      a_step = λ c is row. let s = tied.sees.queue.a_step c is row in (s.0, elsewhere c.place (step_apart c is row) ∙ s.1, s.2);
+      only = λ j e is. elim (cases_eq j i) [
+        | inl same ↦ absurd (let n : None ≡ Some e = sym (gone j same) ∙ is in cc)
+        | inr ne ↦ ⊎_elim
+            (λ (r : IsRequestAt core j). inl (let l = is_left core.requests place r.place r.request r.there (λ e2. ne (sym r.its ∙ ap (λ (x : Open). place_of x.request.id) (some_of r.request o (sym r.there ∙ ap (slice_get core.requests) e2 ∙ there)))) in record { place = l.0; request = r.request; there = l.1; its = r.its }))
+            (λ (r : IsStepAt core j). inr r)
+            (tied.sees.queue.only j e (sym (elsewhere j ne) ∙ is))
+      ];
+      names = λ k p is. let r = was_there core.requests place k p is in tied.sees.queue.names r.at p r.there;
+    };
     facts = tied.sees.facts;
-    committed = tied.sees.committed;
-    in_flight = tied.sees.in_flight;
-    wanted = tied.sees.wanted;
-    started = tied.sees.started;
-    written = tied.sees.written;
-    held = tied.sees.held;
-    missing = tied.sees.missing;
-    cache = tied.sees.cache;
-    home = tied.sees.home;
-    flying = tied.sees.flying;
+    status = tied.sees.status;
+    notes = tied.sees.notes;
     open_copy = tied.sees.open_copy;
     step_write = tied.sees.step_write;
   }
@@ -158,31 +152,22 @@ module _ (past : List Fact) (old : Session) (place : ℕ) (o : Open) (tied : IsT
   carries g owner.Copy its = λ c p is writing here.
       its c p is writing (sym (elsewhere c.place (step_apart c is (ap (λ (st : Step). is_out st || (is_running c && not (is_whole core c))) writing))) ∙ here)
 
-  carry_so : (fs : List Flight) (them : List Flown) → CarryTheirs core v fs them → CarryTheirs core2 w fs them
-  carry_so [] them carry = tt
-  carry_so (f ∷ fs) [] carry = tt
-  carry_so (f ∷ fs) (r ∷ rs) carry = (carries f r.owner carry.0, carry_so fs rs carry.1)
-
   pub tied_after : IsOrderly (state old.device core2) tied.write → IsTied past (state old.device core2)
   tied_after orderly = record {
     votes = tied.votes;
-    are_votes = tied.are_votes;
     media = tied.media;
-    told = tied.told;
+    setting = tied.setting;
     view = w;
     sees = sees2;
     good = each_keeps tied.votes (Take i q) v w (takes, w_is) tied.good;
     describes = quiet_lasts tied.votes (Take i q) v w core.descriptor (update_of core.status) (contents_of (image_of old.device.sizes tied.media)) (takes, w_is) tied.good tt tied.describes refl refl refl;
     write = tied.write;
     since = tied.since;
+    recorded = tied.recorded;
     orderly = orderly;
     copy_aimed = tied.copy_aimed;
-    carry = carry_so old.device.flights core.flying tied.carry;
-    members = tied.members;
-    records = tied.records;
-    next = tied.next;
+    carry = carry_on core core2 v w old.device.flights core.flying carries tied.carry;
     notes = tied.notes;
-    own = tied.own;
   }
 
 -- ---- of a sound session

@@ -85,7 +85,7 @@ module _ (past : List Fact) (s : Session) (tied : IsTied past s) where
       let begun : is_begun o.request.targets.items ≡ true = begun_by o.request.targets.items number out.aim out.aim_is (ap is_waiting out.flies) in
       let going : q.phase ≡ Going = its.phase ∙ ap (λ (p : RequestPhase). phase_seen p (is_begun o.request.targets.items)) out.moving ∙ ap (λ b. phase_seen phase.Data b) begun in
       let asked : Asked = request_of core.history.facts o.request.id in
-      let name : v.name i ≡ asked = tied.sees.names out.place o out.there in
+      let name : v.name i ≡ asked = tied.sees.queue.names out.place o out.there in
       let count : f.count ≡ count_of o.request.ask = out.moves.count in
       let q_count : q.count ≡ count_of o.request.ask = its.count in
       let long : length asked.blocks ≡ count_of o.request.ask = orderly.blocks writes in
@@ -112,7 +112,7 @@ module _ (past : List Fact) (s : Session) (tied : IsTied past s) where
 
   data_write : (f : Flight) (id number : ℕ) (out : IsDataOut core f id number) → is_write out.request.request.ask ≡ true → IsDataFlight v core.descriptor.mib f
   data_write f id number out writes =
-      let seen = tied.sees.requests out.place out.request out.there in
+      let seen = tied.sees.queue.requests out.place out.request out.there in
       let parts = data_parts f id number out seen.0 writes seen.1 seen.2 in
       record { place = place_of out.request.request.id; req = seen.0; started = parts.started; copy = out.aim.pp; flies = parts.flies; aimed = parts.aimed; transfer = parts.transfer }
 
@@ -124,7 +124,7 @@ module _ (past : List Fact) (s : Session) (tied : IsTied past s) where
       by true writes = inr (inl (data_write f id number out writes))
 
   note_owned : (f : Flight) (disk : ℕ) → IsNoteOut core f disk → IsOwned v core.descriptor.mib tied.write f
-  note_owned f disk out = by (v.flying_note disk) refl (subst (λ o. SeesNote (v.flying_note disk) o) out.flies (tied.sees.flying disk))
+  note_owned f disk out = by (v.flying_note disk) refl (subst (λ o. SeesNote (v.flying_note disk) o) out.flies (tied.sees.notes.flying disk))
     where
       by : (n : Option Groups) → v.flying_note disk ≡ n → SeesNote (v.flying_note disk) (Some out.items) → IsOwned v core.descriptor.mib tied.write f
       by None is sees = absurd (subst (λ n. SeesNote n (Some out.items)) is sees)
@@ -148,7 +148,7 @@ module _ (past : List Fact) (s : Session) (tied : IsTied past s) where
       by None is = is
       by (Some w) is = record {
         write = is.write;
-        flies = tied.sees.started f.disk ∙ ap (has core.status.writes.started) is.disk_is ∙ is.started;
+        flies = tied.sees.status.started f.disk ∙ ap (has core.status.writes.started) is.disk_is ∙ is.started;
         target = ap w.targets is.disk_is ∙ is.target;
         first = is.first ∙ ap (λ d. slot_start w.kind (w.slots d)) (sym is.disk_is);
         count = is.count;
@@ -164,7 +164,7 @@ module _ (past : List Fact) (s : Session) (tied : IsTied past s) where
       by (step.Reading source) is reads = inl reads.write_is
       by step.Writing is writes =
           let row : has_row core out.copy ≡ true = ap (λ (st : Step). is_out st || (is_running out.copy && not (is_whole core out.copy))) is in
-          let seen = tied.sees.a_step out.copy out.is_open row in
+          let seen = tied.sees.queue.a_step out.copy out.is_open row in
           let q : Queued = seen.0 in
           let hand = subst (λ (st : Step). SeesHand st q) is seen.2.hand in
           let theirs = carries out.copy q out.is_open is seen.1 in
@@ -206,7 +206,7 @@ tied_owns past s tied = all_owned past s tied s.device.flights s.core.flying (ou
 
 pub tied_matches : (past : List Fact) (s : Session) (tied : IsTied past s) → Matches tied.view tied.view.facts s.core.descriptor (update_of s.core.status) s.device tied.media
 tied_matches past s tied = record {
-  told = tied.told;
+  told = tied.setting.told;
   describes = tied.describes;
   out = owners_have_out tied.view tied.view.facts s.core.descriptor tied.write (update_of s.core.status) s.device tied.media (valid_of s tied.write tied.orderly) tied.good.sound.tied tied.describes.volumes (tied_owns past s tied) tied.since;
 }
@@ -215,7 +215,7 @@ tied_holds : (past : List Fact) (s : Session) → IsTied past s → Holds past (
 tied_holds past s tied = record {
   legal = subst Legal tied.sees.facts tied.good.told.legal;
   kept = λ image may. subst (Kept (contents_of image)) tied.sees.facts
-      (images_kept tied.votes tied.view s.core.descriptor (update_of s.core.status) s.device tied.media image tied.are_votes tied.good (tied_matches past s tied) may);
+      (images_kept tied.votes tied.view s.core.descriptor (update_of s.core.status) s.device tied.media image tied.setting.are_votes tied.good (tied_matches past s tied) may);
 }
 
 pub good_upholds : GoodUpholds

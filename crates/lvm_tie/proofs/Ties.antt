@@ -67,6 +67,12 @@ since_start old new f (Some w) (Some u) starts low since = update_goes_on w u ol
 since_start old new f (Some w) None starts low since = absurd since
 since_start old new f None (Some u) starts low since = absurd since
 
+-- what steps carry goes on where the rows do
+pub carry_on : (core next : Core) (v w : State) (fs : List Flight) (rows : List Flown) → ((g : Flight) (o : Owner) → CarriesStep core v g o → CarriesStep next w g o) → CarryTheirs core v fs rows → CarryTheirs next w fs rows
+carry_on core next v w [] rows each carry = tt
+carry_on core next v w (f ∷ fs) [] each carry = tt
+carry_on core next v w (f ∷ fs) (row ∷ rows) each carry = (each f row.owner carry.0, carry_on core next v w fs rows each carry.1)
+
 -- what steps carry goes on, with one transfer more that isn't a step's
 pub carry_more : (core new : Core) (v w : State) (fs : List Flight) (rows : List Flown) (write : Option RecordWrite) (f : Flight) (row : Flown) → AreOut core write fs rows
     → ((g : Flight) (o : Owner) → CarriesStep core v g o → CarriesStep new w g o) → CarriesStep new w f row.owner → CarryTheirs core v fs rows → CarryTheirs new w (fs ++ f ∷ []) (rows ++ row ∷ [])
@@ -117,9 +123,12 @@ module _ (past : List Fact) (old : Session) (device : Device) (place number : �
   pub started_ties : (event : Event) → GoodStep tied.votes event v w → AsksOf old.core.descriptor event → IsOrderly (state device new) tied.write → IsTied past (state device new)
   started_ties event step asks orderly = record {
     votes = tied.votes;
-    are_votes = tied.are_votes;
     media = tied.media;
-    told = ap (λ (d : Device). d.media) starts.new_is ∙ tied.told;
+    setting = record {
+      are_votes = tied.setting.are_votes;
+      told = ap (λ (d : Device). d.media) starts.new_is ∙ tied.setting.told;
+      own = tied.setting.own;
+    };
     view = w;
     sees = sees_changed past old.core v place o o2 q2 pool (old.core.flying ++ row ∷ []) old.core.last old.core.queue old.core.cache.entries v.media.block tied.sees numbers there refl sees2 (λ lv g. refl);
     good = each_keeps tied.votes event v w step tied.good;
@@ -127,13 +136,14 @@ module _ (past : List Fact) (old : Session) (device : Device) (place number : �
         (quiet_lasts tied.votes event v w old.core.descriptor (update_of old.core.status) (contents_of (image_of old.device.sizes tied.media)) step tied.good asks tied.describes refl refl refl);
     write = tied.write;
     since = since_start old.device device f tied.write (update_of old.core.status) starts low tied.since;
+    recorded = record {
+      next = subst (λ (sizes : List ℕ). MayUpdate old.core.descriptor old.core.status old.core.homes (image_of sizes tied.media)) (sym sizes_is) tied.recorded.next;
+      members = λ d member first. subst (λ (sizes : List ℕ). IsTrue (members_there (contents_of (image_of sizes tied.media)) old.core.descriptor d)) (sym sizes_is) (tied.recorded.members d member first);
+      records = subst (λ (sizes : List ℕ). ShowsRecords old.core.descriptor old.core.status (contents_of (image_of sizes tied.media))) (sym sizes_is) tied.recorded.records;
+    };
     orderly = orderly;
     copy_aimed = tied.copy_aimed;
     carry = subst (λ (fs : List Flight). CarryTheirs new w fs (old.core.flying ++ row ∷ [])) (sym (ap (λ (d : Device). d.flights) starts.new_is))
         (carry_more old.core new v w old.device.flights old.core.flying tied.write f row (out_of old tied.write tied.orderly tied.notes) carries tt tied.carry);
-    next = subst (λ (sizes : List ℕ). MayUpdate old.core.descriptor old.core.status old.core.homes (image_of sizes tied.media)) (sym sizes_is) tied.next;
     notes = tied.notes;
-    members = λ d member first. subst (λ (sizes : List ℕ). IsTrue (members_there (contents_of (image_of sizes tied.media)) old.core.descriptor d)) (sym sizes_is) (tied.members d member first);
-    own = tied.own;
-    records = subst (λ (sizes : List ℕ). ShowsRecords old.core.descriptor old.core.status (contents_of (image_of sizes tied.media))) (sym sizes_is) tied.records;
   }

@@ -130,7 +130,7 @@ module _ (past : List Fact) (old new : Session) (index disk : ℕ) (ok : Bool) (
   group = core.descriptor
 
   pub ended : HasEnded old.device new.device row.ticket ok buf tied.media
-  ended = has_ended old.device new.device row.ticket ok buf tied.media returns.ends tied.told
+  ended = has_ended old.device new.device row.ticket ok buf tied.media returns.ends tied.setting.told
 
   abbrev f : Flight
   f = ended.flight
@@ -140,7 +140,7 @@ module _ (past : List Fact) (old new : Session) (index disk : ℕ) (ok : Bool) (
       (subst (λ (fs : List Flight). AreOut core tied.write fs core.flying) ended.removes.was (out_of old tied.write tied.orderly tied.notes)) (tickets_of old tied.write tied.orderly) returns.there ended.its
 
   pub written : IsWritten old.device core v tied.write f disk
-  written = is_written old.device core v tied.write f disk tied.since tied.orderly.update tied.sees.started (subst (IsOut core tied.write f) its_owner (its_row core v).out)
+  written = is_written old.device core v tied.write f disk tied.since tied.orderly.update tied.sees.status.started (subst (IsOut core tied.write f) its_owner (its_row core v).out)
 
   abbrev w : RecordWrite
   w = written.write
@@ -164,7 +164,7 @@ module _ (past : List Fact) (old new : Session) (index disk : ℕ) (ok : Bool) (
   now = contents_of is
 
   may : MayLeave old.device is
-  may = may_leave old.device new.device.flights tied.media ended.media f tied.told ended.removes ended.lands.some
+  may = may_leave old.device new.device.flights tied.media ended.media f tied.setting.told ended.removes ended.lands.some
 
   pub moves : (flying : ℕ → Bool) → StatusEnded v group u f.disk ok flying now
   moves flying = status_ends tied.votes v group w u old.device new.device.flights tied.media ended.media f ok flying tied.good matches ended.removes written.own written.since ended.lands
@@ -230,7 +230,7 @@ module _ (past : List Fact) (old new : Session) (index disk : ℕ) (ok : Bool) (
   spare_beside : (homes : Homes) → FlipsIf ok disk core.homes homes → (d : ℕ) → (d == disk) ≡ false → IsTrue (there_by group core.status.wanted d) → is_owed_on core.status d ≡ false
       → next_slot kind.Status homes d ≡ slot_for status_of kind.Status (is.sector d)
   spare_beside homes flips d other there owed =
-      slots_beside ok disk core.homes homes flips d other ∙ tied.next.spare d there owed ∙ sym (slot_for_same status_of kind.Status (was.sector d) (is.sector d) (λ slot s two low high. same_beside d s other))
+      slots_beside ok disk core.homes homes flips d other ∙ tied.recorded.next.spare d there owed ∙ sym (slot_for_same status_of kind.Status (was.sector d) (is.sector d) (λ slot s two low high. same_beside d s other))
 
   whole_now : HasSectors new.device → IsWhole is
   whole_now sectors = subst (λ (sizes : List ℕ). IsWhole (image_of sizes ended.media)) ended.sizes (subst (λ (o : Option Media). IfSome o (λ m. IsWhole (image_of new.device.sizes m))) ended.told sectors)
@@ -240,12 +240,12 @@ module _ (past : List Fact) (old new : Session) (index disk : ℕ) (ok : Bool) (
       → (ok ≡ false → calls_missing s.wanted disk ≡ true) → ((d : ℕ) → calls_missing s.wanted d ≡ false → calls_missing core.status.wanted d ≡ false)
       → ((d : ℕ) → is_member group d ≡ true → (d == disk) ≡ false → is_owed_on s d ≡ false → is_owed_on core.status d ≡ false) → MayUpdate group s homes is
   may_update s homes sectors flips stamp lost fewer owed_still = record {
-    some_epoch = subst (λ (st : Stamp). st.epoch ≢ 0) (sym stamp) tied.next.some_epoch;
-    epoch = subst (λ (st : Stamp). st.epoch < 2 ^ 64) (sym stamp) tied.next.epoch;
+    some_epoch = subst (λ (st : Stamp). st.epoch ≢ 0) (sym stamp) tied.recorded.next.some_epoch;
+    epoch = subst (λ (st : Stamp). st.epoch < 2 ^ 64) (sym stamp) tied.recorded.next.epoch;
     whole = whole_now sectors;
     before = record_keeps_before w (next_stamp s.stamp) was is written.since.may.frames
         (ap (λ (st : Stamp). stamp_lt st (next_stamp s.stamp)) (written.since.stamp ∙ sym stamp) ∙ is_next s.stamp) by_record
-        (subst (λ (st : Stamp). StampsBefore (next_stamp st) was) (sym stamp) tied.next.before);
+        (subst (λ (st : Stamp). StampsBefore (next_stamp st) was) (sym stamp) tied.recorded.next.before);
     spare = λ d there owed.
         let parts = and_both (is_member group d) (not (calls_missing s.wanted d)) there in
         let here : calls_missing s.wanted d ≡ false = not_true (calls_missing s.wanted d) parts.1 in

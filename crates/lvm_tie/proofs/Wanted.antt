@@ -1,5 +1,5 @@
 -- Where nothing of the status changes but what is wanted, and not what is missing.
-use Rattle.std.proofs.Common.{◌≡◌, ◌⊎◌, inl, inr, ⊎_elim, ℕ, ◌<◌, ◌^◌, Bool, true, false, ◌&&◌, ◌||◌, not, if◌then◌else◌, List, Option, Some, None, refl, sym, ap, subst, ◌∙◌}
+use Rattle.std.proofs.Common.{◌≡◌, ◌⊎◌, inl, inr, ℕ, ◌<◌, ◌^◌, Bool, true, false, ◌&&◌, ◌||◌, not, if◌then◌else◌, List, Option, Some, None, refl, sym, ap, subst, ◌∙◌}
 use Rattle.std.specs.Prelude.{◌≢◌}
 use Rattle.std.specs.Option.{option_map}
 use Rattle.lvm_num.specs.declared.descriptor.Descriptor.{Descriptor}
@@ -21,7 +21,7 @@ use Rattle.lvm_session.specs.State.{Core, is_there}
 use Rattle.lvm_session.specs.Marks.{WantsDirty}
 use Rattle.lvm_invariant.specs.State.{State}
 use Rattle.lvm_crash.specs.Session.{as_marks, marks_of}
-use Rattle.lvm_tie.specs.Seen.{IsRequestAt, IsStepAt, Sees, update_of}
+use Rattle.lvm_tie.specs.Seen.{Sees, update_of}
 use Rattle.lvm_tie.specs.Out.{IsWriteOf, MayUpdate, is_owed_on}
 use Rattle.lvm_tie.specs.Tied.{ShowsRecords}
 use Rattle.lvm_tie.proofs.Recorded.{NoMoreThere, records_last, status_lasts}
@@ -74,24 +74,22 @@ module _ (old new : Stored) (rest : seen new ≡ record (seen old) { wanted = ne
 
   pub sees_wanted : (past : List Fact) (core : Core) (v : State) → core.status ≡ old → Sees past core v → Sees past (record core { status = new }) (record v { wanted = marks_of new.wanted })
   sees_wanted past core v its sees = record {
-    requests = sees.requests;
-    a_step = λ c is row. let s = sees.a_step c is row in (s.0, s.1, record { lv = s.2.lv; first = s.2.first; count = s.2.count; write = s.2.write; step = s.2.step; hand = s.2.hand; failed = s.2.failed });
-    only = λ j q at. ⊎_elim
-        (λ (r : IsRequestAt core j). inl (record { place = r.place; request = r.request; there = r.there; its = r.its }))
-        (λ (r : IsStepAt core j). inr (record { copy = r.copy; is_open = r.is_open; row = r.row; its = r.its }))
-        (sees.only j q at);
-    names = sees.names;
+    queue = sees.queue;
     facts = sees.facts;
-    committed = sees.committed ∙ ap (λ (s : Stored). marks_of s.committed) its ∙ ap marks_of (sym committed_same);
-    in_flight = sees.in_flight ∙ ap (λ (s : Stored). option_map as_marks (update_of s)) its ∙ ap (option_map as_marks) (sym update_same);
-    wanted = refl;
-    started = λ d. sees.started d ∙ ap (λ (s : Stored). has s.writes.started d) its ∙ sym (ap (λ (u : Updates). u.started d) rest);
-    written = λ d had. sees.written d (ap (λ (s : Stored). has s.writes.written d) its ∙ sym (ap (λ (u : Updates). u.written d) rest) ∙ had);
-    held = λ u is enough. sees.held u (ap update_of its ∙ sym update_same ∙ is) (ap (λ (s : Stored). is_held (seen s)) its ∙ sym held_same ∙ enough);
-    missing = λ d. sees.missing d ∙ ap (λ (s : Stored). not (is_there (record core { status = s }) d)) its ∙ ap not (sym (there_same core d));
-    cache = sees.cache;
-    home = λ d lv g n there. sees.home d lv g n (ap (λ (s : Stored). is_there (record core { status = s }) d) its ∙ sym (there_same core d) ∙ there);
-    flying = sees.flying;
+    status = record {
+      committed = sees.status.committed ∙ ap (λ (s : Stored). marks_of s.committed) its ∙ ap marks_of (sym committed_same);
+      in_flight = sees.status.in_flight ∙ ap (λ (s : Stored). option_map as_marks (update_of s)) its ∙ ap (option_map as_marks) (sym update_same);
+      wanted = refl;
+      started = λ d. sees.status.started d ∙ ap (λ (s : Stored). has s.writes.started d) its ∙ sym (ap (λ (u : Updates). u.started d) rest);
+      written = λ d had. sees.status.written d (ap (λ (s : Stored). has s.writes.written d) its ∙ sym (ap (λ (u : Updates). u.written d) rest) ∙ had);
+      held = λ u is enough. sees.status.held u (ap update_of its ∙ sym update_same ∙ is) (ap (λ (s : Stored). is_held (seen s)) its ∙ sym held_same ∙ enough);
+      missing = λ d. sees.status.missing d ∙ ap (λ (s : Stored). not (is_there (record core { status = s }) d)) its ∙ ap not (sym (there_same core d));
+    };
+    notes = record {
+      cache = sees.notes.cache;
+      home = λ d lv g n there. sees.notes.home d lv g n (ap (λ (s : Stored). is_there (record core { status = s }) d) its ∙ sym (there_same core d) ∙ there);
+      flying = sees.notes.flying;
+    };
     open_copy = sees.open_copy;
     step_write = sees.step_write;
   }

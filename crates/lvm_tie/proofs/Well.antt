@@ -1,5 +1,5 @@
 -- The write of a note that ends well, tied.
-use Rattle.std.proofs.Common.{◌≡◌, inl, inr, ⊎_elim, ℕ, true, false, ◌==◌, not, List, Option, Some, None, refl, sym, ap, subst, ◌∙◌, arith}
+use Rattle.std.proofs.Common.{◌≡◌, inl, inr, ℕ, true, false, ◌==◌, not, List, Option, Some, None, refl, sym, ap, subst, ◌∙◌, arith}
 use Rattle.std.specs.Prelude.{IsTrue, if◌then◌else◌}
 use Rattle.std.specs.List.{remove}
 use Rattle.std.specs.Option.{option_map, option_map_or}
@@ -31,7 +31,7 @@ use Rattle.lvm_tie.proofs.Orderly.{IsNoteOut, orderly_same}
 use Rattle.lvm_tie.proofs.Tied.{tied_matches}
 use Rattle.lvm_tie.proofs.Recorded.{no_update_of, records_last, status_lasts}
 use Rattle.lvm_tie.specs.Out.{AreNotes, CarriesStep, CarryTheirs, MayUpdate}
-use Rattle.lvm_tie.specs.Seen.{SeesNote, IsRequestAt, IsStepAt, update_of, Sees}
+use Rattle.lvm_tie.specs.Seen.{SeesNote, update_of, Sees}
 use Rattle.lvm_tie.specs.Tied.{IsTied, ShowsRecords}
 use Rattle.lvm_tie.proofs.Ended.{HasEnded}
 use Rattle.lvm_tie.proofs.Landing.{HasLanded, has_landed, same_descriptors, same_members, same_statuses, update_may}
@@ -90,10 +90,10 @@ module _ (past : List Fact) (old new : Session) (at disk : ℕ) (row : Flown) (b
   home_now : (d lv g : ℕ) (n : DiskNotes) → IsTrue (is_there core d) → notes_on next.cache d ≡ Some n → landed.home d lv g ≡ names_group n.written.items lv g
   home_now d lv g n there is = elim (cases_eq d disk) [
     | inl e ↦
-        let not_missing : v.missing f.disk ≡ false = ap v.missing (its_out.disk_is ∙ sym e) ∙ tied.sees.missing d ∙ ap not there in
+        let not_missing : v.missing f.disk ≡ false = ap v.missing (its_out.disk_is ∙ sym e) ∙ tied.sees.status.missing d ∙ ap not there in
         ap (λ k. landed.home k lv g) (e ∙ sym its_out.disk_is) ∙ ap (λ (x : Groups). x lv g) (landed.own refl not_missing) ∙ own_names past old new at disk true row buf its_owner returns tied lv g
         ∙ ap (λ (items : List NoteEntry). names_group items lv g) (sym (written_is n (ap (notes_on next.cache) (sym e) ∙ is)))
-    | inr ne ↦ ap (λ (x : Groups). x lv g) (landed.others d (not_here past old new at disk true row buf its_owner returns tied d ne)) ∙ tied.sees.home d lv g n there (sym (beside core.cache disk true d (apart d disk ne)) ∙ is)
+    | inr ne ↦ ap (λ (x : Groups). x lv g) (landed.others d (not_here past old new at disk true row buf its_owner returns tied d ne)) ∙ tied.sees.notes.home d lv g n there (sym (beside core.cache disk true d (apart d disk ne)) ∙ is)
   ]
 
   flying_now : (d : ℕ) → SeesNote (flying_after v f.disk d) (flight_on next.cache d)
@@ -103,29 +103,19 @@ module _ (past : List Fact) (old new : Session) (at disk : ℕ) (row : Flown) (b
     | inr ne ↦
         let test : (d == f.disk) ≡ false = let no : d ≡ f.disk → ⊥ = not_here past old new at disk true row buf its_owner returns tied d ne in grind (arith, nat_tests) in
         subst (λ (x : Option Groups). SeesNote x (flight_on next.cache d)) (sym (ap (λ b. if b then None else v.flying_note d) test))
-        (subst (SeesNote (v.flying_note d)) (sym (flight_beside core.cache disk true d (apart d disk ne))) (tied.sees.flying d))
+        (subst (SeesNote (v.flying_note d)) (sym (flight_beside core.cache disk true d (apart d disk ne))) (tied.sees.notes.flying d))
   ]
 
   sees : Sees past next w
   sees = record {
-    requests = tied.sees.requests;
-    a_step = λ c is row. let s = tied.sees.a_step c is row in (s.0, s.1, record { lv = s.2.lv; first = s.2.first; count = s.2.count; write = s.2.write; step = s.2.step; hand = s.2.hand; failed = s.2.failed });
-    only = λ i q is. ⊎_elim
-        (λ (r : IsRequestAt core i). inl (record { place = r.place; request = r.request; there = r.there; its = r.its }))
-        (λ (r : IsStepAt core i). inr (record { copy = r.copy; is_open = r.is_open; row = r.row; its = r.its }))
-        (tied.sees.only i q is);
-    names = tied.sees.names;
+    queue = tied.sees.queue;
     facts = tied.sees.facts;
-    committed = tied.sees.committed;
-    in_flight = tied.sees.in_flight;
-    wanted = tied.sees.wanted;
-    started = tied.sees.started;
-    written = tied.sees.written;
-    held = tied.sees.held;
-    missing = tied.sees.missing;
-    cache = tied.sees.cache;
-    home = home_now;
-    flying = flying_now;
+    status = tied.sees.status;
+    notes = record {
+      cache = tied.sees.notes.cache;
+      home = home_now;
+      flying = flying_now;
+    };
     open_copy = tied.sees.open_copy;
     step_write = tied.sees.step_write;
   }
@@ -149,20 +139,23 @@ module _ (past : List Fact) (old new : Session) (at disk : ℕ) (row : Flown) (b
   members_now d = same_members tied.votes v core.descriptor (update_of core.status) old.device new.device.flights tied.media its_end.media f true tied.good (tied_matches past old tied) its_end.removes its_own its_end.lands d
 
   next_now : MayUpdate core.descriptor core.status core.homes is
-  next_now = update_may tied.votes v core.descriptor (update_of core.status) old.device new.device.flights tied.media its_end.media f true tied.good (tied_matches past old tied) its_end.removes its_own its_end.lands core.status core.homes (own_sector past old new at disk true row buf its_owner returns tied) tied.next
+  next_now = update_may tied.votes v core.descriptor (update_of core.status) old.device new.device.flights tied.media its_end.media f true tied.good (tied_matches past old tied) its_end.removes its_own its_end.lands core.status core.homes (own_sector past old new at disk true row buf its_owner returns tied) tied.recorded.next
 
   records_now : ShowsRecords core.descriptor core.status (contents_of is)
-  records_now = records_last core.descriptor core.status core.status (contents_of was) (contents_of is) tied.records (λ d there. there)
+  records_now = records_last core.descriptor core.status core.status (contents_of was) (contents_of is) tied.recorded.records (λ d there. there)
       (same_descriptors tied.votes v core.descriptor (update_of core.status) old.device new.device.flights tied.media its_end.media f true tied.good (tied_matches past old tied) its_end.removes its_own its_end.lands)
-      (λ none. status_lasts core.descriptor core.status core.status (contents_of was) (contents_of is) (tied.records.settled none) (λ d there. there) refl
+      (λ none. status_lasts core.descriptor core.status core.status (contents_of was) (contents_of is) (tied.recorded.records.settled none) (λ d there. there) refl
       (same_statuses tied.votes v core.descriptor (update_of core.status) old.device new.device.flights tied.media its_end.media f true tied.good (tied_matches past old tied) its_end.removes its_own its_end.lands (no_update_of core.status none)))
 
   pub note_tied : IsTied past new
   note_tied = subst (IsTied past) (sym whole) (let tie : IsTied past (state new.device next) = record {
     votes = tied.votes;
-    are_votes = tied.are_votes;
     media = its_end.media;
-    told = its_end.told;
+    setting = record {
+      are_votes = tied.setting.are_votes;
+      told = its_end.told;
+      own = tied.setting.own;
+    };
     view = w;
     sees = sees;
     good = each_keeps tied.votes (EndNote f.disk landed.names landed.home (flying_after v f.disk)) v w (landed.may, refl) tied.good;
@@ -170,12 +163,13 @@ module _ (past : List Fact) (old new : Session) (at disk : ℕ) (row : Flown) (b
     write = tied.write;
     orderly = orderly_same old (state new.device next) tied.write tied.orderly (subst IsSound whole sound) refl refl refl;
     since = since_ended past old new at disk true row buf its_owner returns tied tied.write (update_of core.status) tied.since;
-    next = subst (λ (sizes : List ℕ). MayUpdate core.descriptor core.status core.homes (image_of sizes its_end.media)) (sym its_end.sizes) next_now;
+    recorded = record {
+      next = subst (λ (sizes : List ℕ). MayUpdate core.descriptor core.status core.homes (image_of sizes its_end.media)) (sym its_end.sizes) next_now;
+      members = λ d member first. subst (λ (sizes : List ℕ). IsTrue (members_there (contents_of (image_of sizes its_end.media)) core.descriptor d)) (sym its_end.sizes) (members_now d ∙ tied.recorded.members d member first);
+      records = subst (λ (sizes : List ℕ). ShowsRecords core.descriptor core.status (contents_of (image_of sizes its_end.media))) (sym its_end.sizes) records_now;
+    };
     notes = notes_fit;
     copy_aimed = tied.copy_aimed;
     carry = subst (λ (fs : List Flight). CarryTheirs next w fs (remove core.flying at)) (sym its_end.removes.is)
         ((its_row past old new at disk true row buf its_owner returns tied next w).carry carries (subst (λ (fs : List Flight). CarryTheirs core v fs core.flying) its_end.removes.was tied.carry));
-    members = λ d member first. subst (λ (sizes : List ℕ). IsTrue (members_there (contents_of (image_of sizes its_end.media)) core.descriptor d)) (sym its_end.sizes) (members_now d ∙ tied.members d member first);
-    own = tied.own;
-    records = subst (λ (sizes : List ℕ). ShowsRecords core.descriptor core.status (contents_of (image_of sizes its_end.media))) (sym its_end.sizes) records_now;
   } in tie)

@@ -47,7 +47,7 @@ use Rattle.lvm_tie.proofs.Judged.{IsOfItsPartition, stale_seen, wanted_seen}
 use Rattle.lvm_tie.proofs.Orderly.{valid_of}
 use Rattle.lvm_tie.proofs.StepBlocks.{groups_are}
 use Rattle.lvm_tie.proofs.Wanted.{next_same, records_wanted, sees_wanted, stamp_same, stays_open, update_same, write_same}
-use Rattle.lvm_tie.proofs.Words.{any_one, clash, not_true, or_either}
+use Rattle.lvm_tie.proofs.Words.{any_one, clash, not_true, or_either, and_false}
 use Rattle.lvm_tie.proofs.Leaving.{Stands, gone, gone_here, gone_there, quiet}
 use Rattle.lvm_tie.proofs.Landed.{HasLanded, ended, now, q, since}
 use Rattle.lvm_tie.proofs.Stepped.{IsStepped, apart, carry_none, sees_stepped}
@@ -63,10 +63,6 @@ fresh_rest p old new sound wants =
 and_true : (b : Bool) → b && true ≡ b
 and_true true = refl
 and_true false = refl
-
-and_false : (b : Bool) → b && false ≡ false
-and_false true = refl
-and_false false = refl
 
 -- what missing disks leave behind is fresh
 entailed_fresh : (core : Core) (p : Pp) → is_entailed core p ≡ true → is_stale core p ≡ false
@@ -230,7 +226,7 @@ module _ (past : List Fact) (old new : Session) (at : ℕ) (tied : IsTied past o
     stale = stale_seen past old tied c.pp ∙ own_stale;
     still = still;
     added = λ p is. seen_stale p ∙ (and_both (calls_stale core.status.wanted p) (not (same_pp p c.pp)) (sym (fresher.stale p) ∙ is)).0;
-    still_dirty = λ lv is. ap (λ (ns : List ℕ). list_any (λ n. n == lv) ns) fresher.dirty ∙ sym (ap (λ (m : Marks). m.dirty lv) tied.sees.wanted) ∙ is;
+    still_dirty = λ lv is. ap (λ (ns : List ℕ). list_any (λ n. n == lv) ns) fresher.dirty ∙ sym (ap (λ (m : Marks). m.dirty lv) tied.sees.status.wanted) ∙ is;
     behind = λ lv b x y copy fresh missing other usable kept.
         let y_fresh : v.committed.value.stale y ≡ false = not_true (v.committed.value.stale y) (and_both (not (v.committed.value.stale y)) (not (v.missing y.disk)) usable).0 in
         others_same x (not_own x fresh) ∙ tied.good.sound.behind.left_behind lv b x y copy fresh missing other usable (sym (others_same y (not_own y y_fresh)) ∙ kept);
@@ -282,9 +278,12 @@ module _ (past : List Fact) (old new : Session) (at : ℕ) (tied : IsTied past o
   on_tied : IsSound (state new.device on) → IsTied past (state new.device on)
   on_tied sound_on = record {
     votes = tied.votes;
-    are_votes = tied.are_votes;
     media = (ended past old new at event.row true event.buf tied event.returns event.own c event.is_open).media;
-    told = (ended past old new at event.row true event.buf tied event.returns event.own c event.is_open).told;
+    setting = record {
+      are_votes = tied.setting.are_votes;
+      told = (ended past old new at event.row true event.buf tied event.returns event.own c event.is_open).told;
+      own = tied.setting.own;
+    };
     view = w;
     sees = sees_wanted core.status status rest same_missing past core2 was refl sees_was;
     good = stands.good;
@@ -292,13 +291,14 @@ module _ (past : List Fact) (old new : Session) (at : ℕ) (tied : IsTied past o
     write = tied.write;
     orderly = record { sound = sound_on; on = tied.orderly.on; update = write_same core.status status rest same_missing core.homes tied.write tied.orderly.update };
     since = subst (OnlyUpdateSince new.device tied.write) (sym (update_same core.status status rest same_missing)) (since past old new at event.row true event.buf tied event.returns event.own c event.is_open tied.write (update_of core.status) tied.since);
-    next = next_same core.status status rest same_missing core.descriptor core.homes (image_of new.device.sizes (ended past old new at event.row true event.buf tied event.returns event.own c event.is_open).media) its_landed.next;
+    recorded = record {
+      next = next_same core.status status rest same_missing core.descriptor core.homes (image_of new.device.sizes (ended past old new at event.row true event.buf tied event.returns event.own c event.is_open).media) its_landed.next;
+      members = its_landed.members;
+      records = records_wanted core.status status rest same_missing core.descriptor (now past old new at event.row true event.buf tied event.returns event.own c event.is_open) its_landed.records;
+    };
     notes = λ disk items flies. subst (λ st. IsNote (record { stamp = st.epoch; entries = items.items })) (sym (stamp_same core.status status rest same_missing)) (tied.notes disk items flies);
     copy_aimed = λ x at_x r. absurd (let same_x : e ≡ x = (let k : Some e ≡ Some x = at_x in cc) in let k : true ≡ false = sym r ∙ (λ t. has_row core (sym same_x t)) ∙ no_row in cc);
     carry = carry_none on w e new.device.flights (Rattle.std.specs.List.remove core.flying at) refl refl;
-    members = its_landed.members;
-    records = records_wanted core.status status rest same_missing core.descriptor (now past old new at event.row true event.buf tied event.returns event.own c event.is_open) its_landed.records;
-    own = tied.own;
   }
 
   pub whole_tied : IsTied past new

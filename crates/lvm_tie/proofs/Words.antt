@@ -16,6 +16,10 @@ use Rattle.lvm_invariant.specs.State.{Stage, Todo}
 use Rattle.lvm_tie_shelf.proofs.Writing.{and_both, pp_same, same_pp}
 use Rattle.lvm_tie.specs.Seen.{stage_seen, stage_at}
 
+pub and_false : (b : Bool) → b && false ≡ false
+and_false true = refl
+and_false false = refl
+
 pub or_left : (a b : Bool) → (a || b) ≡ false → (a ≡ false) × (b ≡ false)
 or_left true b h = absurd cc
 or_left false b h = (refl, h)

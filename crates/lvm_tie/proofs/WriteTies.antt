@@ -173,19 +173,19 @@ module _ (past : List Fact) (old new : Session) (index : ℕ) (ends : Ends old n
   learned_is = ap (λ b. let x : Open = record o { request = with_end o.request number ends.ok; got = if b then Some ends.buf else o.got } in x) no_buffer
 
   ended : HasEnded old.device new.device ends.row.ticket ends.ok ends.buf tied.media
-  ended = has_ended old.device new.device ends.row.ticket ends.ok ends.buf tied.media ends.returns.ends tied.told
+  ended = has_ended old.device new.device ends.row.ticket ends.ok ends.buf tied.media ends.returns.ends tied.setting.told
 
   abbrev f : Flight
   f = ended.flight
 
   abbrev q : Queued
-  q = (tied.sees.requests learns.place o learns.its.there).0
+  q = (tied.sees.queue.requests learns.place o learns.its.there).0
 
   at : v.queue i ≡ Some q
-  at = (tied.sees.requests learns.place o learns.its.there).1
+  at = (tied.sees.queue.requests learns.place o learns.its.there).1
 
   sees : SeesRequest o q
-  sees = (tied.sees.requests learns.place o learns.its.there).2
+  sees = (tied.sees.queue.requests learns.place o learns.its.there).2
 
   its_row : (next : Core) (u : State) → IsRow old.core next tied.write v u ended.removes.before ended.removes.after f old.core.flying index ends.row
   its_row next u = is_row old.core next tied.write v u ended.removes.before ended.removes.after f old.core.flying index ends.row
@@ -307,7 +307,7 @@ module _ (past : List Fact) (old new : Session) (index : ℕ) (ends : Ends old n
   good_w = each_keeps tied.votes (Transfer i q t.pp (stage_of ends.ok) block) v w (wrote.may, refl) tied.good
 
   next_w : MayUpdate old.core.descriptor old.core.status old.core.homes (image_of old.device.sizes ended.media)
-  next_w = next_by_data old.core.descriptor old.core.status old.core.homes (image_of old.device.sizes tied.media) (image_of old.device.sizes ended.media) (subst (λ (sizes : List ℕ). AreSectors sizes ended.media) ended.sizes whole) same_records tied.next
+  next_w = next_by_data old.core.descriptor old.core.status old.core.homes (image_of old.device.sizes tied.media) (image_of old.device.sizes ended.media) (subst (λ (sizes : List ℕ). AreSectors sizes ended.media) ended.sizes whole) same_records tied.recorded.next
 
   -- ---- what becomes wanted stale
 
@@ -319,8 +319,8 @@ module _ (past : List Fact) (old new : Session) (index : ℕ) (ends : Ends old n
 
   sure_of : (p : Pp) → StaysFresh w p → is_sure core2 p ≡ true
   sure_of p fresh =
-      let committed : calls_stale old.core.status.committed p ≡ false = sym (ap (λ (m : Marks). m.stale p) tied.sees.committed) ∙ fresh.committed in
-      let wanted : calls_stale old.core.status.wanted p ≡ false = sym (ap (λ (m : Marks). m.stale p) tied.sees.wanted) ∙ fresh.wanted in
+      let committed : calls_stale old.core.status.committed p ≡ false = sym (ap (λ (m : Marks). m.stale p) tied.sees.status.committed) ∙ fresh.committed in
+      let wanted : calls_stale old.core.status.wanted p ≡ false = sym (ap (λ (m : Marks). m.stale p) tied.sees.status.wanted) ∙ fresh.wanted in
       λ k. not (committed k) && not (wanted k)
 
   covers_first : IsTrue (covers q2 q2.lv q2.first)
@@ -447,7 +447,7 @@ module _ (past : List Fact) (old new : Session) (index : ℕ) (ends : Ends old n
       other = stays.keeper.pp;
       copy = subst (λ (c : Pp). IsTrue (v.is_copy (lv_of o.request.ask) (at_of o.request.ask) c)) x.there (its_copy x.one x.its_one);
       other_copy = its_copy stays.keeper stays.one;
-      fresh = ap (λ (m : Marks). m.stale stays.keeper.pp) tied.sees.committed ∙ keeper_fresh;
+      fresh = ap (λ (m : Marks). m.stale stays.keeper.pp) tied.sees.status.committed ∙ keeper_fresh;
       kept = wants.stale stays.keeper.pp ∙ (λ k. keeper_wanted k || (keeper_not_due k || keeper_not_marked k));
     }
 
@@ -475,7 +475,7 @@ module _ (past : List Fact) (old new : Session) (index : ℕ) (ends : Ends old n
     -- ---- what the state wants
 
     still : (p : Pp) → IsTrue (w.wanted.stale p) → IsTrue (calls_stale status.wanted p)
-    still p is = wants.stale p ∙ or_true (calls_stale old.core.status.wanted p) (due p) (inl (sym (ap (λ (m : Marks). m.stale p) tied.sees.wanted) ∙ is))
+    still p is = wants.stale p ∙ or_true (calls_stale old.core.status.wanted p) (due p) (inl (sym (ap (λ (m : Marks). m.stale p) tied.sees.status.wanted) ∙ is))
 
     open_same : (e : Option CopyEnd) → ((h : CopyEnd) → e ≡ Some h → (x : OpenCopy) → v.open_copy ≡ Some x → calls_stale status.wanted x.target ≡ true)
         → (open_after e v.open_copy ≡ v.open_copy) ⊎ ((open_after e v.open_copy ≡ None) × ((x : OpenCopy) → v.open_copy ≡ Some x → IsTrue (calls_stale status.wanted x.target)))
@@ -490,8 +490,8 @@ module _ (past : List Fact) (old new : Session) (index : ℕ) (ends : Ends old n
     may_want = record {
       missing_still = λ d is. is;
       still = still;
-      still_dirty = λ lv is. ap (λ (ns : List ℕ). list_any (λ n. n == lv) ns) wants.dirty ∙ sym (ap (λ (m : Marks). m.dirty lv) tied.sees.wanted) ∙ is;
-      added = λ p is. ⊎_elim (λ was. inl (ap (λ (m : Marks). m.stale p) tied.sees.wanted ∙ was)) (λ its. replaced p its) (or_either (calls_stale old.core.status.wanted p) (due p) (sym (wants.stale p) ∙ is));
+      still_dirty = λ lv is. ap (λ (ns : List ℕ). list_any (λ n. n == lv) ns) wants.dirty ∙ sym (ap (λ (m : Marks). m.dirty lv) tied.sees.status.wanted) ∙ is;
+      added = λ p is. ⊎_elim (λ was. inl (ap (λ (m : Marks). m.stale p) tied.sees.status.wanted ∙ was)) (λ its. replaced p its) (or_either (calls_stale old.core.status.wanted p) (due p) (sym (wants.stale p) ∙ is));
       open_same = open_same how ends_stale;
       open_there = open_there how;
       behind = λ lv b c e copy fresh gone other usable kept. still c (good_w.sound.behind.left_behind lv b c e copy fresh gone other usable (falls (w.wanted.stale e) (calls_stale status.wanted e) (still e) kept));
@@ -513,9 +513,12 @@ module _ (past : List Fact) (old new : Session) (index : ℕ) (ends : Ends old n
     abbrev near : IsNear past new.device core3 how
     near = record {
       votes = tied.votes;
-      are_votes = tied.are_votes;
       media = ended.media;
-      told = ended.told;
+      setting = record {
+        are_votes = tied.setting.are_votes;
+        told = ended.told;
+        own = tied.setting.own;
+      };
       view = w1;
       open_copy = v.open_copy;
       sees = sees_wanted core2.status status wants.rest wants.missing past core2 w refl sees_w;
@@ -524,18 +527,19 @@ module _ (past : List Fact) (old new : Session) (index : ℕ) (ends : Ends old n
       describes = subst (λ (sizes : List ℕ). Describes w1 w1.facts old.core.descriptor (update_of status) (contents_of (image_of sizes ended.media))) (sym ended.sizes) describes1;
       write = tied.write;
       since = subst (OnlyUpdateSince new.device tied.write) (sym (update_same core2.status status wants.rest wants.missing)) (since_ended tied.write (update_of old.core.status) tied.since);
-      next = subst (λ (sizes : List ℕ). MayUpdate old.core.descriptor status old.core.homes (image_of sizes ended.media)) (sym ended.sizes)
-          (next_same core2.status status wants.rest wants.missing old.core.descriptor old.core.homes (image_of old.device.sizes ended.media) next_w);
+      recorded = record {
+        next = subst (λ (sizes : List ℕ). MayUpdate old.core.descriptor status old.core.homes (image_of sizes ended.media)) (sym ended.sizes)
+            (next_same core2.status status wants.rest wants.missing old.core.descriptor old.core.homes (image_of old.device.sizes ended.media) next_w);
+        members = λ d member first. subst (λ (sizes : List ℕ). IsTrue (members_there (contents_of (image_of sizes ended.media)) old.core.descriptor d)) (sym ended.sizes)
+            (ap (λ (c : Contents). members_there c old.core.descriptor d) group_same.rest ∙ tied.recorded.members d member first);
+        records = subst (λ (sizes : List ℕ). ShowsRecords old.core.descriptor status (contents_of (image_of sizes ended.media))) (sym ended.sizes)
+            (records_wanted core2.status status wants.rest wants.missing old.core.descriptor now
+            (records_kept old.core.descriptor old.core.status (image_of old.device.sizes tied.media) (image_of old.device.sizes ended.media) same_records tied.recorded.records));
+      };
       notes = λ d items flies. subst (λ (st : Stamp). IsNote (record { stamp = st.epoch; entries = items.items })) (sym (stamp_same core2.status status wants.rest wants.missing)) (tied.notes d items flies);
       copy_aimed = tied.copy_aimed;
       carry = subst (λ (fs : List Flight). CarryTheirs core3 w1 fs (remove old.core.flying index)) (sym ended.removes.is)
           ((its_row core3 w1).carry (carries status w1 refl) (subst (λ (fs : List Flight). CarryTheirs old.core v fs old.core.flying) ended.removes.was tied.carry));
-      members = λ d member first. subst (λ (sizes : List ℕ). IsTrue (members_there (contents_of (image_of sizes ended.media)) old.core.descriptor d)) (sym ended.sizes)
-          (ap (λ (c : Contents). members_there c old.core.descriptor d) group_same.rest ∙ tied.members d member first);
-      own = tied.own;
-      records = subst (λ (sizes : List ℕ). ShowsRecords old.core.descriptor status (contents_of (image_of sizes ended.media))) (sym ended.sizes)
-          (records_wanted core2.status status wants.rest wants.missing old.core.descriptor now
-          (records_kept old.core.descriptor old.core.status (image_of old.device.sizes tied.media) (image_of old.device.sizes ended.media) same_records tied.records));
     }
 
     runs : (h : CopyEnd) → how ≡ Some h → IsRunning core3

@@ -1,9 +1,6 @@
 -- A session that is tied but for the end of its open copy.
-use Rattle.std.specs.Prelude.{◌≡◌, ℕ, true, false, List, Option, Some, None, IsTrue, count_by}
-use Rattle.lvm_num.specs.Descriptor.{is_member}
-use Rattle.lvm_num.specs.Status.{calls_missing}
+use Rattle.std.specs.Prelude.{◌≡◌, true, List, Option, Some, None}
 use Rattle.lvm_vol.specs.Facts.{Fact}
-use Rattle.lvm_vol.specs.Legal.{begins_in}
 use Rattle.lvm_disk.specs.Device.{Media, Device, image_of}
 use Rattle.lvm_kept.specs.Contents.{contents_of}
 use Rattle.lvm_kept.specs.Torn.{RecordWrite}
@@ -15,11 +12,11 @@ use Rattle.lvm_session.specs.Bringing.{with_end}
 use Rattle.lvm_invariant.specs.State.{OpenCopy, State}
 use Rattle.lvm_invariant.specs.Found.{Votes}
 use Rattle.lvm_invariant.specs.Good.{Good}
-use Rattle.lvm_crash.specs.Session.{AreVotesOf, Describes, members_there}
+use Rattle.lvm_crash.specs.Session.{Describes}
 use Rattle.lvm_tie_shelf.specs.Owned.{OnlyUpdateSince}
-use Rattle.lvm_tie.specs.Out.{AreNotes, CarryTheirs, MayUpdate}
+use Rattle.lvm_tie.specs.Out.{AreNotes, CarryTheirs}
 use Rattle.lvm_tie.specs.Seen.{Sees, update_of}
-use Rattle.lvm_tie.specs.Tied.{IsCopyAimed, IsOrderly, IsTied, ShowsRecords}
+use Rattle.lvm_tie.specs.Tied.{IsSetting, IsCopyAimed, IsOrderly, IsTied, HoldsRecords}
 
 -- a copy is open, and it runs
 pub record IsRunning (core : Core) : Type 0 where
@@ -35,9 +32,8 @@ open_after (Some how) o = None
 -- All of the tie but what is asked of the session alone, where the copy ends so and the state has it as ended.
 pub record IsNear (past : List Fact) (device : Device) (core : Core) (how : Option CopyEnd) : Type 0 where
   pub votes : Votes
-  pub are_votes : AreVotesOf core.descriptor votes
   pub media : Media
-  pub told : device.media ≡ Some media
+  pub setting : IsSetting past core.history.run core.descriptor device.media votes media
   pub view : State
   pub open_copy : Option OpenCopy
   pub sees : Sees past core (record view { open_copy = open_copy })
@@ -46,13 +42,10 @@ pub record IsNear (past : List Fact) (device : Device) (core : Core) (how : Opti
   pub describes : Describes view view.facts core.descriptor (update_of core.status) (contents_of (image_of device.sizes media))
   pub write : Option RecordWrite
   pub since : OnlyUpdateSince device write (update_of core.status)
-  pub next : MayUpdate core.descriptor core.status core.homes (image_of device.sizes media)
+  pub recorded : HoldsRecords core.descriptor core.origin.table core.status core.homes (image_of device.sizes media)
   pub notes : AreNotes core
   pub copy_aimed : IsCopyAimed core view
   pub carry : CarryTheirs core view device.flights core.flying
-  pub members : (d : ℕ) → is_member core.descriptor d ≡ true → calls_missing core.origin.table d ≡ false → IsTrue (members_there (contents_of (image_of device.sizes media)) core.descriptor d)
-  pub own : count_by (begins_in core.history.run) past ≡ 0
-  pub records : ShowsRecords core.descriptor core.status (contents_of (image_of device.sizes media))
 
 -- Where the open copy ends so while it runs, or doesn't end, the session is tied after it: a step of it that isn't out leaves the queue.
 abbrev pub NearTies : Type 0

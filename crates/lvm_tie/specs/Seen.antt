@@ -5,15 +5,15 @@ use Rattle.lvm_num.specs.declared.place.Pp.{Pp}
 use Rattle.lvm_num.specs.declared.record.NoteEntry.{NoteEntry}
 use Rattle.lvm_num.specs.declared.status.Status.{Status}
 use Rattle.lvm_num.specs.Buffer.{Buffer, Sector}
-use Rattle.lvm_num.specs.Disks.{has}
+use Rattle.lvm_num.specs.Disks.{Disks, has}
 use Rattle.lvm_num.specs.Record.{Stamped}
 use Rattle.arrayvec.specs.ArrayVec.{ArrayVec}
-use Rattle.lvm_vol.specs.Facts.{Fact}
+use Rattle.lvm_vol.specs.Facts.{Fact, Request}
 use Rattle.lvm_vol.specs.Log.{request_of}
 use Rattle.lvm_mwc.specs.declared.notes.DiskNotes.{DiskNotes}
 use Rattle.lvm_mwc.specs.Entries.{has_entry}
 use Rattle.lvm_mwc.specs.Notes.{names_group}
-use Rattle.lvm_mwc.specs.Cache.{notes_on, flight_on}
+use Rattle.lvm_mwc.specs.Cache.{Cached, notes_on, flight_on}
 use Rattle.lvm_status.specs.Update.{Stored, seen, is_held}
 use Rattle.lvm_sched.specs.declared.writes.TargetState.{TargetState}
 use Rattle.lvm_sched.specs.declared.writes.TargetState.TheVariants as target
@@ -29,7 +29,7 @@ use Rattle.lvm_session.specs.declared.bringing.Step.TheVariants as step
 use Rattle.lvm_session.specs.State.{Core, is_there}
 use Rattle.lvm_session.specs.Judging.{is_running, place_of}
 use Rattle.lvm_session.specs.Bringing.{groups_of, has_row, block_at}
-use Rattle.lvm_invariant.specs.State.{Stage, Todo, Flying, Well, Badly, Phase, Held, WantEntry, Ready, Going, Landed, Groups, Queued, OpenCopy, StepWrite, State, has_landed}
+use Rattle.lvm_invariant.specs.State.{Stage, Todo, Flying, Well, Badly, Phase, Held, WantEntry, Ready, Going, Landed, Groups, Queued, OpenCopy, StepWrite, State, Marks, has_landed}
 use Rattle.lvm_invariant.specs.Updates.{is_pp}
 use Rattle.lvm_crash.specs.Session.{marks_of, as_marks}
 
@@ -110,15 +110,19 @@ SeesHand (step.Reading source) q = (q.phase ≡ Going) × (q.targets source ≡ 
 SeesHand (step.Read buf) q = (q.phase ≡ Going) × (value : ℕ → Sector) × (q.got ≡ Some value) × ((b : ℕ) → value b ≡ slice_index_or buf.sectors (b - q.first) [])
 SeesHand step.Writing q = (q.phase ≡ Going) × (value : ℕ → Sector) × (q.got ≡ Some value)
 
--- Its step stands in the queue as a read of a whole track group, whose failed sources are those that were tried in vain.
-pub record SeesStep (core : Core) (c : Bringing) (q : Queued) : Type 0 where
+-- Its step stands in the queue as a read of the whole track group at this block, whose failed sources are those that were tried in vain.
+pub record SeesReading (at : ℕ) (c : Bringing) (q : Queued) : Type 0 where
   pub lv : q.lv ≡ c.lv
-  pub first : q.first ≡ block_at core c
+  pub first : q.first ≡ at
   pub count : q.count ≡ 256
   pub write : q.write ≡ false
   pub step : q.step ≡ true
   pub hand : SeesHand c.step q
   pub failed : (p : Pp) → q.targets p ≡ Some Badly → has c.tried p.disk ≡ true
+
+-- its step stands there as the read at its cursor
+abbrev pub SeesStep : Core → Bringing → Queued → Type 0
+SeesStep core c q = SeesReading (block_at core c) c q
 
 -- ---- notes
 
@@ -131,45 +135,66 @@ SeesNote (Some note) None = ⊥
 
 -- ---- the queue
 
--- a request of the table has this place of the queue
-pub record IsRequestAt (core : Core) (i : ℕ) : Type 0 where
+-- one of these requests has this place of the queue
+pub record IsPlaceOfRequest (requests : List Open) (i : ℕ) : Type 0 where
   pub place : ℕ
   pub request : Open
-  pub there : slice_get core.requests place ≡ Some request
+  pub there : slice_get requests place ≡ Some request
   pub its : place_of request.request.id ≡ i
 
--- the step of the copy that is open has it
-pub record IsStepAt (core : Core) (i : ℕ) : Type 0 where
+-- the step of the copy that is open has it, where this says of a copy whether its step has a place
+pub record IsPlaceOfStep (open_copy : Option Bringing) (has_place : Bringing → Bool) (i : ℕ) : Type 0 where
   pub copy : Bringing
-  pub is_open : core.copy ≡ Some copy
-  pub row : has_row core copy ≡ true
+  pub is_open : open_copy ≡ Some copy
+  pub row : has_place copy ≡ true
   pub its : copy.place ≡ i
 
--- ---- all of it
+-- a request of the table has it
+abbrev pub IsRequestAt : Core → ℕ → Type 0
+IsRequestAt core i = IsPlaceOfRequest core.requests i
+
+-- the step of the copy has it
+abbrev pub IsStepAt : Core → ℕ → Type 0
+IsStepAt core i = IsPlaceOfStep core.copy (λ (c : Bringing). has_row core c) i
+
+-- Its places are those of the requests of this table and of the step of the copy, each under the name that the history gives it.
+pub record SeesQueue (table : List Open) (open_copy : Option Bringing) (has_place : Bringing → Bool) (block : Bringing → ℕ) (history : List Fact) (places : ℕ → Option Queued) (name : ℕ → Request) : Type 0 where
+  pub requests : (place : ℕ) (o : Open) → slice_get table place ≡ Some o → (q : Queued) × (places (place_of o.request.id) ≡ Some q) × SeesRequest o q
+  pub a_step : (c : Bringing) → open_copy ≡ Some c → has_place c ≡ true → (q : Queued) × (places c.place ≡ Some q) × SeesReading (block c) c q
+  pub only : (i : ℕ) (q : Queued) → places i ≡ Some q → IsPlaceOfRequest table i ⊎ IsPlaceOfStep open_copy has_place i
+  pub names : (place : ℕ) (o : Open) → slice_get table place ≡ Some o → name (place_of o.request.id) ≡ request_of history o.request.id
+
+-- ---- the statuses
 
 -- the update in flight, under its stamp
 abbrev pub update_of : Stored → Option (Stamped Status)
 update_of status = option_map (λ (t : Status). record { stamp = status.stamp; value = t }) status.in_flight
 
--- After this earlier history the session is this state, but for what the disks show: its queue holds the requests of the table and the step of the copy, its history
--- follows the earlier one, its marks are those of the three statuses, and each disk that isn't a member which is there is missing.
-pub record Sees (past : List Fact) (core : Core) (v : State) : Type 0 where
-  pub requests : (place : ℕ) (o : Open) → slice_get core.requests place ≡ Some o → (q : Queued) × (v.queue (place_of o.request.id) ≡ Some q) × SeesRequest o q
-  pub a_step : (c : Bringing) → core.copy ≡ Some c → has_row core c ≡ true → (q : Queued) × (v.queue c.place ≡ Some q) × SeesStep core c q
-  pub only : (i : ℕ) (q : Queued) → v.queue i ≡ Some q → IsRequestAt core i ⊎ IsStepAt core i
-  pub names : (place : ℕ) (o : Open) → slice_get core.requests place ≡ Some o → v.name (place_of o.request.id) ≡ request_of core.history.facts o.request.id
-  pub facts : v.facts ≡ past ++ core.history.facts
-  pub committed : v.committed.value ≡ marks_of core.status.committed
-  pub in_flight : v.in_flight ≡ option_map as_marks (update_of core.status)
-  pub wanted : v.wanted ≡ marks_of core.status.wanted
-  pub started : (d : ℕ) → v.status_flying d ≡ has core.status.writes.started d
+-- Its marks are those of the three statuses, its writes of the update those that were started, and each disk that isn't a member which is there is missing.
+pub record SeesStatus (status : Stored) (there : Disks) (last : Stamped Marks) (update : Option (Stamped Marks)) (wants : Marks) (flying : Disks) (shown : ℕ → Option (Stamped Marks)) (gone : Disks) : Type 0 where
+  pub committed : last.value ≡ marks_of status.committed
+  pub in_flight : update ≡ option_map as_marks (update_of status)
+  pub wanted : wants ≡ marks_of status.wanted
+  pub started : (d : ℕ) → flying d ≡ has status.writes.started d
   -- a disk to which a write of the update has gone well shows it
-  pub written : (d : ℕ) → has core.status.writes.written d ≡ true → v.media.status d ≡ v.in_flight
+  pub written : (d : ℕ) → has status.writes.written d ≡ true → shown d ≡ update
   -- an update that is committed and still being written is what is committed, with its stamp
-  pub held : (u : Stamped Status) → update_of core.status ≡ Some u → is_held (seen core.status) ≡ true → v.committed ≡ as_marks u
-  pub missing : (d : ℕ) → v.missing d ≡ not (is_there core d)
-  pub cache : (lv g : ℕ) → v.cache lv g ≡ has_entry core.cache.entries lv g
-  pub home : (d lv g : ℕ) (n : DiskNotes) → IsTrue (is_there core d) → notes_on core.cache d ≡ Some n → v.home_note d lv g ≡ names_group n.written.items lv g
-  pub flying : (d : ℕ) → SeesNote (v.flying_note d) (flight_on core.cache d)
+  pub held : (u : Stamped Status) → update_of status ≡ Some u → is_held (seen status) ≡ true → last ≡ as_marks u
+  pub missing : (d : ℕ) → gone d ≡ not (there d)
+
+-- Its cache and its notes at home, on the disks that are there, and in flight are those of the session's.
+pub record SeesNotes (kept : Cached) (there : Disks) (groups : Groups) (at_home : ℕ → Groups) (notes : ℕ → Option Groups) : Type 0 where
+  pub cache : (lv g : ℕ) → groups lv g ≡ has_entry kept.entries lv g
+  pub home : (d lv g : ℕ) (n : DiskNotes) → IsTrue (there d) → notes_on kept d ≡ Some n → at_home d lv g ≡ names_group n.written.items lv g
+  pub flying : (d : ℕ) → SeesNote (notes d) (flight_on kept d)
+
+-- ---- all of it
+
+-- After this earlier history, which its own follows, the session is this state, but for what the disks show.
+pub record Sees (past : List Fact) (core : Core) (v : State) : Type 0 where
+  pub queue : SeesQueue core.requests core.copy (λ (c : Bringing). has_row core c) (λ (c : Bringing). block_at core c) core.history.facts v.queue v.name
+  pub facts : v.facts ≡ past ++ core.history.facts
+  pub status : SeesStatus core.status (is_there core) v.committed v.in_flight v.wanted v.status_flying v.media.status v.missing
+  pub notes : SeesNotes core.cache (is_there core) v.cache v.home_note v.flying_note
   pub open_copy : SeesCopy (groups_of core) core.copy v.open_copy
   pub step_write : v.step_write ≡ step_write_in core.copy

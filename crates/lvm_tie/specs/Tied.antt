@@ -8,7 +8,7 @@ use Rattle.lvm_num.specs.Record.{Stamped, stamp_lt}
 use Rattle.lvm_num.specs.Status.{calls_missing}
 use Rattle.lvm_vol.specs.Facts.{Fact}
 use Rattle.lvm_vol.specs.Legal.{begins_in}
-use Rattle.lvm_disk.specs.Device.{Media, image_of}
+use Rattle.lvm_disk.specs.Device.{Image, Media, image_of}
 use Rattle.lvm_disk.specs.Paths.{DeviceStep}
 use Rattle.lvm_kept.specs.Contents.{Contents, contents_of}
 use Rattle.lvm_kept.specs.Moments.{Moment}
@@ -19,6 +19,7 @@ use Rattle.lvm_steps.specs.Requests.{at}
 use Rattle.lvm_session.specs.declared.bringing.OpenCopy.{OpenCopy as Bringing}
 use Rattle.lvm_session.specs.declared.bringing.Step.TheVariants as step
 use Rattle.lvm_session.specs.declared.open.Power.TheVariants as power
+use Rattle.lvm_homes.specs.declared.homes.Homes.{Homes}
 use Rattle.lvm_session.specs.State.{Core, State as Session}
 use Rattle.lvm_session.specs.Bringing.{has_row, block_at}
 use Rattle.lvm_session.specs.Sound.{IsSound}
@@ -52,6 +53,19 @@ pub record ShowsRecords (group : Descriptor) (status : Stored) (c : Contents) : 
   pub latest : (d : ℕ) (r : Stamped Descriptor) → c.descriptor d ≡ Some r → r.value.id ≡ group.id → (stamp_lt r.stamp descriptor.stamp ≡ true) ⊎ (r ≡ descriptor)
   pub settled : status.in_flight ≡ None → ShowsStatus group status c
 
+-- The setting of a tie: the votes are the group's, the shelf tells its media, and the earlier history has no request of this run.
+pub record IsSetting (past : List Fact) (run : ℕ) (group : Descriptor) (shown : Option Media) (votes : Votes) (media : Media) : Type 0 where
+  pub are_votes : AreVotesOf group votes
+  pub told : shown ≡ Some media
+  pub own : count_by (begins_in run) past ≡ 0
+
+-- What stands in the records of the disks: the next update may be written, each member that wasn't missing at first shows the group and has room for its records, and
+-- the members that aren't missing show what is committed.
+pub record HoldsRecords (group : Descriptor) (first : Status) (status : Stored) (homes : Homes) (image : Image) : Type 0 where
+  pub next : MayUpdate group status homes image
+  pub members : (d : ℕ) → is_member group d ≡ true → calls_missing first d ≡ false → IsTrue (members_there (contents_of image) group d)
+  pub records : ShowsRecords group status (contents_of image)
+
 -- What is asked of the driver's session alone: it is on and sound, and its update in flight is written so.
 pub record IsOrderly (s : Session) (write : Option RecordWrite) : Type 0 where
   pub sound : IsSound s
@@ -59,13 +73,11 @@ pub record IsOrderly (s : Session) (write : Option RecordWrite) : Type 0 where
   pub update : IsWriteOf s.core.status s.core.homes s.core.status.in_flight write
 
 -- After this earlier history a session that is on and sound is seen as a good state, which describes what stands on the media. What is out is written since the
--- update in flight began, a step writes what it has got, notes fit, and the next update may be written. Each member that wasn't missing when the session began shows the group and has
--- room for its records, and the earlier history has no request of this run.
+-- update in flight began, a step writes what it has got, and notes fit.
 pub record IsTied (past : List Fact) (s : Session) : Type 0 where
   pub votes : Votes
-  pub are_votes : AreVotesOf s.core.descriptor votes
   pub media : Media
-  pub told : s.device.media ≡ Some media
+  pub setting : IsSetting past s.core.history.run s.core.descriptor s.device.media votes media
   pub view : State
   pub sees : Sees past s.core view
   pub good : Good votes view
@@ -73,13 +85,10 @@ pub record IsTied (past : List Fact) (s : Session) : Type 0 where
   pub write : Option RecordWrite
   pub orderly : IsOrderly s write
   pub since : OnlyUpdateSince s.device write (update_of s.core.status)
-  pub next : MayUpdate s.core.descriptor s.core.status s.core.homes (image_of s.device.sizes media)
+  pub recorded : HoldsRecords s.core.descriptor s.core.origin.table s.core.status s.core.homes (image_of s.device.sizes media)
   pub notes : AreNotes s.core
   pub copy_aimed : IsCopyAimed s.core view
   pub carry : CarryTheirs s.core view s.device.flights s.core.flying
-  pub members : (d : ℕ) → is_member s.core.descriptor d ≡ true → calls_missing s.core.origin.table d ≡ false → IsTrue (members_there (contents_of (image_of s.device.sizes media)) s.core.descriptor d)
-  pub own : count_by (begins_in s.core.history.run) past ≡ 0
-  pub records : ShowsRecords s.core.descriptor s.core.status (contents_of (image_of s.device.sizes media))
 
 -- So it is, while the session is on, after each earlier history with which the run may have begun.
 abbrev pub IsGood : ℕ → Moment → Session → Type 0

@@ -70,15 +70,15 @@ module _ (past : List Fact) (s : Session) (tied : IsTied past s) (rests : IsRest
   no_update = ap (λ (o : Option Status). option_map (λ (t : Status). let r : Stamped Status = record { stamp = core.status.stamp; value = t } in r) o) rests.in_flight
 
   none_flies : v.in_flight ≡ None
-  none_flies = tied.sees.in_flight ∙ ap (option_map as_marks) no_update
+  none_flies = tied.sees.status.in_flight ∙ ap (option_map as_marks) no_update
 
   idle : IsIdle v
   idle = record {
     queue = λ i. empty i (v.queue i) refl;
     in_flight = none_flies;
-    wanted = tied.sees.wanted ∙ ap marks_of (sym rests.committed) ∙ sym tied.sees.committed;
-    no_status = λ d. tied.sees.started d ∙ (on.going.status.idle rests.in_flight d).1;
-    no_note = λ d. note_none (v.flying_note d) (subst (SeesNote (v.flying_note d)) (rests.notes d) (tied.sees.flying d));
+    wanted = tied.sees.status.wanted ∙ ap marks_of (sym rests.committed) ∙ sym tied.sees.status.committed;
+    no_status = λ d. tied.sees.status.started d ∙ (on.going.status.idle rests.in_flight d).1;
+    no_note = λ d. note_none (v.flying_note d) (subst (SeesNote (v.flying_note d)) (rests.notes d) (tied.sees.notes.flying d));
     no_copy = subst (λ (o : Option Bringing). SeesCopy (groups_of core) o v.open_copy) rests.copy tied.sees.open_copy;
     no_step = tied.sees.step_write ∙ ap step_write_in rests.copy;
   }
@@ -88,7 +88,7 @@ module _ (past : List Fact) (s : Session) (tied : IsTied past s) (rests : IsRest
       empty i (Some q) is = ⊎_elim
           (λ (r : IsRequestAt core i). none_at core.requests r.place r.request rests.requests r.there)
           (λ (r : IsStepAt core i). some_is_none core.copy r.copy rests.copy r.is_open)
-          (tied.sees.only i q is)
+          (tied.sees.queue.only i q is)
 
   -- ---- the committed status
 
@@ -103,7 +103,7 @@ module _ (past : List Fact) (s : Session) (tied : IsTied past s) (rests : IsRest
       of : Found tied.votes v → HasCommitted
       of f =
           let reads = finding_reads c all_disks group.id group tied.describes.stands.found in
-          let meets = tied.votes.meet (members_in c all_disks group.id group) f.set (tied.are_votes.reads (members_in c all_disks group.id group) ∙ reads.reads.enough) f.enough in
+          let meets = tied.votes.meet (members_in c all_disks group.id group) f.set (tied.setting.are_votes.reads (members_in c all_disks group.id group) ∙ reads.reads.enough) f.enough in
           record {
             disk = meets.0;
             shown = ⊎_elim (λ (same : v.media.status meets.0 ≡ Some v.committed). same)
@@ -114,7 +114,7 @@ module _ (past : List Fact) (s : Session) (tied : IsTied past s) (rests : IsRest
   -- ---- what the disks show
 
   abbrev records : ShowsRecords group core.status c
-  records = tied.records
+  records = tied.recorded.records
 
   found_all : Finds c all_disks group.id group
   found_all = tied.describes.stands.found
@@ -140,7 +140,7 @@ module _ (past : List Fact) (s : Session) (tied : IsTied past s) (rests : IsRest
   room : (d : ℕ) → IsTrue (is_there core d) → IsTrue (has_room c d group)
   room d there =
       let parts = and_both (is_member group d) (not (calls_missing core.status.wanted d)) there in
-      (parts_of c all_disks group.id group d (tied.members d parts.0 (there_first past s tied d (not_true (calls_missing core.status.wanted d) parts.1)))).2
+      (parts_of c all_disks group.id group d (tied.recorded.members d parts.0 (there_first past s tied d (not_true (calls_missing core.status.wanted d) parts.1)))).2
 
   its_status : ShowsStatus group core.status c
   its_status = records.settled rests.in_flight
@@ -185,7 +185,7 @@ module _ (past : List Fact) (s : Session) (tied : IsTied past s) (rests : IsRest
   -- ---- all that it sees
 
   there_seen : (d : ℕ) → IsTrue (is_there core d) → IsFalse (v.missing d)
-  there_seen d there = tied.sees.missing d ∙ ap not there
+  there_seen d there = tied.sees.status.missing d ∙ ap not there
 
   notes_seen : (d lv g : ℕ) → IsTrue (is_there core d) → v.home_note d lv g ≡ is_named c d lv g
   notes_seen d lv g there = sym (tied.good.sound.notes.home d lv g (there_seen d there)) ∙ tied.describes.shown.names d lv g
@@ -197,12 +197,12 @@ module _ (past : List Fact) (s : Session) (tied : IsTied past s) (rests : IsRest
     names = tied.describes.shown.names;
     status = tied.describes.shown.status;
     committed = same_committed;
-    missing = tied.sees.missing;
+    missing = tied.sees.status.missing;
     notes = notes_seen;
   }
 
   rest : IsAtRest c v.facts group (Some shows.stands) (is_there core)
-  rest = good_is_rest tied.votes v group core.status.committed (is_there core) c tied.are_votes (valid_of s tied.write tied.orderly) (images_within image) shows idle sees tied.good
+  rest = good_is_rest tied.votes v group core.status.committed (is_there core) c tied.setting.are_votes (valid_of s tied.write tied.orderly) (images_within image) shows idle sees tied.good
       (subst (λ (u : Option (Stamped Status)). Describes v v.facts group u c) no_update tied.describes)
 
   home : AreNotesHome core c
@@ -219,13 +219,13 @@ module _ (past : List Fact) (s : Session) (tied : IsTied past s) (rests : IsRest
       by None is some = absurd (cc some)
       by (Some n) is some =
           let none : n.flight ≡ None = sym (ap (λ (o : Option DiskNotes). option_and_then (λ (m : DiskNotes). m.flight) o) is) ∙ rests.notes d in
-          sym (notes_seen d lv g there) ∙ tied.sees.home d lv g n there is ∙ sym (names_written lv g n none) ∙ sym (ap (λ (o : Option DiskNotes). option_map_or (both_name lv g) o false) is)
+          sym (notes_seen d lv g there) ∙ tied.sees.notes.home d lv g n there is ∙ sym (names_written lv g n none) ∙ sym (ap (λ (o : Option DiskNotes). option_map_or (both_name lv g) o false) is)
 
 pub tied_rests : TiedRests
 tied_rests past s tied rests enough = (
   shows past s tied rests enough,
   record {
-    told = tied.told;
+    told = tied.setting.told;
     rest = subst (λ (facts : List Fact). IsAtRest (shown_to s tied.media) facts s.core.descriptor (Some (shows past s tied rests enough).stands) (is_there s.core)) tied.sees.facts (rest past s tied rests enough);
     notes = home past s tied rests enough;
   },

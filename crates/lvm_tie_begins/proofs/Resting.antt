@@ -161,21 +161,27 @@ module _ (past : List Fact) (s : Session) (media : Media) (sound : IsSound s) (p
 
   sees : Sees past core v
   sees = record {
-    requests = λ place o at. none_at core.requests place o rests.requests at;
-    a_step = λ b is row. some_is_none core.copy b rests.copy is;
-    only = λ i q at. some_is_none (v.queue i) q (idle.queue i) at;
-    names = λ place o at. none_at core.requests place o rests.requests at;
+    queue = record {
+      requests = λ place o at. none_at core.requests place o rests.requests at;
+      a_step = λ b is row. some_is_none core.copy b rests.copy is;
+      only = λ i q at. some_is_none (v.queue i) q (idle.queue i) at;
+      names = λ place o at. none_at core.requests place o rests.requests at;
+    };
     facts = facts_are;
-    committed = ap (λ (m : Stamped Marks). m.value) seen_first.committed ∙ ap marks_of stands.held.shows.committed;
-    in_flight = idle_first.in_flight ∙ sym (ap (option_map as_marks) no_update);
-    wanted = idle_first.wanted ∙ ap (λ (m : Stamped Marks). m.value) seen_first.committed ∙ ap marks_of (stands.held.shows.committed ∙ rests.committed);
-    started = λ d. idle_first.no_status d ∙ sym (none_written d);
-    written = λ d is. marked (has core.status.writes.written d) (on.going.status.idle rests.in_flight d).2 is;
-    held = λ u is enough. some_is_none (update_of core.status) u no_update is;
-    missing = seen_first.missing;
-    cache = λ lv g. refl;
-    home = home;
-    flying = λ d. subst (λ (x : Option Groups). SeesNote x (flight_on core.cache d)) (sym (idle_first.no_note d)) (subst (SeesNote None) (sym (rests.notes d)) tt);
+    status = record {
+      committed = ap (λ (m : Stamped Marks). m.value) seen_first.committed ∙ ap marks_of stands.held.shows.committed;
+      in_flight = idle_first.in_flight ∙ sym (ap (option_map as_marks) no_update);
+      wanted = idle_first.wanted ∙ ap (λ (m : Stamped Marks). m.value) seen_first.committed ∙ ap marks_of (stands.held.shows.committed ∙ rests.committed);
+      started = λ d. idle_first.no_status d ∙ sym (none_written d);
+      written = λ d is. marked (has core.status.writes.written d) (on.going.status.idle rests.in_flight d).2 is;
+      held = λ u is enough. some_is_none (update_of core.status) u no_update is;
+      missing = seen_first.missing;
+    };
+    notes = record {
+      cache = λ lv g. refl;
+      home = home;
+      flying = λ d. subst (λ (x : Option Groups). SeesNote x (flight_on core.cache d)) (sym (idle_first.no_note d)) (subst (SeesNote None) (sym (rests.notes d)) tt);
+    };
     open_copy = subst (λ (o : Option Bringing). SeesCopy (groups_of core) o v.open_copy) (sym rests.copy) idle_first.no_copy;
     step_write = idle_first.no_step ∙ sym (ap (λ (o : Option Bringing). step_write_in o) rests.copy);
   }
@@ -188,9 +194,12 @@ module _ (past : List Fact) (s : Session) (media : Media) (sound : IsSound s) (p
   pub rest_tied : MembersShow s media → IsTied past s
   rest_tied members = record {
     votes = votes;
-    are_votes = are_votes;
     media = media;
-    told = stands.told;
+    setting = record {
+      are_votes = are_votes;
+      told = stands.told;
+      own = follows.own;
+    };
     view = v;
     sees = sees;
     good = good.0;
@@ -198,25 +207,26 @@ module _ (past : List Fact) (s : Session) (media : Media) (sound : IsSound s) (p
     write = None;
     orderly = record { sound = sound; on = power_is; update = subst (λ (o : Option Status). IsWriteOf core.status core.homes o None) (sym rests.in_flight) tt };
     since = subst (OnlyUpdateSince s.device None) (sym no_update) tt;
-    next = record {
-      some_epoch = stands.some_epoch;
-      epoch = stands.epoch;
-      whole = stands.sectors;
-      before = stands.held.stamps;
-      spare = λ d there owed. (stands.held.homes d there).status;
+    recorded = record {
+      next = record {
+        some_epoch = stands.some_epoch;
+        epoch = stands.epoch;
+        whole = stands.sectors;
+        before = stands.held.stamps;
+        spare = λ d there owed. (stands.held.homes d there).status;
+      };
+      members = members;
+      records = record {
+        descriptor = stands.held.shows.descriptor;
+        value = stands.held.shows.value;
+        described = stands.held.shows.described;
+        latest = stands.held.shows.latest;
+        settled = λ none. record { stands = stated; committed = stands.held.shows.committed; stated = stands.held.shows.stated; last = stands.held.shows.last };
+      };
     };
     notes = λ d items flies. some_is_none (flight_on core.cache d) items (rests.notes d) flies;
     copy_aimed = λ b is row. some_is_none core.copy b rests.copy is;
     carry = none_carried core.flying s.device.flights rests.flying;
-    members = members;
-    own = follows.own;
-    records = record {
-      descriptor = stands.held.shows.descriptor;
-      value = stands.held.shows.value;
-      described = stands.held.shows.described;
-      latest = stands.held.shows.latest;
-      settled = λ none. record { stands = stated; committed = stands.held.shows.committed; stated = stands.held.shows.stated; last = stands.held.shows.last };
-    };
   }
 
 pub rest_ties : RestTies

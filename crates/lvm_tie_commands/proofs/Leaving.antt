@@ -54,7 +54,7 @@ module _ (past : List Fact) (s : Session) (tied : IsTied past s) (settled : IsSe
   resting = rests s tied.orderly.sound settled
 
   spared : SparesOn s.core tied.media
-  spared = of_told (SparesOn s.core) s.device.media tied.media tied.told spares
+  spared = of_told (SparesOn s.core) s.device.media tied.media tied.setting.told spares
 
   abbrev held_by : Held s tied.media
   held_by = its_disks_hold past s tied resting settled.votes spared
@@ -64,10 +64,10 @@ module _ (past : List Fact) (s : Session) (tied : IsTied past s) (settled : IsSe
 
   tied_carries : s.core.descriptor.lvs ≢ [] → Carries s tied.media
   tied_carries some = record {
-    told = tied.told;
+    told = tied.setting.told;
     held = held_by;
     notes = rested.notes;
-    only = alone_is_only s.device tied.media s.core.descriptor tied.told (still s tied.orderly.sound settled) some rested.rest.alone;
+    only = alone_is_only s.device tied.media s.core.descriptor tied.setting.told (still s tied.orderly.sound settled) some rested.rest.alone;
     even = rested.rest.even;
   }
 

@@ -72,11 +72,11 @@ module _ (past : List Fact) (s : Session) (tied : IsTied past s) (resting : IsRe
   pub its_disks_hold : HoldsCommitted (image_of s.device.sizes tied.media) s.core.descriptor s.core.status.committed (is_there s.core) s.core.status.stamp s.core.homes
   its_disks_hold = record {
     shows = left.0;
-    stamps = tied.next.before;
+    stamps = tied.recorded.next.before;
     there = λ d there. large_enough (image_of s.device.sizes tied.media) d left.0.descriptor (left.0.described d there);
     homes = λ d there. record {
       descriptor = spares d there;
-      status = tied.next.spare d there (let idle = (tied.orderly.sound.on tied.orderly.on).going.status.idle resting.in_flight d in λ t. idle.0 t || idle.1 t);
+      status = tied.recorded.next.spare d there (let idle = (tied.orderly.sound.on tied.orderly.on).going.status.idle resting.in_flight d in λ t. idle.0 t || idle.1 t);
     };
   }
 
@@ -86,8 +86,8 @@ module _ (past : List Fact) (s : Session) (tied : IsTied past s) (resting : IsRe
 
 pub tied_holds : TiedHolds
 tied_holds past s tied resting votes spares =
-    let at : SparesOn s.core tied.media = subst (λ (o : Option Media). IfSome o (SparesOn s.core)) tied.told spares in
-    subst (λ (o : Option Media). IfSome o (λ media. HoldsCommitted (image_of s.device.sizes media) s.core.descriptor s.core.status.committed (is_there s.core) s.core.status.stamp s.core.homes)) (sym tied.told)
+    let at : SparesOn s.core tied.media = subst (λ (o : Option Media). IfSome o (SparesOn s.core)) tied.setting.told spares in
+    subst (λ (o : Option Media). IfSome o (λ media. HoldsCommitted (image_of s.device.sizes media) s.core.descriptor s.core.status.committed (is_there s.core) s.core.status.stamp s.core.homes)) (sym tied.setting.told)
     (its_disks_hold past s tied resting votes at)
 
 -- ---- and what it carries
@@ -172,17 +172,17 @@ module _ (past : List Fact) (s : Session) (tied : IsTied past s) (may : MayBeLef
   -- ---- what is known, and what it carries
 
   settled : IsSettled core
-  settled = record { power = tied.orderly.on; quiet = quiet; committed = may.resting.committed; epoch = tied.next.some_epoch; votes = may.votes }
+  settled = record { power = tied.orderly.on; quiet = quiet; committed = may.resting.committed; epoch = tied.recorded.next.some_epoch; votes = may.votes }
 
   holds : Holds past (moment_of s)
   holds = record {
     legal = subst Legal tied.sees.facts tied.good.told.legal;
     kept = λ image left. subst (Kept (contents_of image)) tied.sees.facts
-        (images_kept tied.votes tied.view core.descriptor (update_of core.status) s.device tied.media image tied.are_votes tied.good (tied_matches past s tied) left);
+        (images_kept tied.votes tied.view core.descriptor (update_of core.status) s.device tied.media image tied.setting.are_votes tied.good (tied_matches past s tied) left);
   }
 
   known : IsKnown past s tied.media
-  known = record { told = tied.told; sound = between; settled = settled; held = its_disks_hold past s tied may.resting may.votes may.spare; holds = holds; only = may.only }
+  known = record { told = tied.setting.told; sound = between; settled = settled; held = its_disks_hold past s tied may.resting may.votes may.spare; holds = holds; only = may.only }
 
   rested : IsRested past s tied.media (its_disks_hold past s tied may.resting may.votes may.spare).shows
   rested = its_rest past s tied may.resting may.votes may.spare
@@ -194,7 +194,7 @@ module _ (past : List Fact) (s : Session) (tied : IsTied past s) (may : MayBeLef
       known = known;
       carried = record { calm = calm_since core.history.run past core.history.facts holds.legal may.calm sound.told.ordered landed; even = rested.rest.even; behind = rested.rest.behind };
     },
-    record { sound = sound; sectors = tied.next.whole; epoch = tied.next.epoch; notes = rested.notes; members = tied.members },
+    record { sound = sound; sectors = tied.recorded.next.whole; epoch = tied.recorded.next.epoch; notes = rested.notes; members = tied.recorded.members },
   )
 
 pub tied_settles : TiedSettles

@@ -89,21 +89,27 @@ module _ (mode : Mode) (stale : Bool) where
 
   pub sees : Sees (making mode) (core_of mode stale) (seen_as mode stale)
   sees = record {
-    requests = λ place o is. none_at place o is;
-    a_step = λ c is row. absurd cc;
-    only = λ i q is. absurd cc;
-    names = λ place o is. none_at place o is;
+    queue = record {
+      requests = λ place o is. none_at place o is;
+      a_step = λ c is row. absurd cc;
+      only = λ i q is. absurd cc;
+      names = λ place o is. none_at place o is;
+    };
     facts = refl;
-    committed = marks;
-    in_flight = refl;
-    wanted = marks;
-    started = λ d. sym (has-zero d);
-    written = λ d is. not_marked d is;
-    held = λ u is held. absurd cc;
-    missing = λ d. ap not (sym (there d));
-    cache = λ lv g. refl;
-    home = λ d lv g n is on. named d lv g n on;
-    flying = λ d. subst (SeesNote None) (sym (no_note_flies mode stale d)) tt;
+    status = record {
+      committed = marks;
+      in_flight = refl;
+      wanted = marks;
+      started = λ d. sym (has-zero d);
+      written = λ d is. not_marked d is;
+      held = λ u is held. absurd cc;
+      missing = λ d. ap not (sym (there d));
+    };
+    notes = record {
+      cache = λ lv g. refl;
+      home = λ d lv g n is on. named d lv g n on;
+      flying = λ d. subst (SeesNote None) (sym (no_note_flies mode stale d)) tt;
+    };
     open_copy = refl;
     step_write = refl;
   }

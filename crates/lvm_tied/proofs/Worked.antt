@@ -15,9 +15,12 @@ none_flies (Some y) x none some = absurd cc
 pub beginnings_are_tied : BeginningsAreTied
 beginnings_are_tied mode stale = let votes = groups_have_votes (two mode) in record {
   votes = votes.0;
-  are_votes = votes.1;
   media = media_of (shown mode stale);
-  told = refl;
+  setting = record {
+    are_votes = votes.1;
+    told = refl;
+    own = refl;
+  };
   view = seen_as mode stale;
   sees = sees mode stale;
   good = is_good votes.0 mode stale votes.1;
@@ -25,11 +28,12 @@ beginnings_are_tied mode stale = let votes = groups_have_votes (two mode) in rec
   write = None;
   orderly = record { sound = is_sound mode stale; on = refl; update = tt };
   since = tt;
-  next = may_update mode stale;
+  recorded = record {
+    next = may_update mode stale;
+    members = λ d is there. members mode stale d is;
+    records = records mode stale;
+  };
   notes = λ d items flies. none_flies _ items (no_note_flies mode stale d) flies;
   copy_aimed = λ c is row. absurd cc;
   carry = tt;
-  members = λ d is there. members mode stale d is;
-  own = refl;
-  records = records mode stale;
 }

@@ -13,7 +13,7 @@ use Rattle.lvm_operands.specs.declared.rest.Misfit.{Misfit}
 use Rattle.lvm_parse.specs.Grammar.{line_of}
 use Rattle.lvm_core.specs.declared.parts.Room.{Room}
 use Rattle.lvm_core.specs.Leaves.{MayBeFound}
-use Rattle.lvm_line.specs.passed.Stage.{patience_of_line, IsStuck, State, IsTimely, Reply}
+use Rattle.lvm_line.specs.passed.Stage.{patience_of_line, IsStuck, State, IsTimely, Reply, is_unheard}
 use Rattle.lvm_line.specs.passed.DiskLines.{WriteDoes, ReadDoes, NoWriteWhileOn, WriteGoes, NoReadWhileOn, ReadGoes, ArrangeDoes, NotThere}
 use Rattle.lvm_line.specs.passed.DiskLines.{NotPlanned, IsArranged, CutDoes, CutNotPlanned, PowerIsCut}
 use Rattle.lvm_line.specs.passed.Quiesce.{RejectedAtOnce, KeptFrom, AskedAtRest}
@@ -28,7 +28,7 @@ use Rattle.lvm_line.specs.passed.RangeLines.{IsNotAsked, Posts, NotPosted, Poste
 use Rattle.lvm_line.specs.passed.RangeLines.{NoStepWhileOff, NothingMoves, Steps}
 use Rattle.lvm_line.specs.passed.RangeLinesWaiting.{WaitDoes, WhileOff as WaitsWhileOff, AtRest, Awaits, WaitsOff, WaitsOn, WaitEnds, Goes, Over}
 use Rattle.lvm_line.specs.passed.CopyLines.{IsSynced, NoGroupForSync, NoVolumeForSync, NothingSyncs, OtherGroupForSync, SyncGroupDoes, SyncVolumeDoes}
-use Rattle.lvm_line.specs.passed.CopyLines.{SyncsGroup, SyncsVolume, is_unheard}
+use Rattle.lvm_line.specs.passed.CopyLines.{SyncsGroup, SyncsVolume}
 use Rattle.lvm_line.specs.passed.Resync.{Copy, SyncFault, group_copies, group_fault, volume_copies, volume_fault}
 use Rattle.lvm_line.specs.passed.RangeLines.{FailsIf}
 use Rattle.lvm_line.specs.passed.RangeLinesWaiting.{InVain}
@@ -142,7 +142,7 @@ module _ (old new : State) (answer : Reply) (leaves : LeavesDescriptors old.mome
   step_nothing turns (Steps core some vols its) = turns_nothing core its.end its.runs (leaves_nothing its.end.core.power its.end old.posts old.last its.leaves)
 
   synced_nothing : (refused : Core → Option SyncFault) (copies : List Copy) (core : Core) → IsSynced refused copies core old new answer → NothingNew old.moment.device new.moment.device
-  synced_nothing refused copies core its = then_nothing old.moment.device its.end.device new.moment.device (session_nothing (state old.moment.device core) its.end leaves its.beside.leaves) (by (is_unheard its.result) its.leaves)
+  synced_nothing refused copies core its = then_nothing old.moment.device its.end.device new.moment.device (session_nothing (state old.moment.device core) its.end leaves its.beside.leaves) (by (is_unheard answer) its.leaves)
     where
       by : (b : Bool) → FailsIf b its.end old.posts old.last new → NothingNew its.end.device new.moment.device
       by true ended = over_nothing its.end old.posts old.last new ended
@@ -155,8 +155,8 @@ module _ (old new : State) (answer : Reply) (leaves : LeavesDescriptors old.mome
 
   sync_group_nothing : (name : List ℕ) → SyncGroupDoes name old new answer → NothingNew old.moment.device new.moment.device
   sync_group_nothing name (OtherGroupForSync off is) = same_nothing old.moment.device new.moment.device (ap (λ (s : State). s.moment.device) is.1)
-  sync_group_nothing name (NothingSyncs core some empty says same) = same_nothing old.moment.device new.moment.device (ap (λ (s : State). s.moment.device) same)
-  sync_group_nothing name (SyncsGroup core some vols its) = synced_nothing group_fault (group_copies core.descriptor) core its
+  sync_group_nothing name (NothingSyncs core some named empty says same) = same_nothing old.moment.device new.moment.device (ap (λ (s : State). s.moment.device) same)
+  sync_group_nothing name (SyncsGroup core some named vols its) = synced_nothing group_fault (group_copies core.descriptor) core its
 
   off_nothing : (closed : State) → WaitsOff closed new answer → NothingNew closed.moment.device new.moment.device
   off_nothing closed waits = same_nothing closed.moment.device new.moment.device (ap (λ (s : State). s.moment.device) waits.new_is)

@@ -47,12 +47,12 @@ use Rattle.lvm_line.specs.passed.RangeLines.{EndsBy, GoesOnWith, LeavesBy, OnVol
 use Rattle.lvm_line.specs.passed.RangeLines.{Posted, Finishes, NotBegun, EndsWell, Fails, StepDoes, NoStepWhileOff, NothingMoves, Steps}
 use Rattle.lvm_line.specs.passed.RangeLinesWaiting.{WaitDoes, WhileOff as WaitsWhileOff, AtRest, Awaits, WaitsOff, WaitsOn, WaitEnds, Goes, Over}
 use Rattle.lvm_line.specs.passed.CopyLines.{IsSynced, NoGroupForSync, NoVolumeForSync, NothingSyncs, OtherGroupForSync, SyncGroupDoes, SyncVolumeDoes}
-use Rattle.lvm_line.specs.passed.CopyLines.{SyncsGroup, SyncsVolume, is_unheard}
+use Rattle.lvm_line.specs.passed.CopyLines.{SyncsGroup, SyncsVolume}
 use Rattle.lvm_line.specs.passed.Resync.{Copy, SyncFault, group_copies, group_fault, volume_copies, volume_fault}
 use Rattle.lvm_line.specs.passed.RangeLines.{FailsIf}
 use Rattle.lvm_line.specs.passed.RangeLinesWaiting.{InVain}
 use Rattle.lvm_line.specs.Lines.{LineDoes, role_of}
-use Rattle.lvm_line.specs.passed.Stage.{HasBegunHeld, OfGroup, State, Reply}
+use Rattle.lvm_line.specs.passed.Stage.{HasBegunHeld, OfGroup, State, Reply, is_unheard}
 use Rattle.lvm_line.specs.passed.VolumeLines.{Drains, IsDone, StaysOn, MklvDoes, RmlvDoes, NoGroupForMklv, BusyMklv, UndrainedMklv, MakesVolume}
 use Rattle.lvm_line.specs.passed.VolumeLines.{MklvFails, NoGroupForRmlv, BusyRmlv, UndrainedRmlv, NoVolumeForRmlv, RemovesVolume, RmlvFails}
 use Rattle.lvm_line.specs.passed.VolumeLines.{ends_session, wanted}
@@ -200,7 +200,7 @@ module _ (old new : State) (off : HasNoPassiveOn old) where
   posts_off at count word core lv its (Posted done) = goes_off (state old.moment.device done.begun) _ old.last (runs_off (state old.moment.device core) (state old.moment.device done.begun) done.runs its) done.goes
 
   synced_off : {answer : Reply} (refused : Core → Option SyncFault) (copies : List Copy) (core : Core) → HasNoPassive core.descriptor → IsSynced refused copies core old new answer → HasNoPassiveOn new
-  synced_off refused copies core its done = by (is_unheard done.result) done.leaves
+  synced_off {answer} refused copies core its done = by (is_unheard answer) done.leaves
     where
       stays : HasNoPassive done.end.core.descriptor
       stays = subst HasNoPassive (sym done.beside.leaves.keeps.descriptor) its
@@ -216,8 +216,8 @@ module _ (old new : State) (off : HasNoPassiveOn old) where
 
   sync_group_off : {answer : Reply} (name : List ℕ) → SyncGroupDoes name old new answer → HasNoPassiveOn new
   sync_group_off name (OtherGroupForSync none is) = same_off is.1
-  sync_group_off name (NothingSyncs core some empty says same) = same_off same
-  sync_group_off name (SyncsGroup core some vols done) = synced_off group_fault (group_copies core.descriptor) core (of_core core some) done
+  sync_group_off name (NothingSyncs core some named empty says same) = same_off same
+  sync_group_off name (SyncsGroup core some named vols done) = synced_off group_fault (group_copies core.descriptor) core (of_core core some) done
 
   step_off : {answer : Reply} (turns : ℕ) → StepDoes turns old new answer → HasNoPassiveOn new
   step_off turns (NoStepWhileOff none is) = same_off is.1

@@ -3,4 +3,4 @@ pub use Rattle.lvm_copy_lines.specs.Copies.{AddsCopies, BusyMklvcopy, BusyRmlvco
 pub use Rattle.lvm_copy_lines.specs.Copies.{NoGroupForRmlvcopy, NoVolumeForMklvcopy, NoVolumeForRmlvcopy, RemovesCopies, RmlvcopyDoes, RmlvcopyEnds}
 pub use Rattle.lvm_copy_lines.specs.Copies.{RmlvcopyFails, UndrainedMklvcopy, UndrainedRmlvcopy}
 pub use Rattle.lvm_copy_lines.specs.Resyncing.{IsSynced, NoGroupForSync, NoVolumeForSync, NothingSyncs, OtherGroupForSync, SyncGroupDoes}
-pub use Rattle.lvm_copy_lines.specs.Resyncing.{SyncVolumeDoes, SyncsGroup, SyncsVolume, is_unheard}
+pub use Rattle.lvm_copy_lines.specs.Resyncing.{SyncVolumeDoes, SyncsGroup, SyncsVolume}

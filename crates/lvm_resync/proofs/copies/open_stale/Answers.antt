@@ -1,12 +1,13 @@
 use Rattle.std.proofs.Common.{◌+◌, ◌<◌, Some, ap, sym, subst, ◌∙◌}
+use Rattle.std.proofs.lemmas.Result.{err_from_is_err_and}
 use Rattle.lvm_session.specs.declared.answers.CopyFault.{CopyFault}
 use Rattle.lvm_session.specs.State.{Core, State}
 use Rattle.lvm_session.specs.Left.{left_of}
 use Rattle.lvm_copy_open.specs.Opening.{counts_seen}
 use Rattle.lvm_driver.specs.Answers.{state_of}
-use Rattle.lvm_resync.specs.Passing.{EndsOr, IsJudged, copy_of}
+use Rattle.lvm_resync.specs.Passing.{EndsOr, IsJudged, StopsAt, copy_of}
 use Rattle.lvm_resync.specs.Turning.{GoesBeside, IsUnderWay}
-use Rattle.lvm_resync.proofs.Judging.{answers, begins, beside_then, may_refuse, opens, same_state, turned, under_way}
+use Rattle.lvm_resync.proofs.Judging.{answers, begins, beside_then, broken_off, may_refuse, opens, same_state, turned, under_way}
 use Rattle.lvm_resync.proofs.Refusing.{refused_for}
 use Rattle.lvm_resync.proofs.copies.open_stale.Goals as goal
 
@@ -68,6 +69,18 @@ loop-pp-smaller g c =
     let it = refused_for (counts_seen old.device old.core) old.core c.open_copy.new.self.1 c.args.lv c.args.lp c.args.number c.in-Err.why c.in-Err.ensures.gives in
     subst (λ (k : Core). left_of c.make_turn.new.driver.1 + c.make_turn.new.patience.left < left_of k + c.loop-pp.patience.left) it.1 c.in_ok-make_turn-in-AlreadyFresh.ensures.ends.2
 
+pub returns-in_err-make_turn-in-AlreadyFresh-clause-ends : goal.returns-in_err-make_turn-in-AlreadyFresh-clause-ends
+returns-in_err-make_turn-in-AlreadyFresh-clause-ends g c =
+    let device = g.S.Shelf.device in
+    let old = state_of device c.loop-pp.driver in
+    let it = refused_for (counts_seen old.device old.core) old.core c.open_copy.new.self.1 c.args.lv c.args.lp c.args.number c.in-Err.why c.in-Err.ensures.gives in
+    let same = same_state device c.loop-pp.driver c.open_copy.new.self c.open_copy.ensures.shelf it.1 in
+    let ends = c.in_err-make_turn-in-AlreadyFresh.ensures.ends in
+    let f = err_from_is_err_and c.from_residual.result c.from_residual.ensures.1 in
+    rw (f.1, f.2) (broken_off (copy_of c.args.lv c.args.lp c.args.number c.args.pp) (state_of device c.args.driver.now) old (state_of device c.open_copy.new.self) (state_of device c.make_turn.new.driver) c.args.patience.now.left c.loop-pp.patience.left
+    c.make_turn.new.patience.left c.loop-pp.invariant same (record { stale = sym c.is_stale.ensures ∙ c.loop-pp-test.true; fresh = it.0 ∙ ap (λ (w : CopyFault). Some w) c.in-AlreadyFresh.is })
+    c.in_err-make_turn-in-AlreadyFresh.field-0.0 ends.0 ends.1)
+
 pub returns-in_err-make_turn-in-AlreadyFresh-clause-beside : goal.returns-in_err-make_turn-in-AlreadyFresh-clause-beside
 returns-in_err-make_turn-in-AlreadyFresh-clause-beside g c =
     let device = g.S.Shelf.device in
@@ -86,7 +99,7 @@ returns-in_default g c =
     let it = refused_for (counts_seen old.device old.core) old.core c.open_copy.new.self.1 c.args.lv c.args.lp c.args.number c.in-Err.why c.in-Err.ensures.gives in
     let same = same_state device c.loop-pp.driver c.open_copy.new.self c.open_copy.ensures.shelf it.1 in
     record {
-      ends = subst (λ (s : State). EndsOr (IsJudged one first s) c.loop-pp.patience.left s.core c.refused.result) (sym same) (answers one first old c.args.patience.now.left c.loop-pp.patience.left c.loop-pp.invariant c.in-Err.why
+      ends = subst (λ (s : State). EndsOr (IsJudged one c.args.patience.now.left c.loop-pp.patience.left first s) (StopsAt one c.args.patience.now.left c.loop-pp.patience.left first s) c.refused.result) (sym same) (answers one first old c.args.patience.now.left c.loop-pp.patience.left c.loop-pp.invariant c.in-Err.why
           (sym c.is_stale.ensures ∙ c.loop-pp-test.true) it.0 c.refused.result c.refused.ensures);
       beside = subst (λ (s : State). GoesBeside first s c.args.patience.now.left c.loop-pp.patience.left) (sym same) c.loop-pp.invariant.beside;
     }

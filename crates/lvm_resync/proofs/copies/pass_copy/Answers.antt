@@ -1,7 +1,9 @@
+use Rattle.std.proofs.Common.{subst}
+use Rattle.std.proofs.lemmas.Result.{err_from_is_err_and}
 use Rattle.lvm_driver.specs.Answers.{state_of}
 use Rattle.lvm_resync.specs.declared.copies.Opening.{Opening}
 use Rattle.lvm_resync.specs.Passing.{IsJudged, copy_of}
-use Rattle.std.proofs.Common.{subst}
+use Rattle.lvm_resync.proofs.Judging.{running_off}
 use Rattle.lvm_resync.proofs.Passed.{opened_just, passed_so}
 use Rattle.lvm_resync.proofs.Turning.{beside_both, unstuck_beside}
 use Rattle.lvm_resync.proofs.copies.pass_copy.Goals as goal
@@ -17,7 +19,7 @@ bring_up-requires-clause-opened g c =
     let one = copy_of c.args.lv c.args.lp c.args.number c.args.pp in
     let first = state_of device c.args.driver.now in
     let opened = state_of device c.open_stale.new.driver in
-    opened_just one first opened (subst (λ (o : Opening). IsJudged one first opened o) c.in-Opened.is c.in_ok-opening.ensures.ends)
+    opened_just one c.args.patience.now.left c.open_stale.new.patience.left first opened (subst (λ (o : Opening). IsJudged one c.args.patience.now.left c.open_stale.new.patience.left first opened o) c.in-Opened.is c.in_ok-opening.ensures.ends)
 
 pub returns-in_ok-how-in-Opened-clause-ends : goal.returns-in_ok-how-in-Opened-clause-ends
 returns-in_ok-how-in-Opened-clause-ends g c =
@@ -25,7 +27,8 @@ returns-in_ok-how-in-Opened-clause-ends g c =
     let one = copy_of c.args.lv c.args.lp c.args.number c.args.pp in
     let first = state_of device c.args.driver.now in
     let opened = state_of device c.open_stale.new.driver in
-    passed_so one first opened (state_of device c.bring_up.new.driver) (subst (λ (o : Opening). IsJudged one first opened o) c.in-Opened.is c.in_ok-opening.ensures.ends)
+    passed_so one c.args.patience.now.left c.open_stale.new.patience.left c.bring_up.new.patience.left first opened (state_of device c.bring_up.new.driver)
+    (subst (λ (o : Opening). IsJudged one c.args.patience.now.left c.open_stale.new.patience.left first opened o) c.in-Opened.is c.in_ok-opening.ensures.ends)
     c.in_ok-how-in-Opened.how c.passed_by.result c.in_ok-how-in-Opened.ensures.ends c.passed_by.ensures
 
 pub returns-in_ok-how-in-Opened-clause-beside : goal.returns-in_ok-how-in-Opened-clause-beside
@@ -37,3 +40,13 @@ pub returns-in_err-how-in-Opened-clause-beside : goal.returns-in_err-how-in-Open
 returns-in_err-how-in-Opened-clause-beside g c =
     let device = g.S.Shelf.device in
     beside_both (state_of device c.args.driver.now) (state_of device c.open_stale.new.driver) (state_of device c.bring_up.new.driver) c.args.patience.now.left c.open_stale.new.patience.left c.bring_up.new.patience.left c.open_stale.ensures.beside c.bring_up.ensures.beside
+
+pub returns-in_err-how-in-Opened-clause-ends : goal.returns-in_err-how-in-Opened-clause-ends
+returns-in_err-how-in-Opened-clause-ends g c =
+    let device = g.S.Shelf.device in
+    let one = copy_of c.args.lv c.args.lp c.args.number c.args.pp in
+    let first = state_of device c.args.driver.now in
+    let opened = state_of device c.open_stale.new.driver in
+    let f = err_from_is_err_and c.from_residual-in_err-how-in-Opened.result c.from_residual-in_err-how-in-Opened.ensures.1 in
+    rw (f.1, f.2) (running_off one c.args.patience.now.left c.open_stale.new.patience.left c.bring_up.new.patience.left first opened (state_of device c.bring_up.new.driver) c.in_err-how-in-Opened.field-0.0
+    (subst (λ (o : Opening). IsJudged one c.args.patience.now.left c.open_stale.new.patience.left first opened o) c.in-Opened.is c.in_ok-opening.ensures.ends) c.in_err-how-in-Opened.ensures.ends)

@@ -2,7 +2,7 @@ use Rattle.std.proofs.Common.{◌≡◌, length, arith}
 use Rattle.std.proofs.lemmas.Result.{err_from_is_err_and}
 use Rattle.lvm_driver.specs.Answers.{state_of}
 use Rattle.lvm_resync.specs.Syncing.{copies_at}
-use Rattle.lvm_resync.proofs.Passing.{all_of, more_of, none_yet, stops}
+use Rattle.lvm_resync.proofs.Passing.{all_of, more_of, none_yet, stops, stops_of}
 use Rattle.lvm_resync.proofs.passes.pass_group.Goals as goal
 
 pub loop-place-init : goal.loop-place-init
@@ -17,9 +17,12 @@ loop-place-preserved g c =
 pub returns-in_err-pass_volume_at : goal.returns-in_err-pass_volume_at
 returns-in_err-pass_volume_at g c =
     let device = g.S.Shelf.device in
+    let less = c.loop-place-test.true in
+    let count = c.volume_count-place-end.ensures in
     let f = err_from_is_err_and c.from_residual.result c.from_residual.ensures.1 in
     rw (f.1, f.2) (record {
-      ends = c.in_err-pass_volume_at.ensures.ends;
+      ends = stops_of copies_at (state_of device c.args.driver.now) (state_of device c.loop-place.driver) (state_of device c.pass_volume_at.new.driver) c.args.tally.now c.loop-place.tally c.loop-place.place c.args.patience.now.left
+          c.loop-place.patience.left c.pass_volume_at.new.patience.left c.loop-place.invariant c.in_err-pass_volume_at.field-0.0 (length c.args.driver.now.1.descriptor.lvs) (omega (arith, less, count)) c.in_err-pass_volume_at.ensures.ends;
       beside = stops (copies_at c.args.driver.now.1.descriptor) (state_of device c.args.driver.now) (state_of device c.loop-place.driver) (state_of device c.pass_volume_at.new.driver) c.args.tally.now c.loop-place.tally
           c.pass_volume_at.new.tally c.loop-place.place c.args.patience.now.left c.loop-place.patience.left c.pass_volume_at.new.patience.left c.loop-place.invariant c.pass_volume_at.ensures.beside;
     })

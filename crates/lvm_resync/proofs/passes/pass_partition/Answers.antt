@@ -4,7 +4,7 @@ use Rattle.lvm_num.specs.declared.descriptor.Descriptor.{Descriptor}
 use Rattle.lvm_num.specs.Descriptor.{volume_of}
 use Rattle.lvm_driver.specs.Answers.{state_of}
 use Rattle.lvm_resync.specs.Syncing.{copy_in}
-use Rattle.lvm_resync.proofs.Passing.{all_of, more_of, none_yet, stops}
+use Rattle.lvm_resync.proofs.Passing.{all_of, more_of, none_yet, stops, stops_of}
 use Rattle.lvm_resync.proofs.passes.pass_partition.Goals as goal
 
 pub loop-place-init : goal.loop-place-init
@@ -22,9 +22,11 @@ loop-place-preserved g c =
 pub returns-in_err-pass_place : goal.returns-in_err-pass_place
 returns-in_err-pass_place g c =
     let device = g.S.Shelf.device in
+    let less = c.loop-place-test.true in
     let f = err_from_is_err_and c.from_residual.result c.from_residual.ensures.1 in
     rw (f.1, f.2) (record {
-      ends = c.in_err-pass_place.ensures.ends;
+      ends = stops_of (λ d. copy_in d c.args.lv c.args.lp) (state_of device c.args.driver.now) (state_of device c.loop-place.driver) (state_of device c.pass_place.new.driver) c.args.tally.now c.loop-place.tally c.loop-place.place c.args.patience.now.left
+          c.loop-place.patience.left c.pass_place.new.patience.left c.loop-place.invariant c.in_err-pass_place.field-0.0 3 (omega (arith, less)) c.in_err-pass_place.ensures.ends;
       beside = stops (copy_in c.args.driver.now.1.descriptor c.args.lv c.args.lp) (state_of device c.args.driver.now) (state_of device c.loop-place.driver) (state_of device c.pass_place.new.driver) c.args.tally.now c.loop-place.tally
           c.pass_place.new.tally c.loop-place.place c.args.patience.now.left c.loop-place.patience.left c.pass_place.new.patience.left c.loop-place.invariant c.pass_place.ensures.beside;
     })

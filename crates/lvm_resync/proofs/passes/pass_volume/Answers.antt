@@ -6,7 +6,7 @@ use Rattle.lvm_num.specs.declared.descriptor.LvRow.{LvRow}
 use Rattle.lvm_num.specs.Descriptor.{volume_of}
 use Rattle.lvm_driver.specs.Answers.{state_of}
 use Rattle.lvm_resync.specs.Syncing.{partition_copies}
-use Rattle.lvm_resync.proofs.Passing.{all_of, more_of, none_yet, stops}
+use Rattle.lvm_resync.proofs.Passing.{all_of, more_of, none_yet, stops, stops_of}
 use Rattle.lvm_resync.proofs.passes.pass_volume.Goals as goal
 
 pub loop-lp-init : goal.loop-lp-init
@@ -28,9 +28,12 @@ loop-lp-preserved g c =
 pub returns-in_err-pass_partition : goal.returns-in_err-pass_partition
 returns-in_err-pass_partition g c =
     let device = g.S.Shelf.device in
+    let less = c.loop-lp-test.true in
+    let count = c.partition_count-lp-end.ensures in
     let f = err_from_is_err_and c.from_residual.result c.from_residual.ensures.1 in
     rw (f.1, f.2) (record {
-      ends = c.in_err-pass_partition.ensures.ends;
+      ends = stops_of (λ d. partition_copies d c.args.lv) (state_of device c.args.driver.now) (state_of device c.loop-lp.driver) (state_of device c.pass_partition.new.driver) c.args.tally.now c.loop-lp.tally c.loop-lp.lp c.args.patience.now.left
+          c.loop-lp.patience.left c.pass_partition.new.patience.left c.loop-lp.invariant c.in_err-pass_partition.field-0.0 (option_map_or (λ (r : LvRow). r.lps) (volume_of c.args.driver.now.1.descriptor c.args.lv) 0) (omega (arith, less, count)) c.in_err-pass_partition.ensures.ends;
       beside = stops (partition_copies c.args.driver.now.1.descriptor c.args.lv) (state_of device c.args.driver.now) (state_of device c.loop-lp.driver) (state_of device c.pass_partition.new.driver) c.args.tally.now c.loop-lp.tally
           c.pass_partition.new.tally c.loop-lp.lp c.args.patience.now.left c.loop-lp.patience.left c.pass_partition.new.patience.left c.loop-lp.invariant c.pass_partition.ensures.beside;
     })

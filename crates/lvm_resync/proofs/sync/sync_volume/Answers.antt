@@ -2,15 +2,21 @@ use Rattle.std.proofs.Common.{refl, sym, subst, ◌∙◌}
 use Rattle.std.proofs.lemmas.Result.{err_from_is_err_and}
 use Rattle.lvm_driver.specs.Answers.{state_of}
 use Rattle.lvm_resync.specs.declared.tally.Tally.{Tally}
-use Rattle.lvm_resync.specs.Syncing.{ArePassed, volume_copies, volume_fault}
+use Rattle.lvm_resync.specs.Syncing.{ArePassed, StopsAmong, volume_copies, volume_fault}
 use Rattle.lvm_resync.proofs.Asking.{not_begun, ready_by, stopped, synced}
+use Rattle.lvm_resync.proofs.Causing.{volume_caused, refused_caused, stopped_caused, synced_caused}
 use Rattle.lvm_resync.proofs.Turning.{beside_none}
 use Rattle.lvm_resync.proofs.sync.sync_volume.Goals as goal
 
 pub returns-in-Some-clause-gives : goal.returns-in-Some-clause-gives
 returns-in-Some-clause-gives g c =
     let first = state_of g.S.Shelf.device c.args.driver.now in
-    not_begun (volume_fault first.core c.args.lv) (volume_copies first.core.descriptor c.args.lv) first first c.args.patience.now.left c.in-Some.why (sym c.volume_fault.ensures ∙ c.in-Some.is) refl
+    not_begun (volume_fault first.core c.args.lv) (volume_copies first.core.descriptor c.args.lv) c.args.patience.now.left c.args.patience.now.left first first c.in-Some.why (sym c.volume_fault.ensures ∙ c.in-Some.is) refl refl
+
+pub returns-in-Some-clause-caused : goal.returns-in-Some-clause-caused
+returns-in-Some-clause-caused g c =
+    let first = state_of g.S.Shelf.device c.args.driver.now in
+    refused_caused c.args.patience.now.left first (volume_fault first.core c.args.lv) c.in-Some.why (volume_caused c.args.patience.now.left first c.args.lv) (sym c.volume_fault.ensures ∙ c.in-Some.is)
 
 pub returns-in-Some-clause-beside : goal.returns-in-Some-clause-beside
 returns-in-Some-clause-beside g c = beside_none (state_of g.S.Shelf.device c.args.driver.now) c.args.patience.now.left
@@ -23,8 +29,18 @@ returns-in_err-pass_volume-in-None-clause-gives g c =
     let device = g.S.Shelf.device in
     let first = state_of device c.args.driver.now in
     let f = err_from_is_err_and c.from_residual.result c.from_residual.ensures.1 in
-    rw (f.1, f.2) (stopped (volume_fault first.core c.args.lv) (volume_copies first.core.descriptor c.args.lv) first (state_of device c.pass_volume.new.driver) c.pass_volume.new.patience.left
-    c.in_err-pass_volume-in-None.field-0.0 (sym c.volume_fault.ensures ∙ c.in-None.is) c.in_err-pass_volume-in-None.ensures.ends)
+    rw (f.1, f.2) (stopped (volume_fault first.core c.args.lv) (volume_copies first.core.descriptor c.args.lv) c.args.patience.now.left c.pass_volume.new.patience.left first (state_of device c.pass_volume.new.driver)
+    c.in_err-pass_volume-in-None.field-0.0 (sym c.volume_fault.ensures ∙ c.in-None.is)
+    (subst (λ (t : Tally). StopsAmong (volume_copies first.core.descriptor c.args.lv) c.args.patience.now.left c.pass_volume.new.patience.left first (state_of device c.pass_volume.new.driver) t c.in_err-pass_volume-in-None.field-0.0) c.no_tally-tally.ensures c.in_err-pass_volume-in-None.ensures.ends))
+
+pub returns-in_err-pass_volume-in-None-clause-caused : goal.returns-in_err-pass_volume-in-None-clause-caused
+returns-in_err-pass_volume-in-None-clause-caused g c =
+    let device = g.S.Shelf.device in
+    let first = state_of device c.args.driver.now in
+    let new = state_of device c.pass_volume.new.driver in
+    let f = err_from_is_err_and c.from_residual.result c.from_residual.ensures.1 in
+    rw (f.1, f.2) (stopped_caused (volume_copies first.core.descriptor c.args.lv) c.args.patience.now.left c.pass_volume.new.patience.left first new c.in_err-pass_volume-in-None.field-0.0
+    (subst (λ (t : Tally). StopsAmong (volume_copies first.core.descriptor c.args.lv) c.args.patience.now.left c.pass_volume.new.patience.left first new t c.in_err-pass_volume-in-None.field-0.0) c.no_tally-tally.ensures c.in_err-pass_volume-in-None.ensures.ends))
 
 pub returns-in_ok-pass_volume-in-None-clause-gives : goal.returns-in_ok-pass_volume-in-None-clause-gives
 returns-in_ok-pass_volume-in-None-clause-gives g c =
@@ -32,6 +48,14 @@ returns-in_ok-pass_volume-in-None-clause-gives g c =
     let first = state_of device c.args.driver.now in
     let new = state_of device c.pass_volume.new.driver in
     let ready = ready_by first.core _ (sym c.volume_fault.ensures ∙ c.in-None.is) in
-    synced (volume_fault first.core c.args.lv) (volume_copies first.core.descriptor c.args.lv) first new c.pass_volume.new.patience.left c.pass_volume.new.tally c.answer.result
+    synced (volume_fault first.core c.args.lv) (volume_copies first.core.descriptor c.args.lv) c.args.patience.now.left c.pass_volume.new.patience.left first new c.pass_volume.new.tally c.answer.result
     (sym c.volume_fault.ensures ∙ c.in-None.is) c.is_sound.ensures (ready.on c.requires.unstuck) ready.none
-    (subst (λ (t : Tally). ArePassed (volume_copies first.core.descriptor c.args.lv) first new t c.pass_volume.new.tally tt) c.no_tally-tally.ensures c.in_ok-pass_volume-in-None.ensures.ends) c.answer.ensures
+    (subst (λ (t : Tally). ArePassed (volume_copies first.core.descriptor c.args.lv) c.args.patience.now.left c.pass_volume.new.patience.left first new t c.pass_volume.new.tally tt) c.no_tally-tally.ensures c.in_ok-pass_volume-in-None.ensures.ends) c.answer.ensures
+
+pub returns-in_ok-pass_volume-in-None-clause-caused : goal.returns-in_ok-pass_volume-in-None-clause-caused
+returns-in_ok-pass_volume-in-None-clause-caused g c =
+    let device = g.S.Shelf.device in
+    let first = state_of device c.args.driver.now in
+    let new = state_of device c.pass_volume.new.driver in
+    synced_caused (volume_copies first.core.descriptor c.args.lv) c.args.patience.now.left c.pass_volume.new.patience.left first new c.pass_volume.new.tally c.answer.result c.is_sound.ensures.fitting.valid
+    (subst (λ (t : Tally). ArePassed (volume_copies first.core.descriptor c.args.lv) c.args.patience.now.left c.pass_volume.new.patience.left first new t c.pass_volume.new.tally tt) c.no_tally-tally.ensures c.in_ok-pass_volume-in-None.ensures.ends) c.answer.ensures
