@@ -63,4 +63,4 @@ unread_generates asked output end unrun = on_gen asked _ (λ seed count. (
 ))
   where
     none : (seed count : ℕ) → IsGenerated seed count ended.Memory (record { before = output; after = output })
-    none seed count = record { status_is = inr (inr refl); whole = λ is. absurd (cc); front = λ _. front_at_first seed count output.content; cause = λ is. absurd (cc) }
+    none seed count = record { status_is = inr (inr refl); whole = λ is. absurd (cc); front = λ _. front_at_first seed count output.content; cause = λ is. absurd (cc); memory = λ is. refl; well = λ is. absurd (cc) }

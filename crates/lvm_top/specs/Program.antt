@@ -79,6 +79,7 @@ pub record IsTold (text : List ℕ) (status : ExitStatus) (out : Passage) : Type
   pub whole : status ≡ ended.Well → WhereTold out.before.content out.after.content (λ a b. b ≡ a ++ text)
   pub front : status ≡ ended.SinkFault → WhereTold out.before.content out.after.content (λ a b. WritesFront text a b)
   pub cause : status ≡ ended.SinkFault → Rose out.before.faults out.after.faults
+  pub well : status ≡ ended.Well → out.after.faults ≡ out.before.faults
 
 -- the line for words that are not in the language
 abbrev pub usage_line : List ℕ
@@ -86,7 +87,7 @@ usage_line = codes "usage: lvm script | lvm sim DISKS MIB | lvm gen SEED COUNT |
 
 -- the text was written whole, or the sink failed and a front of it was
 abbrev pub IsSaid : List ℕ → Passage → Type 0
-IsSaid text out = WhereTold out.before.content out.after.content (λ a b. b ≡ a ++ text) ⊎ (Rose out.before.faults out.after.faults × WhereTold out.before.content out.after.content (λ a b. WritesFront text a b))
+IsSaid text out = ((out.after.faults ≡ out.before.faults) × WhereTold out.before.content out.after.content (λ a b. b ≡ a ++ text)) ⊎ (Rose out.before.faults out.after.faults × WhereTold out.before.content out.after.content (λ a b. WritesFront text a b))
 
 -- nothing was run: no history, no line refused, and no disks made in memory
 pub record IsUnrun {S : Type 0} (end : Ended S) (status : ExitStatus) : Type 0 where
@@ -125,6 +126,7 @@ pub record IsGenerated (seed count : ℕ) (status : ExitStatus) (out : Passage) 
   pub front : (status ≡ ended.Well → ⊥) → WhereTold out.before.content out.after.content (λ a b. WritesFront (script_text seed count) a b)
   pub cause : status ≡ ended.SinkFault → Rose out.before.faults out.after.faults
   pub memory : status ≡ ended.Memory → out.after.faults ≡ out.before.faults
+  pub well : status ≡ ended.Well → out.after.faults ≡ out.before.faults
 
 -- That disk alone was chosen, and its new image has so many MiB of zeros, or the sink failed and it has a front of them.
 pub record IsImaged (disk mib : ℕ) (status : ExitStatus) (chosen : Option ℕ) (earlier choices : ℕ) (image : Passage) : Type 0 where
