@@ -14,7 +14,7 @@ use Rattle.lvm_posts.specs.declared.posts.Post.{Post}
 use Rattle.lvm_group_lines.specs.passed.Ranges.{Stuck, KeepsTable, AwaitEnds, HaveLanded, IsUnfinished, TurnsFor}
 use Rattle.lvm_group_lines.proofs.passed.Ranges.{table_same, table_then}
 use Rattle.lvm_range_lines.specs.Taking.{AwaitsPost, AwaitsPosts, HasLanded, IsGone, IsInVain}
-use Rattle.lvm_range_lines.specs.Waiting.{AllPaid, IsAwaited, NonePaid, OnePaid, PostCosts, PostsCost, RunsShort, TurnsForPosts, WaitCosts}
+use Rattle.lvm_range_lines.specs.Waiting.{IsAwaited, NoneAwaited, OneAwaited, PostCosts, PostsCost, TurnsForPosts, UntilAllLanded, UpToPost, WaitCosts}
 
 pub no_wait : (left waits : ℕ) → RoseBy (left - left) waits waits
 no_wait left waits = let none : 0 ≡ left - left = omega arith in subst (λ n. RoseBy n waits waits) none (rose_by_none waits)
@@ -54,7 +54,7 @@ none_awaited posts first patience = record {
   runs = runs_none first;
   fewer = omega arith;
   waited = no_wait patience first.device.counts.waits;
-  costs = NonePaid;
+  costs = NoneAwaited;
 }
 
 module _ (posts : List Post) (first old new : Session) (patience left less_left i : ℕ) (d : Post) (within : i < length posts) (so_far : AwaitedSoFar posts first old patience left i)
@@ -82,7 +82,7 @@ module _ (posts : List Post) (first old new : Session) (patience left less_left 
     runs = runs_both first old new so_far.runs runs;
     fewer = let low = so_far.fewer in omega (arith, low, fewer);
     waited = waited_on;
-    costs = subst (λ (ps : List Post). PostsCost patience first ps less_left new) (sym (take_more posts i d within)) (OnePaid so_far.costs post paid);
+    costs = subst (λ (ps : List Post). PostsCost patience first ps less_left new) (sym (take_more posts i d within)) (OneAwaited so_far.costs post paid);
   }
     where
       turns_then : AwaitsPost post less_left old new (Ok tt) → Path (TurnsForPosts posts) IsAny first new
@@ -105,8 +105,10 @@ module _ (posts : List Post) (first old new : Session) (patience left less_left 
   one_in_vain why (HasLanded is turns landed ok) = absurd (cc ok)
   one_in_vain why (IsInVain is turns unfinished none stuck fails) = record { turns = turns_on is turns; ends = (awaited is new unfinished, none) }
 
-  pub one_short : (why : Stuck) → PostCosts post left less_left old new (Err why) → WaitCosts patience posts less_left first new
-  one_short why short = RunsShort (take i posts) (drop (suc i) posts) post left old why (split_at posts i d within) so_far.costs short
+  pub one_short : (why : Stuck) → AwaitsPost post less_left old new (Err why) → PostCosts post left less_left old new (Err why) → WaitCosts patience posts less_left first new
+  one_short why (IsGone votes is same ok) short = absurd (cc ok)
+  one_short why (HasLanded is turns landed ok) short = absurd (cc ok)
+  one_short why (IsInVain is turns unfinished none stuck fails) short = UpToPost (take i posts) (drop (suc i) posts) post left old why (split_at posts i d within) so_far.costs short unfinished none
 
   pub table_now : KeepsTable first.core new.core
   table_now = table_then first.core old.core new.core so_far.table table
@@ -124,5 +126,5 @@ all_awaited posts first now patience left i over so_far = record {
       subst (λ (p : Post). p.ended ≡ None → HaveLanded p.asked now) among.2 (so_far.landed among.0 post (omega (arith, over, less))) own;
 }
 
-pub all_paid : (posts : List Post) (first now : Session) (patience left i : ℕ) → length posts ≤ i → AwaitedSoFar posts first now patience left i → WaitCosts patience posts left first now
-all_paid posts first now patience left i over so_far = AllPaid (subst (λ (ps : List Post). PostsCost patience first ps left now) (take_all i posts over) so_far.costs)
+pub all_cost : (posts : List Post) (first now : Session) (patience left i : ℕ) → length posts ≤ i → AwaitedSoFar posts first now patience left i → WaitCosts patience posts left first now
+all_cost posts first now patience left i over so_far = UntilAllLanded (all_awaited posts first now patience left i over so_far).ends (subst (λ (ps : List Post). PostsCost patience first ps left now) (take_all i posts over) so_far.costs)

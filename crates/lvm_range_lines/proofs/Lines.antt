@@ -22,15 +22,15 @@ use Rattle.lvm_posts.specs.declared.fault.RangeFault.TheVariants as fault
 use Rattle.lvm_posts.specs.declared.posts.Post.{Post}
 use Rattle.lvm_posts.specs.Deciding.{AllWell, FirstFails, RangeEnds, fault_by}
 use Rattle.lvm_posts.specs.Pieces.{piece_lp}
-use Rattle.lvm_group_lines.specs.passed.Ranges.{AskRangeGives, Asks, IsAskedFor, range_fault, AskRangeFault, FinishGives, Finished, WasStuck}
+use Rattle.lvm_group_lines.specs.passed.Ranges.{AskRangeGives, Asks, IsAskedFor, range_fault, AskRangeFault, FinishCosts, FinishGives, Finished, WasStuck}
 use Rattle.lvm_group_lines.specs.passed.Ranges.{KeepsOthers, IsUnfinished, RangeCause}
 use Rattle.lvm_group_lines.proofs.passed.Ranges.{range_cause}
-use Rattle.lvm_group_lines.specs.passed.Stage.{Reply, Stage, EndsUnasked, OfRequests, InFull, Shows, WithoutMemory, most_refusals, HaveRooms}
+use Rattle.lvm_group_lines.specs.passed.Stage.{Reply, Stage, EndsUnasked, OfRequests, InFull, Shows, WithoutMemory, most_refusals, patience_of_line, HaveRooms}
 use Rattle.lvm_group_lines.specs.passed.Stage.{ComesTo, IsBetweenStage, IsCarried, IsFitting, state_in, ArePosted, State, is_unheard}
 use Rattle.lvm_group_lines.specs.passed.HolderVariants as holder
 use Rattle.lvm_group_lines.specs.passed.ReplyVariants as reply
 use Rattle.lvm_group_lines.proofs.passed.Stage.{over_landed}
-use Rattle.lvm_range_lines.specs.Leaving.{EndsBy, FailsIf, KeepsPosts, Pays, serving}
+use Rattle.lvm_range_lines.specs.Leaving.{EndsBy, FailsIf, KeepsPosts, SpendsOn, Waited, serving}
 use Rattle.lvm_range_lines.specs.Refusals.{Ending, ending_of, is_stuck, range_refusal, reply_of}
 use Rattle.lvm_range_lines.specs.Requests.{AsksByName, EndsWell, Fails, Finishes, IsFinished, NoMemory, OnVolume, ShowsBlocks, ShowsThem, There}
 use Rattle.lvm_range_lines.proofs.Ending.{RunsTo, carried_ends, carried_leaves, ended_is_over, runs_to, stuck_ends, unstuck}
@@ -110,7 +110,7 @@ module _ {S : Type 0} (device : S → Device) (first : S × Core) (posts : Vec P
   caused_so left lv (Err why) gives finishes = range_cause write lv at count (device first.0) first.1 mid.1 asked left (state_of device end) why between.session.sound.told gives
       (subst (λ (s : S). FinishGives asked left (state (device s) mid.1) (state_of device end) (Err why)) shelf finishes) sound
 
-  module _ (left : ℕ) (done : Ending) (finishes : FinishGives asked left (state_of device mid) (state_of device end) done) (pays : Pays asked left (state_of device mid) (state_of device end) done) where
+  module _ (left : ℕ) (done : Ending) (finishes : FinishGives asked left (state_of device mid) (state_of device end) done) (spends : SpendsOn asked left (state_of device mid) (state_of device end) done) where
     finished : (stage : Stage S) (last : ℕ) → EndsBy done (state_of device end) posts.items last (state_in device stage last)
         → (lv : ℕ) → AskRangeGives write lv at count first.1 mid.1 (Ok asked) → IsFinished write lv at count first.1 (state_in device (serving first posts bytes) last) (state_in device stage last) (state_of device end) asked done
     finished stage last ends lv gives = record {
@@ -118,7 +118,8 @@ module _ {S : Type 0} (device : S → Device) (first : S × Core) (posts : Vec P
       gives = gives;
       left = left;
       finishes = subst (λ (s : S). FinishGives asked left (state (device s) mid.1) (state_of device end) done) shelf finishes;
-      pays = subst (λ (s : S). Pays asked left (state (device s) mid.1) (state_of device end) done) shelf pays;
+      waited = subst (λ (s : S). Waited left (state (device s) mid.1) (state_of device end)) shelf spends.waited;
+      costs = subst (λ (s : S). FinishCosts asked patience_of_line left (state (device s) mid.1) (state_of device end) done) shelf spends.costs;
       caused = caused_so left lv done gives finishes;
       runs = all;
       sound = sound;
@@ -133,30 +134,30 @@ module _ {S : Type 0} (device : S → Device) (first : S × Core) (posts : Vec P
     taken = taken_so name write at count first.1 mid.1 asked asks
 
     module _ (left : ℕ) where
-      well : FinishGives asked left (state_of device mid) (state_of device end) (Ok tt) → Pays asked left (state_of device mid) (state_of device end) (Ok tt)
+      well : FinishGives asked left (state_of device mid) (state_of device end) (Ok tt) → SpendsOn asked left (state_of device mid) (state_of device end) (Ok tt)
           → IsCarried device end posts bytes1 end.1.power stage → Says (state_of device end) asked answer → most_refusals answer ≤ 1 → EndsUnasked device Does ⊥ OfRequests (serving first posts bytes) stage answer
-      well finishes pays carried says one =
+      well finishes spends carried says one =
           carried_ends device first posts bytes fits between end to Does posts bytes1 rooms stage answer (few one)
-          (λ last. There first.1 taken.lv refl taken.named (EndsWell (state_of device end) asked (finished left (Ok tt) finishes pays stage last (carried_leaves device end posts bytes1 stage last carried) taken.lv taken.gives) says))
+          (λ last. There first.1 taken.lv refl taken.named (EndsWell (state_of device end) asked (finished left (Ok tt) finishes spends stage last (carried_leaves device end posts bytes1 stage last carried) taken.lv taken.gives) says))
           posted rooms_then shut carried
 
-      fails : (why : RangeFault) → FinishGives asked left (state_of device mid) (state_of device end) (Err why) → Pays asked left (state_of device mid) (state_of device end) (Err why)
+      fails : (why : RangeFault) → FinishGives asked left (state_of device mid) (state_of device end) (Err why) → SpendsOn asked left (state_of device mid) (state_of device end) (Err why)
           → (b : Bool) → is_stuck why ≡ b → ComesTo device b (holder.Serving end) posts bytes1 stage → answer ≡ reply.Refused (range_refusal why) → EndsUnasked device Does ⊥ OfRequests (serving first posts bytes) stage answer
-      fails why finishes pays true stuck ended is =
+      fails why finishes spends true stuck ended is =
           let same = only_stuck why stuck in
           let on = unfinished_on asked (state_of device end) sound (unstuck device first posts bytes fits between end to) (stuck_unfinished asked left (state_of device mid) (state_of device end) (subst (λ (w : RangeFault). FinishGives asked left (state_of device mid) (state_of device end) (Err w)) same finishes)) in
           stuck_ends device first posts bytes fits between end to Does posts bytes1 rooms stage answer (few (subst (λ (a : Reply). most_refusals a ≤ 1) (sym is) (omega arith)))
-          (λ last. There first.1 taken.lv refl taken.named (Fails (state_of device end) asked why (finished left (Err why) finishes pays stage last
+          (λ last. There first.1 taken.lv refl taken.named (Fails (state_of device end) asked why (finished left (Err why) finishes spends stage last
           (subst (λ (b : Bool). FailsIf b (state_of device end) posts.items last (state_in device stage last)) (sym stuck) (ended_is_over device end posts.items stage last ended)) taken.lv taken.gives) is))
           ended rooms_then on (is ∙ ap (λ (w : RangeFault). reply.Refused (range_refusal w)) same)
-      fails why finishes pays false heard carried is =
+      fails why finishes spends false heard carried is =
           carried_ends device first posts bytes fits between end to Does posts bytes1 rooms stage answer (few (subst (λ (a : Reply). most_refusals a ≤ 1) (sym is) (omega arith)))
-          (λ last. There first.1 taken.lv refl taken.named (Fails (state_of device end) asked why (finished left (Err why) finishes pays stage last
+          (λ last. There first.1 taken.lv refl taken.named (Fails (state_of device end) asked why (finished left (Err why) finishes spends stage last
           (subst (λ (b : Bool). FailsIf b (state_of device end) posts.items last (state_in device stage last)) (sym heard) (carried_leaves device end posts bytes1 stage last carried)) taken.lv taken.gives) is))
           posted rooms_then shut carried
 
     -- whatever it answered
-    pub finished_ends : (done : Result Reply RangeFault) → (left : ℕ) × FinishGives asked left (state_of device mid) (state_of device end) (ending_of done) × Pays asked left (state_of device mid) (state_of device end) (ending_of done)
+    pub finished_ends : (done : Result Reply RangeFault) → (left : ℕ) × FinishGives asked left (state_of device mid) (state_of device end) (ending_of done) × SpendsOn asked left (state_of device mid) (state_of device end) (ending_of done)
         → ComesTo device (is_unheard answer) (holder.Serving end) posts bytes1 stage → answer ≡ reply_of done → IfOk done (Says (state_of device end) asked)
         → ((a : Reply) → Says (state_of device end) asked a → (most_refusals a ≤ 1) × (is_unheard a ≡ false))
         → EndsUnasked device Does ⊥ OfRequests (serving first posts bytes) stage answer

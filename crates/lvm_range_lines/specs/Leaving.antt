@@ -60,8 +60,8 @@ EndsBy (Err why) end posts last new = FailsBy why end posts last new
 abbrev pub Waited : ℕ → Session → Session → Type 0
 Waited left old new = RoseBy (patience_of_line - left) old.device.counts.waits new.device.counts.waits
 
--- so it went while a range was waited for: each answer that nothing had ended cost one, and behind the last of it no turn was made
-pub record Pays (asked : Asked) (left : ℕ) (old new : Session) (done : Ending) : Type 0 where
+-- It was spent while a range was waited for: one for each answer that nothing had ended, and behind the last of it no turn was made.
+pub record SpendsOn (asked : Asked) (left : ℕ) (old new : Session) (done : Ending) : Type 0 where
   pub waited : Waited left old new
   pub costs : FinishCosts asked patience_of_line left old new done
 

@@ -8,11 +8,11 @@ use Rattle.lvm_group_lines.specs.passed.Running.{RunsOn}
 use Rattle.lvm_posts.specs.declared.asked.Asked.{Asked}
 use Rattle.lvm_posts.specs.declared.fault.RangeFault.{RangeFault}
 use Rattle.lvm_posts.specs.declared.posts.Post.{Post}
-use Rattle.lvm_group_lines.specs.passed.Ranges.{AskRangeFault, AskRangeGives, FinishGives, AreGot, RangeCause}
-use Rattle.lvm_group_lines.specs.passed.Stage.{State, IsRefused, Shows, Refusal, Reply}
+use Rattle.lvm_group_lines.specs.passed.Ranges.{AskRangeFault, AskRangeGives, FinishCosts, FinishGives, AreGot, RangeCause}
+use Rattle.lvm_group_lines.specs.passed.Stage.{State, IsRefused, Shows, Refusal, Reply, patience_of_line}
 use Rattle.lvm_group_lines.specs.passed.RefusalVariants as refusal
 use Rattle.lvm_group_lines.specs.passed.ReplyVariants as reply
-use Rattle.lvm_range_lines.specs.Leaving.{EndsBy, GoesOnWith, Pays, session_over}
+use Rattle.lvm_range_lines.specs.Leaving.{EndsBy, GoesOnWith, Waited, session_over}
 use Rattle.lvm_range_lines.specs.Refusals.{ask_refusal, blocks_text, range_refusal}
 
 -- The line is refused where no group is on, or has no volume of this name; else this happens to the session and the volume of that number.
@@ -58,13 +58,14 @@ PostDoes name at count word old new answer = OnVolume name (λ core lv. Posts lv
 
 -- ---- wr and rd
 
--- It is asked for and waited for, and its answers are taken; so much patience is left, and each answer that nothing had ended cost one. Where it ended otherwise than well, that has its cause since it was asked for.
+-- It is asked for and waited for, and its answers are taken; so much patience is left. Where it ended otherwise than well, that has its cause since it was asked for.
 pub record IsFinished (write : Option ℕ) (lv at count : ℕ) (core : Core) (old new : State) (end : Session) (asked : Asked) (done : Result (Unit {0}) RangeFault) : Type 0 where
   pub begun : Core
   pub gives : AskRangeGives write lv at count core begun (Ok asked)
   pub left : ℕ
   pub finishes : FinishGives asked left (session_over old begun) end done
-  pub pays : Pays asked left (session_over old begun) end done
+  pub waited : Waited left (session_over old begun) end
+  pub costs : FinishCosts asked patience_of_line left (session_over old begun) end done
   pub caused : IfErr done (RangeCause left old.moment.device end)
   pub runs : RunsOn (session_over old core) end
   pub sound : IsSound end

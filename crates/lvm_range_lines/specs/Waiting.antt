@@ -61,18 +61,18 @@ TurnsForPosts posts old new = IsAwaited posts old × IsTurn old new
 -- what it costs to wait for a post: nothing, where its session is gone
 pub data PostCosts (post : Post) (patience left : ℕ) (old new : Session) (answer : Result (Unit {0}) Stuck) : Type 0 where
   CostsNothing : (votes : ℕ × ℕ) → post.ended ≡ Some votes → left ≡ patience → new ≡ old → PostCosts post patience left old new answer
-  Costs : post.ended ≡ None → AwaitCosts post.asked patience left old new answer → PostCosts post patience left old new answer
+  CostsTurns : post.ended ≡ None → AwaitCosts post.asked patience left old new answer → PostCosts post patience left old new answer
 
 -- They are waited for one after the other, each by the patience that those before it have left.
 pub data PostsCost (patience : ℕ) (first : Session) : List Post → ℕ → Session → Type 0 where
-  NonePaid : PostsCost patience first [] patience first
-  OnePaid : {posts : List Post} {left less : ℕ} {mid new : Session} → PostsCost patience first posts left mid → (post : Post) → PostCosts post left less mid new (Ok tt) → PostsCost patience first (posts ++ post ∷ []) less new
+  NoneAwaited : PostsCost patience first [] patience first
+  OneAwaited : {posts : List Post} {left less : ℕ} {mid new : Session} → PostsCost patience first posts left mid → (post : Post) → PostCosts post left less mid new (Ok tt) → PostsCost patience first (posts ++ post ∷ []) less new
 
--- So it is of all, or up to one for which the patience ran out.
+-- So it is of all, until all have landed; or up to one that hasn't landed when the patience has run out.
 pub data WaitCosts (patience : ℕ) (posts : List Post) (left : ℕ) (old new : Session) : Type 0 where
-  AllPaid : PostsCost patience old posts left new → WaitCosts patience posts left old new
-  RunsShort : (before behind : List Post) (post : Post) (some : ℕ) (mid : Session) (why : Stuck) → posts ≡ before ++ post ∷ behind → PostsCost patience old before some mid → PostCosts post some left mid new (Err why)
-      → WaitCosts patience posts left old new
+  UntilAllLanded : AllHaveLanded posts new → PostsCost patience old posts left new → WaitCosts patience posts left old new
+  UpToPost : (before behind : List Post) (post : Post) (some : ℕ) (mid : Session) (why : Stuck) → posts ≡ before ++ post ∷ behind → PostsCost patience old before some mid → PostCosts post some left mid new (Err why)
+      → IsUnfinished post.asked new → left ≡ 0 → WaitCosts patience posts left old new
 
 -- ---- the line
 

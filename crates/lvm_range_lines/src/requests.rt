@@ -8,7 +8,7 @@ ghost use Rattle.lvm_posts.specs.Posts.{AreHeld};
 ghost use Rattle.lvm_group_lines.specs.passed.Ranges.{IsAskedFor, FinishGives, KeepsOthers, HasEndedWell, IsRead};
 ghost use Rattle.lvm_group_lines.specs.passed.Running.{RunsOn};
 ghost use Rattle.lvm_group_lines.specs.passed.Stage.{Shows, IsBetweenStage, IsFitting};
-ghost use Rattle.lvm_range_lines.specs.Leaving.{EndsInPlace, EndsInSession, KeepsPosts, Pays, serving};
+ghost use Rattle.lvm_range_lines.specs.Leaving.{EndsInPlace, EndsInSession, KeepsPosts, SpendsOn, serving};
 ghost use Rattle.lvm_range_lines.specs.Requests.{AsksByName, PostDoes, RdDoes, ShowsBlocks, WrDoes};
 ghost use Rattle.lvm_range_lines.specs.Refusals.{blocks_text, ending_of, reply_of};
 
@@ -144,7 +144,7 @@ fn write_reply<S: Shelf>(driver: &mut Driver<S>, asked: &Asked) -> Result<Reply,
     requires unstuck { driver.old.1.power ≡ power.Stuck → ⊥ }
     requires held { AreHeld driver.old.1 asked.now }
     requires laid { IsLaidOut asked.now }
-    ensures finishes { (left : ℕ) × FinishGives asked.now left (state_of S.device driver.old) (state_of S.device driver.new) (ending_of result) × Pays asked.now left (state_of S.device driver.old) (state_of S.device driver.new) (ending_of result) }
+    ensures finishes { (left : ℕ) × FinishGives asked.now left (state_of S.device driver.old) (state_of S.device driver.new) (ending_of result) × SpendsOn asked.now left (state_of S.device driver.old) (state_of S.device driver.new) (ending_of result) }
     ensures others { KeepsOthers asked.now driver.old.1 driver.new.1 }
     ensures runs { RunsOn (state_of S.device driver.old) (state_of S.device driver.new) }
     ensures reply { IfOk result (λ reply. reply ≡ Reply.Ok) }
@@ -248,7 +248,7 @@ fn read_reply<S: Shelf>(
     requires held { AreHeld driver.old.1 asked.now }
     requires laid { IsLaidOut asked.now }
     requires read { IsRead driver.old.1.history.facts asked.now count }
-    ensures finishes { (left : ℕ) × FinishGives asked.now left (state_of S.device driver.old) (state_of S.device driver.new) (ending_of result) × Pays asked.now left (state_of S.device driver.old) (state_of S.device driver.new) (ending_of result) }
+    ensures finishes { (left : ℕ) × FinishGives asked.now left (state_of S.device driver.old) (state_of S.device driver.new) (ending_of result) × SpendsOn asked.now left (state_of S.device driver.old) (state_of S.device driver.new) (ending_of result) }
     ensures others { KeepsOthers asked.now driver.old.1 driver.new.1 }
     ensures runs { RunsOn (state_of S.device driver.old) (state_of S.device driver.new) }
     ensures reply { IfOk result (ShowsBlocks asked.now.at (state_of S.device driver.new) asked.now) }

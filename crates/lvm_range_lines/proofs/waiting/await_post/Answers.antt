@@ -3,7 +3,7 @@ use Rattle.lvm_group_lines.specs.passed.Driver.{state_of}
 use Rattle.lvm_group_lines.proofs.passed.Running.{runs_none}
 use Rattle.lvm_group_lines.proofs.passed.Ranges.{table_same}
 use Rattle.lvm_range_lines.specs.Taking.{IsGone}
-use Rattle.lvm_range_lines.specs.Waiting.{Costs, CostsNothing}
+use Rattle.lvm_range_lines.specs.Waiting.{CostsNothing, CostsTurns}
 use Rattle.lvm_range_lines.proofs.Awaiting.{awaits_range, no_wait}
 use Rattle.lvm_range_lines.proofs.waiting.await_post.Goals as goal
 
@@ -23,7 +23,7 @@ returns-in-None g c =
     let device = g.S.Shelf.device in
     record {
       awaits = awaits_range c.args.post.now c.await_range.new.patience.left (state_of device c.args.driver.now) (state_of device c.await_range.new.driver) c.await_range.result c.in-None.is made.turns made.ends;
-      costs = Costs c.in-None.is made.costs;
+      costs = CostsTurns c.in-None.is made.costs;
       table = made.table;
       runs = made.runs;
       patience = made.spends.falls;

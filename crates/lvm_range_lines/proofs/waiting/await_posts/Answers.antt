@@ -2,7 +2,7 @@ use Rattle.std.proofs.Common.{None, arith}
 use Rattle.lvm_posts.specs.declared.posts.Post.{Post}
 use Rattle.lvm_group_lines.specs.passed.Driver.{state_of}
 use Rattle.lvm_group_lines.proofs.passed.Running.{stays_unstuck}
-use Rattle.lvm_range_lines.proofs.Awaiting.{all_awaited, all_paid, none_awaited, one_awaited, one_in_vain, one_short, runs_now, table_now, waited_now}
+use Rattle.lvm_range_lines.proofs.Awaiting.{all_awaited, all_cost, none_awaited, one_awaited, one_in_vain, one_short, runs_now, table_now, waited_now}
 use Rattle.lvm_range_lines.proofs.waiting.await_posts.Goals as goal
 
 abbrev first_post : Post
@@ -30,7 +30,7 @@ returns g c =
     let over = c.loop-post-test.false in
     record {
       awaits = all_awaited c.args.posts.now (state_of device c.args.driver.now) (state_of device c.loop-post.driver) c.args.patience.now.left c.loop-post.patience.left c.loop-post.post-index (omega (arith, over)) c.loop-post.invariant;
-      costs = all_paid c.args.posts.now (state_of device c.args.driver.now) (state_of device c.loop-post.driver) c.args.patience.now.left c.loop-post.patience.left c.loop-post.post-index (omega (arith, over)) c.loop-post.invariant;
+      costs = all_cost c.args.posts.now (state_of device c.args.driver.now) (state_of device c.loop-post.driver) c.args.patience.now.left c.loop-post.patience.left c.loop-post.post-index (omega (arith, over)) c.loop-post.invariant;
       table = c.loop-post.invariant.table;
       runs = c.loop-post.invariant.runs;
       waited = c.loop-post.invariant.waited;
@@ -47,7 +47,7 @@ returns-in-Err g c =
     let so_far = c.loop-post.invariant in
     record {
       awaits = one_in_vain c.args.posts.now first old new patience c.loop-post.patience.left c.await_post.new.patience.left c.loop-post.post-index first_post c.loop-post-test.true so_far made.table made.runs made.patience made.waited c.in-Err.why made.awaits;
-      costs = one_short c.args.posts.now first old new patience c.loop-post.patience.left c.await_post.new.patience.left c.loop-post.post-index first_post c.loop-post-test.true so_far made.table made.runs made.patience made.waited c.in-Err.why made.costs;
+      costs = one_short c.args.posts.now first old new patience c.loop-post.patience.left c.await_post.new.patience.left c.loop-post.post-index first_post c.loop-post-test.true so_far made.table made.runs made.patience made.waited c.in-Err.why made.awaits made.costs;
       table = table_now c.args.posts.now first old new patience c.loop-post.patience.left c.await_post.new.patience.left c.loop-post.post-index first_post c.loop-post-test.true so_far made.table made.runs made.patience made.waited;
       runs = runs_now c.args.posts.now first old new patience c.loop-post.patience.left c.await_post.new.patience.left c.loop-post.post-index first_post c.loop-post-test.true so_far made.table made.runs made.patience made.waited;
       waited = waited_now c.args.posts.now first old new patience c.loop-post.patience.left c.await_post.new.patience.left c.loop-post.post-index first_post c.loop-post-test.true so_far made.table made.runs made.patience made.waited;
