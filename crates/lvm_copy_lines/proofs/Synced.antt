@@ -37,29 +37,29 @@ abbrev pub MayBe : Option SyncFault → Type 0
 MayBe None = Unit {0}
 MayBe (Some why) = MayCome why
 
-passed_may : (c : Copy) {patience left : ℕ} (old new : Session) (why : SyncFault) → PassesCopy c patience left old new (passed.Failed why) → MayCome why
-passed_may c old new fault.Dark it = tt
-passed_may c old new fault.Off it = tt
-passed_may c old new fault.Stuck it = tt
-passed_may c old new fault.Busy (inl none) = absurd none
-passed_may c old new fault.Busy (inr none) = absurd none
-passed_may c old new fault.NoVolume it = tt
-passed_may c old new fault.OutOfRange (inl none) = absurd none
-passed_may c old new fault.OutOfRange (inr none) = absurd none
-passed_may c old new fault.HistoryFull it = tt
-passed_may c old new (fault.SyncFailed disk) it = tt
-passed_may c old new (fault.NoFresh lp) it = tt
-passed_may c old new (fault.Missing disk) it = tt
+passed_may : (c : Copy) (patience left : ℕ) (old new : Session) (why : SyncFault) → PassesCopy c patience left old new (passed.Failed why) → MayCome why
+passed_may c patience left old new fault.Dark it = tt
+passed_may c patience left old new fault.Off it = tt
+passed_may c patience left old new fault.Stuck it = tt
+passed_may c patience left old new fault.Busy (inl none) = absurd none
+passed_may c patience left old new fault.Busy (inr none) = absurd none
+passed_may c patience left old new fault.NoVolume it = tt
+passed_may c patience left old new fault.OutOfRange (inl none) = absurd none
+passed_may c patience left old new fault.OutOfRange (inr none) = absurd none
+passed_may c patience left old new fault.HistoryFull it = tt
+passed_may c patience left old new (fault.SyncFailed disk) it = tt
+passed_may c patience left old new (fault.NoFresh lp) it = tt
+passed_may c patience left old new (fault.Missing disk) it = tt
 
 passes_may : (first : Session) {patience left : ℕ} (copies : List Copy) (now : Session) (tally : Tally) → Passes first no_tally patience copies now tally left → MayBe tally.fault
 passes_may first all now total NonePassed = tt
 passes_may first all now total (OnePassed {copies} {old} {new} {tally} c passed.Fresh rest it) = passes_may first copies old tally rest
 passes_may first all now total (OnePassed {copies} {old} {new} {tally} c passed.Made rest it) = passes_may first copies old tally rest
-passes_may first all now total (OnePassed {copies} {old} {new} {tally} c (passed.Failed why) rest it) = by tally.fault (passes_may first copies old tally rest)
+passes_may first all now total (OnePassed {copies} {old} {new} {tally} {before} {left} c (passed.Failed why) rest it) = by tally.fault (passes_may first copies old tally rest)
   where
     by : (m : Option SyncFault) → MayBe m → MayBe (or_first m why)
-    by None before = passed_may c old new why it
-    by (Some first_one) before = before
+    by None so_far = passed_may c before left old new why it
+    by (Some first_one) so_far = so_far
 
 stops_may : (left : ℕ) (core : Core) (why : SyncFault) → StopsFor left core why → MayCome why
 stops_may left core fault.Dark stops = tt

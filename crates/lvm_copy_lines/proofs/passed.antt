@@ -1,6 +1,7 @@
 pub mod Group
 pub mod GroupLines
 pub mod Quiesce
+pub mod Ranges
 pub mod Running
 pub mod Stage
 pub mod TieCommands

@@ -1,5 +1,5 @@
 -- Why lines are refused.
-use Rattle.std.proofs.Common.{◌≡◌, ◌≤◌, ℕ, List, Bool, Option, Some, None, Result, Ok, Err, inr, ⊎_elim, refl, sym, ◌∙◌, ap, subst, arith}
+use Rattle.std.proofs.Common.{◌≡◌, ◌≤◌, ℕ, List, Bool, Option, Some, None, Result, Ok, Err, ⊎_elim, refl, sym, ◌∙◌, ap, subst, arith}
 use Rattle.std.specs.Prelude.{IfErr}
 use Rattle.lvm_disk.specs.Counts.{Rose, RoseBy, Counts}
 use Rattle.lvm_io.specs.Count.{Rose as Later}
@@ -29,7 +29,7 @@ use Rattle.lvm_copy_lines.specs.passed.Varyon.{Refuses as VaryonRefuses}
 use Rattle.lvm_copy_lines.proofs.passed.Quiesce.{quiet_is_ahead, ends_only}
 use Rattle.lvm_copy_lines.proofs.passed.Varyon.{failed_rose}
 use Rattle.lvm_line.specs.Causes.{HasCause, HasFailed, IsBroughtBack, RoseOn, VaryonLaw, disk_of}
-use Rattle.lvm_copy_lines.specs.passed.Stage.{patience_of_line, IsRelit, refusal_of, Shows, InFull, WithoutMemory, State, log_with, Refusal}
+use Rattle.lvm_copy_lines.specs.passed.Stage.{patience_of_line, IsBetween, IsRelit, refusal_of, Shows, InFull, WithoutMemory, State, log_with, Refusal}
 use Rattle.lvm_copy_lines.specs.passed.DiskLines.{refusal_by, NoWriteWhileOn, WriteGoes, NoReadWhileOn, ReadGoes, NotThere, NotPlanned, IsArranged}
 use Rattle.lvm_copy_lines.specs.passed.DiskLines.{CutNotPlanned, PowerIsCut}
 use Rattle.lvm_copy_lines.specs.passed.GroupLines.{Brings, IsLeft, asked_for, itself, outcome_of, NoVaryonWhileOn, Varies, NoMemoryForLine}
@@ -46,7 +46,7 @@ use Rattle.lvm_copy_lines.specs.Copies.{NoGroupForRmlvcopy, BusyRmlvcopy, Undrai
 use Rattle.lvm_copy_lines.proofs.passed.VolumeLines.{mklv_facts, rmlv_facts}
 use Rattle.lvm_copy_lines.proofs.Giving.{mklvcopy_facts, rmlvcopy_facts}
 use Rattle.lvm_line.proofs.Faulting.{known_group, undrained}
-use Rattle.lvm_line.proofs.Knowing.{Known, by_reply, easy, has_by}
+use Rattle.lvm_line.proofs.Knowing.{IsOther, Known, by_reply, easy, has_by}
 use Rattle.lvm_line.proofs.Requesting.{rd_told, wr_told, post_told, wait_told, step_told, sync_group_told, sync_volume_told}
 
 -- ---- groups
@@ -65,14 +65,14 @@ pub record Stopped (read : Result (Option Command) Misfit) (why : Cause) (moment
   pub back : (seen : ℕ) → why ≡ cause.ClockBack seen → moment ≤ seen
   pub unwritten : (have total : ℕ) → why ≡ cause.NoQuorum have total → left.wrote ≡ old.wrote
 
-known_by : (read : Result (Option Command) Misfit) (why : Cause) (old new : State) (left : Device) → Stopped read why new.last old.moment.device left → CauseRose patience_of_line old.moment.device.counts left.counts why → new.moment.device.counts ≡ left.counts
+known_by : (read : Result (Option Command) Misfit) (why : Cause) (old new : State) (left : Device) → IsOther read → Stopped read why new.last old.moment.device left → CauseRose patience_of_line old.moment.device.counts left.counts why → new.moment.device.counts ≡ left.counts
     → new.moment.device.wrote ≡ left.wrote → new.session ≡ None → Known read (refusal_of why) old new
-known_by read (cause.NoQuorum have total) old new left stopped rose counts wrote off = record { cause = has_by read _ old new tt; off = λ is. off; unwritten = λ have1 total1 is. wrote ∙ stopped.unwritten have total refl }
-known_by read (cause.ClockBack seen) old new left stopped rose counts wrote off = record { cause = has_by read (refusal.ClockBack seen) old new (stopped.back seen refl); off = λ is. off; unwritten = λ have total is. absurd (cc (is)) }
-known_by read (cause.DiskFailed disk) old new left stopped rose counts wrote off = record { cause = has_by read (refusal.DiskFailed disk) old new (subst (λ (n : Counts). HasFailed read disk old.moment.device.counts n) (sym counts) (stopped.failed disk refl)); off = λ is. off; unwritten = λ have total is. absurd (cc (is)) }
-known_by read cause.Dark old new left stopped rose counts wrote off = record { cause = has_by read refusal.Dark old new (subst (λ (n : Counts). Rose old.moment.device.counts.cuts n.cuts) (sym counts) rose); off = λ is. off; unwritten = λ have total is. absurd (cc (is)) }
-known_by read cause.Stuck old new left stopped rose counts wrote off = record { cause = has_by read refusal.Stuck old new (subst (λ (n : Counts). RoseBy patience_of_line old.moment.device.counts.waits n.waits) (sym counts) rose); off = λ is. off; unwritten = λ have total is. absurd (cc (is)) }
-known_by read other old new left stopped rose counts wrote off = record { cause = has_by read _ old new tt; off = λ is. off; unwritten = λ have total is. absurd (cc (is)) }
+known_by read (cause.NoQuorum have total) old new left plain stopped rose counts wrote off = record { cause = has_by read _ old new plain tt; off = λ is. off; unwritten = λ have1 total1 is. wrote ∙ stopped.unwritten have total refl }
+known_by read (cause.ClockBack seen) old new left plain stopped rose counts wrote off = record { cause = has_by read (refusal.ClockBack seen) old new plain (stopped.back seen refl); off = λ is. off; unwritten = λ have total is. absurd (cc (is)) }
+known_by read (cause.DiskFailed disk) old new left plain stopped rose counts wrote off = record { cause = has_by read (refusal.DiskFailed disk) old new plain (subst (λ (n : Counts). HasFailed read disk old.moment.device.counts n) (sym counts) (stopped.failed disk refl)); off = λ is. off; unwritten = λ have total is. absurd (cc (is)) }
+known_by read cause.Dark old new left plain stopped rose counts wrote off = record { cause = has_by read refusal.Dark old new plain (subst (λ (n : Counts). Rose old.moment.device.counts.cuts n.cuts) (sym counts) rose); off = λ is. off; unwritten = λ have total is. absurd (cc (is)) }
+known_by read cause.Stuck old new left plain stopped rose counts wrote off = record { cause = has_by read refusal.Stuck old new plain (subst (λ (n : Counts). RoseBy patience_of_line old.moment.device.counts.waits n.waits) (sym counts) rose); off = λ is. off; unwritten = λ have total is. absurd (cc (is)) }
+known_by read other old new left plain stopped rose counts wrote off = record { cause = has_by read _ old new plain tt; off = λ is. off; unwritten = λ have total is. absurd (cc (is)) }
 
 -- causes of which nothing is asked
 abbrev IsPlain : Cause → Type 0
@@ -169,7 +169,7 @@ varyon_known log room name why old new brings = by brings.given brings.gives bri
     by (Ok core) gives rose left = absurd (let e = left.2.answered in cc (e))
     by (Err reason) gives rose left =
         by_reply (Ok (Some (command.Varyon name))) why (refusal_of reason) old new left.answered
-        (known_by (Ok (Some (command.Varyon name))) reason old new brings.shelf (varyon_judged name new.last room (log_with log old.moment.facts) old.moment.device brings.shelf brings.history reason gives) rose
+        (known_by (Ok (Some (command.Varyon name))) reason old new brings.shelf tt (varyon_judged name new.last room (log_with log old.moment.facts) old.moment.device brings.shelf brings.history reason gives) rose
         (counts_lit reason brings.shelf new.moment.device left.lit) (wrote_lit reason brings.shelf new.moment.device left.lit) left.after)
 
 mkvg_known : (log : Log) (room : Room) (force : Bool) (name : List ℕ) (mib : Option ℕ) (disks : List ℕ) (why : Refusal) (old new : State)
@@ -181,7 +181,7 @@ mkvg_known log room force name mib disks why old new brings = by brings.given br
     by (Ok core) gives rose left = absurd (let e = left.2.answered in cc (e))
     by (Err reason) gives rose left =
         by_reply (Ok (Some (command.Mkvg force name mib disks))) why (refusal_of reason) old new left.answered
-        (known_by (Ok (Some (command.Mkvg force name mib disks))) reason old new brings.shelf (mkvg_judged force name mib disks new.last room (log_with log old.moment.facts) old.moment.device brings.shelf brings.history reason gives rose) rose
+        (known_by (Ok (Some (command.Mkvg force name mib disks))) reason old new brings.shelf tt (mkvg_judged force name mib disks new.last room (log_with log old.moment.facts) old.moment.device brings.shelf brings.history reason gives rose) rose
         (counts_lit reason brings.shelf new.moment.device left.lit) (wrote_lit reason brings.shelf new.moment.device left.lit) left.after)
 
 -- ---- disks
@@ -203,111 +203,112 @@ read_named log disk at count old new why gives d is =
     disk_named (λ left mid new given. ReadsAtRest log disk at count left mid new given) log disk at count old new d (λ left mid goes. goes.ends.cause.0)
     (subst (λ (w : RawFault). ReadOnceQuiet log disk at count patience_of_line old new (Err w)) is gives)
 
-module _ (read : Result (Option Command) Misfit) (disk : ℕ) (its : disk_of read ≡ Some disk) (missed : (d : ℕ) (a b : Counts) → Rose (a.misses d) (b.misses d) → HasFailed read d a b) (old new : State) (off : new.session ≡ None) where
+module _ (read : Result (Option Command) Misfit) (plain : IsOther read) (disk : ℕ) (its : disk_of read ≡ Some disk) (missed : (d : ℕ) (a b : Counts) → Rose (a.misses d) (b.misses d) → HasFailed read d a b) (old new : State) (off : new.session ≡ None) where
   on_disk : (a b : ℕ → ℕ) → Rose (a disk) (b disk) → RoseOn (disk_of read) a b
   on_disk a b rose = subst (λ (d : Option ℕ). RoseOn d a b) (sym its) rose
 
   known_fault : (why : RawFault) → ((d : ℕ) → why ≡ fault.DiskFailed d → d ≡ disk) → FaultRose disk patience_of_line old.moment.device.counts new.moment.device.counts why → Known read (refusal_by why) old new
-  known_fault (fault.NoDisk d) named rose = record { cause = has_by read (refusal.NoDisk d) old new tt; off = λ is. off; unwritten = λ have total is. absurd (cc (is)) }
-  known_fault (fault.OutOfRange blocks) named rose = record { cause = has_by read (refusal.OutOfRange blocks) old new tt; off = λ is. off; unwritten = λ have total is. absurd (cc (is)) }
-  known_fault fault.HistoryFull named rose = record { cause = has_by read refusal.HistoryFull old new tt; off = λ is. off; unwritten = λ have total is. absurd (cc (is)) }
-  known_fault fault.Dark named rose = record { cause = has_by read refusal.Dark old new rose; off = λ is. off; unwritten = λ have total is. absurd (cc (is)) }
-  known_fault fault.Stuck named rose = record { cause = has_by read refusal.Stuck old new rose; off = λ is. off; unwritten = λ have total is. absurd (cc (is)) }
-  known_fault (fault.DiskFailed d) named rose = record { cause = has_by read (refusal.DiskFailed d) old new (missed d old.moment.device.counts new.moment.device.counts (subst (λ (n : ℕ). Rose (old.moment.device.counts.misses n) (new.moment.device.counts.misses n)) (sym (named d refl)) rose)); off = λ is. off; unwritten = λ have total is. absurd (cc (is)) }
-  known_fault (fault.InGroup d) named rose = record { cause = has_by read (refusal.InGroup d) old new tt; off = λ is. off; unwritten = λ have total is. absurd (cc (is)) }
-  known_fault fault.Lost named rose = record { cause = has_by read refusal.Lost old new (on_disk old.moment.device.counts.faults new.moment.device.counts.faults rose); off = λ is. off; unwritten = λ have total is. absurd (cc (is)) }
-  known_fault fault.ReadFailed named rose = record { cause = has_by read refusal.ReadFailed old new (on_disk old.moment.device.counts.faults new.moment.device.counts.faults rose); off = λ is. off; unwritten = λ have total is. absurd (cc (is)) }
-  known_fault fault.Memory named rose = record { cause = has_by read refusal.Memory old new tt; off = λ is. off; unwritten = λ have total is. absurd (cc (is)) }
+  known_fault (fault.NoDisk d) named rose = record { cause = has_by read (refusal.NoDisk d) old new plain tt; off = λ is. off; unwritten = λ have total is. absurd (cc (is)) }
+  known_fault (fault.OutOfRange blocks) named rose = record { cause = has_by read (refusal.OutOfRange blocks) old new plain tt; off = λ is. off; unwritten = λ have total is. absurd (cc (is)) }
+  known_fault fault.HistoryFull named rose = record { cause = has_by read refusal.HistoryFull old new plain tt; off = λ is. off; unwritten = λ have total is. absurd (cc (is)) }
+  known_fault fault.Dark named rose = record { cause = has_by read refusal.Dark old new plain rose; off = λ is. off; unwritten = λ have total is. absurd (cc (is)) }
+  known_fault fault.Stuck named rose = record { cause = has_by read refusal.Stuck old new plain rose; off = λ is. off; unwritten = λ have total is. absurd (cc (is)) }
+  known_fault (fault.DiskFailed d) named rose = record { cause = has_by read (refusal.DiskFailed d) old new plain (missed d old.moment.device.counts new.moment.device.counts (subst (λ (n : ℕ). Rose (old.moment.device.counts.misses n) (new.moment.device.counts.misses n)) (sym (named d refl)) rose)); off = λ is. off; unwritten = λ have total is. absurd (cc (is)) }
+  known_fault (fault.InGroup d) named rose = record { cause = has_by read (refusal.InGroup d) old new plain tt; off = λ is. off; unwritten = λ have total is. absurd (cc (is)) }
+  known_fault fault.Lost named rose = record { cause = has_by read refusal.Lost old new plain (on_disk old.moment.device.counts.faults new.moment.device.counts.faults rose); off = λ is. off; unwritten = λ have total is. absurd (cc (is)) }
+  known_fault fault.ReadFailed named rose = record { cause = has_by read refusal.ReadFailed old new plain (on_disk old.moment.device.counts.faults new.moment.device.counts.faults rose); off = λ is. off; unwritten = λ have total is. absurd (cc (is)) }
+  known_fault fault.Memory named rose = record { cause = has_by read refusal.Memory old new plain tt; off = λ is. off; unwritten = λ have total is. absurd (cc (is)) }
 
 -- ---- lines
 
 -- the lines of a listing are no refusal, but for want of memory
-of_shows : (read : Result (Option Command) Misfit) (text : List ℕ) (why : Refusal) (old new : State) → Shows text (reply.Refused why) → Known read why old new
-of_shows read text why old new (InFull is) = absurd (cc (is))
-of_shows read text why old new (WithoutMemory is) = by_reply read why refusal.Memory old new is (easy read refusal.Memory old new (has_by read refusal.Memory old new tt) (λ e. cc) (λ h t e. cc))
+of_shows : (read : Result (Option Command) Misfit) (text : List ℕ) (why : Refusal) (old new : State) → IsOther read → Shows text (reply.Refused why) → Known read why old new
+of_shows read text why old new plain (InFull is) = absurd (cc (is))
+of_shows read text why old new plain (WithoutMemory is) = by_reply read why refusal.Memory old new is (easy read refusal.Memory old new (has_by read refusal.Memory old new plain tt) (λ e. cc) (λ h t e. cc))
 
-pub known : (log : Log) (room : Room) (read : Result (Option Command) Misfit) (why : Refusal) (old new : State) → LineDoes log room read old new (reply.Refused why) → Known read why old new
-known log room (Err misfit) why old new does = by_reply _ why (refusal.BadLine misfit.column) old new does.0 (easy _ (refusal.BadLine misfit.column) old new (inr tt) (λ e. cc) (λ h t e. cc))
-known log room (Ok None) why old new does = absurd (let e = does.0 in cc (e))
-known log room (Ok (Some (command.Mkvg force name mib disks))) why old new (NoMemoryForLine off is asked) = by_reply _ why refusal.Memory old new is (easy _ refusal.Memory old new (inr tt) (λ e. cc) (λ h t e. cc))
-known log room (Ok (Some (command.Mkvg force name mib disks))) why old new (NoMkvgWhileOn some is asked) = by_reply _ why refusal.GroupOn old new is (easy _ refusal.GroupOn old new (inr tt) (λ e. cc) (λ h t e. cc))
-known log room (Ok (Some (command.Mkvg force name mib disks))) why old new (Makes brings) = mkvg_known log room force name mib disks why old new brings
-known log room (Ok (Some (command.Varyon name))) why old new (NoVaryonWhileOn some is asked) = by_reply _ why refusal.GroupOn old new is (easy _ refusal.GroupOn old new (inr tt) (λ e. cc) (λ h t e. cc))
-known log room (Ok (Some (command.Varyon name))) why old new (Varies brings) = varyon_known log room name why old new brings
-known log room (Ok (Some (command.Varyoff name))) why old new (NoVaryoff none is) = by_reply _ why refusal.NoGroup old new is.0 (easy _ refusal.NoGroup old new (inr tt) (λ e. cc) (λ h t e. cc))
-known log room (Ok (Some (command.Varyoff name))) why old new (BusyVaryoff on busy is) = by_reply _ why refusal.Busy old new is.0 (easy _ refusal.Busy old new (inr tt) (λ e. cc) (λ h t e. cc))
-known log room (Ok (Some (command.Varyoff name))) why old new (VariesOff core some on none ends is) = absurd (cc (is))
-known log room (Ok (Some (command.Lsvg volumes name))) why old new (NoGroupToList none is, same) = by_reply _ why refusal.NoGroup old new is (easy _ refusal.NoGroup old new (inr tt) (λ e. cc) (λ h t e. cc))
-known log room (Ok (Some (command.Lsvg volumes name))) why old new (GroupThatIsOn core some (OtherGroup other is), same) = by_reply _ why refusal.NoGroup old new is (easy _ refusal.NoGroup old new (inr tt) (λ e. cc) (λ h t e. cc))
-known log room (Ok (Some (command.Lsvg volumes name))) why old new (GroupThatIsOn core some (ListsGroup its shows), same) = of_shows _ _ why old new shows
-known log room (Ok (Some (command.Mklv name copies mode policy group lps))) why old new (NoGroupForMklv none is) = by_reply _ why refusal.NoGroup old new is.0 (easy _ refusal.NoGroup old new (inr tt) (λ e. cc) (λ h t e. cc))
-known log room (Ok (Some (command.Mklv name copies mode policy group lps))) why old new (BusyMklv on busy is) = by_reply _ why refusal.Busy old new is.0 (easy _ refusal.Busy old new (inr tt) (λ e. cc) (λ h t e. cc))
-known log room (Ok (Some (command.Mklv name copies mode policy group lps))) why old new (UndrainedMklv core fault some on ends) = undrained (Ok (Some (command.Mklv name copies mode policy group lps))) why old new core fault some ends
-known log room (Ok (Some (command.Mklv name copies mode policy group lps))) why old new (MakesVolume core left mid number some on drains done is) = absurd (cc (is))
-known log room (Ok (Some (command.Mklv name copies mode policy group lps))) why old new (MklvFails core left mid reason some on drains done is) =
+pub known : (log : Log) (room : Room) (read : Result (Option Command) Misfit) (why : Refusal) (old new : State) → IsBetween old.moment old.session old.posts → LineDoes log room read old new (reply.Refused why) → Known read why old new
+known log room (Err misfit) why old new between does = by_reply _ why (refusal.BadLine misfit.column) old new does.0 (easy _ (refusal.BadLine misfit.column) old new tt (λ e. cc) (λ h t e. cc))
+known log room (Ok None) why old new between does = absurd (let e = does.0 in cc (e))
+known log room (Ok (Some (command.Mkvg force name mib disks))) why old new between (NoMemoryForLine off is asked) = by_reply _ why refusal.Memory old new is (easy _ refusal.Memory old new tt (λ e. cc) (λ h t e. cc))
+known log room (Ok (Some (command.Mkvg force name mib disks))) why old new between (NoMkvgWhileOn some is asked) = by_reply _ why refusal.GroupOn old new is (easy _ refusal.GroupOn old new tt (λ e. cc) (λ h t e. cc))
+known log room (Ok (Some (command.Mkvg force name mib disks))) why old new between (Makes brings) = mkvg_known log room force name mib disks why old new brings
+known log room (Ok (Some (command.Varyon name))) why old new between (NoVaryonWhileOn some is asked) = by_reply _ why refusal.GroupOn old new is (easy _ refusal.GroupOn old new tt (λ e. cc) (λ h t e. cc))
+known log room (Ok (Some (command.Varyon name))) why old new between (Varies brings) = varyon_known log room name why old new brings
+known log room (Ok (Some (command.Varyoff name))) why old new between (NoVaryoff none is) = by_reply _ why refusal.NoGroup old new is.0 (easy _ refusal.NoGroup old new tt (λ e. cc) (λ h t e. cc))
+known log room (Ok (Some (command.Varyoff name))) why old new between (BusyVaryoff on busy is) = by_reply _ why refusal.Busy old new is.0 (easy _ refusal.Busy old new tt (λ e. cc) (λ h t e. cc))
+known log room (Ok (Some (command.Varyoff name))) why old new between (VariesOff core some on none ends is) = absurd (cc (is))
+known log room (Ok (Some (command.Lsvg volumes name))) why old new between (NoGroupToList none is, same) = by_reply _ why refusal.NoGroup old new is (easy _ refusal.NoGroup old new tt (λ e. cc) (λ h t e. cc))
+known log room (Ok (Some (command.Lsvg volumes name))) why old new between (GroupThatIsOn core some (OtherGroup other is), same) = by_reply _ why refusal.NoGroup old new is (easy _ refusal.NoGroup old new tt (λ e. cc) (λ h t e. cc))
+known log room (Ok (Some (command.Lsvg volumes name))) why old new between (GroupThatIsOn core some (ListsGroup its shows), same) = of_shows _ _ why old new tt shows
+known log room (Ok (Some (command.Mklv name copies mode policy group lps))) why old new between (NoGroupForMklv none is) = by_reply _ why refusal.NoGroup old new is.0 (easy _ refusal.NoGroup old new tt (λ e. cc) (λ h t e. cc))
+known log room (Ok (Some (command.Mklv name copies mode policy group lps))) why old new between (BusyMklv on busy is) = by_reply _ why refusal.Busy old new is.0 (easy _ refusal.Busy old new tt (λ e. cc) (λ h t e. cc))
+known log room (Ok (Some (command.Mklv name copies mode policy group lps))) why old new between (UndrainedMklv core fault some on ends) = undrained (Ok (Some (command.Mklv name copies mode policy group lps))) old new core tt between some why fault ends
+known log room (Ok (Some (command.Mklv name copies mode policy group lps))) why old new between (MakesVolume core left mid number some on drains done is) = absurd (cc (is))
+known log room (Ok (Some (command.Mklv name copies mode policy group lps))) why old new between (MklvFails core left mid reason some on drains done is) =
     by_reply _ why (refusal_for reason) old new is
-    (known_group (Ok (Some (command.Mklv name copies mode policy group lps))) (λ d a b rose. rose) reason old new core left mid done.left some drains (mklv_facts (wanted name copies mode policy lps) left mid done.left drains.settled.power (Err reason) done.gives) done.leaves)
-known log room (Ok (Some (command.Rmlv name))) why old new (NoGroupForRmlv none is) = by_reply _ why refusal.NoGroup old new is.0 (easy _ refusal.NoGroup old new (inr tt) (λ e. cc) (λ h t e. cc))
-known log room (Ok (Some (command.Rmlv name))) why old new (BusyRmlv busy is) = by_reply _ why refusal.Busy old new is.0 (easy _ refusal.Busy old new (inr tt) (λ e. cc) (λ h t e. cc))
-known log room (Ok (Some (command.Rmlv name))) why old new (UndrainedRmlv core fault some ends) = undrained (Ok (Some (command.Rmlv name))) why old new core fault some ends
-known log room (Ok (Some (command.Rmlv name))) why old new (NoVolumeForRmlv core left mid some drains none stays clock is) = by_reply _ why refusal.NoVolume old new is (easy _ refusal.NoVolume old new (inr tt) (λ e. cc) (λ h t e. cc))
-known log room (Ok (Some (command.Rmlv name))) why old new (RemovesVolume core left mid lv some drains its done is) = absurd (cc (is))
-known log room (Ok (Some (command.Rmlv name))) why old new (RmlvFails core left mid lv reason some drains its done is) =
+    (known_group (Ok (Some (command.Mklv name copies mode policy group lps))) tt (λ d a b rose. rose) reason old new core left mid done.left some drains (mklv_facts (wanted name copies mode policy lps) left mid done.left drains.settled.power (Err reason) done.gives) done.leaves)
+known log room (Ok (Some (command.Rmlv name))) why old new between (NoGroupForRmlv none is) = by_reply _ why refusal.NoGroup old new is.0 (easy _ refusal.NoGroup old new tt (λ e. cc) (λ h t e. cc))
+known log room (Ok (Some (command.Rmlv name))) why old new between (BusyRmlv busy is) = by_reply _ why refusal.Busy old new is.0 (easy _ refusal.Busy old new tt (λ e. cc) (λ h t e. cc))
+known log room (Ok (Some (command.Rmlv name))) why old new between (UndrainedRmlv core fault some ends) = undrained (Ok (Some (command.Rmlv name))) old new core tt between some why fault ends
+known log room (Ok (Some (command.Rmlv name))) why old new between (NoVolumeForRmlv core left mid some drains none stays clock is) = by_reply _ why refusal.NoVolume old new is (easy _ refusal.NoVolume old new tt (λ e. cc) (λ h t e. cc))
+known log room (Ok (Some (command.Rmlv name))) why old new between (RemovesVolume core left mid lv some drains its done is) = absurd (cc (is))
+known log room (Ok (Some (command.Rmlv name))) why old new between (RmlvFails core left mid lv reason some drains its done is) =
     by_reply _ why (refusal_for reason) old new is
-    (known_group (Ok (Some (command.Rmlv name))) (λ d a b rose. rose) reason old new core left mid done.left some drains (rmlv_facts lv left mid done.left drains.settled.power (Err reason) done.gives) done.leaves)
-known log room (Ok (Some (command.Mklvcopy name copies))) why old new (NoGroupForMklvcopy none is) = by_reply _ why refusal.NoGroup old new is.0 (easy _ refusal.NoGroup old new (inr tt) (λ e. cc) (λ h t e. cc))
-known log room (Ok (Some (command.Mklvcopy name copies))) why old new (BusyMklvcopy busy is) = by_reply _ why refusal.Busy old new is.0 (easy _ refusal.Busy old new (inr tt) (λ e. cc) (λ h t e. cc))
-known log room (Ok (Some (command.Mklvcopy name copies))) why old new (UndrainedMklvcopy core fault some ends) = undrained (Ok (Some (command.Mklvcopy name copies))) why old new core fault some ends
-known log room (Ok (Some (command.Mklvcopy name copies))) why old new (NoVolumeForMklvcopy core left mid some drains none stays clock is) = by_reply _ why refusal.NoVolume old new is (easy _ refusal.NoVolume old new (inr tt) (λ e. cc) (λ h t e. cc))
-known log room (Ok (Some (command.Mklvcopy name copies))) why old new (AddsCopies core left mid lv added some drains its done is) = absurd (cc (is))
-known log room (Ok (Some (command.Mklvcopy name copies))) why old new (MklvcopyFails core left mid lv reason some drains its done is) =
+    (known_group (Ok (Some (command.Rmlv name))) tt (λ d a b rose. rose) reason old new core left mid done.left some drains (rmlv_facts lv left mid done.left drains.settled.power (Err reason) done.gives) done.leaves)
+known log room (Ok (Some (command.Mklvcopy name copies))) why old new between (NoGroupForMklvcopy none is) = by_reply _ why refusal.NoGroup old new is.0 (easy _ refusal.NoGroup old new tt (λ e. cc) (λ h t e. cc))
+known log room (Ok (Some (command.Mklvcopy name copies))) why old new between (BusyMklvcopy busy is) = by_reply _ why refusal.Busy old new is.0 (easy _ refusal.Busy old new tt (λ e. cc) (λ h t e. cc))
+known log room (Ok (Some (command.Mklvcopy name copies))) why old new between (UndrainedMklvcopy core fault some ends) = undrained (Ok (Some (command.Mklvcopy name copies))) old new core tt between some why fault ends
+known log room (Ok (Some (command.Mklvcopy name copies))) why old new between (NoVolumeForMklvcopy core left mid some drains none stays clock is) = by_reply _ why refusal.NoVolume old new is (easy _ refusal.NoVolume old new tt (λ e. cc) (λ h t e. cc))
+known log room (Ok (Some (command.Mklvcopy name copies))) why old new between (AddsCopies core left mid lv added some drains its done is) = absurd (cc (is))
+known log room (Ok (Some (command.Mklvcopy name copies))) why old new between (MklvcopyFails core left mid lv reason some drains its done is) =
     by_reply _ why (refusal_for reason) old new is
-    (known_group (Ok (Some (command.Mklvcopy name copies))) (λ d a b rose. rose) reason old new core left mid done.left some drains (mklvcopy_facts lv copies left mid done.left drains.settled.power (Err reason) done.gives) done.leaves)
-known log room (Ok (Some (command.Rmlvcopy name copies))) why old new (NoGroupForRmlvcopy none is) = by_reply _ why refusal.NoGroup old new is.0 (easy _ refusal.NoGroup old new (inr tt) (λ e. cc) (λ h t e. cc))
-known log room (Ok (Some (command.Rmlvcopy name copies))) why old new (BusyRmlvcopy busy is) = by_reply _ why refusal.Busy old new is.0 (easy _ refusal.Busy old new (inr tt) (λ e. cc) (λ h t e. cc))
-known log room (Ok (Some (command.Rmlvcopy name copies))) why old new (UndrainedRmlvcopy core fault some ends) = undrained (Ok (Some (command.Rmlvcopy name copies))) why old new core fault some ends
-known log room (Ok (Some (command.Rmlvcopy name copies))) why old new (NoVolumeForRmlvcopy core left mid some drains none stays clock is) = by_reply _ why refusal.NoVolume old new is (easy _ refusal.NoVolume old new (inr tt) (λ e. cc) (λ h t e. cc))
-known log room (Ok (Some (command.Rmlvcopy name copies))) why old new (RemovesCopies core left mid lv some drains its done is) = absurd (cc (is))
-known log room (Ok (Some (command.Rmlvcopy name copies))) why old new (RmlvcopyFails core left mid lv reason some drains its done is) =
+    (known_group (Ok (Some (command.Mklvcopy name copies))) tt (λ d a b rose. rose) reason old new core left mid done.left some drains (mklvcopy_facts lv copies left mid done.left drains.settled.power (Err reason) done.gives) done.leaves)
+known log room (Ok (Some (command.Rmlvcopy name copies))) why old new between (NoGroupForRmlvcopy none is) = by_reply _ why refusal.NoGroup old new is.0 (easy _ refusal.NoGroup old new tt (λ e. cc) (λ h t e. cc))
+known log room (Ok (Some (command.Rmlvcopy name copies))) why old new between (BusyRmlvcopy busy is) = by_reply _ why refusal.Busy old new is.0 (easy _ refusal.Busy old new tt (λ e. cc) (λ h t e. cc))
+known log room (Ok (Some (command.Rmlvcopy name copies))) why old new between (UndrainedRmlvcopy core fault some ends) = undrained (Ok (Some (command.Rmlvcopy name copies))) old new core tt between some why fault ends
+known log room (Ok (Some (command.Rmlvcopy name copies))) why old new between (NoVolumeForRmlvcopy core left mid some drains none stays clock is) = by_reply _ why refusal.NoVolume old new is (easy _ refusal.NoVolume old new tt (λ e. cc) (λ h t e. cc))
+known log room (Ok (Some (command.Rmlvcopy name copies))) why old new between (RemovesCopies core left mid lv some drains its done is) = absurd (cc (is))
+known log room (Ok (Some (command.Rmlvcopy name copies))) why old new between (RmlvcopyFails core left mid lv reason some drains its done is) =
     by_reply _ why (refusal_for reason) old new is
-    (known_group (Ok (Some (command.Rmlvcopy name copies))) (λ d a b rose. rose) reason old new core left mid done.left some drains (rmlvcopy_facts lv copies left mid done.left drains.settled.power (Err reason) done.gives) done.leaves)
-known log room (Ok (Some (command.Rd name at count))) why old new does = (let told = rd_told name at count why old new does in record { cause = tt; off = told.off; unwritten = λ h t is. absurd (told.counted h t is) })
-known log room (Ok (Some (command.Wr name at count word))) why old new does = (let told = wr_told name at count word why old new does in record { cause = tt; off = told.off; unwritten = λ h t is. absurd (told.counted h t is) })
-known log room (Ok (Some (command.Post name at count word))) why old new does = (let told = post_told name at count word why old new does in record { cause = tt; off = told.off; unwritten = λ h t is. absurd (told.counted h t is) })
-known log room (Ok (Some command.Wait)) why old new does = (let told = wait_told why old new does in record { cause = tt; off = told.off; unwritten = λ h t is. absurd (told.counted h t is) })
-known log room (Ok (Some (command.SyncVolume name))) why old new does = (let told = sync_volume_told name why old new does in record { cause = tt; off = told.off; unwritten = λ h t is. absurd (told.counted h t is) })
-known log room (Ok (Some (command.SyncGroup name))) why old new does = (let told = sync_group_told name why old new does in record { cause = tt; off = told.off; unwritten = λ h t is. absurd (told.counted h t is) })
-known log room (Ok (Some (command.Step turns))) why old new does = (let told = step_told turns why old new does in record { cause = tt; off = told.off; unwritten = λ h t is. absurd (told.counted h t is) })
-known log room (Ok (Some (command.Lslv name))) why old new (NoGroupForVolume none is, same) = by_reply _ why refusal.NoGroup old new is (easy _ refusal.NoGroup old new (inr tt) (λ e. cc) (λ h t e. cc))
-known log room (Ok (Some (command.Lslv name))) why old new (VolumeOfGroup core some (NoSuchVolume none is), same) = by_reply _ why refusal.NoVolume old new is (easy _ refusal.NoVolume old new (inr tt) (λ e. cc) (λ h t e. cc))
-known log room (Ok (Some (command.Lslv name))) why old new (VolumeOfGroup core some (ListsVolume lv its shows), same) = of_shows _ _ why old new shows
-known log room (Ok (Some (command.Lspv disk))) why old new (NoGroupForDisk none is, same) = by_reply _ why refusal.NoGroup old new is (easy _ refusal.NoGroup old new (inr tt) (λ e. cc) (λ h t e. cc))
-known log room (Ok (Some (command.Lspv disk))) why old new (DiskOfGroup core some (NoSuchMember none is), same) = by_reply _ why (refusal.NoDisk disk) old new is (easy _ (refusal.NoDisk disk) old new (inr tt) (λ e. cc) (λ h t e. cc))
-known log room (Ok (Some (command.Lspv disk))) why old new (DiskOfGroup core some (ListsMember row there its shows), same) = of_shows _ _ why old new shows
-known log room (Ok (Some (command.RawRd disk at count))) why old new (NoReadWhileOn some is) = by_reply _ why refusal.GroupOn old new is.0 (easy _ refusal.GroupOn old new (inr tt) (λ e. cc) (λ h t e. cc))
-known log room (Ok (Some (command.RawRd disk at count))) why old new (ReadGoes (Ok blocks) off gives risen shows) = of_shows _ _ why old new shows
-known log room (Ok (Some (command.RawRd disk at count))) why old new (ReadGoes (Err reason) off gives risen is) = by_reply _ why (refusal_by reason) old new is (known_fault (Ok (Some (command.RawRd disk at count))) disk refl (λ d a b rose. rose) old new off.after reason (read_named log disk at count old.moment new.moment reason gives) risen)
-known log room (Ok (Some (command.RawWr disk at count word))) why old new (NoWriteWhileOn some is) = by_reply _ why refusal.GroupOn old new is.0 (easy _ refusal.GroupOn old new (inr tt) (λ e. cc) (λ h t e. cc))
-known log room (Ok (Some (command.RawWr disk at count word))) why old new (WriteGoes (Ok done) off gives risen is) = absurd (cc (is))
-known log room (Ok (Some (command.RawWr disk at count word))) why old new (WriteGoes (Err reason) off gives risen is) = by_reply _ why (refusal_by reason) old new is (known_fault (Ok (Some (command.RawWr disk at count word))) disk refl (λ d a b rose. rose) old new off.after reason (write_named log disk at count word old.moment new.moment reason gives) risen)
-known log room (Ok (Some (command.Fail disk))) why old new (NotThere beyond is) = by_reply _ why (refusal.NoDisk disk) old new is.0 (easy _ (refusal.NoDisk disk) old new (inr tt) (λ e. cc) (λ h t e. cc))
-known log room (Ok (Some (command.Fail disk))) why old new (NotPlanned there unplanned is) = by_reply _ why refusal.NoPlan old new is.0 (easy _ refusal.NoPlan old new (inr tt) (λ e. cc) (λ h t e. cc))
-known log room (Ok (Some (command.Fail disk))) why old new (IsArranged there planned is same) = absurd (cc (is))
-known log room (Ok (Some (command.Heal disk))) why old new (NotThere beyond is) = by_reply _ why (refusal.NoDisk disk) old new is.0 (easy _ (refusal.NoDisk disk) old new (inr tt) (λ e. cc) (λ h t e. cc))
-known log room (Ok (Some (command.Heal disk))) why old new (NotPlanned there unplanned is) = by_reply _ why refusal.NoPlan old new is.0 (easy _ refusal.NoPlan old new (inr tt) (λ e. cc) (λ h t e. cc))
-known log room (Ok (Some (command.Heal disk))) why old new (IsArranged there planned is same) = absurd (cc (is))
-known log room (Ok (Some (command.Cut word))) why old new (CutNotPlanned unplanned is) = by_reply _ why refusal.NoPlan old new is.0 (easy _ refusal.NoPlan old new (inr tt) (λ e. cc) (λ h t e. cc))
-known log room (Ok (Some (command.Cut word))) why old new (PowerIsCut planned is cut) = absurd (cc (is))
+    (known_group (Ok (Some (command.Rmlvcopy name copies))) tt (λ d a b rose. rose) reason old new core left mid done.left some drains (rmlvcopy_facts lv copies left mid done.left drains.settled.power (Err reason) done.gives) done.leaves)
+known log room (Ok (Some (command.Rd name at count))) why old new between does = (let told = rd_told old new between name at count why does in record { cause = told.cause; off = told.off; unwritten = λ h t is. absurd (told.counted h t is) })
+known log room (Ok (Some (command.Wr name at count word))) why old new between does = (let told = wr_told old new between name at count word why does in record { cause = told.cause; off = told.off; unwritten = λ h t is. absurd (told.counted h t is) })
+known log room (Ok (Some (command.Post name at count word))) why old new between does = (let told = post_told old new between name at count word why does in record { cause = told.cause; off = told.off; unwritten = λ h t is. absurd (told.counted h t is) })
+known log room (Ok (Some command.Wait)) why old new between does = (let told = wait_told old new between why does in record { cause = told.cause; off = told.off; unwritten = λ h t is. absurd (told.counted h t is) })
+known log room (Ok (Some (command.SyncVolume name))) why old new between does = (let told = sync_volume_told old new between name why does in record { cause = told.cause; off = told.off; unwritten = λ h t is. absurd (told.counted h t is) })
+known log room (Ok (Some (command.SyncGroup name))) why old new between does = (let told = sync_group_told old new between name why does in record { cause = told.cause; off = told.off; unwritten = λ h t is. absurd (told.counted h t is) })
+known log room (Ok (Some (command.Step turns))) why old new between does = (let told = step_told old new between turns why does in record { cause = told.cause; off = told.off; unwritten = λ h t is. absurd (told.counted h t is) })
+known log room (Ok (Some (command.Lslv name))) why old new between (NoGroupForVolume none is, same) = by_reply _ why refusal.NoGroup old new is (easy _ refusal.NoGroup old new tt (λ e. cc) (λ h t e. cc))
+known log room (Ok (Some (command.Lslv name))) why old new between (VolumeOfGroup core some (NoSuchVolume none is), same) = by_reply _ why refusal.NoVolume old new is (easy _ refusal.NoVolume old new tt (λ e. cc) (λ h t e. cc))
+known log room (Ok (Some (command.Lslv name))) why old new between (VolumeOfGroup core some (ListsVolume lv its shows), same) = of_shows _ _ why old new tt shows
+known log room (Ok (Some (command.Lspv disk))) why old new between (NoGroupForDisk none is, same) = by_reply _ why refusal.NoGroup old new is (easy _ refusal.NoGroup old new tt (λ e. cc) (λ h t e. cc))
+known log room (Ok (Some (command.Lspv disk))) why old new between (DiskOfGroup core some (NoSuchMember none is), same) = by_reply _ why (refusal.NoDisk disk) old new is (easy _ (refusal.NoDisk disk) old new tt (λ e. cc) (λ h t e. cc))
+known log room (Ok (Some (command.Lspv disk))) why old new between (DiskOfGroup core some (ListsMember row there its shows), same) = of_shows _ _ why old new tt shows
+known log room (Ok (Some (command.RawRd disk at count))) why old new between (NoReadWhileOn some is) = by_reply _ why refusal.GroupOn old new is.0 (easy _ refusal.GroupOn old new tt (λ e. cc) (λ h t e. cc))
+known log room (Ok (Some (command.RawRd disk at count))) why old new between (ReadGoes (Ok blocks) off gives risen shows) = of_shows _ _ why old new tt shows
+known log room (Ok (Some (command.RawRd disk at count))) why old new between (ReadGoes (Err reason) off gives risen is) = by_reply _ why (refusal_by reason) old new is (known_fault (Ok (Some (command.RawRd disk at count))) tt disk refl (λ d a b rose. rose) old new off.after reason (read_named log disk at count old.moment new.moment reason gives) risen)
+known log room (Ok (Some (command.RawWr disk at count word))) why old new between (NoWriteWhileOn some is) = by_reply _ why refusal.GroupOn old new is.0 (easy _ refusal.GroupOn old new tt (λ e. cc) (λ h t e. cc))
+known log room (Ok (Some (command.RawWr disk at count word))) why old new between (WriteGoes (Ok done) off gives risen is) = absurd (cc (is))
+known log room (Ok (Some (command.RawWr disk at count word))) why old new between (WriteGoes (Err reason) off gives risen is) = by_reply _ why (refusal_by reason) old new is (known_fault (Ok (Some (command.RawWr disk at count word))) tt disk refl (λ d a b rose. rose) old new off.after reason (write_named log disk at count word old.moment new.moment reason gives) risen)
+known log room (Ok (Some (command.Fail disk))) why old new between (NotThere beyond is) = by_reply _ why (refusal.NoDisk disk) old new is.0 (easy _ (refusal.NoDisk disk) old new tt (λ e. cc) (λ h t e. cc))
+known log room (Ok (Some (command.Fail disk))) why old new between (NotPlanned there unplanned is) = by_reply _ why refusal.NoPlan old new is.0 (easy _ refusal.NoPlan old new tt (λ e. cc) (λ h t e. cc))
+known log room (Ok (Some (command.Fail disk))) why old new between (IsArranged there planned is same) = absurd (cc (is))
+known log room (Ok (Some (command.Heal disk))) why old new between (NotThere beyond is) = by_reply _ why (refusal.NoDisk disk) old new is.0 (easy _ (refusal.NoDisk disk) old new tt (λ e. cc) (λ h t e. cc))
+known log room (Ok (Some (command.Heal disk))) why old new between (NotPlanned there unplanned is) = by_reply _ why refusal.NoPlan old new is.0 (easy _ refusal.NoPlan old new tt (λ e. cc) (λ h t e. cc))
+known log room (Ok (Some (command.Heal disk))) why old new between (IsArranged there planned is same) = absurd (cc (is))
+known log room (Ok (Some (command.Cut word))) why old new between (CutNotPlanned unplanned is) = by_reply _ why refusal.NoPlan old new is.0 (easy _ refusal.NoPlan old new tt (λ e. cc) (λ h t e. cc))
+known log room (Ok (Some (command.Cut word))) why old new between (PowerIsCut planned is cut) = absurd (cc (is))
 
-pub has_cause : (log : Log) (room : Room) (read : Result (Option Command) Misfit) (why : Refusal) (old new : State) → LineDoes log room read old new (reply.Refused why) → HasCause read why old new
-has_cause log room read why old new does = (known log room read why old new does).cause
+pub has_cause : (log : Log) (room : Room) (read : Result (Option Command) Misfit) (why : Refusal) (old new : State) → IsBetween old.moment old.session old.posts → LineDoes log room read old new (reply.Refused why) → HasCause read why old new
+has_cause log room read why old new between does = (known log room read why old new between does).cause
 
-pub nothing_written : (log : Log) (room : Room) (read : Result (Option Command) Misfit) (have total : ℕ) (old new : State) → LineDoes log room read old new (reply.Refused (refusal.NoQuorum have total)) → new.moment.device.wrote ≡ old.moment.device.wrote
-nothing_written log room read have total old new does = (known log room read (refusal.NoQuorum have total) old new does).unwritten have total refl
+pub nothing_written : (log : Log) (room : Room) (read : Result (Option Command) Misfit) (have total : ℕ) (old new : State) → IsBetween old.moment old.session old.posts → LineDoes log room read old new (reply.Refused (refusal.NoQuorum have total))
+    → new.moment.device.wrote ≡ old.moment.device.wrote
+nothing_written log room read have total old new between does = (known log room read (refusal.NoQuorum have total) old new between does).unwritten have total refl
 
 -- where nothing was heard of a transfer no group is on
-pub stuck_off : (log : Log) (room : Room) (read : Result (Option Command) Misfit) (old new : State) → LineDoes log room read old new (reply.Refused refusal.Stuck) → new.session ≡ None
-stuck_off log room read old new does = (known log room read refusal.Stuck old new does).off refl
+pub stuck_off : (log : Log) (room : Room) (read : Result (Option Command) Misfit) (old new : State) → IsBetween old.moment old.session old.posts → LineDoes log room read old new (reply.Refused refusal.Stuck) → new.session ≡ None
+stuck_off log room read old new between does = (known log room read refusal.Stuck old new between does).off refl
 
 pub varyon_restates : VaryonLaw
 varyon_restates log room line name old new is it timely = of_varyon (subst (λ (r : Result (Option Command) Misfit). LineDoes log room r old new reply.Ok) is it.does)

@@ -1,5 +1,5 @@
 -- Why `mklv` and `rmlv` are refused.
-use Rattle.std.proofs.Common.{◌≡◌, ◌*◌, ◌+◌, ◌-◌, ◌≤◌, ℕ, Bool, true, false, Option, Some, None, Result, IsFalse, if◌then◌else◌, sym, ap, subst, arith}
+use Rattle.std.proofs.Common.{◌≡◌, inl, inr, ◌*◌, ◌+◌, ◌-◌, ◌≤◌, ℕ, Bool, true, false, Option, Some, None, Result, IsFalse, if◌then◌else◌, sym, ap, subst, arith}
 use Rattle.std.specs.Prelude.{nat_lt}
 use Rattle.std.proofs.lemmas.Bool.{ltb-false}
 use Rattle.lvm_num.specs.declared.descriptor.Descriptor.{Descriptor}
@@ -11,17 +11,19 @@ use Rattle.lvm_operands.specs.declared.rest.Misfit.{Misfit}
 use Rattle.lvm_status.specs.Update.{Stored}
 use Rattle.lvm_commit.specs.Settling.{HasLostQuorum}
 use Rattle.lvm_session.specs.State.{Core, State as Session}
-use Rattle.lvm_line.specs.Causes.{HasFailed, HasLost, IsDrained}
+use Rattle.lvm_line.specs.Causes.{HasCause, HasFailed, HasLost, IsDrained}
 use Rattle.lvm_write.proofs.Transfers.{rose_then}
 use Rattle.lvm_disk.proofs.Rising.{rose_before}
 use Rattle.lvm_copy_lines.specs.passed.Driver.{DrainFault}
 use Rattle.lvm_copy_lines.specs.passed.DrainFaultVariants as drain_fault
-use Rattle.lvm_copy_lines.specs.passed.Stage.{Refusal, patience_of_line, State}
+use Rattle.lvm_copy_lines.specs.passed.Stage.{IsBetween, Refusal, Reply, patience_of_line, State}
 use Rattle.lvm_copy_lines.specs.passed.RefusalVariants as refusal
 use Rattle.lvm_copy_lines.specs.passed.ReplyVariants as reply
 use Rattle.lvm_copy_lines.specs.passed.VolumeLines.{Drains, IsLeft, IsUndrained, drain_refusal, ends_session, refusal_for}
 use Rattle.lvm_copy_lines.proofs.passed.VolumeLines.{FaultFacts}
-use Rattle.lvm_line.proofs.Knowing.{Known, has_by, has_undrained}
+use Rattle.lvm_copy_lines.proofs.passed.Ranges.{off_votes}
+use Rattle.lvm_line.proofs.Knowing.{IsOther, Known, has_by}
+use Rattle.lvm_line.proofs.Turns.{dark_cause, off_cause, stuck_cause}
 use Rattle.lvm_volume_plan.specs.declared.fault.GroupFault.{GroupFault}
 use Rattle.lvm_volume_plan.specs.declared.fault.GroupFault.TheVariants as fault
 
@@ -47,12 +49,24 @@ not_counted why drain_fault.Dark have total says is = cc (says, is)
 not_counted why (drain_fault.WentOff left all) have total says is = cc (says, is)
 not_counted why drain_fault.Stuck have total says is = cc (says, is)
 
-pub undrained : (read : Result (Option Command) Misfit) (why : Refusal) (old new : State) (core : Core) (fault : DrainFault) → old.session ≡ Some core → IsUndrained core old new fault (reply.Refused why) → Known read why old new
-undrained read why old new core fault some ends = record {
-  cause = has_undrained read why old new (record { core = core; fault = fault; on = some; ends = ends });
-  off = λ is. ends.over.session;
-  unwritten = λ have total is. absurd (not_counted why fault have total ends.says is);
-}
+-- the turns before the command have ended for what happened then
+module _ (read : Result (Option Command) Misfit) (old new : State) (core : Core) (other : IsOther read) (between : IsBetween old.moment old.session old.posts) (some : old.session ≡ Some core) where
+  why_undrained : (fault : DrainFault) → IsUndrained core old new fault (reply.Refused (drain_refusal fault)) → HasCause read (drain_refusal fault) old new
+  why_undrained drain_fault.Dark ends = has_by read refusal.Dark old new other (dark_cause old new core ends.end between ends.runs.leaves ends.sound (ap (λ (d : Device). d.counts) ends.over.lit) ends.fails)
+  why_undrained (drain_fault.WentOff have total) ends =
+      let votes = off_votes ends.end ends.sound ends.fails.power_is in
+      let few : 2 * have ≤ total = subst (λ (n : ℕ). 2 * have ≤ n) (sym ends.fails.total_is) (subst (λ (n : ℕ). 2 * n ≤ total_votes ends.end.core.descriptor) (sym ends.fails.have_is) votes.0) in
+      let since = off_cause old new core ends.end between ends.runs.leaves ends.sound (ap (λ (d : Device). d.counts) ends.over.lit) have total some (few, votes.1) in
+      has_by read (refusal.WentOff have total) old new other (since.0, inr (record { core = core; fault = drain_fault.WentOff have total; on = some; ends = ends }, since.1))
+  why_undrained drain_fault.Stuck ends =
+      has_by read refusal.Stuck old new other (stuck_cause old new core ends.end between ends.runs.leaves ends.sound (ap (λ (d : Device). d.counts) ends.over.lit) ends.left ends.fails ends.waited)
+
+  pub undrained : (why : Refusal) (fault : DrainFault) → IsUndrained core old new fault (reply.Refused why) → Known read why old new
+  undrained why fault ends = record {
+    cause = subst (λ (r : Refusal). HasCause read r old new) (let is = ends.says in cc (is)) (why_undrained fault (subst (λ (a : Reply). IsUndrained core old new fault a) ends.says ends));
+    off = λ is. ends.over.session;
+    unwritten = λ have total is. absurd (not_counted why fault have total ends.says is);
+  }
 
 -- patience that went before, and then
 rose_in_line : (left a b c : ℕ) → left ≤ patience_of_line → RoseBy (patience_of_line - left) a b → RoseBy left b c → RoseBy patience_of_line a c
@@ -60,7 +74,7 @@ rose_in_line left a b c few before later =
     let sum : (patience_of_line - left) + left ≡ patience_of_line = omega (arith, few) in
     subst (λ (n : ℕ). RoseBy n a c) sum (rose_then (patience_of_line - left) left a b c before later)
 
-module _ (read : Result (Option Command) Misfit) (failed : (d : ℕ) (a b : Counts) → Rose (a.faults d) (b.faults d) → HasFailed read d a b) where
+module _ (read : Result (Option Command) Misfit) (other : IsOther read) (failed : (d : ℕ) (a b : Counts) → Rose (a.faults d) (b.faults d) → HasFailed read d a b) where
   module _ (old new : State) (core : Core) (patience : ℕ) (mid left : Session) (some : old.session ≡ Some core) (drains : Drains core old patience mid) where
     drained : IsDrained old core mid.core
     drained = record { on = some; descriptor = drains.runs.leaves.keeps.descriptor; still = λ rests. ap (λ (s : Session). s.core) (drains.still rests) }
@@ -83,28 +97,28 @@ module _ (read : Result (Option Command) Misfit) (failed : (d : ℕ) (a b : Coun
 
     known_so : (why : GroupFault) → FaultFacts why patience mid left → IsLeft (ends_session why) left old new → Known read (refusal_for why) old new
     known_so fault.Dark facts leaves = record {
-      cause = has_by read refusal.Dark old new (subst (λ (n : Counts). Rose old.moment.device.counts.cuts n.cuts) (sym (counts_left true left old new leaves)) (rose_before drains.runs.leaves.keeps.counts.cuts facts.1));
+      cause = has_by read refusal.Dark old new other (subst (λ (n : Counts). Rose old.moment.device.counts.cuts n.cuts) (sym (counts_left true left old new leaves)) (rose_before drains.runs.leaves.keeps.counts.cuts facts.1));
       off = λ is. none_left left old new leaves;
       unwritten = λ have total is. absurd (cc (is));
     }
     known_so (fault.WentOff have total) facts leaves = record {
-      cause = has_by read (refusal.WentOff have total) old new (lost have total left.core.status facts.0 (counts_left true left old new leaves));
+      cause = has_by read (refusal.WentOff have total) old new other (let its = lost have total left.core.status facts.0 (counts_left true left old new leaves) in (its.0, inl its.1));
       off = λ is. none_left left old new leaves;
       unwritten = λ h t is. absurd (cc (is));
     }
     known_so fault.Stuck facts leaves = record {
-      cause = has_by read refusal.Stuck old new (subst (λ (n : Counts). RoseBy patience_of_line old.moment.device.counts.waits n.waits) (sym (counts_left true left old new leaves))
+      cause = has_by read refusal.Stuck old new other (subst (λ (n : Counts). RoseBy patience_of_line old.moment.device.counts.waits n.waits) (sym (counts_left true left old new leaves))
           (rose_in_line patience old.moment.device.counts.waits mid.device.counts.waits left.device.counts.waits drains.few drains.waited facts.waits));
       off = λ is. none_left left old new leaves;
       unwritten = λ have total is. absurd (cc (is));
     }
     known_so (fault.DiskFailed disk) facts leaves = record {
-      cause = has_by read (refusal.DiskFailed disk) old new
+      cause = has_by read (refusal.DiskFailed disk) old new other
           (failed disk old.moment.device.counts new.moment.device.counts (subst (λ (n : Counts). Rose (old.moment.device.counts.faults disk) (n.faults disk)) (sym (counts_left false left old new leaves)) (faults_since disk left.device.counts facts.0)));
       off = λ is. absurd (cc (is));
       unwritten = λ have total is. absurd (cc (is));
     }
-    known_so other facts leaves = record { cause = has_by read _ old new tt; off = λ is. absurd (cc (is)); unwritten = λ have total is. absurd (cc (is)) }
+    known_so plain facts leaves = record { cause = has_by read _ old new other tt; off = λ is. absurd (cc (is)); unwritten = λ have total is. absurd (cc (is)) }
 
   pub known_group : (why : GroupFault) (old new : State) (core : Core) (patience : ℕ) (mid left : Session) → old.session ≡ Some core → Drains core old patience mid → FaultFacts why patience mid left → IsLeft (ends_session why) left old new
       → Known read (refusal_for why) old new

@@ -1,9 +1,9 @@
 -- What is known where a line is refused.
-use Rattle.std.proofs.Common.{◌≡◌, ℕ, Option, Some, None, Result, Ok, inl, inr, subst}
+use Rattle.std.proofs.Common.{◌≡◌, ℕ, Option, Some, None, Result, Ok, subst}
 use Rattle.lvm_parse.specs.declared.command.Command.{Command}
 use Rattle.lvm_parse.specs.declared.command.Command.TheVariants as command
 use Rattle.lvm_operands.specs.declared.rest.Misfit.{Misfit}
-use Rattle.lvm_line.specs.Causes.{CauseOf, HasCause, WasUndrained}
+use Rattle.lvm_line.specs.Causes.{CauseOf, HasCause}
 use Rattle.lvm_copy_lines.specs.passed.Stage.{State, Refusal}
 use Rattle.lvm_copy_lines.specs.passed.RefusalVariants as refusal
 use Rattle.lvm_copy_lines.specs.passed.ReplyVariants as reply
@@ -22,24 +22,24 @@ by_reply read why other old new is known = subst (λ (r : Refusal). Known read r
 pub easy : (read : Result (Option Command) Misfit) (why : Refusal) (old new : State) → HasCause read why old new → (why ≡ refusal.Stuck → ⊥) → ((have total : ℕ) → why ≡ refusal.NoQuorum have total → ⊥) → Known read why old new
 easy read why old new holds stuck quorum = record { cause = holds; off = λ is. absurd (stuck is); unwritten = λ have total is. absurd (quorum have total is) }
 
--- a cause, of whatever line it is,
-pub has_by : (read : Result (Option Command) Misfit) (why : Refusal) (old new : State) → CauseOf read why old new → HasCause read why old new
-has_by (Ok (Some (command.Rd name at count))) why old new holds = tt
-has_by (Ok (Some (command.Wr name at count word))) why old new holds = tt
-has_by (Ok (Some (command.Post name at count word))) why old new holds = tt
-has_by (Ok (Some command.Wait)) why old new holds = tt
-has_by (Ok (Some (command.SyncVolume name))) why old new holds = tt
-has_by (Ok (Some (command.SyncGroup name))) why old new holds = tt
-has_by (Ok (Some (command.Step turns))) why old new holds = tt
-has_by other why old new holds = inr holds
+-- a line that makes neither requests nor turns of itself
+abbrev pub IsOther : Result (Option Command) Misfit → Type 0
+IsOther (Ok (Some (command.Rd name at count))) = ⊥
+IsOther (Ok (Some (command.Wr name at count word))) = ⊥
+IsOther (Ok (Some (command.Post name at count word))) = ⊥
+IsOther (Ok (Some command.Wait)) = ⊥
+IsOther (Ok (Some (command.SyncVolume name))) = ⊥
+IsOther (Ok (Some (command.SyncGroup name))) = ⊥
+IsOther (Ok (Some (command.Step turns))) = ⊥
+IsOther read = Unit {0}
 
--- and the end of the turns before it
-pub has_undrained : (read : Result (Option Command) Misfit) (why : Refusal) (old new : State) → WasUndrained why old new → HasCause read why old new
-has_undrained (Ok (Some (command.Rd name at count))) why old new holds = tt
-has_undrained (Ok (Some (command.Wr name at count word))) why old new holds = tt
-has_undrained (Ok (Some (command.Post name at count word))) why old new holds = tt
-has_undrained (Ok (Some command.Wait)) why old new holds = tt
-has_undrained (Ok (Some (command.SyncVolume name))) why old new holds = tt
-has_undrained (Ok (Some (command.SyncGroup name))) why old new holds = tt
-has_undrained (Ok (Some (command.Step turns))) why old new holds = tt
-has_undrained other why old new holds = inl holds
+-- has its cause so
+pub has_by : (read : Result (Option Command) Misfit) (why : Refusal) (old new : State) → IsOther read → CauseOf read why old new → HasCause read why old new
+has_by (Ok (Some (command.Rd name at count))) why old new other holds = absurd other
+has_by (Ok (Some (command.Wr name at count word))) why old new other holds = absurd other
+has_by (Ok (Some (command.Post name at count word))) why old new other holds = absurd other
+has_by (Ok (Some command.Wait)) why old new other holds = absurd other
+has_by (Ok (Some (command.SyncVolume name))) why old new other holds = absurd other
+has_by (Ok (Some (command.SyncGroup name))) why old new other holds = absurd other
+has_by (Ok (Some (command.Step turns))) why old new other holds = absurd other
+has_by read why old new other holds = holds

@@ -2,7 +2,9 @@ pub mod passed
 pub mod Answering
 pub mod Lining
 pub mod Knowing
+pub mod Turns
 pub mod Faulting
 pub mod Causing
 pub mod Requesting
+pub mod Completing
 pub mod Staying

@@ -8,13 +8,16 @@ use Rattle.lvm_parse.specs.Grammar.{line_of}
 use Rattle.lvm_vol.specs.Log.{Log}
 use Rattle.lvm_commit.specs.Settling.{there}
 use Rattle.lvm_core.specs.declared.parts.Room.{Room}
-use Rattle.lvm_session.specs.State.{Core}
+use Rattle.lvm_session.specs.Causes.{AnyFailedSince}
+use Rattle.lvm_session.specs.State.{Core, state}
 use Rattle.lvm_num.specs.declared.descriptor.Descriptor.{Descriptor}
 use Rattle.lvm_disk.specs.Device.{Device}
 use Rattle.lvm_copy_lines.specs.passed.Recover.{HasNoPassive}
 use Rattle.lvm_copy_lines.specs.passed.Varyon.{IsRestated, IsRecovered}
 use Rattle.lvm_copy_lines.specs.passed.Quiesce.{Quiesces}
 use Rattle.lvm_copy_lines.specs.passed.Driver.{DrainFault}
+use Rattle.lvm_copy_lines.specs.passed.Ranges.{AnyFailed}
+use Rattle.lvm_copy_lines.specs.passed.Resync.{AnyFails}
 use Rattle.lvm_copy_lines.specs.passed.VolumeLines.{IsUndrained}
 use Rattle.lvm_copy_lines.specs.passed.Stage.{patience_of_line, IsAtRest, State, IsTimely, Refusal}
 use Rattle.lvm_line.specs.Lines.{IsLine}
@@ -61,29 +64,58 @@ pub record WasUndrained (why : Refusal) (old new : State) : Type 0 where
   pub on : old.session ≡ Some core
   pub ends : IsUndrained core old new fault (reply.Refused why)
 
--- Transfers of the line's disk have failed; the votes that are left are at most half, and a transfer of a member has failed; the power was cut; the shelf
--- waited a million times; transfers of the disk that is named have failed; or the clock's moment isn't later than the one that is told. For the other
--- refusals nothing has to have happened.
+-- a transfer has failed since the session began that was on
+pub record HasFailedInSession (old new : State) : Type 0 where
+  pub core : Core
+  pub on : old.session ≡ Some core
+  pub failed : AnyFailedSince (state new.moment.device core)
+
+-- the votes were lost with a transfer that failed in the line, or by the turns before the command, and a transfer has failed since the session began
+abbrev pub WereLost : Refusal → State → State → Type 0
+WereLost why old new = HasLost old new.moment.device.counts ⊎ (WasUndrained why old new × HasFailedInSession old new)
+
+-- a transfer has failed in the line; of a disk that isn't on the shelf, which a session can't count, since the session began that was on
+pub record HasFailedAsCounted (old new : State) : Type 0 where
+  pub core : Core
+  pub on : old.session ≡ Some core
+  pub failed : AnyFails (state old.moment.device core) (state new.moment.device core)
+
+-- Transfers of the line's disk have failed; the votes that are left are at most half, and a transfer of a member has failed, or one has since the session began
+-- where the turns before the command ended for that; the power was cut; the shelf waited a million times; transfers of the disk that is named have failed; or
+-- the clock's moment isn't later than the one that is told. For the other refusals nothing has to have happened.
 abbrev pub CauseOf : Result (Option Command) Misfit → Refusal → State → State → Type 0
 CauseOf read refusal.Lost old new = RoseOn (disk_of read) old.moment.device.counts.faults new.moment.device.counts.faults
 CauseOf read refusal.ReadFailed old new = RoseOn (disk_of read) old.moment.device.counts.faults new.moment.device.counts.faults
-CauseOf read (refusal.WentOff have total) old new = (2 * have ≤ total) × HasLost old new.moment.device.counts
+CauseOf read (refusal.WentOff have total) old new = (2 * have ≤ total) × WereLost (refusal.WentOff have total) old new
 CauseOf read refusal.Dark old new = Rose old.moment.device.counts.cuts new.moment.device.counts.cuts
 CauseOf read refusal.Stuck old new = RoseBy patience_of_line old.moment.device.counts.waits new.moment.device.counts.waits
 CauseOf read (refusal.DiskFailed disk) old new = HasFailed read disk old.moment.device.counts new.moment.device.counts
+CauseOf read (refusal.SyncFailed disk) old new = ⊥
 CauseOf read (refusal.ClockBack seen) old new = new.last ≤ seen
 CauseOf read other old new = Unit {0}
 
--- What a line of requests is refused for is told by what it does: how its requests have landed, and why.
+-- What a line of requests is refused for: the power was cut; the shelf waited a million times; the votes that are left are at most half, and a transfer has failed
+-- since the session began; or a transfer has failed in the line. For the other refusals nothing has to have happened.
+abbrev pub TurnCause : Refusal → State → State → Type 0
+TurnCause refusal.Dark old new = Rose old.moment.device.counts.cuts new.moment.device.counts.cuts
+TurnCause refusal.Stuck old new = RoseBy patience_of_line old.moment.device.counts.waits new.moment.device.counts.waits
+TurnCause (refusal.WentOff have total) old new = (2 * have ≤ total) × HasFailedInSession old new
+TurnCause refusal.Lost old new = AnyFailed old.moment.device new.moment.device
+TurnCause refusal.ReadFailed old new = AnyFailed old.moment.device new.moment.device
+TurnCause (refusal.SyncFailed disk) old new = HasFailedAsCounted old new
+TurnCause (refusal.DiskFailed disk) old new = ⊥
+TurnCause other old new = Unit {0}
+
+-- so it is of a line that makes requests or turns, and of each other as above
 abbrev pub HasCause : Result (Option Command) Misfit → Refusal → State → State → Type 0
-HasCause (Ok (Some (command.Rd name at count))) why old new = Unit {0}
-HasCause (Ok (Some (command.Wr name at count word))) why old new = Unit {0}
-HasCause (Ok (Some (command.Post name at count word))) why old new = Unit {0}
-HasCause (Ok (Some command.Wait)) why old new = Unit {0}
-HasCause (Ok (Some (command.SyncVolume name))) why old new = Unit {0}
-HasCause (Ok (Some (command.SyncGroup name))) why old new = Unit {0}
-HasCause (Ok (Some (command.Step turns))) why old new = Unit {0}
-HasCause read why old new = WasUndrained why old new ⊎ CauseOf read why old new
+HasCause (Ok (Some (command.Rd name at count))) why old new = TurnCause why old new
+HasCause (Ok (Some (command.Wr name at count word))) why old new = TurnCause why old new
+HasCause (Ok (Some (command.Post name at count word))) why old new = TurnCause why old new
+HasCause (Ok (Some command.Wait)) why old new = TurnCause why old new
+HasCause (Ok (Some (command.SyncVolume name))) why old new = TurnCause why old new
+HasCause (Ok (Some (command.SyncGroup name))) why old new = TurnCause why old new
+HasCause (Ok (Some (command.Step turns))) why old new = TurnCause why old new
+HasCause read why old new = CauseOf read why old new
 
 -- Within each line that is refused for what its shelf or the clock did, that has happened.
 abbrev pub CauseLaw : Type 0

@@ -1,3 +1,4 @@
 pub mod passed
 pub mod Lines
 pub mod Causes
+pub mod Complete

@@ -20,7 +20,7 @@ use Rattle.lvm_resync.specs.declared.fault.SyncFault.{SyncFault}
 use Rattle.lvm_turn_marks.specs.Marks.{is_marked}
 use Rattle.lvm_running.specs.Running.{RunsOn}
 use Rattle.lvm_ranges.specs.Keeping.{KeepsTable}
-use Rattle.lvm_resync.specs.Passing.{HasEnded, IsEnded, IsJustOpened, IsSameCopy, Runs, RunsOut, EachTurnWhile}
+use Rattle.lvm_resync.specs.Passing.{HasEnded, IsEnded, IsJustOpened, IsSameCopy, Runs, EndsTurning, EachTurnWhile}
 use Rattle.lvm_resync.specs.Turning.{GoesBeside, IsUnderWay, MakesLast, MakesTurn}
 use Rattle.lvm_resync.proofs.Open.{IsOpenStill, just_opened, turn_open}
 use Rattle.lvm_resync.proofs.Standing.{still_ended}
@@ -94,7 +94,7 @@ module _ (first old new : State) (patience left after : ℕ) (so_far : BroughtSo
   stops beside = beside_both first old new patience left after so_far.beside beside
 
   -- the turns up to one behind which it doesn't go on
-  pub last_turns : Runs old.core → (why : SyncFault) → MakesLast old new left after why → RunsOut Runs patience after first new why
+  pub last_turns : Runs old.core → (why : SyncFault) → MakesLast old new left after why → EndsTurning Runs patience after first new why
   last_turns runs why made = last_turn Runs patience left after first old new so_far.turns runs why made
 
 -- ---- it is closed

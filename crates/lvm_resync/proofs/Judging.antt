@@ -23,7 +23,7 @@ use Rattle.lvm_ranges.specs.Keeping.{KeepsTable}
 use Rattle.lvm_resync.specs.declared.copies.Opening.{Opening}
 use Rattle.lvm_resync.specs.declared.fault.SyncFault.{SyncFault}
 use Rattle.lvm_resync.specs.declared.fault.SyncFault.TheVariants as fault
-use Rattle.lvm_resync.specs.Passing.{Copy, EndsOr, IsAnsweredBy, IsJudged, IsOpened, IsUnsettled, MayPass, MayRefuse, EachTurnWhile, RunsOut, StopsAt, StopsRunning}
+use Rattle.lvm_resync.specs.Passing.{Copy, EndsOr, IsAnsweredBy, IsJudged, IsOpened, IsUnsettled, MayPass, MayRefuse, EachTurnWhile, EndsTurning, EndsAtCopy, StopsRunning}
 use Rattle.lvm_resync.specs.Turning.{GoesBeside, IsOverFor, IsUnderWay, MakesLast, MakesTurn}
 use Rattle.lvm_resync.proofs.Refusing.{IsRefusedSo, opened_so, refused_so, settled_alone}
 use Rattle.lvm_resync.proofs.Standing.{still_settled}
@@ -52,7 +52,7 @@ may_still c old new same none may = record {
 }
 
 -- where the session or the patience is at its end while it isn't settled,
-judged_off : (c : Copy) (patience left : ℕ) (old new : State) (why : SyncFault) → IsOverFor left new.core why → RunsOut (IsUnsettled c) patience left old new why → StopsAt c patience left old new why
+judged_off : (c : Copy) (patience left : ℕ) (old new : State) (why : SyncFault) → IsOverFor left new.core why → EndsTurning (IsUnsettled c) patience left old new why → EndsAtCopy c patience left old new why
 judged_off c patience left old new fault.Dark is turns = (is, inl turns)
 judged_off c patience left old new fault.Off is turns = (is, inl turns)
 judged_off c patience left old new fault.Stuck is turns = (is, inl turns)
@@ -65,7 +65,7 @@ judged_off c patience left old new (fault.NoFresh lp) is turns = absurd is
 judged_off c patience left old new (fault.Missing disk) is turns = absurd is
 
 -- and while it runs
-pub running_off : (c : Copy) (patience before left : ℕ) (old opened new : State) (why : SyncFault) → IsOpened c patience before old opened → StopsRunning before left opened new why → StopsAt c patience left old new why
+pub running_off : (c : Copy) (patience before left : ℕ) (old opened new : State) (why : SyncFault) → IsOpened c patience before old opened → StopsRunning before left opened new why → EndsAtCopy c patience left old new why
 running_off c patience before left old opened new fault.Dark opens (is, turns) = (is, inr (record { opened = opened; before = before; opens = opens; turns = turns }))
 running_off c patience before left old opened new fault.Off opens (is, turns) = (is, inr (record { opened = opened; before = before; opens = opens; turns = turns }))
 running_off c patience before left old opened new fault.Stuck opens (is, turns) = (is, inr (record { opened = opened; before = before; opens = opens; turns = turns }))
@@ -127,7 +127,7 @@ module _ (c : Copy) (first old mid new : State) (patience left after : ℕ) (so_
       }
 
   -- behind which the session or the patience is at its end
-  pub broken_off : IsUnsettled c old.core → (why : SyncFault) → IsOverFor after new.core why → MakesLast mid new left after why → StopsAt c patience after first new why
+  pub broken_off : IsUnsettled c old.core → (why : SyncFault) → IsOverFor after new.core why → MakesLast mid new left after why → EndsAtCopy c patience after first new why
   broken_off unsettled why is made = judged_off c patience after first new why is (last_turn (IsUnsettled c) patience left after first old new so_far.settles unsettled why (subst (λ (s : State). MakesLast s new left after why) same made))
 
 module _ (c : Copy) (first old new : State) (patience left : ℕ) (so_far : JudgedSoFar c first old patience left) where
@@ -156,11 +156,11 @@ module _ (c : Copy) (first now : State) (patience left : ℕ) (so_far : JudgedSo
       by refusal.NoVolume so differs = so
       by refusal.OutOfRange so differs = so
 
-  pub answers : (answer : Result Opening SyncFault) → IsAnsweredBy c.lp why answer → EndsOr (IsJudged c patience left first now) (StopsAt c patience left first now) answer
+  pub answers : (answer : Result Opening SyncFault) → IsAnsweredBy c.lp why answer → EndsOr (IsJudged c patience left first now) (EndsAtCopy c patience left first now) answer
   answers answer is = by why fault_is (refused_so now.core c so_far.may why fault_is) is
     where
       Judged : Result Opening SyncFault → Type 0
-      Judged = EndsOr (IsJudged c patience left first now) (StopsAt c patience left first now)
+      Judged = EndsOr (IsJudged c patience left first now) (EndsAtCopy c patience left first now)
 
       by : (w : CopyFault) → copy_fault now.core c.lv c.lp c.number ≡ Some w → IsRefusedSo now.core c.pp w → IsAnsweredBy c.lp w answer → Judged answer
       by refusal.AlreadyFresh at so it = absurd it

@@ -13,7 +13,7 @@ use Rattle.lvm_keeps_events.proofs.CopyReadFail.{of_place}
 use Rattle.lvm_resync.specs.declared.copies.Passed.{Passed}
 use Rattle.lvm_resync.specs.declared.fault.SyncFault.{SyncFault}
 use Rattle.lvm_resync.specs.declared.tally.Tally.{Tally}
-use Rattle.lvm_resync.specs.Passing.{Copy, IsEnded, IsJustOpened, IsOpened, IsPassed, IsPassedBy, StopsAt, copy_of}
+use Rattle.lvm_resync.specs.Passing.{Copy, IsEnded, IsJustOpened, IsOpened, IsPassed, IsPassedBy, EndsAtCopy, copy_of}
 use Rattle.lvm_resync.specs.Syncing.{ArePassed, NonePassed, OnePassed, StopsAmong, copies_at, copy_in, volume_copies, with_passed}
 use Rattle.lvm_resync.proofs.Making.{made_fresh}
 
@@ -69,6 +69,6 @@ module _ (d : Descriptor) (lv lp place : ℕ) where
       (subst (λ (copies : List Copy). ArePassed copies patience left old new t (with_passed t how) tt) (sym (copies_here (Some p) at)) (OnePassed (copy_of lv lp (place + 1) p) how NonePassed it.0, it.1))
 
   -- the resync ends at it
-  pub stops_there : (p : Pp) (patience left : ℕ) (old new : State) (t : Tally) (why : SyncFault) → slice_get (copies_in d lv lp) place ≡ Some p → StopsAt (copy_of lv lp (place + 1) p) patience left old new why
+  pub stops_there : (p : Pp) (patience left : ℕ) (old new : State) (t : Tally) (why : SyncFault) → slice_get (copies_in d lv lp) place ≡ Some p → EndsAtCopy (copy_of lv lp (place + 1) p) patience left old new why
       → StopsAmong (copy_in d lv lp place) patience left old new t why
   stops_there p patience left old new t why at it = record { passed = []; one = copy_of lv lp (place + 1) p; rest = []; all = copies_here (Some p) at; mid = old; tally = t; before = patience; passes = NonePassed; stops = it }

@@ -17,7 +17,7 @@ use Rattle.lvm_ranges.proofs.Tables.{table_same, table_then, turn_table}
 use Rattle.lvm_driver.specs.Drains.{IsAny, IsTurn, LastTurn, NoTurn, ThenMoves, ThenWaits}
 use Rattle.lvm_resync.specs.declared.fault.SyncFault.{SyncFault}
 use Rattle.lvm_resync.specs.declared.fault.SyncFault.TheVariants as fault
-use Rattle.lvm_resync.specs.Passing.{EachTurnWhile, RunsOut}
+use Rattle.lvm_resync.specs.Passing.{EachTurnWhile, EndsTurning}
 use Rattle.lvm_resync.specs.Turning.{GoesBeside, IsUnderWay, MakesLast, MakesTurn}
 
 -- as many more
@@ -68,13 +68,16 @@ module _ (Is : Core → Type 0) (patience left after : ℕ) (first old new : Sta
   one_turn (inl moved) = subst (λ (n : ℕ). EachTurnWhile Is patience n first new) (sym moved.1) (ThenMoves turns may moved.0 moved.2)
   one_turn (inr waited) = ThenWaits turns may waited.0 waited.1 waited.2
 
-  none_made : (after ≡ left) × (new ≡ old) → EachTurnWhile Is patience after first new
-  none_made same = subst (λ (n : ℕ). EachTurnWhile Is patience n first new) (sym same.0) (subst (λ (s : State). EachTurnWhile Is patience left first s) (sym same.1) turns)
+  none_made : (after ≡ left) × (new ≡ old) → EachTurnWhile Is patience after first new × Is new.core
+  none_made same = (
+    subst (λ (n : ℕ). EachTurnWhile Is patience n first new) (sym same.0) (subst (λ (s : State). EachTurnWhile Is patience left first s) (sym same.1) turns),
+    subst (λ (s : State). Is s.core) (sym same.1) may,
+  )
 
   last_made : (answer : Turned) → (1 ≤ left) × (after ≡ left) × TurnMakes old new answer → LastTurn (λ (s : State). Is s.core) patience after first new answer
   last_made answer made = subst (λ (n : ℕ). LastTurn (λ (s : State). Is s.core) patience n first new answer) (sym made.1) (record { old = old; turns = turns; may = may; some = made.0; makes = made.2 })
 
-  pub last_turn : (why : SyncFault) → MakesLast old new left after why → RunsOut Is patience after first new why
+  pub last_turn : (why : SyncFault) → MakesLast old new left after why → EndsTurning Is patience after first new why
   last_turn fault.Dark made = inr (last_made turned.Dark made)
   last_turn fault.Off made = inr (last_made turned.Off made)
   last_turn fault.Stuck made = none_made made

@@ -45,11 +45,11 @@ copy_of lv lp number pp = record { lv = lv; lp = lp; number = number; pp = pp }
 abbrev pub EachTurnWhile : (Core → Type 0) → ℕ → ℕ → State → State → Type 0
 EachTurnWhile Is patience left old new = TurnsWhile (λ (s : State). Is s.core) patience old left new
 
--- behind which the session or the patience is at its end, and then none is made, or one that answers so
-abbrev pub RunsOut : (Core → Type 0) → ℕ → ℕ → State → State → SyncFault → Type 0
-RunsOut Is patience left old new fault.Dark = EachTurnWhile Is patience left old new ⊎ LastTurn (λ (s : State). Is s.core) patience left old new turned.Dark
-RunsOut Is patience left old new fault.Off = EachTurnWhile Is patience left old new ⊎ LastTurn (λ (s : State). Is s.core) patience left old new turned.Off
-RunsOut Is patience left old new other = EachTurnWhile Is patience left old new
+-- behind which the session is over, before them or by a last turn that answers so; or the patience is at its end while this is so
+abbrev pub EndsTurning : (Core → Type 0) → ℕ → ℕ → State → State → SyncFault → Type 0
+EndsTurning Is patience left old new fault.Dark = EachTurnWhile Is patience left old new ⊎ LastTurn (λ (s : State). Is s.core) patience left old new turned.Dark
+EndsTurning Is patience left old new fault.Off = EachTurnWhile Is patience left old new ⊎ LastTurn (λ (s : State). Is s.core) patience left old new turned.Off
+EndsTurning Is patience left old new other = EachTurnWhile Is patience left old new × Is new.core
 
 -- ---- it is judged
 
@@ -155,30 +155,41 @@ pub record IsBroken (c : Copy) (patience left : ℕ) (old new : State) (why : Sy
   pub opened : State
   pub before : ℕ
   pub opens : IsOpened c patience before old opened
-  pub turns : RunsOut Runs before left opened new why
+  pub turns : EndsTurning Runs before left opened new why
 
 -- What becomes of a copy at which the resync ends at once: where numbers are short it is stale, and isn't opened for that; else turns were made while it
 -- wasn't settled, or while it ran.
 abbrev pub BreaksOff : Copy → ℕ → ℕ → State → State → SyncFault → Type 0
 BreaksOff c patience left old new fault.HistoryFull = IsRefused c patience left old new refusal.HistoryFull
-BreaksOff c patience left old new why = RunsOut (IsUnsettled c) patience left old new why ⊎ IsBroken c patience left old new why
+BreaksOff c patience left old new why = EndsTurning (IsUnsettled c) patience left old new why ⊎ IsBroken c patience left old new why
 
 -- the resync ends at once at this copy
-abbrev pub StopsAt : Copy → ℕ → ℕ → State → State → SyncFault → Type 0
-StopsAt c patience left old new why = StopsFor left new.core why × BreaksOff c patience left old new why
+abbrev pub EndsAtCopy : Copy → ℕ → ℕ → State → State → SyncFault → Type 0
+EndsAtCopy c patience left old new why = StopsFor left new.core why × BreaksOff c patience left old new why
 
 -- so it does while the copy that is open runs
 abbrev pub StopsRunning : ℕ → ℕ → State → State → SyncFault → Type 0
-StopsRunning patience left old new why = IsOverFor left new.core why × RunsOut Runs patience left old new why
+StopsRunning patience left old new why = IsOverFor left new.core why × EndsTurning Runs patience left old new why
 
 -- as the one says; or the resync ends at once, as the other does
 abbrev pub EndsOr : {A : Type 0} → (A → Type 0) → (SyncFault → Type 0) → Result A SyncFault → Type 0
 EndsOr Is Stops (Ok it) = Is it
 EndsOr Is Stops (Err why) = Stops why
 
+-- it is judged
+abbrev pub JudgesCopy : Copy → ℕ → ℕ → State → State → Result Opening SyncFault → Type 0
+JudgesCopy c patience left old new = EndsOr (IsJudged c patience left old new) (EndsAtCopy c patience left old new)
+
+-- the one that is open is brought up
+abbrev pub BringsUp : ℕ → ℕ → State → State → Result CopyState SyncFault → Type 0
+BringsUp patience left old new = EndsOr (IsEnded patience left old new) (StopsRunning patience left old new)
+
 -- it is passed, and none is left open
 abbrev pub IsPassed : Copy → ℕ → ℕ → State → State → Passed → Type 0
 IsPassed c patience left old new how = PassesCopy c patience left old new how × (new.core.copy ≡ None)
+
+abbrev pub PassesOrEnds : Copy → ℕ → ℕ → State → State → Result Passed SyncFault → Type 0
+PassesOrEnds c patience left old new = EndsOr (IsPassed c patience left old new) (EndsAtCopy c patience left old new)
 
 -- what it is passed as, by how it ended
 abbrev pub IsPassedBy : ℕ → CopyState → Passed → Type 0

@@ -18,7 +18,7 @@ use Rattle.lvm_resync.specs.declared.copies.Passed.TheVariants as passed
 use Rattle.lvm_resync.specs.declared.fault.SyncFault.{SyncFault}
 use Rattle.lvm_resync.specs.declared.fault.SyncFault.TheVariants as fault
 use Rattle.lvm_resync.specs.declared.tally.Tally.{Tally}
-use Rattle.lvm_resync.specs.Passing.{Copy, PassesCopy, StopsAt}
+use Rattle.lvm_resync.specs.Passing.{Copy, EndsAtCopy, EndsOr, PassesCopy}
 
 -- ---- the copies that are asked for
 
@@ -80,7 +80,11 @@ pub record StopsAmong (copies : List Copy) (patience left : ℕ) (old new : Stat
   pub tally : Tally
   pub before : ℕ
   pub passes : Passes old from patience passed mid tally before
-  pub stops : StopsAt one before left mid new why
+  pub stops : EndsAtCopy one before left mid new why
+
+-- all of them are passed, or the resync ends at one of them
+abbrev pub PassesAll : List Copy → ℕ → ℕ → State → State → Tally → Tally → Result (Unit {0}) SyncFault → Type 0
+PassesAll copies patience left old new from to = EndsOr (ArePassed copies patience left old new from to) (StopsAmong copies patience left old new from)
 
 -- ---- what is answered
 

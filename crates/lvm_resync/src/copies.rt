@@ -4,7 +4,7 @@ ghost use Rattle.lvm_session.specs.declared.open.Power.TheVariants as power;
 ghost use Rattle.lvm_session.specs.Judging.{is_stale};
 ghost use Rattle.lvm_session.specs.State.{Core};
 ghost use Rattle.lvm_driver.specs.Answers.{state_of};
-ghost use Rattle.lvm_resync.specs.Passing.{EndsOr, HasEnded, IsAnsweredBy, IsEnded, IsJudged, IsJustOpened, IsPassed, IsPassedBy, MayPass, MayRefuse, Runs, StopsAt, StopsRunning, copy_of};
+ghost use Rattle.lvm_resync.specs.Passing.{BringsUp, HasEnded, IsAnsweredBy, IsJustOpened, IsPassedBy, JudgesCopy, MayPass, MayRefuse, PassesOrEnds, Runs, copy_of};
 ghost use Rattle.lvm_resync.specs.Turning.{GoesBeside};
 
 use crate::fault::SyncFault;
@@ -70,7 +70,7 @@ fn open_stale<S: Shelf>(
 ) -> Result<Opening, SyncFault>
     requires unstuck { driver.old.1.power ≡ power.Stuck → ⊥ }
     requires may { MayPass driver.old.1 (copy_of lv lp number pp) }
-    ensures ends { EndsOr (IsJudged (copy_of lv lp number pp) patience.old.left patience.new.left (state_of S.device driver.old) (state_of S.device driver.new)) (StopsAt (copy_of lv lp number pp) patience.old.left patience.new.left (state_of S.device driver.old) (state_of S.device driver.new)) result }
+    ensures ends { JudgesCopy (copy_of lv lp number pp) patience.old.left patience.new.left (state_of S.device driver.old) (state_of S.device driver.new) result }
     ensures beside { GoesBeside (state_of S.device driver.old) (state_of S.device driver.new) patience.old.left patience.new.left }
 {
     while is_stale(driver, pp) {
@@ -103,7 +103,7 @@ fn bring_up<S: Shelf>(
 ) -> Result<CopyState, SyncFault>
     requires unstuck { driver.old.1.power ≡ power.Stuck → ⊥ }
     requires opened { IsJustOpened driver.old.1 }
-    ensures ends { EndsOr (IsEnded patience.old.left patience.new.left (state_of S.device driver.old) (state_of S.device driver.new)) (StopsRunning patience.old.left patience.new.left (state_of S.device driver.old) (state_of S.device driver.new)) result }
+    ensures ends { BringsUp patience.old.left patience.new.left (state_of S.device driver.old) (state_of S.device driver.new) result }
     ensures ended { IfOk result HasEnded }
     ensures beside { GoesBeside (state_of S.device driver.old) (state_of S.device driver.new) patience.old.left patience.new.left }
 {
@@ -143,7 +143,7 @@ pub fn pass_copy<S: Shelf>(
 ) -> Result<Passed, SyncFault>
     requires unstuck { driver.old.1.power ≡ power.Stuck → ⊥ }
     requires may { MayPass driver.old.1 (copy_of lv lp number pp) }
-    ensures ends { EndsOr (IsPassed (copy_of lv lp number pp) patience.old.left patience.new.left (state_of S.device driver.old) (state_of S.device driver.new)) (StopsAt (copy_of lv lp number pp) patience.old.left patience.new.left (state_of S.device driver.old) (state_of S.device driver.new)) result }
+    ensures ends { PassesOrEnds (copy_of lv lp number pp) patience.old.left patience.new.left (state_of S.device driver.old) (state_of S.device driver.new) result }
     ensures beside { GoesBeside (state_of S.device driver.old) (state_of S.device driver.new) patience.old.left patience.new.left }
 {
     let opening = open_stale(driver, lv, lp, number, pp, patience)?;

@@ -6,8 +6,7 @@ ghost use Rattle.lvm_num.specs.Descriptor.{IsValid, volume_of};
 ghost use Rattle.lvm_session.specs.declared.open.Power.TheVariants as power;
 ghost use Rattle.lvm_session.specs.Judging.{copies_in};
 ghost use Rattle.lvm_driver.specs.Answers.{state_of};
-ghost use Rattle.lvm_resync.specs.Passing.{EndsOr};
-ghost use Rattle.lvm_resync.specs.Syncing.{ArePassed, StopsAmong, copies_at, copy_in, group_copies, partition_copies, volume_copies};
+ghost use Rattle.lvm_resync.specs.Syncing.{PassesAll, copies_at, copy_in, group_copies, partition_copies, volume_copies};
 ghost use Rattle.lvm_resync.specs.Turning.{GoesBeside};
 
 use crate::copies::pass_copy;
@@ -58,7 +57,7 @@ fn pass_place<S: Shelf>(
     requires none { driver.old.1.copy ≡ None }
     requires within { (row : LvRow) → volume_of driver.old.1.descriptor lv ≡ Some row → lp < row.lps }
     requires place { place < 3 }
-    ensures ends { EndsOr (ArePassed (copy_in driver.old.1.descriptor lv lp place) patience.old.left patience.new.left (state_of S.device driver.old) (state_of S.device driver.new) tally.old tally.new) (StopsAmong (copy_in driver.old.1.descriptor lv lp place) patience.old.left patience.new.left (state_of S.device driver.old) (state_of S.device driver.new) tally.old) result }
+    ensures ends { PassesAll (copy_in driver.old.1.descriptor lv lp place) patience.old.left patience.new.left (state_of S.device driver.old) (state_of S.device driver.new) tally.old tally.new result }
     ensures beside { GoesBeside (state_of S.device driver.old) (state_of S.device driver.new) patience.old.left patience.new.left }
 {
     match pp_at(driver, lv, lp, place) {
@@ -86,7 +85,7 @@ pub fn pass_partition<S: Shelf>(
     requires unstuck { driver.old.1.power ≡ power.Stuck → ⊥ }
     requires none { driver.old.1.copy ≡ None }
     requires within { (row : LvRow) → volume_of driver.old.1.descriptor lv ≡ Some row → lp < row.lps }
-    ensures ends { EndsOr (ArePassed (partition_copies driver.old.1.descriptor lv lp) patience.old.left patience.new.left (state_of S.device driver.old) (state_of S.device driver.new) tally.old tally.new) (StopsAmong (partition_copies driver.old.1.descriptor lv lp) patience.old.left patience.new.left (state_of S.device driver.old) (state_of S.device driver.new) tally.old) result }
+    ensures ends { PassesAll (partition_copies driver.old.1.descriptor lv lp) patience.old.left patience.new.left (state_of S.device driver.old) (state_of S.device driver.new) tally.old tally.new result }
     ensures beside { GoesBeside (state_of S.device driver.old) (state_of S.device driver.new) patience.old.left patience.new.left }
 {
     for place in 0..COPIES {
@@ -118,7 +117,7 @@ pub fn pass_volume<S: Shelf>(
 ) -> Result<(), SyncFault>
     requires unstuck { driver.old.1.power ≡ power.Stuck → ⊥ }
     requires none { driver.old.1.copy ≡ None }
-    ensures ends { EndsOr (ArePassed (volume_copies driver.old.1.descriptor lv) patience.old.left patience.new.left (state_of S.device driver.old) (state_of S.device driver.new) tally.old tally.new) (StopsAmong (volume_copies driver.old.1.descriptor lv) patience.old.left patience.new.left (state_of S.device driver.old) (state_of S.device driver.new) tally.old) result }
+    ensures ends { PassesAll (volume_copies driver.old.1.descriptor lv) patience.old.left patience.new.left (state_of S.device driver.old) (state_of S.device driver.new) tally.old tally.new result }
     ensures beside { GoesBeside (state_of S.device driver.old) (state_of S.device driver.new) patience.old.left patience.new.left }
 {
     for lp in 0..partition_count(driver, lv) {
@@ -153,7 +152,7 @@ fn pass_volume_at<S: Shelf>(
 ) -> Result<(), SyncFault>
     requires unstuck { driver.old.1.power ≡ power.Stuck → ⊥ }
     requires none { driver.old.1.copy ≡ None }
-    ensures ends { EndsOr (ArePassed (copies_at driver.old.1.descriptor place) patience.old.left patience.new.left (state_of S.device driver.old) (state_of S.device driver.new) tally.old tally.new) (StopsAmong (copies_at driver.old.1.descriptor place) patience.old.left patience.new.left (state_of S.device driver.old) (state_of S.device driver.new) tally.old) result }
+    ensures ends { PassesAll (copies_at driver.old.1.descriptor place) patience.old.left patience.new.left (state_of S.device driver.old) (state_of S.device driver.new) tally.old tally.new result }
     ensures beside { GoesBeside (state_of S.device driver.old) (state_of S.device driver.new) patience.old.left patience.new.left }
 {
     match volume_at(driver, place) {
@@ -174,7 +173,7 @@ pub fn pass_group<S: Shelf>(
 ) -> Result<(), SyncFault>
     requires unstuck { driver.old.1.power ≡ power.Stuck → ⊥ }
     requires none { driver.old.1.copy ≡ None }
-    ensures ends { EndsOr (ArePassed (group_copies driver.old.1.descriptor) patience.old.left patience.new.left (state_of S.device driver.old) (state_of S.device driver.new) tally.old tally.new) (StopsAmong (group_copies driver.old.1.descriptor) patience.old.left patience.new.left (state_of S.device driver.old) (state_of S.device driver.new) tally.old) result }
+    ensures ends { PassesAll (group_copies driver.old.1.descriptor) patience.old.left patience.new.left (state_of S.device driver.old) (state_of S.device driver.new) tally.old tally.new result }
     ensures beside { GoesBeside (state_of S.device driver.old) (state_of S.device driver.new) patience.old.left patience.new.left }
 {
     for place in 0..volume_count(driver) {

@@ -20,5 +20,6 @@ pub mod Acknowledged
 pub mod Modes
 pub mod Scripts
 mod Recovering
+pub mod Refusing
 pub mod OneGroup
 pub mod Turning

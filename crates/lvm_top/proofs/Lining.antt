@@ -18,7 +18,7 @@ use Rattle.lvm_top.specs.Turn.{Wrote}
 
 -- where a line answers that nothing was heard, no group is on
 pub stuck_is_off : (log : Log) (room : Room) (line : List ℕ) (old new : State) (answer : Reply) → IsLine log room line answer old new → IsStuck answer → new.session ≡ None
-stuck_is_off log room line old new answer it stuck = let same : IsLine log room line (reply.Refused refusal.Stuck) old new = subst (λ (a : Reply). IsLine log room line a old new) stuck it in stuck_off log room _ old new same.does
+stuck_is_off log room line old new answer it stuck = let same : IsLine log room line (reply.Refused refusal.Stuck) old new = subst (λ (a : Reply). IsLine log room line a old new) stuck it in stuck_off log room _ old new same.between same.does
 
 -- a line of one history is one of another with the same rooms
 pub renamed : (h k : Log) (room : Room) (line line' : List ℕ) (answer : Reply) (old new : State) → h ≡ k → line ≡ line' → IsLine h room line answer old new → IsLine k room line' answer old new

@@ -19,6 +19,7 @@ use Rattle.lvm_top.specs.Script.{Stream, Passage, StaysAlone, EndsAlone, EndsHea
 use Rattle.lvm_top.proofs.Firsts.{first_upheld}
 use Rattle.lvm_top.proofs.Concluding.{at_rest_still, concluded, entry_between, off_still, ran_ahead, run_upheld}
 use Rattle.lvm_top.proofs.Recovering.{varyon_recovers}
+use Rattle.lvm_top.proofs.Refusing.{run_causes}
 use Rattle.lvm_top.proofs.Scripting.{Ended, told_same, nothing_done, nothing_broken, nothing_heard, lines_ended}
 use Rattle.lvm_top.specs.Statuses.{status_of, at_end, IsAtEnd, GoesUntil}
 use Rattle.lvm_top.specs.declared.status.ExitStatus.{ExitStatus}
@@ -242,6 +243,7 @@ module _ {S : Type 0} (device : S → Device) (entry : Device) (run begun last :
     the_promises clock status says rose = subst (λ (n : ℕ). Promises clock (record (ran room entry (device closed) input output last (Some kept) status refused) { named = n })) (sym named) (record {
       clock = (subst (λ (n : ℕ). Rose clock n) (sym named) rose, (let is = named in let le = later in omega (arith, is, le)));
       does = the_run status says;
+      causes = run_causes _ (the_run status says);
       upheld = run_upheld _;
       first = first_upheld _;
       ahead = ran_ahead _ (the_run status says) refl;
@@ -254,6 +256,7 @@ pub nothing_promised : (asked last : ℕ) (room : Room) (device : Device) (input
 nothing_promised asked last room device input output ready = record {
   clock = tt;
   does = nothing_ran last room device input output ready;
+  causes = run_causes _ (nothing_ran last room device input output ready);
   upheld = run_upheld _;
   first = first_upheld _;
   ahead = nothing_ahead 0 last device [] refl (omega arith);

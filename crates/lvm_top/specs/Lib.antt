@@ -3,6 +3,7 @@ pub mod Program
 pub mod Script
 pub mod Statuses
 pub mod Ending
+pub mod Refused
 pub mod Run
 pub mod Runs
 pub mod Sim

@@ -17,6 +17,7 @@ use Rattle.lvm_line.specs.passed.ReplyVariants as reply
 use Rattle.lvm_line.specs.passed.Stage.{IsAlone, OfRequests, Reply, State}
 use Rattle.lvm_line.specs.passed.Varyon.{IsRecovered}
 use Rattle.lvm_top.specs.Ending.{Concludes}
+use Rattle.lvm_top.specs.Refused.{AreForCause, EndsForCause}
 use Rattle.lvm_top.specs.Script.{Passage, AreDone, AreAllRead, IsLineLeft, EndsHeard, EndsStuck, StaysAlone, EndsAlone, MakeRequests, empty_log, entry_state, facts_of, run_of}
 use Rattle.lvm_top.specs.Statuses.{at_end, IsAtEnd}
 use Rattle.lvm_top.specs.declared.status.ExitStatus.{ExitStatus}
@@ -93,6 +94,10 @@ RanAlone {r} ran = StaysAlone ran.lines.script × EndsAlone ran.lines.ends
 abbrev pub WhereAlone : Run → Type 0 → Type 0
 WhereAlone r Holds = (ran : IsRun r) → RanAlone ran → Holds
 
+-- each line of the run that was refused has its cause
+abbrev pub HaveCauses : {r : Run} → IsRun r → Type 0
+HaveCauses ran = AreForCause ran.lines.script × EndsForCause ran.lines.ends
+
 -- the run did this line alone, and it was answered so
 abbrev pub DidOnly : {r : Run} → IsRun r → List ℕ → Reply → Type 0
 DidOnly ran line answer = (ran.lines.lines ++ ran.lines.done ≡ line ∷ []) × (ran.lines.replies ++ ran.lines.said ≡ answer ∷ [])
@@ -103,13 +108,14 @@ pub record VaryonRecovers {r : Run} (ran : IsRun r) : Type 0 where
       → IsSomeAnd ran.end.session (λ core. HasNoPassive core.descriptor → IsRecovered r.entry r.exit core.descriptor)
   pub unwritten : (line name : List ℕ) (have total : ℕ) → line_of line ≡ Ok (Some (command.Varyon name)) → DidOnly ran line (reply.Refused (refusal.NoQuorum have total)) → r.exit.wrote ≡ r.entry.wrote
 
--- What every run promises. Its moment was answered by the clock in this call. Its lines are as they should be. Where its moment is later than what stands on
--- the disks, and no line made, removed or acted on a volume of one group among several with a quorum, the history is legal with what was told before, and each crash image that the
--- disks may leave is kept with it; over disks that hold nothing so it is without anything told before. The clock stays ahead of the disks. A run of a
--- single `varyonvg` recovers its group.
+-- What every run promises. Its moment was answered by the clock in this call. Its lines are as they should be, and refused for their causes. Where its moment
+-- is later than what stands on the disks, and no line made, removed or acted on a volume of one group among several with a quorum, the history is legal with what
+-- was told before, and each crash image that the disks may leave is kept with it; over disks that hold nothing so it is without anything told before. The clock
+-- stays ahead of the disks. A run of a single `varyonvg` recovers its group.
 pub record Promises (asked : ℕ) (r : Run) : Type 0 where
   pub clock : IfSome r.history (λ log. Rose asked log.run × (log.run ≤ r.last))
   pub does : IsRun r
+  pub causes : HaveCauses does
   pub upheld : WhereAlone r (IsBehind r.named r.entry → IsUpheld r.named r.entry r.exit (facts_of r.history))
   pub first : WhereAlone r (IsToldBlank r.entry → Legal (joined [] (facts_of r.history)) × ImagesKept r.exit (joined [] (facts_of r.history)))
   pub ahead : IsBehind r.named r.entry → IsAhead r.named (r.last + 1) r.exit (facts_of r.history)

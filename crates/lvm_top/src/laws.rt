@@ -1,5 +1,6 @@
 //! Laws of runs. Each call does nothing: its contract is the law.
 ghost use Rattle.lvm_top.specs.Laws.{VaryonsRecover};
+ghost use Rattle.lvm_top.specs.Refused.{ScriptsAreComplete};
 ghost use Rattle.lvm_top.specs.Runs.{NextMayBegin, TwoRunsUphold};
 
 /// What a run leaves, another one may begin with at a later moment; so two runs, the first over disks of zeros and the second over what
@@ -13,4 +14,10 @@ pub fn runs_follow()
 /// it is in mode passive.
 pub fn varyons_recover()
     ensures { VaryonsRecover }
+{}
+
+/// A line of a script in which no transfer failed, the power wasn't cut and the shelf didn't wait a million times is refused, if it
+/// is, by a rule of its own, for want of memory, or since the votes are lost.
+pub fn scripts_are_complete()
+    ensures { ScriptsAreComplete }
 {}

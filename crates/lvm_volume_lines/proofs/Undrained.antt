@@ -161,6 +161,7 @@ module _ {S : Type 0} (role : Role) (acts : Acts role) (device : S → Device) (
     none = no_requests device stage fits between none core its;
     end = end;
     runs = broken.turned.runs;
+    sound = broken.turned.sound;
     left = patience;
     fails = broken.fails;
     few = broken.turned.few;

@@ -2,6 +2,7 @@ pub mod Group
 pub mod GroupLines
 pub mod Quiesce
 pub mod RangeLines
+pub mod Ranges
 pub mod Running
 pub mod Stage
 pub mod TieCommands

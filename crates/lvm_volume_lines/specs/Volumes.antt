@@ -6,6 +6,7 @@ use Rattle.lvm_disk.specs.Counts.{RoseBy}
 use Rattle.lvm_disk.specs.Device.{IsReady}
 use Rattle.lvm_transfer.specs.Transfer.{Relights}
 use Rattle.lvm_write.specs.Written.{KeepsShelf}
+use Rattle.lvm_session.specs.Sound.{IsSound}
 use Rattle.lvm_session.specs.State.{Core, State as Session, state, is_there}
 use Rattle.lvm_core.specs.Held.{IsHeld}
 use Rattle.lvm_core.specs.Leaves.{IsOfCommand, KeepsStatus, FindsOnly, Scope}
@@ -110,6 +111,7 @@ pub record IsUndrained (core : Core) (old new : State) (why : DrainFault) (answe
   pub none : core.requests ≡ []
   pub end : Session
   pub runs : RunsOn (state old.moment.device core) end
+  pub sound : IsSound end
   pub left : ℕ
   pub fails : FailsSo left end why
   pub few : left ≤ patience_of_line

@@ -5,4 +5,4 @@ pub returns-clause-on : goal.returns-clause-on
 returns-clause-on c = varyon_restates
 
 pub returns-clause-quorum : goal.returns-clause-quorum
-returns-clause-quorum c log room line have total old new it = nothing_written log room _ have total old new it.does
+returns-clause-quorum c log room line have total old new it = nothing_written log room _ have total old new it.between it.does

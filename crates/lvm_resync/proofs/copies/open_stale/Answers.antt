@@ -5,7 +5,7 @@ use Rattle.lvm_session.specs.State.{Core, State}
 use Rattle.lvm_session.specs.Left.{left_of}
 use Rattle.lvm_copy_open.specs.Opening.{counts_seen}
 use Rattle.lvm_driver.specs.Answers.{state_of}
-use Rattle.lvm_resync.specs.Passing.{EndsOr, IsJudged, StopsAt, copy_of}
+use Rattle.lvm_resync.specs.Passing.{EndsOr, IsJudged, EndsAtCopy, copy_of}
 use Rattle.lvm_resync.specs.Turning.{GoesBeside, IsUnderWay}
 use Rattle.lvm_resync.proofs.Judging.{answers, begins, beside_then, broken_off, may_refuse, opens, same_state, turned, under_way}
 use Rattle.lvm_resync.proofs.Refusing.{refused_for}
@@ -99,7 +99,7 @@ returns-in_default g c =
     let it = refused_for (counts_seen old.device old.core) old.core c.open_copy.new.self.1 c.args.lv c.args.lp c.args.number c.in-Err.why c.in-Err.ensures.gives in
     let same = same_state device c.loop-pp.driver c.open_copy.new.self c.open_copy.ensures.shelf it.1 in
     record {
-      ends = subst (λ (s : State). EndsOr (IsJudged one c.args.patience.now.left c.loop-pp.patience.left first s) (StopsAt one c.args.patience.now.left c.loop-pp.patience.left first s) c.refused.result) (sym same) (answers one first old c.args.patience.now.left c.loop-pp.patience.left c.loop-pp.invariant c.in-Err.why
+      ends = subst (λ (s : State). EndsOr (IsJudged one c.args.patience.now.left c.loop-pp.patience.left first s) (EndsAtCopy one c.args.patience.now.left c.loop-pp.patience.left first s) c.refused.result) (sym same) (answers one first old c.args.patience.now.left c.loop-pp.patience.left c.loop-pp.invariant c.in-Err.why
           (sym c.is_stale.ensures ∙ c.loop-pp-test.true) it.0 c.refused.result c.refused.ensures);
       beside = subst (λ (s : State). GoesBeside first s c.args.patience.now.left c.loop-pp.patience.left) (sym same) c.loop-pp.invariant.beside;
     }
