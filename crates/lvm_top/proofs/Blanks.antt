@@ -25,16 +25,18 @@ flat_zeros (suc rows) count = ap (λ (l : List ℕ). replicate count 0 ++ l) (fl
 pub record BlankSoFar (count : ℕ) (before after : Option (List ℕ)) (faults faults1 : ℕ) : Type 0 where
   pub written : WhereTold before after (λ a b. b ≡ a ++ replicate count 0)
   pub later : faults ≤ faults1
+  pub well : faults1 ≡ faults
 
 pub none_yet : (told : Option (List ℕ)) (faults : ℕ) → BlankSoFar 0 told told faults faults
-none_yet told faults = record { written = told_same told (λ a b. b ≡ a ++ replicate 0 0) (λ a. sym (append-nil a)); later = omega arith }
+none_yet told faults = record { written = told_same told (λ a b. b ≡ a ++ replicate 0 0) (λ a. sym (append-nil a)); later = omega arith; well = refl }
 
-pub one_more : (count piece : ℕ) (before mid after : Option (List ℕ)) (faults faults1 faults2 : ℕ) → BlankSoFar count before mid faults faults1 → WhereTold mid after (λ a b. b ≡ a ++ replicate piece 0) → faults1 ≤ faults2
+pub one_more : (count piece : ℕ) (before mid after : Option (List ℕ)) (faults faults1 faults2 : ℕ) → BlankSoFar count before mid faults faults1 → WhereTold mid after (λ a b. b ≡ a ++ replicate piece 0) → faults1 ≤ faults2 → faults2 ≡ faults1
     → BlankSoFar (count + piece) before after faults faults2
-one_more count piece before mid after faults faults1 faults2 so_far more later = record {
+one_more count piece before mid after faults faults1 faults2 so_far more later well = record {
   written = told_on before mid after (λ a b. b ≡ a ++ replicate count 0) (λ a b. b ≡ a ++ replicate piece 0) (λ a b. b ≡ a ++ replicate (count + piece) 0)
       (λ a b c p q. q ∙ ap (λ (l : List ℕ). l ++ replicate piece 0) p ∙ append_assoc a (replicate count 0) (replicate piece 0) ∙ ap (λ (l : List ℕ). a ++ l) (replicate-append-replicate count piece 0)) so_far.written more;
   later = omega (arith, so_far.later, later);
+  well = well ∙ so_far.well;
 }
 
 -- a front of one piece more is a front of them all

@@ -24,6 +24,7 @@ pub fn run_image<O: Sink>(mib: u32, out: &mut O) -> ExitStatus
     ensures image { (O.chosen out.new ≡ O.chosen out.old) × (O.choices out.new ≡ O.choices out.old) }
     ensures later { O.faults out.old ≤ O.faults out.new }
     ensures cause { result ≡ ExitStatus.SinkFault → Rose (O.faults out.old) (O.faults out.new) }
+    ensures well { result ≡ ExitStatus.Well → O.faults out.new ≡ O.faults out.old }
 {
     for _ in 0..mib {
         match write_all(out, zeros()) {

@@ -11,6 +11,6 @@ pub loop-preserved : goal.loop-preserved
 loop-preserved g c =
     let more : BlankSoFar (1048576 * c.loop.counter + 1048576) (g.O.Sink.held c.args.out.now) (g.O.Sink.held c.write_all.new.out) (g.O.Sink.faults c.args.out.now) (g.O.Sink.faults c.write_all.new.out) =
     one_more (1048576 * c.loop.counter) 1048576 (g.O.Sink.held c.args.out.now) (g.O.Sink.held c.loop.out) (g.O.Sink.held c.write_all.new.out) (g.O.Sink.faults c.args.out.now) (g.O.Sink.faults c.loop.out) (g.O.Sink.faults c.write_all.new.out)
-    c.loop.invariant.0 (subst (λ (l : List ℕ). WhereTold (g.O.Sink.held c.loop.out) (g.O.Sink.held c.write_all.new.out) (λ a b. b ≡ a ++ l)) c.zeros.ensures c.in-Ok.ensures.whole) c.write_all.ensures.later in
+    c.loop.invariant.0 (subst (λ (l : List ℕ). WhereTold (g.O.Sink.held c.loop.out) (g.O.Sink.held c.write_all.new.out) (λ a b. b ≡ a ++ l)) c.zeros.ensures c.in-Ok.ensures.whole) c.write_all.ensures.later c.in-Ok.ensures.well in
     let sum : 1048576 * c.loop.counter + 1048576 ≡ 1048576 * (c.loop.counter + 1) = omega arith in
     (subst (λ (n : ℕ). BlankSoFar n (g.O.Sink.held c.args.out.now) (g.O.Sink.held c.write_all.new.out) (g.O.Sink.faults c.args.out.now) (g.O.Sink.faults c.write_all.new.out)) sum more, (c.write_all.ensures.image.0 ∙ c.loop.invariant.1.0, c.write_all.ensures.image.1 ∙ c.loop.invariant.1.1))
