@@ -57,9 +57,9 @@ fn any_fails_beside(session: &Session, request: &Request) -> bool
     ensures { result ≡ list_any (λ (e : Open). not (e.request.id == request.now.id) && is_beside (core_of session.now) e.request.ask request.now.ask && is_failing (core_of session.now) e) session.now.requests.items }
 {
     for other in &session.requests {
-        if other.request.id != request.id
+        if is_failing(session, other)
+            && other.request.id != request.id
             && is_beside(session, &other.request.ask, &request.ask)
-            && is_failing(session, other)
         {
             return true;
         }
