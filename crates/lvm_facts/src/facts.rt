@@ -37,7 +37,8 @@ fn any_is_usable(session: &Session, pps: &[Pp]) -> bool
     pps.iter().any(|pp| is_usable(session, *pp))
 }
 
-fn has_names(session: &Session, request: &Request) -> bool
+/// Whether the notes of the disks of all its targets name its track group, where its volume keeps notes.
+pub fn has_names(session: &Session, request: &Request) -> bool
     requires { at_of request.now.ask < 2 ^ 40 }
     ensures { result ≡ has_names (core_of session.now) (mode_of (core_of session.now) request.now.ask) request.now }
 {

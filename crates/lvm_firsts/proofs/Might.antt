@@ -1,10 +1,13 @@
 -- What a request doesn't do next that it might not.
-use Rattle.std.proofs.Common.{◌≡◌, ℕ, Bool, true, false, ◌&&◌, ◌||◌, not, if◌then◌else◌, List, Option, Some, None, refl, sym, ◌∙◌, ap}
+use Rattle.std.proofs.Common.{◌≡◌, ℕ, Bool, true, false, cond, nat_lt, ◌&&◌, ◌||◌, not, if◌then◌else◌, List, [], ◌∷◌, length, Option, Some, None, refl, sym, ◌∙◌, ap, arith}
 use Rattle.std.specs.Prelude.{position}
-use Rattle.std.specs.List.{list_any}
+use Rattle.std.specs.List.{list_any, position_or_len}
 use Rattle.std.specs.Option.{option_map_or}
+use Rattle.std.proofs.lemmas.Bool.{le-ltb}
 use Rattle.lvm_vol.specs.declared.entry.Outcome.{Outcome}
 use Rattle.lvm_vol.specs.declared.entry.Outcome.TheVariants as outcome
+use Rattle.lvm_num.specs.declared.descriptor.Policy.{Policy}
+use Rattle.lvm_num.specs.declared.descriptor.Policy.TheVariants as policy
 use Rattle.lvm_sched.specs.Writes.{is_flying, is_waiting, next_target}
 use Rattle.lvm_path.specs.declared.facts.Facts.{Facts}
 use Rattle.lvm_path.specs.declared.facts.Next.{Next}
@@ -17,7 +20,7 @@ use Rattle.lvm_path.specs.Asks.{is_write}
 use Rattle.lvm_path.specs.Next.{next_chosen, next_in, next_read, next_write, start_or_wait}
 use Rattle.lvm_path.specs.Targets.{is_begun, is_done, states_of}
 use Rattle.lvm_session.specs.Enabled.{is_admit, is_pin, outcome_next, target_next}
-use Rattle.lvm_firsts.specs.Might.{might_admit_in, might_land_in, might_start_in, wants_entry}
+use Rattle.lvm_firsts.specs.Might.{any_waits, are_at_rest, might_admit_in, might_land_in, might_start_in, wants_entry}
 
 -- ---- what something is of each thing that it may do next is so of what it does
 
@@ -68,6 +71,40 @@ not_off : (u : Bool) → not u ≡ false → u ≡ true
 not_off true is = refl
 not_off false is = absurd (cc is)
 
+-- ---- targets of which no transfer is left to be started
+
+either_off : (a b : Bool) → (a || b) ≡ false → (a ≡ false) × (b ≡ false)
+either_off true b is = absurd (cc is)
+either_off false b is = (refl, is)
+
+module _ {X : Type 0} (p : X → Bool) where
+  all_fail : (xs : List X) → list_any p xs ≡ false → position_or_len p xs ≡ length xs
+  all_fail [] is = refl
+  all_fail (x ∷ xs) is = let both = either_off (p x) (list_any p xs) is in let rest = all_fail xs both.1 in rw both.0 (omega (arith, rest))
+
+  none_found : (xs : List X) → list_any p xs ≡ false → position p xs ≡ None
+  none_found xs is = ap (λ (n : ℕ). cond (nat_lt n (length xs)) (Some n) None) (all_fail xs is) ∙ ap (λ (b : Bool). cond b (Some (length xs)) None) (le-ltb (length xs) (length xs) (omega arith))
+
+states_wait : (ts : List Target) → list_any is_waiting (states_of ts) ≡ any_waits ts
+states_wait [] = refl
+states_wait (t ∷ ts) = ap (λ b. is_waiting t.state || b) (states_wait ts)
+
+no_target : (how : Policy) (ts : List Target) → any_waits ts ≡ false → next_target how (states_of ts) ≡ None
+no_target how ts is = by how
+  where
+    none : position is_waiting (states_of ts) ≡ None
+    none = none_found is_waiting (states_of ts) (states_wait ts ∙ is)
+
+    by_flying : (b : Bool) → (if b then None else position is_waiting (states_of ts)) ≡ None
+    by_flying true = refl
+    by_flying false = none
+
+    by : (q : Policy) → next_target q (states_of ts) ≡ None
+    by policy.Sequential = by_flying (list_any is_flying (states_of ts))
+    by policy.Parallel = none
+    by policy.ParallelWrite = none
+    by policy.RoundRobin = none
+
 -- ---- landings
 
 module _ (k : Facts) (r : Request) where
@@ -86,11 +123,16 @@ module _ (k : Facts) (r : Request) where
   lands_not phase.WantRecord is =
       lands_not_chosen (if k.named && k.dirty && not k.pending then goes else next.Wait) (not_off k.usable is) (by_either outcome_next None (k.named && k.dirty && not k.pending) goes next.Wait lands_not_by_write refl)
   lands_not phase.Data is =
-      by_data outcome_next None k r (is_write r.ask) (is_begun r.targets.items) (λ read. absurd (let e : true ≡ false = sym (ap (λ b. if b then (b && not (is_begun r.targets.items)) && not k.usable else true) read) ∙ is in cc e))
+      by_data outcome_next None k r (is_write r.ask) (is_begun r.targets.items) (λ read. rests (list_any (λ (t : Target). is_done t.state) r.targets.items) (list_any (λ (t : Target). is_flying t.state) r.targets.items) (sym (ap (λ b. if b then (b && not (is_begun r.targets.items)) && not k.usable else are_at_rest r.targets.items) read) ∙ is))
       (λ write begun. lands_not_by_write)
       (λ write begun. lands_not_chosen (if k.pending then next.Wait else goes) (usable_by (is_write r.ask) (is_begun r.targets.items) k.usable write begun is) (by_either outcome_next None k.pending next.Wait goes refl lands_not_by_write))
     where
-      usable_by : (w b u : Bool) → w ≡ true → b ≡ false → (if w then (w && not b) && not u else true) ≡ false → u ≡ true
+      rests : (done flying : Bool) → (done || not flying) ≡ false → outcome_next (if done then next.Land outcome.Got else if flying then next.Wait else option_map_or next.Start (position (λ (t : Target). is_waiting t.state) r.targets.items) (next.Land outcome.ReadFailed)) ≡ None
+      rests true flying is = absurd (cc is)
+      rests false true is = refl
+      rests false false is = absurd (cc is)
+
+      usable_by : (w b u : Bool) → w ≡ true → b ≡ false → (if w then (w && not b) && not u else are_at_rest r.targets.items) ≡ false → u ≡ true
       usable_by true true u write begun is = absurd (cc begun)
       usable_by true false true write begun is = refl
       usable_by true false false write begun is = absurd (cc is)
@@ -152,10 +194,24 @@ module _ (k : Facts) (r : Request) where
 
   -- ---- starts
 
-  pub starts_not : (p : Phase) → might_start_in p ≡ false → target_next (next_in p k r) ≡ None
+  pub starts_not : (p : Phase) → might_start_in p r k.named ≡ false → target_next (next_in p k r) ≡ None
   starts_not phase.Held is = by_held target_next None (k.blocked || k.pending) k.usable refl refl (λ unusable. refl)
   starts_not phase.WantEntry is = by_chosen target_next None k (if k.pinned then next.Wait else next.Pin) (λ unusable. refl) refl (by_either target_next None k.pinned next.Wait next.Pin refl refl)
-  starts_not phase.WantRecord is = absurd (cc is)
-  starts_not phase.Data is = absurd (cc is)
+  starts_not phase.WantRecord is =
+      by_chosen target_next None k (if k.named && k.dirty && not k.pending then goes else next.Wait) (λ unusable. refl) refl (by k.named k.dirty k.pending is)
+    where
+      by : (named dirty pending : Bool) → named ≡ false → target_next (if named && dirty && not pending then goes else next.Wait) ≡ None
+      by true dirty pending is = absurd (cc is)
+      by false dirty pending is = refl
+  starts_not phase.Data is =
+      by_data target_next None k r (is_write r.ask) (is_begun r.targets.items)
+      (λ read. by_either target_next None (list_any (λ (t : Target). is_done t.state) r.targets.items) (next.Land outcome.Got) _ refl
+      (by_either target_next None (list_any (λ (t : Target). is_flying t.state) r.targets.items) next.Wait _ refl
+      (ap (λ (o : Option ℕ). target_next (option_map_or next.Start o (next.Land outcome.ReadFailed))) (none_found (λ (t : Target). is_waiting t.state) r.targets.items is))))
+      (λ write begun. writes)
+      (λ write begun. by_chosen target_next None k (if k.pending then next.Wait else goes) (λ unusable. refl) refl (by_either target_next None k.pending next.Wait goes refl writes))
+    where
+      writes : target_next goes ≡ None
+      writes = ap (λ (o : Option ℕ). target_next (start_or_wait o)) (no_target r.policy r.targets.items is)
   starts_not phase.WantStatus is = by_either target_next None k.marked (next.Land (if k.kept then outcome.Done else outcome.Lost)) next.Wait refl refl
   starts_not phase.Landed is = refl

@@ -1,24 +1,30 @@
 -- What a request might do next, as far as that shows without its facts.
-use Rattle.std.specs.Prelude.{Bool, true, false, ◌&&◌, not, if◌then◌else◌}
+use Rattle.std.specs.Prelude.{Bool, true, false, ◌&&◌, ◌||◌, not, if◌then◌else◌, List}
 use Rattle.std.specs.List.{list_any}
+use Rattle.lvm_sched.specs.Writes.{is_flying, is_waiting}
 use Rattle.lvm_path.specs.declared.request.Phase.{Phase}
 use Rattle.lvm_path.specs.declared.request.Phase.TheVariants as phase
 use Rattle.lvm_path.specs.declared.request.Request.{Request}
+use Rattle.lvm_path.specs.declared.target.Target.{Target}
 use Rattle.lvm_path.specs.Asks.{is_write}
-use Rattle.lvm_path.specs.Targets.{is_begun}
+use Rattle.lvm_path.specs.Targets.{is_begun, is_done}
 use Rattle.lvm_session.specs.State.{Core}
-use Rattle.lvm_session.specs.Judging.{copies_for, is_changed, is_usable}
+use Rattle.lvm_session.specs.Judging.{copies_for, has_names, is_changed, is_usable, mode_of}
 
 -- a write that hasn't started its data
 abbrev pub is_unbegun : Request → Bool
 is_unbegun r = is_write r.ask && not (is_begun r.targets.items)
+
+-- the transfer of one of them has ended well, or none is under way
+abbrev pub are_at_rest : List Target → Bool
+are_at_rest targets = list_any (λ (t : Target). is_done t.state) targets || not (list_any (λ (t : Target). is_flying t.state) targets)
 
 -- in this phase it might land, where some copy is usable or none is
 abbrev pub might_land_in : Phase → Request → Bool → Bool
 might_land_in phase.Held r usable = not usable
 might_land_in phase.WantEntry r usable = not usable
 might_land_in phase.WantRecord r usable = not usable
-might_land_in phase.Data r usable = if is_write r.ask then is_unbegun r && not usable else true
+might_land_in phase.Data r usable = if is_write r.ask then is_unbegun r && not usable else are_at_rest r.targets.items
 might_land_in phase.WantStatus r usable = true
 might_land_in phase.Landed r usable = false
 
@@ -50,14 +56,18 @@ wants_entry phase.Landed = false
 abbrev pub might_pin : Request → Bool
 might_pin r = wants_entry r.phase && not r.pinned
 
--- in this phase a transfer of it might be started
-abbrev pub might_start_in : Phase → Bool
-might_start_in phase.Held = false
-might_start_in phase.WantEntry = false
-might_start_in phase.WantRecord = true
-might_start_in phase.Data = true
-might_start_in phase.WantStatus = false
-might_start_in phase.Landed = false
+-- the transfer of one of them isn't started
+abbrev pub any_waits : List Target → Bool
+any_waits targets = list_any (λ (t : Target). is_waiting t.state) targets
 
-abbrev pub might_start : Request → Bool
-might_start r = might_start_in r.phase
+-- in this phase a transfer of it might be started, where the notes name its track group or don't
+abbrev pub might_start_in : Phase → Request → Bool → Bool
+might_start_in phase.Held r named = false
+might_start_in phase.WantEntry r named = false
+might_start_in phase.WantRecord r named = named
+might_start_in phase.Data r named = any_waits r.targets.items
+might_start_in phase.WantStatus r named = false
+might_start_in phase.Landed r named = false
+
+abbrev pub might_start : Core → Request → Bool
+might_start core r = might_start_in r.phase r (has_names core (mode_of core r.ask) r)

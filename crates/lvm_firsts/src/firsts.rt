@@ -71,7 +71,7 @@ fn data_at(session: &Session, place: usize) -> Option<Event>
     requires there { place < length session.now.requests.items }
     ensures { (o : Open) → slice_get session.now.requests.items place ≡ Some o → result ≡ data_at (core_of session.now) place o }
 {
-    if !might_start(&session.requests[place].request) {
+    if !might_start(session, &session.requests[place].request) {
         return None;
     }
     match next_at(session, place) {

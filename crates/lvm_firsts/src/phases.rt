@@ -1,13 +1,50 @@
 //! What a request might do next, as far as that shows without its facts.
 ghost use Rattle.std.specs.Prelude.{◌≡◌};
+ghost use Rattle.std.specs.List.{list_any};
 ghost use Rattle.lvm_num.specs.Descriptor.{IsValid};
+ghost use Rattle.lvm_sched.specs.Writes.{is_flying};
+ghost use Rattle.lvm_path.specs.declared.target.Target.{Target};
+ghost use Rattle.lvm_path.specs.Targets.{is_done};
 ghost use Rattle.lvm_session.specs.Fields.{core_of};
 ghost use Rattle.lvm_session.specs.Judging.{IsWithin};
-ghost use Rattle.lvm_firsts.specs.Might.{might_admit, might_land, might_pin, might_start};
+ghost use Rattle.lvm_firsts.specs.Might.{any_waits, are_at_rest, might_admit, might_land, might_pin, might_start};
 
-use lvm_facts::{has_usable, is_changed, is_unbegun};
-use lvm_path::{Phase, Request};
+use lvm_facts::{has_names, has_usable, is_changed, is_unbegun};
+use lvm_path::{Phase, Request, Target};
+use lvm_sched::TargetState;
 use lvm_session::Session;
+
+fn any_is_done(targets: &[Target]) -> bool
+    ensures { result ≡ list_any (λ (t : Target). is_done t.state) targets.now }
+{
+    targets
+        .iter()
+        .any(|target| matches!(target.state, TargetState::Done))
+}
+
+fn any_flies(targets: &[Target]) -> bool
+    ensures { result ≡ list_any (λ (t : Target). is_flying t.state) targets.now }
+{
+    targets
+        .iter()
+        .any(|target| matches!(target.state, TargetState::Flying))
+}
+
+// Whether the transfer of one of them isn't started.
+fn any_waits(targets: &[Target]) -> bool
+    ensures { result ≡ any_waits targets.now }
+{
+    targets
+        .iter()
+        .any(|target| matches!(target.state, TargetState::Waiting))
+}
+
+// Whether the transfer of one of them has ended well, or none is under way.
+fn are_at_rest(targets: &[Target]) -> bool
+    ensures { result ≡ are_at_rest targets.now }
+{
+    any_is_done(targets) || !any_flies(targets)
+}
 
 // Whether it might land: no copy is usable of one that hasn't started its data, or its transfers may have ended.
 pub fn might_land(session: &Session, request: &Request) -> bool
@@ -21,7 +58,7 @@ pub fn might_land(session: &Session, request: &Request) -> bool
             if request.ask.is_write() {
                 is_unbegun(request) && !has_usable(session, &request.ask)
             } else {
-                true
+                are_at_rest(&request.targets)
             }
         }
         Phase::WantStatus => true,
@@ -50,9 +87,15 @@ pub fn might_pin(request: &Request) -> bool
     matches!(request.phase, Phase::WantEntry) && !request.pinned
 }
 
-// Whether a transfer of it might be started: it waits for its record, or its data may go.
-pub fn might_start(request: &Request) -> bool
-    ensures { result ≡ might_start request.now }
+// Whether a transfer of it might be started: it waits for its record, and notes name its track group; or its data may go,
+// and a transfer isn't started.
+pub fn might_start(session: &Session, request: &Request) -> bool
+    requires within { IsWithin session.now.descriptor request.now.ask }
+    ensures { result ≡ might_start (core_of session.now) request.now }
 {
-    matches!(request.phase, Phase::WantRecord | Phase::Data)
+    match request.phase {
+        Phase::WantRecord => has_names(session, request),
+        Phase::Data => any_waits(&request.targets),
+        Phase::Held | Phase::WantEntry | Phase::WantStatus | Phase::Landed => false,
+    }
 }
