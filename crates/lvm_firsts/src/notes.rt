@@ -19,8 +19,8 @@ fn is_unnamed(session: &Session, lv: u16, group: u32, target: &Target) -> bool
     ensures { result ≡ (not (is_missing (core_of session.now) target.now.pp.disk) && is_none (flight_on session.now.cache target.now.pp.disk) && not (is_named session.now.cache target.now.pp.disk lv group)) }
 {
     let disk = target.pp.disk;
-    !is_missing(session, disk)
-        && !session.cache.has_note_in_flight(disk)
+    !session.cache.has_note_in_flight(disk)
+        && !is_missing(session, disk)
         && !session.cache.is_named(disk, lv, group)
 }
 
