@@ -4,3 +4,4 @@ pub mod Places
 pub mod Queue
 mod Rest
 pub mod Might
+mod Usable

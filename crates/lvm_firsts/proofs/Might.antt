@@ -117,15 +117,15 @@ module _ (k : Facts) (r : Request) where
   lands_not_chosen : (on : Next) → k.usable ≡ true → outcome_next on ≡ None → outcome_next (next_chosen k on) ≡ None
   lands_not_chosen on usable none = by_chosen outcome_next None k on (λ unusable. off unusable usable) refl none
 
-  pub lands_not : (p : Phase) → might_land_in p r k.usable ≡ false → outcome_next (next_in p k r) ≡ None
-  lands_not phase.Held is = by_held outcome_next None (k.blocked || k.pending) k.usable refl refl (λ unusable. off unusable (not_off k.usable is))
-  lands_not phase.WantEntry is = lands_not_chosen (if k.pinned then next.Wait else next.Pin) (not_off k.usable is) (by_either outcome_next None k.pinned next.Wait next.Pin refl refl)
-  lands_not phase.WantRecord is =
-      lands_not_chosen (if k.named && k.dirty && not k.pending then goes else next.Wait) (not_off k.usable is) (by_either outcome_next None (k.named && k.dirty && not k.pending) goes next.Wait lands_not_by_write refl)
-  lands_not phase.Data is =
-      by_data outcome_next None k r (is_write r.ask) (is_begun r.targets.items) (λ read. rests (list_any (λ (t : Target). is_done t.state) r.targets.items) (list_any (λ (t : Target). is_flying t.state) r.targets.items) (sym (ap (λ b. if b then (b && not (is_begun r.targets.items)) && not k.usable else are_at_rest r.targets.items) read) ∙ is))
+  pub lands_not : (shown : Bool) → (shown ≡ true → k.usable ≡ true) → (p : Phase) → might_land_in p r shown ≡ false → outcome_next (next_in p k r) ≡ None
+  lands_not shown sees phase.Held is = by_held outcome_next None (k.blocked || k.pending) k.usable refl refl (λ unusable. off unusable (sees (not_off shown is)))
+  lands_not shown sees phase.WantEntry is = lands_not_chosen (if k.pinned then next.Wait else next.Pin) (sees (not_off shown is)) (by_either outcome_next None k.pinned next.Wait next.Pin refl refl)
+  lands_not shown sees phase.WantRecord is =
+      lands_not_chosen (if k.named && k.dirty && not k.pending then goes else next.Wait) (sees (not_off shown is)) (by_either outcome_next None (k.named && k.dirty && not k.pending) goes next.Wait lands_not_by_write refl)
+  lands_not shown sees phase.Data is =
+      by_data outcome_next None k r (is_write r.ask) (is_begun r.targets.items) (λ read. rests (list_any (λ (t : Target). is_done t.state) r.targets.items) (list_any (λ (t : Target). is_flying t.state) r.targets.items) (sym (ap (λ b. if b then (b && not (is_begun r.targets.items)) && not shown else are_at_rest r.targets.items) read) ∙ is))
       (λ write begun. lands_not_by_write)
-      (λ write begun. lands_not_chosen (if k.pending then next.Wait else goes) (usable_by (is_write r.ask) (is_begun r.targets.items) k.usable write begun is) (by_either outcome_next None k.pending next.Wait goes refl lands_not_by_write))
+      (λ write begun. lands_not_chosen (if k.pending then next.Wait else goes) (sees (usable_by (is_write r.ask) (is_begun r.targets.items) shown write begun is)) (by_either outcome_next None k.pending next.Wait goes refl lands_not_by_write))
     where
       rests : (done flying : Bool) → (done || not flying) ≡ false → outcome_next (if done then next.Land outcome.Got else if flying then next.Wait else option_map_or next.Start (position (λ (t : Target). is_waiting t.state) r.targets.items) (next.Land outcome.ReadFailed)) ≡ None
       rests true flying is = absurd (cc is)
@@ -137,8 +137,8 @@ module _ (k : Facts) (r : Request) where
       usable_by true false true write begun is = refl
       usable_by true false false write begun is = absurd (cc is)
       usable_by false b u write begun is = absurd (cc write)
-  lands_not phase.WantStatus is = absurd (cc is)
-  lands_not phase.Landed is = refl
+  lands_not shown sees phase.WantStatus is = absurd (cc is)
+  lands_not shown sees phase.Landed is = refl
 
   -- ---- admissions
 

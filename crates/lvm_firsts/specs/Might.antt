@@ -19,7 +19,7 @@ is_unbegun r = is_write r.ask && not (is_begun r.targets.items)
 abbrev pub are_at_rest : List Target → Bool
 are_at_rest targets = list_any (λ (t : Target). is_done t.state) targets || not (list_any (λ (t : Target). is_flying t.state) targets)
 
--- in this phase it might land, where some copy is usable or none is
+-- in this phase it might land, where some copy shows as usable or none does
 abbrev pub might_land_in : Phase → Request → Bool → Bool
 might_land_in phase.Held r usable = not usable
 might_land_in phase.WantEntry r usable = not usable
@@ -28,8 +28,21 @@ might_land_in phase.Data r usable = if is_write r.ask then is_unbegun r && not u
 might_land_in phase.WantStatus r usable = true
 might_land_in phase.Landed r usable = false
 
+-- one of the copies to which it goes is usable
+abbrev pub any_is_usable : Core → List Target → Bool
+any_is_usable core targets = list_any (λ (t : Target). is_usable core t.pp) targets
+
+-- A copy of its logical partition is usable, as far as that shows: once it has its targets they are looked at alone, which are copies of it.
+abbrev pub shows_usable : Core → Phase → Request → Bool
+shows_usable core phase.Held r = list_any (is_usable core) (copies_for core r.ask)
+shows_usable core phase.WantEntry r = any_is_usable core r.targets.items
+shows_usable core phase.WantRecord r = any_is_usable core r.targets.items
+shows_usable core phase.Data r = any_is_usable core r.targets.items
+shows_usable core phase.WantStatus r = any_is_usable core r.targets.items
+shows_usable core phase.Landed r = any_is_usable core r.targets.items
+
 abbrev pub might_land : Core → Request → Bool
-might_land core r = might_land_in r.phase r (list_any (is_usable core) (copies_for core r.ask))
+might_land core r = might_land_in r.phase r (shows_usable core r.phase r)
 
 -- in this phase it might be admitted, or admitted again, where its targets are others or aren't
 abbrev pub might_admit_in : Phase → Request → Bool → Bool

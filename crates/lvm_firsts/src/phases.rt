@@ -7,8 +7,9 @@ ghost use Rattle.lvm_path.specs.declared.target.Target.{Target};
 ghost use Rattle.lvm_path.specs.Targets.{is_done};
 ghost use Rattle.lvm_session.specs.Fields.{core_of};
 ghost use Rattle.lvm_session.specs.Judging.{IsWithin};
-ghost use Rattle.lvm_firsts.specs.Might.{any_waits, are_at_rest, might_admit, might_land, might_pin, might_start};
+ghost use Rattle.lvm_firsts.specs.Might.{any_is_usable, any_waits, are_at_rest, might_admit, might_land, might_pin, might_start};
 
+use lvm_copies::is_usable;
 use lvm_facts::{has_names, has_usable, is_changed, is_unbegun};
 use lvm_path::{Phase, Request, Target};
 use lvm_sched::TargetState;
@@ -46,6 +47,13 @@ fn are_at_rest(targets: &[Target]) -> bool
     any_is_done(targets) || !any_flies(targets)
 }
 
+// Whether one of the copies to which a request goes is usable.
+fn any_is_usable(session: &Session, targets: &[Target]) -> bool
+    ensures { result ≡ any_is_usable (core_of session.now) targets.now }
+{
+    targets.iter().any(|target| is_usable(session, target.pp))
+}
+
 // Whether it might land: no copy is usable of one that hasn't started its data, or its transfers may have ended.
 pub fn might_land(session: &Session, request: &Request) -> bool
     requires valid { IsValid session.now.descriptor }
@@ -53,10 +61,11 @@ pub fn might_land(session: &Session, request: &Request) -> bool
     ensures { result ≡ might_land (core_of session.now) request.now }
 {
     match request.phase {
-        Phase::Held | Phase::WantEntry | Phase::WantRecord => !has_usable(session, &request.ask),
+        Phase::Held => !has_usable(session, &request.ask),
+        Phase::WantEntry | Phase::WantRecord => !any_is_usable(session, &request.targets),
         Phase::Data => {
             if request.ask.is_write() {
-                is_unbegun(request) && !has_usable(session, &request.ask)
+                is_unbegun(request) && !any_is_usable(session, &request.targets)
             } else {
                 are_at_rest(&request.targets)
             }
