@@ -33,7 +33,8 @@ use Rattle.lvm_core.specs.Starting.{room_of}
 use Rattle.lvm_group.specs.NewGroup.{given_up, new_group, new_status}
 use Rattle.lvm_earlier.specs.passed.Tie.{IsStamped}
 use Rattle.lvm_handover.specs.Beginning.{HasJustBegun, IsHistory, MadeBegins, Serves, VariedOnBegins}
-use Rattle.lvm_handover.proofs.Entailing.{few_updates, not_entailed}
+use Rattle.lvm_keeps.proofs.Updates.{few_updates}
+use Rattle.lvm_handover.proofs.Entailing.{not_entailed}
 
 -- the stamp of the last record that was written
 abbrev second : ℕ → Stamp

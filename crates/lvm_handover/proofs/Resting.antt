@@ -29,7 +29,7 @@ use Rattle.lvm_tie_begins.specs.Begins.{IsResting}
 use Rattle.lvm_handover.specs.Settling.{DrainedRests, MaySettle}
 use Rattle.lvm_handover.proofs.Between.{buffers_back, none_flown, rest_is_quiet, rest_is_sound}
 use Rattle.lvm_handover.proofs.Statuses.{status_is}
-use Rattle.lvm_handover.proofs.Votes.{enough_more, more_votes}
+use Rattle.lvm_keeps.proofs.Votes.{enough_more, more_votes}
 
 -- ---- tests
 

@@ -43,7 +43,8 @@ use Rattle.lvm_volumes.specs.Volumes.{IsChosen, IsVolumeMade, IsVolumeRemoved, I
 use Rattle.lvm_volumes.proofs.Entering.{many_bound}
 use Rattle.lvm_volumes.proofs.Places.{places_of}
 use Rattle.lvm_handover.specs.Serving.{GoesOnWith, MayServe, MklvServes, RmlvServes, StaysSound}
-use Rattle.lvm_handover.proofs.Entailing.{few_updates, none_left, passes}
+use Rattle.lvm_keeps.proofs.Updates.{few_updates}
+use Rattle.lvm_handover.proofs.Entailing.{none_left, passes}
 use Rattle.lvm_handover.proofs.Serving.{commands_serve}
 
 -- ---- rows

@@ -1,5 +1,7 @@
 pub mod Lists
 pub mod Small
+pub mod Votes
+pub mod Updates
 pub mod Still
 pub mod Fitting
 pub mod Causes

@@ -42,7 +42,7 @@ use Rattle.lvm_session.specs.Calls.{ask_fault, fault_by, fault_in, fault_on, has
 use Rattle.lvm_session.specs.Dark.{IsAscending}
 use Rattle.lvm_session.specs.Events.{is_passive}
 use Rattle.lvm_session.specs.Asking.{IsAsking}
-use Rattle.lvm_session.specs.Left.{copy_updates, if_so, marks_later, updates_left}
+use Rattle.lvm_session.specs.Left.{copy_updates, marks_later, updates_left}
 use Rattle.lvm_session.specs.Owners.{AreOwned, IsDataOf, flies, target_flies}
 use Rattle.lvm_session.specs.Requests.{IsOpenOne, IsRecorded, mode_for}
 use Rattle.lvm_session.specs.Causes.{AreCaused, AreCounted, IsAnswered, IsCaused, IsChosenSince, fails_on, is_held_stale}
@@ -57,6 +57,7 @@ use Rattle.lvm_keeps.proofs.Rows.{all_fly, rows_on}
 use Rattle.lvm_keeps.proofs.Small.{not_so}
 use Rattle.lvm_keeps.proofs.Still.{bring_on, if_on, moved, open_on}
 use Rattle.lvm_keeps.proofs.Telling.{outcome_still}
+use Rattle.lvm_keeps.proofs.Updates.{few_members, few_volumes, one_if}
 use Rattle.lvm_keeps.proofs.Whole.{sound_when_on}
 use Rattle.lvm_keeps_calls.proofs.Growing.{answered_other, asked_new, asked_other, chunks_long, few_begin, next_is, open_new, open_other, outcome_new, place_earlier, place_new}
 use Rattle.lvm_keeps_calls.proofs.Places.{blocks_fit}
@@ -153,18 +154,6 @@ numbers_left core ask is = ltb-true (core.status.stamp.seq + 65536) (2 ^ 32) (th
     third false b c e = not_so e
 
 -- ---- all that may come to be wanted is little
-
-few_members : (big : Bool) → most_members big ≤ 128
-few_members true = omega arith
-few_members false = omega arith
-
-few_volumes : (big : Bool) → most_volumes big ≤ 511
-few_volumes true = omega arith
-few_volumes false = omega arith
-
-one_if : (b : Bool) → if_so b 1 ≤ 1
-one_if true = omega arith
-one_if false = omega arith
 
 two_if : (core : Core) (m : Option OpenCopy) → option_map_or (copy_updates core) m 0 ≤ 2
 two_if core None = omega arith

@@ -1,11 +1,10 @@
 -- A session in which nothing is out doesn't stand still.
-use Rattle.std.proofs.Common.{◌≡◌, ◌⊎◌, inl, inr, ◌==◌, ◌≤◌, ◌<◌, ◌+◌, ◌-◌, ◌*◌, ◌&&◌, ◌||◌, ℕ, zero, suc, Bool, true, false, not, nat_le, nat_lt, filter, find, List, [], ◌∷◌, ◌++◌, Option, Some, None, length, slice_get, if◌then◌else◌, refl, sym, ◌∙◌, ap, subst, arith}
+use Rattle.std.proofs.Common.{◌≡◌, ◌⊎◌, inl, inr, ◌==◌, ◌≤◌, ◌<◌, ◌+◌, ◌-◌, ◌&&◌, ◌||◌, ℕ, zero, suc, Bool, true, false, not, nat_le, nat_lt, filter, find, List, [], ◌∷◌, Option, Some, None, length, slice_get, if◌then◌else◌, refl, sym, ◌∙◌, ap, subst, arith}
 use Rattle.std.specs.Prelude.{IfSome, bytes_eq, count_by, is_none, is_some, position, slice_index_or, unwrap_or}
-use Rattle.std.specs.List.{list_all, list_any, sum_by, AllByRecursion}
+use Rattle.std.specs.List.{list_all, list_any, AllByRecursion}
 use Rattle.std.specs.Option.{option_map, option_map_or}
-use Rattle.std.proofs.lemmas.Bool.{eq-eqb, eqb-true, ltb-true, ne_eqb}
+use Rattle.std.proofs.lemmas.Bool.{eq-eqb, eqb-true, ltb-true}
 use Rattle.std.proofs.lemmas.Bool.Decides.{nat_tests}
-use Rattle.std.proofs.lemmas.List.Sums.{sum_by-cons}
 use Rattle.lvm_num.specs.Buffer.{Buffer}
 use Rattle.lvm_num.specs.declared.descriptor.Descriptor.{Descriptor}
 use Rattle.lvm_num.specs.declared.descriptor.Mode.{Mode}
@@ -16,10 +15,10 @@ use Rattle.lvm_num.specs.declared.descriptor.PvRow.{PvRow}
 use Rattle.lvm_num.specs.declared.place.Pp.{Pp}
 use Rattle.lvm_num.specs.declared.status.Status.{Status}
 use Rattle.lvm_num.specs.declared.status.StatusRow.{StatusRow}
-use Rattle.lvm_num.specs.Disks.{Disks, has}
+use Rattle.lvm_num.specs.Disks.{has}
 use Rattle.lvm_num.specs.Status.{calls_dirty, calls_missing, calls_stale}
 use Rattle.lvm_num.specs.Descriptor.{is_member}
-use Rattle.lvm_num.specs.Votes.{is_enough_to_write, total_votes, votes_in, votes_of}
+use Rattle.lvm_num.specs.Votes.{is_enough_to_write, votes_in}
 use Rattle.lvm_disk.specs.Device.{Flight}
 use Rattle.lvm_vol.specs.declared.entry.Outcome.{Outcome}
 use Rattle.lvm_vol.specs.declared.entry.Outcome.TheVariants as outcome
@@ -28,8 +27,8 @@ use Rattle.lvm_hold.specs.declared.queue.Held.{Held}
 use Rattle.lvm_hold.specs.declared.queue.Row.{Row}
 use Rattle.lvm_hold.specs.Waiting.{is_blocked}
 use Rattle.lvm_mwc.specs.declared.entries.CacheEntry.{CacheEntry}
-use Rattle.lvm_mwc.specs.Cache.{Cached, flight_on, is_named}
-use Rattle.lvm_mwc.specs.Entries.{Differ, are_all_pinned, has_entry, is_entry, is_unpinned, pins_of}
+use Rattle.lvm_mwc.specs.Cache.{flight_on, is_named}
+use Rattle.lvm_mwc.specs.Entries.{Differ, has_entry, is_entry, is_unpinned, pins_of}
 use Rattle.lvm_mwc.proofs.FirstsLemmas.{none_at}
 use Rattle.lvm_sched.specs.declared.writes.TargetState.{TargetState}
 use Rattle.lvm_sched.specs.declared.writes.TargetState.TheVariants as stage
@@ -45,7 +44,7 @@ use Rattle.lvm_path.specs.declared.request.Request.{Request}
 use Rattle.lvm_path.specs.declared.target.Target.{Target}
 use Rattle.lvm_path.specs.Asks.{is_write, lv_of}
 use Rattle.lvm_path.specs.Targets.{are_over, is_begun, is_done, is_failed, is_over as is_ended, states_of}
-use Rattle.lvm_path.specs.Next.{next_chosen, next_data, next_in, next_marked, next_read, next_write, start_or_wait}
+use Rattle.lvm_path.specs.Next.{next_chosen, next_data, next_in, next_read, next_write, start_or_wait}
 use Rattle.lvm_status.specs.Update.{is_held, is_owed, is_there as is_there_so, seen}
 use Rattle.lvm_session.specs.declared.bringing.CopyEnd.TheVariants as ending
 use Rattle.lvm_session.specs.declared.bringing.OpenCopy.{OpenCopy}
@@ -64,12 +63,13 @@ use Rattle.lvm_session.specs.Bringing.{end_of, ends_if, hand_of, has_row, is_cle
 use Rattle.lvm_session.specs.Enabled.{Part, admission_at, can_pin, copy_read, copy_write, data_at, data_start, first_event, first_from, first_of, has_buffer, is_admit, is_free_step, is_lost, is_pin, is_status_due, is_unnamed, landing, landing_at, may_be_admitted, may_pin, may_read, may_write, note_at, note_due, note_start, or_next, outcome_next, parts_to_settle, parts_to_start, pinning_at, same_row, same_rows, same_status, target_due, target_next, wants_record}
 use Rattle.lvm_session.specs.Dark.{hand_of_copy}
 use Rattle.lvm_session.specs.Owners.{AreRows, flies, same_owner, target_flies}
-use Rattle.lvm_session.specs.Requests.{IsOpenOne, IsPhase, IsRecorded, IsRequest, IsTarget, is_failed_and_sure, is_past_held, is_wanted_due, is_wanted_dirty, mode_for, wants_status, will_be_kept}
-use Rattle.lvm_session.specs.Sound.{IsCopy, IsGoing, IsSound, count_if, has_number, is_dark, is_hand, pins, rows_of, waiting_rows, with_row}
+use Rattle.lvm_session.specs.Requests.{IsOpenOne, IsPhase, IsRecorded, IsRequest, is_failed_and_sure, is_past_held, is_wanted_due, is_wanted_dirty, mode_for, wants_status, will_be_kept}
+use Rattle.lvm_session.specs.Sound.{IsCopy, IsGoing, IsSound, count_if, has_number, is_dark, is_hand, pins, waiting_rows, with_row}
 use Rattle.std.proofs.lemmas.Slice.Eq.{bytes_eq-Decides}
 use Rattle.lvm_keeps.specs.Falls.{NeverStandsStill}
 use Rattle.lvm_keeps.proofs.Lists.{all_at, count_cons}
 use Rattle.lvm_keeps.proofs.Small.{both, is_false, not_so}
+use Rattle.lvm_keeps.proofs.Votes.{enough_more, more_votes}
 use Rattle.lvm_keeps_events.proofs.Aims.{count_none}
 use Rattle.lvm_keeps_events.proofs.Chosen.{there_now}
 
@@ -329,30 +329,6 @@ status_is a b e =
     let first = both (a.id == b.id) (if a.big then b.big else not b.big) second.0 in
     ap (λ n. record a { id = n }) (eqb-true a.id b.id first.0) ∙ ap (λ (t : Bool). record a { id = b.id; big = t }) (bits_are a.big b.big first.1)
     ∙ ap (λ (x : List ℕ). record a { id = b.id; big = b.big; dirty = x }) ((bytes_eq-Decides a.dirty b.dirty).0 second.1) ∙ ap (λ (rs : List StatusRow). record b { rows = rs }) (rows_are a.rows b.rows third.1)
-
--- ---- votes
-
-more_votes : (d : Descriptor) (a b : Disks) (rows : List PvRow) → AllByRecursion (λ (r : PvRow). a r.disk ≡ true → b r.disk ≡ true) rows
-    → sum_by (λ (r : PvRow). if a r.disk then votes_of d r.disk else 0) rows ≤ sum_by (λ (r : PvRow). if b r.disk then votes_of d r.disk else 0) rows
-more_votes d a b [] all = omega arith
-more_votes d a b (r ∷ rows) all =
-    let x = sum_by-cons (λ (q : PvRow). if a q.disk then votes_of d q.disk else 0) r rows in
-    let y = sum_by-cons (λ (q : PvRow). if b q.disk then votes_of d q.disk else 0) r rows in
-    let rest = more_votes d a b rows all.1 in
-    let here = one (a r.disk) (b r.disk) (votes_of d r.disk) all.0 in
-    omega (arith, x, y, rest, here)
-  where
-    one : (p q : Bool) (n : ℕ) → (p ≡ true → q ≡ true) → (if p then n else 0) ≤ (if q then n else 0)
-    one true true n e = omega arith
-    one true false n e = not_so (e refl)
-    one false q n e = omega arith
-
-enough_more : (d : Descriptor) (m n : ℕ) → m ≤ n → is_enough_to_write d m ≡ true → is_enough_to_write d n ≡ true
-enough_more d m n less = by d.quorum
-  where
-    by : (b : Bool) → (if b then nat_lt (total_votes d) (2 * m) else nat_lt 0 m) ≡ true → (if b then nat_lt (total_votes d) (2 * n) else nat_lt 0 n) ≡ true
-    by true e = let low = ltb-true (total_votes d) (2 * m) e in grind (arith, nat_tests, low, less)
-    by false e = let low = ltb-true 0 m e in grind (arith, nat_tests, low, less)
 
 -- ---- rows of the hold queue
 

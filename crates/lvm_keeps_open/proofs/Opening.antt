@@ -9,7 +9,7 @@ use Rattle.std.proofs.lemmas.List.Sums.{count_by-le-length}
 use Rattle.lvm_num.specs.declared.descriptor.LvRow.{LvRow}
 use Rattle.lvm_num.specs.declared.descriptor.PvRow.{PvRow}
 use Rattle.lvm_num.specs.declared.place.Pp.{Pp}
-use Rattle.lvm_num.specs.Descriptor.{copies_of, is_size, most_members, most_volumes, volume_of}
+use Rattle.lvm_num.specs.Descriptor.{copies_of, is_size, volume_of}
 use Rattle.lvm_num.specs.Disks.{has}
 use Rattle.lvm_num.specs.Geometry.{partition_blocks, track_group_of}
 use Rattle.lvm_num.specs.Status.{calls_dirty, calls_stale}
@@ -42,7 +42,7 @@ use Rattle.lvm_session.specs.Events.{is_passive}
 use Rattle.lvm_session.specs.Marks.{is_among}
 use Rattle.lvm_session.specs.Asking.{IsAwake}
 use Rattle.lvm_session.specs.Causes.{AreCaused, AreCounted, IsAnswered, IsCaused, IsChosenSince, IsCopyCaused, IsLandedFor, fails_on, faults_at_first, faults_at_opening, is_held_stale}
-use Rattle.lvm_session.specs.Left.{copy_updates, if_so, marks_later, updates_left}
+use Rattle.lvm_session.specs.Left.{copy_updates, marks_later, updates_left}
 use Rattle.lvm_session.specs.Owners.{AreOwned, IsTransferOf, flies, target_flies}
 use Rattle.lvm_session.specs.Requests.{IsOpenOne, IsPhase, IsRequest, is_failed_and_sure, is_left_out, may_lack, will_be_kept}
 use Rattle.lvm_session.specs.Sound.{IsAsked, IsCopy, IsFitting, IsGoing, IsOn, IsSound, IsTold, count_if, is_dark, is_hand, out_with, pins, rows_of, waiting_rows, with_row}
@@ -58,6 +58,7 @@ use Rattle.lvm_keeps.proofs.Lists.{all_mapped, all_on}
 use Rattle.lvm_keeps.proofs.Rows.{all_fly, rows_by, status_still}
 use Rattle.lvm_keeps.proofs.Small.{and_on, most_on, none_on, not_so}
 use Rattle.lvm_keeps.proofs.Still.{if_on, laid_on, moved, ready_on, shape_on}
+use Rattle.lvm_keeps.proofs.Updates.{few_members, few_volumes, one_if}
 use Rattle.lvm_keeps.proofs.Whole.{sound_when_on}
 use Rattle.lvm_keeps_open.specs.Opening.{SeenOpenKeeps}
 use Rattle.lvm_keeps_open.proofs.Aging.{all_both, any_aged, asked_aged, count_aged, get_aged, long_aged, row_last, rows_aged, told_aged}
@@ -342,18 +343,6 @@ module _ (s : State) (sound : IsSound s) (on : s.core.power ≡ power.On) (none 
 
   -- ---- numbers
 
-  most : (b : Bool) → most_volumes b ≤ 511
-  most true = omega arith
-  most false = omega arith
-
-  most_disks : (b : Bool) → most_members b ≤ 128
-  most_disks true = omega arith
-  most_disks false = omega arith
-
-  at_most : (b : Bool) → if_so b 1 ≤ 1
-  at_most true = omega arith
-  at_most false = omega arith
-
   numbers : now.core.status.stamp.seq + updates_left now.core < 2 ^ 32
   numbers =
       let later = count_by-le-length marks_later table in
@@ -362,11 +351,11 @@ module _ (s : State) (sound : IsSound s) (on : s.core.power ≡ power.On) (none 
       let limit = sound.fitting.most in
       let clean = count_by-le-length (λ (r : LvRow). is_passive r.mode && not (calls_dirty core.status.wanted r.number)) core.descriptor.lvs in
       let volumes = sound.fitting.valid.head.volumes in
-      let big = most core.descriptor.big in
+      let big = few_volumes core.descriptor.big in
       let members = count_by-le-length (λ (r : PvRow). is_there core r.disk) core.descriptor.pvs in
       let disks = sound.fitting.valid.head.members in
-      let wide = most_disks core.descriptor.big in
-      let wants = at_most (not (same_status core.status.wanted (unwrap_or core.status.in_flight core.status.committed))) in
+      let wide = few_members core.descriptor.big in
+      let wants = one_if (not (same_status core.status.wanted (unwrap_or core.status.in_flight core.status.committed))) in
       let copy : copy_updates now.core c ≡ 2 = ap (λ b. if b then 1 else 2) short in
       let free = ltb-true (core.status.stamp.seq + 65536) (2 ^ 32) fine.numbers in
       omega (arith, later, long, held, limit, clean, volumes, big, members, disks, wide, wants, copy, free)

@@ -1,4 +1,3 @@
-pub mod Votes
 pub mod Turning
 pub mod Standing
 pub mod Open

@@ -29,14 +29,20 @@ use Rattle.lvm_session.specs.Calls.{state_at_end, state_of_copy}
 use Rattle.lvm_session.specs.Dark.{hand_of_copy}
 use Rattle.lvm_session.specs.Enabled.{first_of, has_buffer, is_status_due, landing, or_next, parts_to_settle, parts_to_start, same_status}
 use Rattle.lvm_session.specs.Judging.{is_running, is_waiting}
-use Rattle.lvm_session.specs.Owners.{flies, same_owner}
+use Rattle.lvm_session.specs.Owners.{AreRows, flies, same_owner}
 use Rattle.lvm_session.specs.Requests.{IsOpenOne}
 use Rattle.lvm_session.specs.Sound.{IsGoing, IsOn, IsSound, count_if, has_number, is_dark, is_hand}
 use Rattle.lvm_keeps.proofs.Lists.{count_cons}
+use Rattle.lvm_keeps.proofs.Votes.{enough_more, more_votes}
 use Rattle.lvm_keeps_events.proofs.Standing.{never_stands_still}
 use Rattle.lvm_driver.specs.Drains.{IsDrained}
 use Rattle.lvm_resync.specs.Passing.{Runs}
-use Rattle.lvm_resync.proofs.Votes.{enough_more, more_votes, none_flown}
+
+-- where no transfer is out none is owned
+none_flown : (core : Core) (rows : List Flown) (flights : List Flight) → AreRows core rows flights → flights ≡ [] → rows ≡ []
+none_flown core [] flights are none = refl
+none_flown core (row ∷ rows) [] are none = absurd are
+none_flown core (row ∷ rows) (f ∷ flights) are none = absurd (cc none)
 
 -- ---- tests
 

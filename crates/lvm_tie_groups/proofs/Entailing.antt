@@ -1,31 +1,23 @@
--- Where a session leaves no copy behind, missing disks entail nothing; and few updates may follow at first.
-use Rattle.std.proofs.Common.{◌≡◌, inl, inr, ℕ, zero, suc, ◌+◌, ◌<◌, ◌≤◌, Bool, true, false, ◌&&◌, not, List, [], ◌∷◌, Option, None, length, refl, sym, ap, subst, ◌∙◌, arith}
-use Rattle.std.specs.Prelude.{IsTrue, IsFalse, unwrap_or, count_by}
-use Rattle.std.specs.Option.{option_map_or}
+-- Where a session leaves no copy behind, missing disks entail nothing.
+use Rattle.std.proofs.Common.{◌≡◌, inl, inr, ℕ, zero, suc, ◌+◌, ◌<◌, Bool, true, false, ◌&&◌, not, List, [], ◌∷◌, refl, sym, ap, subst, ◌∙◌, arith}
+use Rattle.std.specs.Prelude.{IsTrue, IsFalse}
 use Rattle.std.specs.List.{list_any, range_with_len}
-use Rattle.std.proofs.lemmas.List.Sums.{count_by-le-length}
 use Rattle.lvm_num.specs.declared.place.Pp.{Pp}
 use Rattle.lvm_num.specs.declared.descriptor.Descriptor.{Descriptor}
 use Rattle.lvm_num.specs.declared.descriptor.LvRow.{LvRow}
-use Rattle.lvm_num.specs.declared.descriptor.PvRow.{PvRow}
 use Rattle.lvm_num.specs.declared.status.Status.{Status}
-use Rattle.lvm_num.specs.Descriptor.{IsValid, copies_of, is_member, most_members, most_volumes}
+use Rattle.lvm_num.specs.Descriptor.{IsValid, copies_of, is_member}
 use Rattle.lvm_num.specs.Disks.{Disks}
-use Rattle.lvm_num.specs.Status.{calls_dirty, calls_stale}
+use Rattle.lvm_num.specs.Status.{calls_stale}
 use Rattle.lvm_stale.specs.Table.{is_pp}
 use Rattle.lvm_status.specs.Update.{members_there}
 use Rattle.lvm_kept.specs.Group.{IsOneOf}
 use Rattle.lvm_left.specs.Marking.{IsLeftIn, is_served}
 use Rattle.lvm_next.proofs.Building.{copy_is_placed, is_member_of}
 use Rattle.lvm_commit.specs.Settling.{NoneIsLeft, there}
-use Rattle.lvm_session.specs.declared.bringing.OpenCopy.{OpenCopy}
-use Rattle.lvm_session.specs.declared.open.Open.{Open}
-use Rattle.lvm_session.specs.State.{Core, is_there}
+use Rattle.lvm_session.specs.State.{Core}
 use Rattle.lvm_session.specs.Judging.{is_missing, is_stale, is_usable, is_wanted_stale}
-use Rattle.lvm_session.specs.Enabled.{same_status}
-use Rattle.lvm_session.specs.Events.{is_passive}
 use Rattle.lvm_session.specs.Marks.{can_replace, is_among, is_entailed, is_entailed_in, is_left_behind}
-use Rattle.lvm_session.specs.Left.{copy_updates, if_so, marks_later, updates_left}
 use Rattle.lvm_tie.proofs.Words.{any_one, clash, not_true, or_true}
 use Rattle.lvm_tie_shelf.proofs.Writing.{and_both, pp_same}
 
@@ -93,30 +85,3 @@ module _ (core : Core) (valid : IsValid core.descriptor) (group : core.status.gr
           let low : l.0 < v.0.lps = let high = below 0 v.0.lps l.0 l.1 in omega (arith, high) in
           let both = left_behind v.0 v.1 l.0 low l.2 in
           clash (calls_stale core.status.wanted p) both.0 both.1
-
--- ---- few updates
-
-few_members : (big : Bool) → most_members big ≤ 128
-few_members true = omega arith
-few_members false = omega arith
-
-few_volumes : (big : Bool) → most_volumes big ≤ 511
-few_volumes true = omega arith
-few_volumes false = omega arith
-
-one_if : (b : Bool) → if_so b 1 ≤ 1
-one_if true = omega arith
-one_if false = omega arith
-
-pub few_updates : (core : Core) → IsValid core.descriptor → core.requests ≡ [] → core.copy ≡ None → updates_left core ≤ 640
-few_updates core valid none no_copy =
-    let a = one_if (not (same_status core.status.wanted (unwrap_or core.status.in_flight core.status.committed))) in
-    let b : count_by marks_later core.requests ≡ 0 = ap (λ (os : List Open). count_by marks_later os) none in
-    let c = count_by-le-length (λ (row : LvRow). is_passive row.mode && not (calls_dirty core.status.wanted row.number)) core.descriptor.lvs in
-    let d = count_by-le-length (λ (row : PvRow). is_there core row.disk) core.descriptor.pvs in
-    let e : ◌≡◌ {A = ℕ} (option_map_or (copy_updates core) core.copy 0) 0 = ap (λ (o : Option OpenCopy). option_map_or (copy_updates core) o 0) no_copy in
-    let members : length core.descriptor.pvs ≤ most_members core.descriptor.big = valid.head.members in
-    let volumes : length core.descriptor.lvs ≤ most_volumes core.descriptor.big = valid.head.volumes in
-    let m = few_members core.descriptor.big in
-    let v = few_volumes core.descriptor.big in
-    omega (arith, a, b, c, d, e, members, volumes, m, v)

@@ -34,7 +34,7 @@ use Rattle.lvm_tie_begins.specs.Begins.{IsResting, MembersShow, ShowsIts, shown_
 use Rattle.lvm_tie_shelf.proofs.Writing.{pp_same}
 use Rattle.lvm_tie_groups.specs.Examples.{IsServingPair, PairsServe, session_of}
 use Rattle.lvm_tie_groups.specs.Settled.{IsSettledAfter, MayServe}
-use Rattle.lvm_tie_groups.proofs.Entailing.{few_updates}
+use Rattle.lvm_keeps.proofs.Updates.{few_updates}
 use Rattle.lvm_tie_groups.proofs.PairSectors.{are_sectors}
 use Rattle.lvm_tie_groups.proofs.Serving.{settled_ties}
 

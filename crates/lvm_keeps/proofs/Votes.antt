@@ -1,4 +1,4 @@
--- Votes of sets of members, and what is out.
+-- More disks have no fewer votes, and with more votes there are still enough to write.
 use Rattle.std.proofs.Common.{◌≡◌, ◌≤◌, ◌*◌, ℕ, Bool, true, false, nat_lt, List, [], ◌∷◌, if◌then◌else◌, refl, arith}
 use Rattle.std.specs.List.{sum_by, AllByRecursion}
 use Rattle.std.proofs.lemmas.Bool.{ltb-true}
@@ -8,10 +8,6 @@ use Rattle.lvm_num.specs.declared.descriptor.Descriptor.{Descriptor}
 use Rattle.lvm_num.specs.declared.descriptor.PvRow.{PvRow}
 use Rattle.lvm_num.specs.Disks.{Disks}
 use Rattle.lvm_num.specs.Votes.{is_enough_to_write, total_votes, votes_of}
-use Rattle.lvm_disk.specs.Device.{Flight}
-use Rattle.lvm_session.specs.declared.flown.Flown.{Flown}
-use Rattle.lvm_session.specs.Owners.{AreRows}
-use Rattle.lvm_session.specs.State.{Core}
 
 pub more_votes : (d : Descriptor) (a b : Disks) (rows : List PvRow) → AllByRecursion (λ (r : PvRow). a r.disk ≡ true → b r.disk ≡ true) rows
     → sum_by (λ (r : PvRow). if a r.disk then votes_of d r.disk else 0) rows ≤ sum_by (λ (r : PvRow). if b r.disk then votes_of d r.disk else 0) rows
@@ -34,9 +30,3 @@ enough_more d m n less = by d.quorum
     by : (b : Bool) → (if b then nat_lt (total_votes d) (2 * m) else nat_lt 0 m) ≡ true → (if b then nat_lt (total_votes d) (2 * n) else nat_lt 0 n) ≡ true
     by true e = let low = ltb-true (total_votes d) (2 * m) e in grind (arith, nat_tests, low, less)
     by false e = let low = ltb-true 0 m e in grind (arith, nat_tests, low, less)
-
--- where no transfer is out none is owned
-pub none_flown : (core : Core) (rows : List Flown) (flights : List Flight) → AreRows core rows flights → flights ≡ [] → rows ≡ []
-none_flown core [] flights are none = refl
-none_flown core (row ∷ rows) [] are none = absurd are
-none_flown core (row ∷ rows) (f ∷ flights) are none = absurd (cc none)
