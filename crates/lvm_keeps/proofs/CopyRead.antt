@@ -37,7 +37,7 @@ use Rattle.lvm_keeps.proofs.Launching.{flights_push, none_more, owners_push, row
 use Rattle.lvm_keeps.proofs.Lists.{all_on, length_set}
 use Rattle.lvm_keeps.proofs.Rows.{all_fly, rows_but_copy}
 use Rattle.lvm_keeps.proofs.Small.{both, is_false, not_so}
-use Rattle.lvm_keeps.proofs.Still.{changed, open_on}
+use Rattle.lvm_keeps.proofs.Still.{changed, open_on, copy_stepped, same_next}
 use Rattle.lvm_keeps.proofs.Whole.{sound_still, told_still}
 
 -- ---- its source
@@ -143,23 +143,10 @@ module _ (s : State) (sound : IsSound s) (on : s.core.power ≡ power.On) (c : O
       (λ p e. sym (of_copy (λ (k : OpenCopy). is_running k && is_pp p k.pp && nat_lt (group_in core o.request.ask) k.cursor) false) ∙ e) it
 
   bring : IsCopy now.core reading
-  bring = record {
-    row = its.row;
-    volume = its.volume;
-    lp = its.lp;
-    its = its.its;
-    cursor = its.cursor;
-    faults = its.faults;
-    place = its.place;
-    room = tt;
-    free = λ e. (parts core c may).1;
-    hand = λ e. refl;
-    tried = its.tried;
-    source = (found.2, is_false (is_pp source c.pp) (both (not (is_pp source c.pp)) (is_usable core source) found.1).0, is_false (has c.tried source.disk) found.0);
-    under_way = λ runs busy. short core c may;
-    stale = its.stale;
-    clearing = its.clearing;
-  }
+  bring = copy_stepped core now.core c (step.Reading source) c.tried c.end refl (same_next core) its tt (λ e. (parts core c may).1) (λ e. refl)
+      its.tried
+      (found.2, is_false (is_pp source c.pp) (both (not (is_pp source c.pp)) (is_usable core source) found.1).0, is_false (has c.tried source.disk) found.0)
+      (λ runs busy. short core c may) its.stale its.clearing
 
   -- ---- whose it is
 

@@ -1,5 +1,5 @@
 -- The start of a copy's read leaves less work.
-use Rattle.std.proofs.Common.{◌≡◌, ◌≤◌, ◌<◌, ◌+◌, ◌-◌, ◌*◌, ◌==◌, ◌&&◌, ℕ, Bool, true, false, not, if◌then◌else◌, List, [], ◌∷◌, ◌++◌, Some, length, length-append, refl, sym, ◌∙◌, ap, subst, arith}
+use Rattle.std.proofs.Common.{◌≡◌, ◌≤◌, ◌<◌, ◌+◌, ◌-◌, ◌*◌, ◌==◌, ℕ, Bool, true, false, not, if◌then◌else◌, List, [], ◌∷◌, ◌++◌, Some, length, length-append, refl, sym, ◌∙◌, ap, subst, arith}
 use Rattle.std.specs.Prelude.{IfSome, count_by, drop}
 use Rattle.std.specs.List.{sum_by}
 use Rattle.std.specs.Option.{option_map_or}
@@ -10,11 +10,6 @@ use Rattle.lvm_num.specs.declared.descriptor.PvRow.{PvRow}
 use Rattle.lvm_num.specs.Descriptor.{IsValid, IsVolume, copies_of}
 use Rattle.lvm_num.specs.Disks.{has}
 use Rattle.lvm_num.proofs.MapsLemmas.{find-Some}
-use Rattle.lvm_path.specs.declared.request.Phase.{Phase}
-use Rattle.lvm_path.specs.declared.request.Phase.TheVariants as phase
-use Rattle.lvm_path.specs.declared.request.Request.{Request}
-use Rattle.lvm_path.specs.Asks.{is_write}
-use Rattle.lvm_path.specs.Targets.{is_begun}
 use Rattle.lvm_session.specs.declared.bringing.OpenCopy.{OpenCopy}
 use Rattle.lvm_session.specs.declared.bringing.Step.{Step}
 use Rattle.lvm_session.specs.declared.bringing.Step.TheVariants as step
@@ -23,16 +18,17 @@ use Rattle.lvm_session.specs.declared.flown.Owner.TheVariants as owner
 use Rattle.lvm_session.specs.declared.open.Open.{Open}
 use Rattle.lvm_session.specs.declared.open.Power.TheVariants as power
 use Rattle.lvm_session.specs.State.{Core, State, is_there}
-use Rattle.lvm_session.specs.Judging.{copies_for, copies_in, is_changed, is_running, is_waiting}
+use Rattle.lvm_session.specs.Judging.{copies_in, is_running, is_waiting}
 use Rattle.lvm_session.specs.Bringing.{groups_of, is_whole}
 use Rattle.lvm_session.specs.Enabled.{is_lost}
 use Rattle.lvm_session.specs.Events.{flown}
-use Rattle.lvm_session.specs.Left.{begun_left, copy_left, if_so, is_held, lacks_dirty, left_by, left_of, phase_left, read_left, request_left, status_left, step_left, tried_of, turns_of, unbegun_left, update_work, work_left}
+use Rattle.lvm_session.specs.Left.{copy_left, left_by, left_of, request_left, status_left, step_left, tried_of, update_work, work_left}
 use Rattle.lvm_session.specs.Sound.{IsCopy}
 use Rattle.lvm_keeps.specs.Falls.{CopyReadFalls}
 use Rattle.lvm_keeps.proofs.Bounding.{take_few}
 use Rattle.lvm_keeps.proofs.CopyRead.{at_rest, running, short}
 use Rattle.lvm_keeps.proofs.PinFalls.{sum_same}
+use Rattle.lvm_keeps.proofs.Leaving.{request_still}
 
 module _ (core : Core) (c : OpenCopy) (to : Step) (row : Flown) (pool : List Bool) where
   abbrev before : Core
@@ -45,19 +41,8 @@ module _ (core : Core) (c : OpenCopy) (to : Step) (row : Flown) (pool : List Boo
   after = record core { flying = core.flying ++ row ∷ []; pool = pool; copy = Some stepping }
 
   -- the requests have as much left
-  phase_same : (p : Phase) (r : Request) → phase_left p after r ≡ phase_left p before r
-  phase_same phase.Held r = refl
-  phase_same phase.WantEntry r = refl
-  phase_same phase.WantRecord r = refl
-  phase_same phase.Data r = refl
-  phase_same phase.WantStatus r = refl
-  phase_same phase.Landed r = refl
-
-  unbegun_same : (r : Request) → unbegun_left after r ≡ unbegun_left before r
-  unbegun_same r = ap (λ n. update_work + sum_by (turns_of before) (copies_for core r.ask) + if_so (lacks_dirty core r.ask) update_work + if_so (not (is_held r.phase) && is_changed before r) 12 + n) (phase_same r.phase r)
-
   requests_same : (x : Open) → request_left after x ≡ request_left before x
-  requests_same x = ap (λ n. if_so (is_waiting x) (if is_write x.request.ask then (if is_begun x.request.targets.items then begun_left x.request else n) else read_left x.request.phase x.request)) (unbegun_same x.request)
+  requests_same x = request_still before after x refl refl
 
   module _ (runs : is_running c ≡ true) (goes : is_whole core c ≡ false) (less : step_left to (tried_of core c) + 1 < step_left c.step (tried_of core c)) where
     abbrev beside : ℕ

@@ -37,7 +37,7 @@ use Rattle.lvm_keeps.proofs.Ending.{back_long, copy_over, each_after, failed_bef
 use Rattle.lvm_keeps.proofs.Lists.{all_mapped, all_on, count_cons}
 use Rattle.lvm_keeps.proofs.Small.{not_either, not_so}
 use Rattle.lvm_keeps.proofs.Still.{if_on}
-use Rattle.lvm_keeps.proofs.Telling.{answered_still, asked_still, open_still, outcome_still, place_still}
+use Rattle.lvm_keeps.proofs.Telling.{open_still, told_more}
 
 -- ---- the entry of the cut
 
@@ -52,19 +52,7 @@ cut_told : (core : Core) → IsTold core → IsTold (record core { history = cut
 cut_told core t = by (is_uncut core.history.facts)
   where
     asked_on : (o : Open) → IsAsked core.history.facts o → IsAsked (core.history.facts ++ Cut ∷ []) o
-    asked_on o a = record {
-      request = a.request;
-      told = asked_still core.history.facts Cut refl o.request.id ∙ a.told;
-      client = a.client;
-      vol = a.vol;
-      at = a.at;
-      count = a.count;
-      write = a.write;
-      length = a.length;
-      place = a.place ∙ sym (place_still core.history.facts Cut refl o.request.id);
-      outcome = a.outcome ∙ sym (outcome_still core.history.facts Cut o.request.id refl);
-      answered = λ ended. answered_still core.history.facts Cut refl o.request.client o.request.id refl refl ∙ a.answered ended;
-    }
+    asked_on o a = told_more core.history.facts Cut refl o refl refl a
 
     by : (b : Bool) → IsTold (record core { history = if b then with_fact core.history Cut else core.history })
     by false = record { ordered = t.ordered; table = t.table; each = t.each; requests = t.requests }

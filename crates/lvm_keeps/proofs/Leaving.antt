@@ -1,6 +1,7 @@
 -- What is left of a request stays where these parts of a session change.
-use Rattle.std.proofs.Common.{◌≡◌, ◌+◌, ◌&&◌, ℕ, Bool, not, if◌then◌else◌, List, refl, ap}
+use Rattle.std.proofs.Common.{◌≡◌, ◌+◌, ◌*◌, ◌&&◌, ◌∙◌, ℕ, Bool, not, if◌then◌else◌, List, refl, ap}
 use Rattle.std.specs.List.{sum_by}
+use Rattle.std.specs.Prelude.{count_by}
 use Rattle.lvm_vol.specs.Log.{Log}
 use Rattle.lvm_hold.specs.Waiting.{Waiting}
 use Rattle.lvm_mwc.specs.declared.entries.CacheEntry.{CacheEntry}
@@ -9,27 +10,36 @@ use Rattle.lvm_path.specs.declared.request.Phase.TheVariants as phase
 use Rattle.lvm_path.specs.declared.request.Request.{Request}
 use Rattle.lvm_path.specs.Asks.{is_write}
 use Rattle.lvm_path.specs.Targets.{is_begun}
+use Rattle.lvm_path.specs.declared.target.Target.{Target}
 use Rattle.lvm_session.specs.declared.flown.Flown.{Flown}
 use Rattle.lvm_session.specs.declared.open.Open.{Open}
 use Rattle.lvm_session.specs.State.{Core}
 use Rattle.lvm_session.specs.Judging.{copies_for, is_changed, is_waiting}
-use Rattle.lvm_session.specs.Left.{begun_left, if_so, is_held, lacks_dirty, phase_left, read_left, request_left, turns_of, unbegun_left, update_work}
+use Rattle.lvm_session.specs.Left.{begun_left, if_so, is_held, lacks_dirty, phase_left, read_left, request_left, turns_of, update_work, lacks_note}
 use Rattle.lvm_keeps.proofs.Still.{changed}
+
+-- as much is left of its phase, where as many notes are lacking
+pub phase_still : (core now : Core) (r : Request) → lacks_note now r ≡ lacks_note core r → (p : Phase) → phase_left p now r ≡ phase_left p core r
+phase_still core now r lacks phase.Held = refl
+phase_still core now r lacks phase.WantEntry = refl
+phase_still core now r lacks phase.WantRecord = ap (λ (is : Target → Bool). 9 + 2 * count_by is r.targets.items) lacks
+phase_still core now r lacks phase.Data = refl
+phase_still core now r lacks phase.WantStatus = refl
+phase_still core now r lacks phase.Landed = refl
+
+-- what a write that hasn't started its data has left beside its phase
+abbrev pub left_beside : Core → Request → ℕ
+left_beside core r = update_work + sum_by (turns_of core) (copies_for core r.ask) + if_so (lacks_dirty core r.ask) update_work + if_so (not (is_held r.phase) && is_changed core r) 12
+
+-- a request has as much left where both are the same
+pub request_still : (core now : Core) (x : Open) → left_beside now x.request ≡ left_beside core x.request → lacks_note now x.request ≡ lacks_note core x.request → request_left now x ≡ request_left core x
+request_still core now x beside lacks =
+    ap (λ n. if_so (is_waiting x) (if is_write x.request.ask then (if is_begun x.request.targets.items then begun_left x.request else n) else read_left x.request.phase x.request))
+    (ap (λ n. n + phase_left x.request.phase now x.request) beside ∙ ap (λ n. left_beside core x.request + n) (phase_still core now x.request lacks x.request.phase))
 
 module _ (core : Core) (history : Log) (requests : List Open) (queue : Waiting) (pool : List Bool) (flying : List Flown) (entries : List CacheEntry) (last : List ℕ) where
   abbrev now : Core
   now = changed core history requests queue core.copy pool flying entries last
 
-  phase_same : (p : Phase) (r : Request) → phase_left p now r ≡ phase_left p core r
-  phase_same phase.Held r = refl
-  phase_same phase.WantEntry r = refl
-  phase_same phase.WantRecord r = refl
-  phase_same phase.Data r = refl
-  phase_same phase.WantStatus r = refl
-  phase_same phase.Landed r = refl
-
-  unbegun_same : (r : Request) → unbegun_left now r ≡ unbegun_left core r
-  unbegun_same r = ap (λ n. update_work + sum_by (turns_of core) (copies_for core r.ask) + if_so (lacks_dirty core r.ask) update_work + if_so (not (is_held r.phase) && is_changed core r) 12 + n) (phase_same r.phase r)
-
   pub left_same : (x : Open) → request_left now x ≡ request_left core x
-  left_same x = ap (λ n. if_so (is_waiting x) (if is_write x.request.ask then (if is_begun x.request.targets.items then begun_left x.request else n) else read_left x.request.phase x.request)) (unbegun_same x.request)
+  left_same x = request_still core now x refl refl

@@ -1,9 +1,15 @@
 -- What one request is judged by stays where other parts of a session change.
-use Rattle.std.proofs.Common.{◌≡◌, ◌≤◌, ◌⊎◌, inl, inr, ℕ, Bool, true, false, ◌&&◌, List, Option, Some, None, refl, subst, arith}
+use Rattle.std.proofs.Common.{◌≡◌, ◌≤◌, ◌⊎◌, ◌==◌, inl, inr, ℕ, Bool, true, false, ◌&&◌, not, List, Option, Some, None, length, refl, sym, ap, subst, ◌∙◌, arith}
 use Rattle.std.specs.Prelude.{IfSome, count_by, is_none}
+use Rattle.std.specs.List.{list_any}
 use Rattle.lvm_num.specs.declared.descriptor.Descriptor.{Descriptor}
 use Rattle.lvm_num.specs.declared.place.Pp.{Pp}
 use Rattle.lvm_num.specs.declared.status.Status.{Status}
+use Rattle.lvm_num.specs.Buffer.{Buffer}
+use Rattle.lvm_num.specs.Descriptor.{volume_of}
+use Rattle.lvm_session.specs.Calls.{copy_at}
+use Rattle.lvm_num.specs.Disks.{has}
+use Rattle.lvm_stale.specs.Table.{is_pp}
 use Rattle.lvm_vol.specs.declared.entry.Outcome.{Outcome}
 use Rattle.lvm_vol.specs.declared.entry.Outcome.TheVariants as outcome
 use Rattle.lvm_vol.specs.Log.{Log, next_id}
@@ -13,15 +19,18 @@ use Rattle.lvm_path.specs.declared.request.Request.{Request}
 use Rattle.lvm_path.specs.declared.target.Target.{Target}
 use Rattle.lvm_path.specs.Targets.{is_done}
 use Rattle.lvm_session.specs.declared.bringing.OpenCopy.{OpenCopy}
+use Rattle.lvm_session.specs.declared.bringing.CopyEnd.{CopyEnd}
+use Rattle.lvm_session.specs.declared.bringing.Step.{Step}
 use Rattle.lvm_session.specs.declared.flown.Flown.{Flown}
 use Rattle.lvm_session.specs.declared.open.Open.{Open}
 use Rattle.lvm_session.specs.State.{Core, State, state}
-use Rattle.lvm_session.specs.Judging.{is_caught, is_held_back, is_kept, group_in, is_settled, is_wanted_stale, pps_of}
+use Rattle.lvm_session.specs.Judging.{copies_in, is_caught, is_held_back, is_kept, is_running, is_stale, group_in, is_settled, is_wanted_stale, pps_of}
+use Rattle.lvm_session.specs.Bringing.{groups_of, hand_of, is_idle, is_whole}
 use Rattle.lvm_session.specs.Enabled.{is_free_step}
 use Rattle.lvm_session.specs.Marks.{is_among}
 use Rattle.lvm_session.specs.Requests.{IsTarget, IsShaped, IsReady, IsJudged, IsLaid, IsOpenOne, is_failed_and_sure, may_lack, will_be_kept}
 use Rattle.lvm_session.specs.Causes.{IsCounted, IsLandedFor, IsCopyCaused, IsTrueToOrigin, HaveSourcesFailed}
-use Rattle.lvm_session.specs.Sound.{IsCopy}
+use Rattle.lvm_session.specs.Sound.{IsCopy, IsReadFrom}
 use Rattle.lvm_keeps.proofs.Lists.{all_on}
 use Rattle.lvm_keeps.proofs.Small.{and_on, left_on, most_on, none_on}
 
@@ -46,6 +55,50 @@ shape_still core now same o s = record {
   where
     on : (t : Target) → IsTarget core o.request.ask t → IsTarget now o.request.ask t
     on t its = subst (λ (p : Placing). IsTarget (record now { descriptor = p.0; origin = record now.origin { table = p.1 } }) o.request.ask t) same (record { copy = its.copy; sector = its.sector; there = its.there })
+
+-- ---- the copy that is open
+
+pub same_next : (core : Core) → next_id core.history ≤ next_id core.history
+same_next core = omega arith
+
+module _ (core now : Core) (c : OpenCopy) (st : Step) (tried : ℕ) (end : Option CopyEnd) where
+  abbrev stepped : OpenCopy
+  stepped = record c { step = st; tried = tried; end = end }
+
+  -- Which copy it is, how far it has come and where its step stands is as it was; the rest is asked in the order of IsCopy.
+  pub copy_stepped : now.descriptor ≡ core.descriptor → next_id core.history ≤ next_id now.history → IsCopy core c → IfSome (hand_of st) (λ (buf : Buffer). length buf.sectors ≡ 256)
+      → (is_idle st ≡ false → is_free_step now stepped ≡ true) → (is_running stepped ≡ false → hand_of st ≡ None)
+      → ((disk : ℕ) → has tried disk ≡ true → list_any (λ (p : Pp). not (is_pp p c.pp) && p.disk == disk) (copies_in now.descriptor c.lv c.lp) ≡ true) → IsReadFrom st (copies_in now.descriptor c.lv c.lp) stepped
+      → (is_running stepped ≡ true → is_idle st ≡ false → is_whole now stepped ≡ false)
+      → (is_running stepped ≡ true → is_whole now stepped ≡ false → (is_settled now c.pp ≡ true) × (is_wanted_stale now c.pp ≡ true))
+      → (is_running stepped ≡ true → is_whole now stepped ≡ true → (is_stale now c.pp ≡ true) × (is_wanted_stale now c.pp ≡ false)) → IsCopy now stepped
+  copy_stepped same later its room free hand tries source under_way stale clearing = let low = its.place.1 in record {
+    row = its.row;
+    volume = ap (λ (d : Descriptor). volume_of d c.lv) same ∙ its.volume;
+    lp = its.lp;
+    its = ap (λ (d : Descriptor). copy_at (copies_in d c.lv c.lp) c.copy) same ∙ its.its;
+    cursor = subst (λ (d : Descriptor). c.cursor ≤ groups_of (record core { descriptor = d })) (sym same) its.cursor;
+    faults = its.faults;
+    place = (its.place.0, omega (arith, low, later), its.place.2);
+    room = room;
+    free = free;
+    hand = hand;
+    tried = tries;
+    source = source;
+    under_way = under_way;
+    stale = stale;
+    clearing = clearing;
+  }
+
+-- it goes on by the same step, where nothing is in its way and its marks hold
+pub copy_marked : (core now : Core) (c : OpenCopy) → now.descriptor ≡ core.descriptor → next_id core.history ≤ next_id now.history → IsCopy core c → (is_free_step core c ≡ true → is_free_step now c ≡ true)
+    → (is_running c ≡ true → is_whole now c ≡ false → (is_settled now c.pp ≡ true) × (is_wanted_stale now c.pp ≡ true))
+    → (is_running c ≡ true → is_whole now c ≡ true → (is_stale now c.pp ≡ true) × (is_wanted_stale now c.pp ≡ false)) → IsCopy now c
+copy_marked core now c same later its free stale clearing = copy_stepped core now c c.step c.tried c.end same later its its.room (λ idle. free (its.free idle)) its.hand
+    (subst (λ (d : Descriptor). (disk : ℕ) → has c.tried disk ≡ true → list_any (λ (p : Pp). not (is_pp p c.pp) && p.disk == disk) (copies_in d c.lv c.lp) ≡ true) (sym same) its.tried)
+    (subst (λ (d : Descriptor). IsReadFrom c.step (copies_in d c.lv c.lp) c) (sym same) its.source)
+    (subst (λ (d : Descriptor). is_running c ≡ true → is_idle c.step ≡ false → is_whole (record core { descriptor = d }) c ≡ false) (sym same) its.under_way)
+    stale clearing
 
 -- A core in which these parts have changed: the statuses, the notes, the descriptor and the origin stay.
 module _ (core : Core) (history : Log) (requests : List Open) (queue : Waiting) (copy : Option OpenCopy) (pool : List Bool) (flying : List Flown) (entries : List CacheEntry) (last : List ℕ) where
@@ -82,23 +135,7 @@ module _ (core : Core) (history : Log) (requests : List Open) (queue : Waiting) 
 
   -- the copy that is open
   pub bring_on : (c : OpenCopy) → next_id core.history ≤ next_id history → (is_free_step core c ≡ true → is_free_step changed c ≡ true) → IsCopy core c → IsCopy changed c
-  bring_on c later free its = let low = its.place.1 in record {
-    row = its.row;
-    volume = its.volume;
-    lp = its.lp;
-    its = its.its;
-    cursor = its.cursor;
-    faults = its.faults;
-    place = (its.place.0, omega (arith, low, later), its.place.2);
-    room = its.room;
-    free = λ idle. free (its.free idle);
-    hand = its.hand;
-    tried = its.tried;
-    source = its.source;
-    under_way = its.under_way;
-    stale = its.stale;
-    clearing = its.clearing;
-  }
+  bring_on c later free its = copy_marked core changed c refl later its free its.stale its.clearing
 
 -- ---- causes
 

@@ -41,7 +41,7 @@ use Rattle.lvm_keeps.proofs.Rows.{all_fly, rows_on}
 use Rattle.lvm_keeps.proofs.Small.{not_so}
 use Rattle.lvm_keeps.proofs.Still.{moved, open_on, bring_on, landed_on, counted_on, origin_on, copy_on, if_on}
 use Rattle.lvm_keeps.proofs.Tables.{apart, ascending_removed, none_named, rows_removed}
-use Rattle.lvm_keeps.proofs.Telling.{answered_still, asked_still, count_still, open_still, outcome_still, place_still}
+use Rattle.lvm_keeps.proofs.Telling.{asked_still, count_still, open_still, told_more}
 
 none_flies : (targets : List Target) (target : ℕ) → list_any (λ (t : Target). is_flying t.state) targets ≡ false → option_map_or (λ (t : Target). is_flying t.state) (slice_get targets target) false ≡ false
 none_flies [] target none = refl
@@ -100,19 +100,7 @@ module _ (s : State) (sound : IsSound s) (place : ℕ) (o : Open) (there : slice
   others = apart core.requests place o there sound.told.table.ascending
 
   asked_on : (x : Open) → (x.request.id ≡ o.request.id → ⊥) → IsAsked core.history.facts x → IsAsked now.core.history.facts x
-  asked_on x other a = record {
-    request = a.request;
-    told = asked_still core.history.facts fact refl x.request.id ∙ a.told;
-    client = a.client;
-    vol = a.vol;
-    at = a.at;
-    count = a.count;
-    write = a.write;
-    length = a.length;
-    place = a.place ∙ sym (place_still core.history.facts fact refl x.request.id);
-    outcome = a.outcome ∙ sym (outcome_still core.history.facts fact x.request.id refl);
-    answered = λ ended. answered_still core.history.facts fact refl x.request.client x.request.id refl (eqb-not other) ∙ a.answered ended;
-  }
+  asked_on x other a = told_more core.history.facts fact refl x refl (eqb-not other) a
     where
       eqb-not : (x.request.id ≡ o.request.id → ⊥) → ((request_of core.history.facts o.request.id).id == x.request.id) ≡ false
       eqb-not apart_from = ne_eqb (request_of core.history.facts o.request.id).id x.request.id (λ e. apart_from (sym e ∙ follows.2))

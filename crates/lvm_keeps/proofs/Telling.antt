@@ -1,5 +1,5 @@
 -- What the history tells as an entry is added that begins no request.
-use Rattle.std.proofs.Common.{◌≡◌, ◌+◌, ◌==◌, ℕ, Bool, true, false, ◌&&◌, ◌||◌, not, List, [], ◌∷◌, ◌++◌, Option, None, refl, ◌∙◌, ap, arith, if◌then◌else◌}
+use Rattle.std.proofs.Common.{◌≡◌, ◌+◌, ◌==◌, ℕ, Bool, true, false, ◌&&◌, ◌||◌, not, List, [], ◌∷◌, ◌++◌, Option, None, refl, sym, ◌∙◌, ap, arith, if◌then◌else◌}
 use Rattle.std.specs.Prelude.{count_by, is_some, unwrap_or, nat_lt}
 use Rattle.std.specs.List.{cons_option, find, list_any, filter, sum_by}
 use Rattle.std.proofs.lemmas.List.{append-nil}
@@ -8,7 +8,8 @@ use Rattle.lvm_vol.specs.Facts.{Fact, Request, begun, begun_by}
 use Rattle.lvm_vol.specs.Legal.{begins_in}
 use Rattle.lvm_vol.specs.Log.{asked, has_id, is_answered, is_open, lands_id, no_request, takes_id}
 use Rattle.lvm_vol.proofs.Order.{any-push, begun-push}
-use Rattle.lvm_session.specs.Sound.{count_if, outcome_in, place_in, outcome_by}
+use Rattle.lvm_session.specs.Sound.{count_if, outcome_in, place_in, outcome_by, IsAsked}
+use Rattle.lvm_session.specs.declared.open.Open.{Open}
 
 module _ (facts : List Fact) (f : Fact) (begins : begun_by f ≡ None) where
   begun_still : begun (facts ++ f ∷ []) ≡ begun facts
@@ -41,6 +42,22 @@ module _ (facts : List Fact) (f : Fact) (begins : begun_by f ≡ None) where
 pub outcome_still : (facts : List Fact) (f : Fact) (id : ℕ) → lands_id id f ≡ false → outcome_in (facts ++ f ∷ []) id ≡ outcome_in facts id
 outcome_still [] f id none = ap (λ b. if b then outcome_by f else None) none
 outcome_still (g ∷ facts) f id none = ap (λ rest. if lands_id id g then outcome_by g else rest) (outcome_still facts f id none)
+
+-- of a request that it neither lands nor answers it tells as before
+pub told_more : (facts : List Fact) (f : Fact) → begun_by f ≡ None → (o : Open) → lands_id o.request.id f ≡ false → takes_id o.request.id f ≡ false → IsAsked facts o → IsAsked (facts ++ f ∷ []) o
+told_more facts f begins o unlanded untaken a = record {
+  request = a.request;
+  told = asked_still facts f begins o.request.id ∙ a.told;
+  client = a.client;
+  vol = a.vol;
+  at = a.at;
+  count = a.count;
+  write = a.write;
+  length = a.length;
+  place = a.place ∙ sym (place_still facts f begins o.request.id);
+  outcome = a.outcome ∙ sym (outcome_still facts f o.request.id unlanded);
+  answered = λ ended. answered_still facts f begins o.request.client o.request.id unlanded untaken ∙ a.answered ended;
+}
 
 pub count_still : (run : ℕ) (facts : List Fact) (f : Fact) → begins_in run f ≡ false → count_by (begins_in run) (facts ++ f ∷ []) ≡ count_by (begins_in run) facts
 count_still run facts f none =

@@ -34,6 +34,7 @@ use Rattle.lvm_session.specs.Sound.{IsCopy, IsReadFrom, count_if, is_clearing, i
 use Rattle.lvm_keeps.proofs.Ending.{back, back_long}
 use Rattle.lvm_keeps.proofs.Lists.{all_on}
 use Rattle.lvm_keeps.proofs.Small.{both, is_false, not_so}
+use Rattle.lvm_keeps.proofs.Still.{copy_stepped, same_next}
 use Rattle.lvm_keeps_events.proofs.Over.{even_rows, none_filter, out_no_hand, without_step}
 use Rattle.lvm_keeps_events.proofs.Finding.{filter_alike}
 use Rattle.lvm_keeps_events.proofs.Review.{Clears, Ending, Reviewed, and_of, due, flies_is, its_copy, left_behind, mid, missing_is, not_wanted, now, pp_self, held_by, settled_on, stale_is, still_clear, to_be_cleared, uncleared, usable_is, wanted_on}
@@ -286,23 +287,9 @@ module _ (e : Ending) (status : Stored) (marks : WantsStale (due e) e.next statu
   step_over step.Writing f of = record { disk_is = of.disk_is; first = of.first; count = of.count; write_is = of.write_is }
 
   bring_over : IsCopy then_on ended
-  bring_over = record {
-    row = k.row;
-    volume = k.volume;
-    lp = k.lp;
-    its = k.its;
-    cursor = k.cursor;
-    faults = k.faults;
-    place = k.place;
-    room = subst (λ m. IfSome m (λ (buf : Buffer). length buf.sectors ≡ 256)) (sym its.hand) tt;
-    free = λ busy. ap not (its.free busy);
-    hand = λ over. its.hand;
-    tried = k.tried;
-    source = source_on at its.source;
-    under_way = λ goes busy. not_so goes;
-    stale = λ goes short. not_so goes;
-    clearing = λ goes whole. not_so goes;
-  }
+  bring_over = copy_stepped before then_on c at c.tried (Some how) refl (same_next before) k
+      (subst (λ m. IfSome m (λ (buf : Buffer). length buf.sectors ≡ 256)) (sym its.hand) tt) (λ busy. ap not (its.free busy)) (λ over. its.hand)
+      k.tried (source_on at its.source) (λ goes busy. not_so goes) (λ goes short. not_so goes) (λ goes whole. not_so goes)
 
   -- nothing is left to be cleared
   clear_over : (p : Pp) → is_held_stale then_on p ≡ true → is_wanted_stale then_on p ≡ false → is_clearing then_on p ≡ true

@@ -25,7 +25,7 @@ use Rattle.lvm_session.specs.Causes.{IsCopyCaused}
 use Rattle.lvm_session.specs.Sound.{IsCopy, IsGoing, IsSound, count_if, has_number, is_dark, is_hand, out_with, waiting_rows, with_row}
 use Rattle.lvm_keeps.proofs.Causes.{copy_still}
 use Rattle.lvm_keeps.proofs.Small.{not_so}
-use Rattle.lvm_keeps.proofs.Still.{changed, open_on}
+use Rattle.lvm_keeps.proofs.Still.{changed, open_on, copy_stepped, same_next}
 use Rattle.lvm_keeps_events.specs.Ends.{CopyReadEndKeeps}
 use Rattle.lvm_keeps_events.proofs.CopyEnded.{session_still}
 use Rattle.lvm_keeps_events.proofs.Removal.{IsOut, count_taken, taken_out}
@@ -61,23 +61,8 @@ module _ (s : State) (sound : IsSound s) (on : s.core.power ≡ power.On) (c : O
       (λ p e. sym (of_copy (λ (k : OpenCopy). is_running k && is_pp p k.pp && nat_lt (group_in core o.request.ask) k.cursor) false) ∙ e) it
 
   bring : IsCopy now.core holding
-  bring = record {
-    row = its.row;
-    volume = its.volume;
-    lp = its.lp;
-    its = its.its;
-    cursor = its.cursor;
-    faults = its.faults;
-    place = its.place;
-    room = long;
-    free = λ e. its.free (ap is_idle reads);
-    hand = λ e. not_so (sym e ∙ runs);
-    tried = its.tried;
-    source = tt;
-    under_way = λ goes busy. short;
-    stale = its.stale;
-    clearing = its.clearing;
-  }
+  bring = copy_stepped core now.core c (step.Read buf) c.tried c.end refl (same_next core) its long (λ e. its.free (ap is_idle reads))
+      (λ e. not_so (sym e ∙ runs)) its.tried tt (λ goes busy. short) its.stale its.clearing
 
   -- ---- its place and its end
 

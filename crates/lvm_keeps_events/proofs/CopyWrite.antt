@@ -31,7 +31,7 @@ use Rattle.lvm_keeps.proofs.Launching.{flights_push, none_more, owners_push, row
 use Rattle.lvm_keeps.proofs.Lists.{all_on}
 use Rattle.lvm_keeps.proofs.Rows.{all_fly, rows_but_copy}
 use Rattle.lvm_keeps.proofs.Small.{both, not_so}
-use Rattle.lvm_keeps.proofs.Still.{open_on}
+use Rattle.lvm_keeps.proofs.Still.{open_on, copy_stepped, same_next}
 use Rattle.lvm_keeps.proofs.Whole.{sound_still, told_still}
 use Rattle.lvm_keeps_events.proofs.Frame.{after, fitting_on, launched}
 
@@ -79,23 +79,8 @@ module _ (s : State) (sound : IsSound s) (on : s.core.power ≡ power.On) (c : O
       (λ p e. sym (of_copy (λ (k : OpenCopy). is_running k && is_pp p k.pp && nat_lt (group_in core o.request.ask) k.cursor) false) ∙ e) it
 
   bring : IsCopy now.core writing
-  bring = record {
-    row = its.row;
-    volume = its.volume;
-    lp = its.lp;
-    its = its.its;
-    cursor = its.cursor;
-    faults = its.faults;
-    place = its.place;
-    room = tt;
-    free = λ e. its.free (ap is_idle in_hand);
-    hand = λ e. refl;
-    tried = its.tried;
-    source = tt;
-    under_way = λ goes busy. short;
-    stale = its.stale;
-    clearing = its.clearing;
-  }
+  bring = copy_stepped core now.core c step.Writing c.tried c.end refl (same_next core) its tt (λ e. its.free (ap is_idle in_hand)) (λ e. refl)
+      its.tried tt (λ goes busy. short) its.stale its.clearing
 
   -- ---- whose it is
 

@@ -8,7 +8,6 @@ use Rattle.lvm_stale.specs.Table.{is_pp}
 use Rattle.lvm_path.specs.Asks.{is_write}
 use Rattle.lvm_path.specs.Targets.{is_begun}
 use Rattle.lvm_path.specs.declared.ask.Ask.{Ask}
-use Rattle.lvm_path.specs.declared.request.Phase.{Phase}
 use Rattle.lvm_path.specs.declared.request.Phase.TheVariants as phase
 use Rattle.lvm_path.specs.declared.request.Request.{Request}
 use Rattle.lvm_session.specs.Bringing.{groups_of, is_whole}
@@ -19,10 +18,11 @@ use Rattle.lvm_session.specs.declared.bringing.OpenCopy.{OpenCopy}
 use Rattle.lvm_session.specs.declared.bringing.Step.{Step}
 use Rattle.lvm_session.specs.declared.flown.Flown.{Flown}
 use Rattle.lvm_session.specs.declared.open.Open.{Open}
-use Rattle.lvm_session.specs.Left.{begun_left, copy_left, if_so, is_brought_up, is_held, phase_left, read_left, request_left, step_left, tried_of, turns_of, unbegun_left, update_work}
+use Rattle.lvm_session.specs.Left.{begun_left, copy_left, if_so, is_brought_up, is_held, read_left, request_left, step_left, tried_of, turns_of, unbegun_left, update_work}
 use Rattle.lvm_keeps.proofs.Landing.{or_parts}
 use Rattle.lvm_keeps.proofs.Lists.{all_on}
 use Rattle.lvm_keeps.proofs.Small.{not_so}
+use Rattle.lvm_keeps.proofs.Leaving.{phase_still}
 use Rattle.lvm_keeps_events.proofs.DuesMarks.{pp_same}
 use Rattle.lvm_keeps_events.proofs.Lists.{found_at}
 use Rattle.lvm_keeps_events.proofs.Falling.{each_less, sum_drops, sum_most}
@@ -91,14 +91,6 @@ module _ (core : Core) (c : OpenCopy) (is : core.copy ≡ Some c) (runs : is_run
   at_most true false = omega arith
   at_most false b = omega arith
 
-  phase_same : (p : Phase) (r : Request) → phase_left p now r ≡ phase_left p core r
-  phase_same phase.Held r = refl
-  phase_same phase.WantEntry r = refl
-  phase_same phase.WantRecord r = refl
-  phase_same phase.Data r = refl
-  phase_same phase.WantStatus r = refl
-  phase_same phase.Landed r = refl
-
   unbegun_less : (r : Request) → unbegun_left now r ≤ unbegun_left core r
   unbegun_less r = by (list_any (λ (p : Pp). is_pp p c.pp) (copies_for core r.ask)) refl
     where
@@ -110,13 +102,13 @@ module _ (core : Core) (c : OpenCopy) (is : core.copy ≡ Some c) (runs : is_run
           let one = found_at (λ (p : Pp). is_pp p c.pp) (copies_for core r.ask) some in
           let drops = sum_drops (turns_of core) (turns_of now) 12 (copies_for core r.ask) one.0 one.1 one.2 (turns_drop one.1 one.3) all_less in
           let most = at_most (not (is_held r.phase)) (is_changed now r) in
-          let phases = phase_same r.phase r in
+          let phases = phase_still core now r refl r.phase in
           omega (arith, drops, most, phases)
       by false none =
           let less = sum_most (turns_of core) (turns_of now) (copies_for core r.ask) all_less in
           let same : if_so (not (is_held r.phase) && is_changed now r) 12 ≡ if_so (not (is_held r.phase) && is_changed core r) 12
           = ap (λ ps. if_so (not (is_held r.phase) && (is_write r.ask && not (same_pps (pps_of r.targets.items) ps))) 12) (aims_same r.ask none) in
-          let phases = phase_same r.phase r in
+          let phases = phase_still core now r refl r.phase in
           omega (arith, less, same, phases)
 
   of_unbegun : (a b d : Bool) (n m p q : ℕ) → m ≤ n → if_so a (if b then (if d then p else m) else q) ≤ if_so a (if b then (if d then p else n) else q)

@@ -18,7 +18,7 @@ use Rattle.lvm_session.specs.Sound.{IsAsked, outcome_by, outcome_in, waits}
 use Rattle.lvm_keeps.proofs.Lists.{all_at, any_set}
 use Rattle.lvm_keeps.proofs.Small.{not_so}
 use Rattle.lvm_keeps.proofs.Tables.{apart, ascending_set}
-use Rattle.lvm_keeps.proofs.Telling.{answered_still, asked_still, open_still, outcome_still, place_still}
+use Rattle.lvm_keeps.proofs.Telling.{asked_still, open_still, place_still, told_more}
 use Rattle.lvm_keeps_events.proofs.Tables.{all_set_beside, only_set}
 
 -- ---- what it has got
@@ -118,19 +118,7 @@ module _ (run : ℕ) (facts : List Fact) (os : List Open) (ordered : Ordered run
   -- ---- the others, and itself
 
   asked_on : (x : Open) → (x.request.id ≡ id → ⊥) → IsAsked facts x → IsAsked after x
-  asked_on x other a = record {
-    request = a.request;
-    told = asked_still facts fact refl x.request.id ∙ a.told;
-    client = a.client;
-    vol = a.vol;
-    at = a.at;
-    count = a.count;
-    write = a.write;
-    length = a.length;
-    place = a.place ∙ sym (place_still facts fact refl x.request.id);
-    outcome = a.outcome ∙ sym (outcome_still facts fact x.request.id (other_lands x other));
-    answered = λ ended. answered_still facts fact refl x.request.client x.request.id (other_lands x other) refl ∙ a.answered ended;
-  }
+  asked_on x other a = told_more facts fact refl x (other_lands x other) refl a
 
   untaken : list_any (takes_id id) after ≡ false
   untaken = any-push (takes_id id) facts fact ∙ or_false (list_any (takes_id id) facts) ∙ by (list_any (takes_id id) facts) refl

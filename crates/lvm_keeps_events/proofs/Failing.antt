@@ -29,7 +29,7 @@ use Rattle.lvm_session.specs.Sound.{count_if, is_hand, IsCopy, IsGoing, IsReadFr
 use Rattle.lvm_keeps.proofs.Ending.{back, back_long}
 use Rattle.lvm_keeps.proofs.Rows.{data_still, status_still}
 use Rattle.lvm_keeps.proofs.Small.{is_false, not_so}
-use Rattle.lvm_keeps.proofs.Still.{changed, open_on}
+use Rattle.lvm_keeps.proofs.Still.{changed, open_on, copy_stepped, same_next}
 use Rattle.lvm_keeps_events.proofs.Rows.{rows_each}
 use Rattle.lvm_keeps_events.proofs.Tables.{none_filter}
 use Rattle.lvm_keeps_events.proofs.Over.{even_rows, without_step}
@@ -162,23 +162,11 @@ module _ (core : Core) (going : IsGoing core) (c : OpenCopy) (is : core.copy ≡
   step_on step.Writing f of = record { disk_is = of.disk_is; first = of.first; count = of.count; write_is = of.write_is }
 
   bring_now : IsCopy now ended
-  bring_now = record {
-    row = its.row;
-    volume = its.volume;
-    lp = its.lp;
-    its = its.its;
-    cursor = its.cursor;
-    faults = its.faults;
-    place = its.place;
-    room = subst (λ h. IfSome h (λ (buf : Buffer). length buf.sectors ≡ 256)) (sym (no_hand c.step)) tt;
-    free = λ busy. ap not (free_by c.place (step_of core c) (is_out c.step) (is_false (is_blocked core.queue.rows c.place (step_of core c)) (its.free (idle_back c.step busy))));
-    hand = λ e. no_hand c.step;
-    tried = its.tried;
-    source = source_on c.step (copies_in core.descriptor c.lv c.lp) its.source;
-    under_way = λ runs busy. not_so runs;
-    stale = λ runs short. not_so runs;
-    clearing = λ runs whole. not_so runs;
-  }
+  bring_now = copy_stepped core now c ended.step c.tried (Some how) refl (same_next core) its
+      (subst (λ h. IfSome h (λ (buf : Buffer). length buf.sectors ≡ 256)) (sym (no_hand c.step)) tt)
+      (λ busy. ap not (free_by c.place (step_of core c) (is_out c.step) (is_false (is_blocked core.queue.rows c.place (step_of core c)) (its.free (idle_back c.step busy)))))
+      (λ e. no_hand c.step) its.tried (source_on c.step (copies_in core.descriptor c.lv c.lp) its.source) (λ runs busy. not_so runs)
+      (λ runs short. not_so runs) (λ runs whole. not_so runs)
 
   pub leaves : Leaves core queue (Some ended) pool
   leaves = record {

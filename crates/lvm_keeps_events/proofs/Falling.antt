@@ -1,5 +1,5 @@
 -- A transfer less is out, and nothing else is left to do but what was.
-use Rattle.std.proofs.Common.{◌&&◌, ◌*◌, ◌+◌, ◌<◌, [], ap, arith, Bool, false, if◌then◌else◌, length, List, not, refl, slice_get, slice_set, Some, subst, suc, sym, true, zero, ℕ, ◌∙◌, ◌∷◌, ◌≡◌, ◌≤◌}
+use Rattle.std.proofs.Common.{◌*◌, ◌+◌, ◌<◌, [], ap, arith, Bool, false, if◌then◌else◌, length, List, not, refl, slice_get, slice_set, Some, subst, suc, sym, true, zero, ℕ, ◌∙◌, ◌∷◌, ◌≡◌, ◌≤◌}
 use Rattle.std.proofs.lemmas.List.Sums.{sum_by-cons}
 use Rattle.std.specs.List.{AllByRecursion, remove, sum_by}
 use Rattle.std.specs.Option.{option_map_or}
@@ -8,21 +8,17 @@ use Rattle.lvm_num.specs.Votes.{is_enough_to_write, votes_in, votes_of}
 use Rattle.lvm_num.specs.declared.descriptor.Descriptor.{Descriptor}
 use Rattle.lvm_num.specs.declared.descriptor.PvRow.{PvRow}
 use Rattle.lvm_hold.specs.Waiting.{Waiting}
-use Rattle.lvm_path.specs.Asks.{is_write}
-use Rattle.lvm_path.specs.Targets.{is_begun}
-use Rattle.lvm_path.specs.declared.request.Phase.{Phase}
-use Rattle.lvm_path.specs.declared.request.Phase.TheVariants as phase
-use Rattle.lvm_path.specs.declared.request.Request.{Request}
 use Rattle.lvm_session.specs.Enabled.{is_lost}
-use Rattle.lvm_session.specs.Judging.{copies_for, is_changed, is_waiting}
+use Rattle.lvm_session.specs.Judging.{is_waiting}
 use Rattle.lvm_session.specs.State.{Core, is_there}
 use Rattle.lvm_session.specs.declared.bringing.OpenCopy.{OpenCopy}
 use Rattle.lvm_session.specs.declared.bringing.Step.{Step}
 use Rattle.lvm_session.specs.declared.flown.Flown.{Flown}
 use Rattle.lvm_session.specs.declared.open.Open.{Open}
 use Rattle.lvm_session.specs.declared.open.Power.TheVariants as power
-use Rattle.lvm_session.specs.Left.{begun_left, copy_left, if_so, is_held, lacks_dirty, left_by, left_of, phase_left, read_left, request_left, status_left, turns_of, unbegun_left, update_work, work_left}
+use Rattle.lvm_session.specs.Left.{copy_left, left_by, left_of, request_left, status_left, update_work, work_left}
 use Rattle.lvm_keeps.proofs.PinFalls.{sum_same}
+use Rattle.lvm_keeps.proofs.Leaving.{request_still}
 
 -- ---- lists
 
@@ -112,16 +108,5 @@ module _ (core : Core) (c : OpenCopy) (to : Step) (tried : ℕ) (queue : Waiting
   abbrev pub after : Core
   after = record core { queue = queue; pool = pool; flying = flying; copy = Some stepped }
 
-  phase_same : (p : Phase) (r : Request) → phase_left p after r ≡ phase_left p before r
-  phase_same phase.Held r = refl
-  phase_same phase.WantEntry r = refl
-  phase_same phase.WantRecord r = refl
-  phase_same phase.Data r = refl
-  phase_same phase.WantStatus r = refl
-  phase_same phase.Landed r = refl
-
-  unbegun_same : (r : Request) → unbegun_left after r ≡ unbegun_left before r
-  unbegun_same r = ap (λ n. update_work + sum_by (turns_of before) (copies_for core r.ask) + if_so (lacks_dirty core r.ask) update_work + if_so (not (is_held r.phase) && is_changed before r) 12 + n) (phase_same r.phase r)
-
   pub step_same : (x : Open) → request_left after x ≡ request_left before x
-  step_same x = ap (λ n. if_so (is_waiting x) (if is_write x.request.ask then (if is_begun x.request.targets.items then begun_left x.request else n) else read_left x.request.phase x.request)) (unbegun_same x.request)
+  step_same x = request_still before after x refl refl

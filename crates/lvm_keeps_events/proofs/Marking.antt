@@ -48,7 +48,7 @@ use Rattle.lvm_keeps.proofs.Causes.{answered_when_on, counted_when_on}
 use Rattle.lvm_keeps.proofs.Lists.{all_on, count_cons}
 use Rattle.lvm_keeps.proofs.Rows.{rows_still}
 use Rattle.lvm_keeps.proofs.Small.{not_so}
-use Rattle.lvm_keeps.proofs.Still.{if_on, shape_still}
+use Rattle.lvm_keeps.proofs.Still.{if_on, shape_still, copy_marked, same_next}
 use Rattle.lvm_keeps.proofs.Whole.{sound_when_on}
 
 -- ---- tests that say the same of each
@@ -164,23 +164,9 @@ module _ (s : State) (sound : IsSound s) (on : s.core.power ≡ power.On) (lv : 
   -- ---- the copy that is open
 
   bring : (c : OpenCopy) → IsCopy core c → IsCopy now.core c
-  bring c k = record {
-    row = k.row;
-    volume = k.volume;
-    lp = k.lp;
-    its = k.its;
-    cursor = k.cursor;
-    faults = k.faults;
-    place = k.place;
-    room = k.room;
-    free = k.free;
-    hand = k.hand;
-    tried = k.tried;
-    source = k.source;
-    under_way = k.under_way;
-    stale = λ runs short. let was = k.stale runs short in (was.0, wanted_same c.pp ∙ was.1);
-    clearing = λ runs whole. let was = k.clearing runs whole in (was.0, wanted_same c.pp ∙ was.1);
-  }
+  bring c k = copy_marked core now.core c refl (same_next core) k (λ free. free)
+      (λ runs short. let was = k.stale runs short in (was.0, wanted_same c.pp ∙ was.1))
+      (λ runs whole. let was = k.clearing runs whole in (was.0, wanted_same c.pp ∙ was.1))
 
   sources_same : (c : OpenCopy) → sources_of now.core c ≡ sources_of core c
   sources_same c = filter_alike (λ (p : Pp). not (is_pp p c.pp) && is_usable now.core p) (λ (p : Pp). not (is_pp p c.pp) && is_usable core p) (λ p. ap (λ b. not (is_pp p c.pp) && b) (usable_same p)) (copies_in core.descriptor c.lv c.lp)

@@ -33,7 +33,7 @@ use Rattle.lvm_session.specs.Causes.{IsCopyCaused}
 use Rattle.lvm_session.specs.Sound.{IsCopy, IsGoing, IsSound, count_if, is_clearing, is_hand, waiting_rows, with_row}
 use Rattle.lvm_keeps.proofs.Lists.{length_set}
 use Rattle.lvm_keeps.proofs.Small.{not_so}
-use Rattle.lvm_keeps.proofs.Still.{changed, open_on}
+use Rattle.lvm_keeps.proofs.Still.{changed, open_on, copy_stepped, same_next}
 use Rattle.lvm_keeps_events.proofs.CopyEnded.{session_still}
 use Rattle.lvm_keeps_events.proofs.Removal.{given_back, others, was_out}
 
@@ -123,23 +123,9 @@ module _ (s : State) (sound : IsSound s) (on : s.core.power ≡ power.On) (c : O
       (λ p e. ap (λ b. b && is_pp p c.pp && nat_lt (group_in core o.request.ask) c.cursor) over) it
 
   bring : IsCopy now.core resting
-  bring = record {
-    row = its.row;
-    volume = its.volume;
-    lp = its.lp;
-    its = its.its;
-    cursor = its.cursor;
-    faults = its.faults;
-    place = its.place;
-    room = tt;
-    free = λ e. absurd (let no : true ≡ false = e in cc);
-    hand = λ e. refl;
-    tried = tries;
-    source = tt;
-    under_way = λ goes busy. absurd (let no : true ≡ false = busy in cc);
-    stale = λ goes short. not_so (sym over ∙ goes);
-    clearing = λ goes whole. not_so (sym over ∙ goes);
-  }
+  bring = copy_stepped core now.core c step.Idle tried end refl (same_next core) its tt (λ e. absurd (let no : true ≡ false = e in cc)) (λ e. refl)
+      tries tt (λ goes busy. absurd (let no : true ≡ false = busy in cc)) (λ goes short. not_so (sym over ∙ goes))
+      (λ goes whole. not_so (sym over ∙ goes))
 
   -- ---- its place and its end
 

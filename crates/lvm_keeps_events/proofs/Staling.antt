@@ -44,7 +44,7 @@ use Rattle.lvm_session.specs.Sound.{IsCopy, may_be_fresh, stays_fresh}
 use Rattle.lvm_keeps.proofs.Landing.{or_parts}
 use Rattle.lvm_keeps.proofs.Rows.{data_still, status_still, step_still}
 use Rattle.lvm_keeps.proofs.Small.{both, is_false, not_so}
-use Rattle.lvm_keeps.proofs.Still.{shape_still}
+use Rattle.lvm_keeps.proofs.Still.{shape_still, copy_marked, same_next}
 use Rattle.lvm_keeps.proofs.Tables.{apart}
 use Rattle.lvm_keeps_events.proofs.Marking.{count_alike, filter_alike}
 use Rattle.lvm_keeps_events.proofs.Lists.{all_and, any_on, count_on, or_false, or_true}
@@ -227,23 +227,9 @@ module _ (core : Core) (due : Pp → Bool) (wanted : Status) (writes : Writes) (
   -- ---- the copy that is open
 
   pub bring_on : (c : OpenCopy) → (is_running c ≡ true → is_whole core c ≡ true → due c.pp ≡ false) → IsCopy core c → IsCopy staler c
-  bring_on c apart k = record {
-    row = k.row;
-    volume = k.volume;
-    lp = k.lp;
-    its = k.its;
-    cursor = k.cursor;
-    faults = k.faults;
-    place = k.place;
-    room = k.room;
-    free = k.free;
-    hand = k.hand;
-    tried = k.tried;
-    source = k.source;
-    under_way = k.under_way;
-    stale = λ runs short. let was = k.stale runs short in (was.0, wanted_more c.pp was.1);
-    clearing = λ runs whole. let was = k.clearing runs whole in (was.0, like.stale c.pp ∙ ap (λ b. b || due c.pp) was.1 ∙ apart runs whole);
-  }
+  bring_on c apart k = copy_marked core staler c refl (same_next core) k (λ free. free)
+      (λ runs short. let was = k.stale runs short in (was.0, wanted_more c.pp was.1))
+      (λ runs whole. let was = k.clearing runs whole in (was.0, like.stale c.pp ∙ ap (λ b. b || due c.pp) was.1 ∙ apart runs whole))
 
   sources_same : (c : OpenCopy) → sources_of staler c ≡ sources_of core c
   sources_same c = filter_alike (λ (p : Pp). not (is_pp p c.pp) && is_usable staler p) (λ (p : Pp). not (is_pp p c.pp) && is_usable core p) (λ p. ap (λ b. not (is_pp p c.pp) && b) (usable_same p)) (copies_in core.descriptor c.lv c.lp)

@@ -59,7 +59,7 @@ use Rattle.lvm_keeps.proofs.Launching.{flights_push, none_more, owners_push, row
 use Rattle.lvm_keeps.proofs.Lists.{all_on, length_set}
 use Rattle.lvm_keeps.proofs.Rows.{all_fly, data_still, rows_by, step_still}
 use Rattle.lvm_keeps.proofs.Small.{both, not_so}
-use Rattle.lvm_keeps.proofs.Still.{if_on, shape_still}
+use Rattle.lvm_keeps.proofs.Still.{if_on, shape_still, copy_marked, same_next}
 use Rattle.lvm_keeps.proofs.Whole.{sound_still, told_still}
 use Rattle.lvm_keeps_events.proofs.Frame.{launched}
 
@@ -247,25 +247,11 @@ module _ (s : State) (sound : IsSound s) (on : s.core.power ≡ power.On) (disk 
   told = told_still core now.core refl sound.told
 
   bring : (c : OpenCopy) → IsCopy core c → IsCopy now.core c
-  bring c k = record {
-    row = k.row;
-    volume = k.volume;
-    lp = k.lp;
-    its = k.its;
-    cursor = k.cursor;
-    faults = k.faults;
-    place = k.place;
-    room = k.room;
-    free = k.free;
-    hand = k.hand;
-    tried = k.tried;
-    source = k.source;
-    under_way = k.under_way;
-    stale = λ runs short.
+  bring c k = copy_marked core now.core c refl (same_next core) k (λ free. free)
+      (λ runs short.
         let both_stale = k.stale runs short in
-        both (is_settled now.core c.pp) (is_wanted_stale core c.pp) (sym (settled_on c.pp) ∙ ap (λ b. b && is_wanted_stale core c.pp) both_stale.0 ∙ both_stale.1);
-    clearing = k.clearing;
-  }
+        both (is_settled now.core c.pp) (is_wanted_stale core c.pp) (sym (settled_on c.pp) ∙ ap (λ b. b && is_wanted_stale core c.pp) both_stale.0 ∙ both_stale.1))
+      k.clearing
 
   -- ---- whose it is
 

@@ -13,11 +13,7 @@ use Rattle.lvm_num.specs.declared.status.Status.{Status}
 use Rattle.lvm_num.specs.Descriptor.{is_member, most_members}
 use Rattle.lvm_num.specs.Disks.{has}
 use Rattle.lvm_num.specs.Status.{calls_stale}
-use Rattle.lvm_path.specs.declared.request.Phase.{Phase}
 use Rattle.lvm_path.specs.declared.request.Phase.TheVariants as phase
-use Rattle.lvm_path.specs.declared.request.Request.{Request}
-use Rattle.lvm_path.specs.Asks.{is_write}
-use Rattle.lvm_path.specs.Targets.{is_begun}
 use Rattle.lvm_status.specs.declared.writes.Writes.{Writes}
 use Rattle.lvm_status.specs.Update.{Stored, Updates, seen}
 use Rattle.lvm_status.specs.Calls.{with_start as with_write_start, with_update}
@@ -29,15 +25,16 @@ use Rattle.lvm_session.specs.declared.flown.Owner.TheVariants as owner
 use Rattle.lvm_session.specs.declared.open.Open.{Open}
 use Rattle.lvm_session.specs.declared.open.Power.TheVariants as power
 use Rattle.lvm_session.specs.State.{Core, State, is_there}
-use Rattle.lvm_session.specs.Judging.{copies_for, is_changed, is_missing, is_running, is_settled, is_stale, is_usable, is_waiting, is_wanted_stale}
+use Rattle.lvm_session.specs.Judging.{copies_for, is_changed, is_missing, is_running, is_settled, is_stale, is_usable, is_wanted_stale}
 use Rattle.lvm_session.specs.Enabled.{same_status}
 use Rattle.lvm_session.specs.Events.{flown}
 use Rattle.lvm_session.specs.Causes.{is_held_stale}
-use Rattle.lvm_session.specs.Left.{begun_left, copy_left, if_so, is_brought_up, is_held, lacks_dirty, left_of, phase_left, read_left, request_left, status_left, turns_of, unbegun_left, update_work, work_left}
+use Rattle.lvm_session.specs.Left.{copy_left, if_so, is_brought_up, is_held, lacks_dirty, left_of, request_left, status_left, turns_of, update_work, work_left}
 use Rattle.lvm_session.specs.Sound.{IsGoing, count_if, is_clearing}
 use Rattle.lvm_keeps.proofs.Lists.{count_cons}
 use Rattle.lvm_keeps.proofs.PinFalls.{sum_same}
 use Rattle.lvm_keeps.proofs.Small.{both, not_so}
+use Rattle.lvm_keeps.proofs.Leaving.{request_still}
 use Rattle.lvm_keeps_events.specs.Falls.{StatusStartFalls}
 use Rattle.lvm_keeps_events.proofs.CopyWriteFalls.{lit}
 use Rattle.lvm_keeps_events.proofs.StatusStart.{Flies, IsUnderWay, next_is, status_own, under_way}
@@ -135,21 +132,10 @@ module _ (core : Core) (going : IsGoing core) (next : Stored) (disk : ℕ) (stat
       by false false true i j k = refl
       by false false false i j k = ap (turns_by false false false) (settled_same p j i k)
 
-  phase_same : (p : Phase) (r : Request) → phase_left p after r ≡ phase_left p core r
-  phase_same phase.Held r = refl
-  phase_same phase.WantEntry r = refl
-  phase_same phase.WantRecord r = refl
-  phase_same phase.Data r = refl
-  phase_same phase.WantStatus r = refl
-  phase_same phase.Landed r = refl
-
-  unbegun_same : (r : Request) → unbegun_left after r ≡ unbegun_left core r
-  unbegun_same r =
-      ap (λ n. update_work + sum_by (turns_of after) (copies_for core r.ask) + if_so (lacks_dirty core r.ask) update_work + if_so (not (is_held r.phase) && is_changed core r) 12 + n) (phase_same r.phase r)
-      ∙ ap (λ n. update_work + n + if_so (lacks_dirty core r.ask) update_work + if_so (not (is_held r.phase) && is_changed core r) 12 + phase_left r.phase core r) (sum_same (turns_of core) (turns_of after) turns_same (copies_for core r.ask))
-
   requests_same : (x : Open) → request_left after x ≡ request_left core x
-  requests_same x = ap (λ n. if_so (is_waiting x) (if is_write x.request.ask then (if is_begun x.request.targets.items then begun_left x.request else n) else read_left x.request.phase x.request)) (unbegun_same x.request)
+  requests_same x = request_still core after x
+      (ap (λ n. update_work + n + if_so (lacks_dirty core x.request.ask) update_work + if_so (not (is_held x.request.phase) && is_changed core x.request) 12) (sum_same (turns_of core) (turns_of after) turns_same (copies_for core x.request.ask)))
+      refl
 
   -- ---- the status has less left
 
