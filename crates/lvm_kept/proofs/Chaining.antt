@@ -1,17 +1,10 @@
--- Spans of moments one after the other.
-use Rattle.std.proofs.Common.{◌≡◌, ◌+◌, arith, ◌∷◌, ◌++◌, [], ℕ, List, IsSome, is_some, count_by, cond, refl, sym, ◌∙◌, ap, subst, true}
-use Rattle.std.proofs.lemmas.List.Sums.{sum_by-append}
+-- What stays over a span of moments: that the media are told, that no count falls, how large the disks are.
+use Rattle.std.proofs.Common.{◌≡◌, arith, IsSome, is_some, refl, sym, ◌∙◌, ap, subst, true}
 use Rattle.lvm_disk.specs.Device.{Device}
 use Rattle.lvm_disk.specs.Counts.{Counts, NoneFalls}
 use Rattle.lvm_disk.specs.Paths.{Path, Here, Then}
 use Rattle.lvm_disk.proofs.Stepping.{step_same, step_counts}
-use Rattle.lvm_disk.proofs.Paths.{last-path, append-path, map-path}
-use Rattle.lvm_vol.specs.Facts.{Fact, Cut}
-use Rattle.lvm_vol.specs.Legal.{Legal, begins_in}
-use Rattle.lvm_kept.specs.Raw.{RawKept, RawImagesKept}
-use Rattle.lvm_kept.specs.Moments.{Moment, Step, Moves, Enters, Calm, Begins, Upholds, Keeps, StaysCalm}
-use Rattle.lvm_kept.proofs.Landing.{legal_more}
-use Rattle.lvm_kept.proofs.Keeping.{kept_cut, cut_calm}
+use Rattle.lvm_kept.specs.Moments.{Moment, Step, Moves, Enters}
 
 abbrev pub IsTold : Device → Type 0
 IsTold device = IsSome device.media
@@ -45,37 +38,6 @@ moment_counts old new (Enters f same is) = none_falls_still old.device.counts ne
 pub span_counts : {P : Moment → Type 0} {first last : Moment} → Path Step P first last → NoneFalls first.device.counts last.device.counts
 span_counts (Here p) = none_falls_still _ _ refl
 span_counts (Then path step p) = none_falls_over _ _ _ (span_counts path) (moment_counts _ _ step)
-
--- what was asked of the first moment is there at the last
-pub begins_on : (run : ℕ) (past : List Fact) (first last : Moment) → Keeps run first last → StaysCalm first last → Begins run past first → Begins run past last
-begins_on run past first last span calm begins =
-    let holds = last-path span past begins in
-    record { told = span_told span begins.told; legal = holds.legal; own = begins.own; calm = calm past begins.calm; kept = holds.kept }
-
--- one span and then another
-pub keeps_on : (run : ℕ) (first mid last : Moment) → Keeps run first mid → StaysCalm first mid → Keeps run mid last → Keeps run first last
-keeps_on run first mid last one calm two = append-path one (map-path (Upholds run first) (λ m upholds past begins. upholds past (begins_on run past first mid one calm begins)) two)
-
--- ---- where a run begins
-
--- the earlier history, as a run finds it
-pub begins_run : (run : ℕ) (device : Device) (past : List Fact) → IsTold device → Legal past → count_by (begins_in run) past ≡ 0 → RawImagesKept device past → Begins run (past ++ Cut ∷ []) (record { device = device; facts = [] })
-begins_run run device past told legal own kept =
-    let all : (past ++ Cut ∷ []) ++ [] ≡ past ++ Cut ∷ [] = append_none (past ++ Cut ∷ []) in
-    record {
-      told = told;
-      legal = subst Legal (sym all) (legal_more [] past Cut legal tt);
-      own = sum_by-append (λ g. cond (begins_in run g) 1 0) past (Cut ∷ []) ∙ (let e = own in more e);
-      calm = subst Calm (sym all) (cut_calm past);
-      kept = λ image may. subst (RawKept image) (sym all) (kept_cut image past (kept image may));
-    }
-  where
-    append_none : (l : List Fact) → l ++ [] ≡ l
-    append_none [] = refl
-    append_none (f ∷ l) = ap (λ (m : List Fact). f ∷ m) (append_none l)
-
-    more : count_by (begins_in run) past ≡ 0 → ◌≡◌ {A = ℕ} (count_by (begins_in run) past + 0) 0
-    more e = omega (arith, e)
 
 -- the disks stay as large
 moment_sizes : (old new : Moment) → Step old new → new.device.sizes ≡ old.device.sizes

@@ -5,7 +5,7 @@ use Rattle.std.proofs.lemmas.List.Sums.{sum_by-append}
 use Rattle.std.proofs.lemmas.Bool.Decides.{nat_tests}
 use Rattle.std.proofs.lemmas.Bool.{eqb-true}
 use Rattle.lvm_vol.specs.Facts.{Request, Fact, Making, Made, Split, Removing, Removed, Begun, Landed, Taken, Cut, On, Stands, same_request}
-use Rattle.lvm_vol.specs.Legal.{begins_in, lands, takes, Fits, LegalFrom, IsOutcomeOf, GotMay}
+use Rattle.lvm_vol.specs.Legal.{begins_in, lands, takes, Fits, Legal, LegalFrom, IsOutcomeOf, GotMay}
 use Rattle.lvm_vol.specs.declared.entry.Outcome.{Outcome}
 
 -- one entry more that fits
@@ -167,3 +167,10 @@ through_legal facts r how started got legal next kind may =
       answered = any_last (lands r) (facts ++ Begun r ∷ []) (Landed r how started got) (lands_itself r);
       first = any_more (takes r) (facts ++ Begun r ∷ []) (Landed r how started got) (any_more (takes r) facts (Begun r) not_taken refl) refl;
     })
+
+-- a request that begins with the next number has neither landed nor been taken
+pub first_landing : (past : List Fact) (r : Request) → Legal past → r.id ≡ count_by (begins_in r.run) past + 1 → list_any (lands r) (past ++ Begun r ∷ []) ≡ false
+first_landing past r legal next = any_more (lands r) past (Begun r) (unlanded r [] past legal low_none refl (omega (arith, next))) refl
+
+pub first_taking : (past : List Fact) (r : Request) → Legal past → r.id ≡ count_by (begins_in r.run) past + 1 → list_any (takes r) (past ++ Begun r ∷ []) ≡ false
+first_taking past r legal next = any_more (takes r) past (Begun r) (untaken r [] past tt legal refl (omega (arith, next))) refl

@@ -5,8 +5,7 @@ pub mod Getting
 pub mod Landing
 pub mod Spans
 pub mod Chaining
-pub mod WriteMoments
-pub mod ReadMoments
+pub mod Reads
 pub mod Contained
 pub mod Planned
 pub mod Records

@@ -1,17 +1,12 @@
--- Spans of moments, grown by one entry or by steps of the shelf.
+-- Moments of a run with one entry more, and what a still shelf may leave.
 use Rattle.std.proofs.Common.{◌≡◌, inl, ⊎_elim, ◌+◌, ◌∷◌, ◌++◌, [], ℕ, List, Option, Some, None, cond, count_by, refl, sym, subst, arith, append_assoc}
 use Rattle.std.proofs.lemmas.List.Sums.{sum_by-append}
 use Rattle.lvm_num.specs.Buffer.{Sector}
 use Rattle.lvm_disk.specs.Device.{Media, Image, Flight, Device, SameDisks, image_of, MayLeave, IsCrashImage}
 use Rattle.lvm_disk.specs.Steps.{BothTold}
-use Rattle.lvm_disk.specs.Images.{LeavesNoMore}
-use Rattle.lvm_disk.specs.Paths.{DeviceStep, Path, Here, Then}
-use Rattle.lvm_disk.proofs.Paths.{append-path, lift-path, last-path}
 use Rattle.lvm_vol.specs.Facts.{Fact}
-use Rattle.lvm_vol.specs.Legal.{begins_in, Legal, Fits}
-use Rattle.lvm_kept.specs.Raw.{RawKept}
-use Rattle.lvm_kept.specs.Moments.{Moment, Step, Moves, Enters, Begins, Holds, Upholds, Keeps}
-use Rattle.lvm_kept.proofs.Landing.{legal_more}
+use Rattle.lvm_vol.specs.Legal.{begins_in}
+use Rattle.lvm_kept.specs.Moments.{Moment}
 
 abbrev pub at_moment : Device → List Fact → Moment
 at_moment device facts = record { device = device; facts = facts }
@@ -19,31 +14,6 @@ at_moment device facts = record { device = device; facts = facts }
 -- what holds of the entries with one more, holds where it is put behind the run's own
 pub regroup : (P : List Fact → Type 0) (past facts : List Fact) (f : Fact) → P ((past ++ facts) ++ f ∷ []) → P (past ++ (facts ++ f ∷ []))
 regroup P past facts f p = subst P (append_assoc past facts (f ∷ [])) p
-
-pub ungroup : (P : List Fact → Type 0) (past facts : List Fact) (f : Fact) → P (past ++ (facts ++ f ∷ [])) → P ((past ++ facts) ++ f ∷ [])
-ungroup P past facts f p = subst P (sym (append_assoc past facts (f ∷ []))) p
-
--- where nothing happens all is as it should be
-pub keeps_still : (run : ℕ) (m : Moment) → Keeps run m m
-keeps_still run m = Here (λ past begins. record { legal = begins.legal; kept = begins.kept })
-
--- one entry more
-pub keeps_entry :
-    (run : ℕ) (first : Moment) (device : Device) (facts : List Fact) (f : Fact) → Keeps run first (at_moment device facts)
-    → ((past : List Fact) → Begins run past first → Holds past (at_moment device facts) → Fits (past ++ facts) f)
-    → ((past : List Fact) → Begins run past first → Holds past (at_moment device facts) → (image : Image) → MayLeave device image → RawKept image ((past ++ facts) ++ f ∷ []))
-    → Keeps run first (at_moment device (facts ++ f ∷ []))
-keeps_entry run first device facts f span fits kept = Then span (Enters f refl refl) (λ past begins.
-    let before = last-path span past begins in
-    record {
-      legal = regroup Legal past facts f (legal_more [] (past ++ facts) f before.legal (fits past begins before));
-      kept = λ image may. regroup (RawKept image) past facts f (kept past begins before image may);
-    })
-
--- steps of the shelf that add no crash images
-pub keeps_steps : (run : ℕ) (first : Moment) (old new : Device) (facts : List Fact) → Keeps run first (at_moment old facts) → Path DeviceStep (LeavesNoMore old) old new → Keeps run first (at_moment new facts)
-keeps_steps run first old new facts span path = append-path span (lift-path Step (Upholds run first) (λ d. at_moment d facts) (λ x y step. Moves step refl)
-    (λ d leaves past begins. let before = last-path span past begins in record { legal = before.legal; kept = λ image may. before.kept image (leaves image may) }) path)
 
 -- the run's next number is its next in the joined history too
 pub next_joined : (run : ℕ) (past facts : List Fact) → count_by (begins_in run) past ≡ 0 → count_by (begins_in run) facts + 1 ≡ count_by (begins_in run) (past ++ facts) + 1

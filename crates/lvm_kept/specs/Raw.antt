@@ -12,10 +12,6 @@ use Rattle.lvm_vol.specs.May.{known, May}
 pub record RawKept (image : Image) (facts : List Fact) : Type 0 where
   pub raw : (d b : ℕ) → d < image.disks → data_start ≤ b → b < image.size d → May (known (facts ++ Cut ∷ []) (Disk d) b) (image.sector d b)
 
--- each crash image of the shelf is so
-abbrev pub RawImagesKept : Device → List Fact → Type 0
-RawImagesKept device facts = (image : Image) → MayLeave device image → RawKept image facts
-
 -- a request of client 1 on a raw disk
 abbrev pub raw_request : ℕ → ℕ → ℕ → ℕ → ℕ → Bool → List (List ℕ) → Request
 raw_request run id disk at count write blocks = record { run = run; id = id; client = 1; vol = Disk disk; at = at; count = count; write = write; blocks = blocks }

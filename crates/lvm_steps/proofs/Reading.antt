@@ -21,7 +21,7 @@ use Rattle.lvm_kept.specs.Moments.{Moment}
 use Rattle.lvm_kept.specs.Raw.{raw_request, OnlyAdds, IsStill}
 use Rattle.lvm_kept.proofs.Keeping.{of_kept, kept_more}
 use Rattle.lvm_kept.proofs.Getting.{got_fits, got_kept}
-use Rattle.lvm_kept.proofs.ReadMoments.{got_is, within}
+use Rattle.lvm_kept.proofs.Reads.{got_is, within}
 use Rattle.lvm_kept.proofs.Spans.{at_moment, from_before}
 use Rattle.lvm_steps.specs.Moments.{Begins, Keeps}
 use Rattle.lvm_steps.specs.Requests.{IsInNoGroup, answered, darkened, read_flight, ReadGotKeeps, ReadFailedKeeps, ReadDarkKeeps, ReadStuckKeeps}
@@ -128,16 +128,16 @@ module _ (run id disk at count ticket : ℕ) (sent : Buffer) (old : Device) (fac
         (lands_moment run first it new (facts ++ Begun it ∷ []) outcome.Got true got (read_goes new path) tt refl
         (λ past begins holds. let image = there_image begins.told in
         let was = kept_before past begins image.0 image.1 in
-        let w = within run id disk at count ticket sent old facts next new path still puts buf reads long range low image.0 image.1 in
+        let w = within disk at count ticket sent old new still puts buf reads range image.0 image.1 in
         subst (λ (l : List Fact). Gets l it got) (append_assoc past facts (Begun it ∷ []))
         (got_fits run id disk at count (past ++ facts) (masked image.0) begins.calm (to_masked image.0 (past ++ facts) was.kept.agrees.raw) w.0 low (seen image.0 (descriptor_on image.0 disk) was.shows w.1) got (let e = length-take count buf.sectors in omega (arith, e, long))
-        (got_is run id disk at count ticket sent old facts next new path still puts buf reads long range low image.0 image.1)))
+        (got_is disk at count ticket sent old new still puts buf reads range image.0 image.1)))
         (λ past begins holds image may. let was = kept_before past begins image may in
-        let w = within run id disk at count ticket sent old facts next new path still puts buf reads long range low image may in
+        let w = within disk at count ticket sent old new still puts buf reads range image may in
         subst (λ (l : List Fact). RawAgrees (contents_of image) (l ++ Landed it outcome.Got true got ∷ [])) (append_assoc past facts (Begun it ∷ []))
         (of_masked image (((past ++ facts) ++ Begun it ∷ []) ++ Landed it outcome.Got true got ∷ [])
         (got_kept run id disk at count (past ++ facts) (masked image) begins.calm (to_masked image (past ++ facts) was.kept.agrees.raw) w.0 low (seen image (descriptor_on image disk) was.shows w.1) got
-        (got_is run id disk at count ticket sent old facts next new path still puts buf reads long range low image may)))))
+        (got_is disk at count ticket sent old new still puts buf reads range image may)))))
 
 -- ---- the laws
 

@@ -22,7 +22,7 @@ use Rattle.lvm_kept.proofs.Keeping.{either, begun_kept, done_kept, lost_kept, ke
 use Rattle.lvm_kept.proofs.Carrying.{over_here}
 use Rattle.lvm_kept.proofs.Contained.{descriptor-same}
 use Rattle.lvm_kept.proofs.Spans.{at_moment, regroup, next_joined, from_before}
-use Rattle.lvm_kept.proofs.WriteMoments.{first_landing, first_taking}
+use Rattle.lvm_kept.proofs.Landing.{first_landing, first_taking}
 use Rattle.lvm_steps.specs.Moments.{ImagesKept, Begins, Holds, Keeps}
 use Rattle.lvm_steps.specs.Entries.{IsDisk}
 use Rattle.lvm_steps.specs.Requests.{IsInNoGroup, StillShowsNone, IsOfData, StaysInNoGroup, answered, darkened, WriteDoneKeeps, WriteLostKeeps, WriteDarkKeeps, WriteStuckKeeps}
