@@ -1,5 +1,5 @@
 //! The writes with which a group comes on: of its notes, its status and its descriptor.
-ghost use Rattle.std.specs.Prelude.{◌≢◌, ◌<◌, ◌≤◌, ℕ, length, IfSome, IfNone, IsTrue, IsFalse};
+ghost use Rattle.std.specs.Prelude.{◌≢◌, ◌<◌, ◌≤◌, length};
 ghost use Rattle.lvm_num.specs.declared.record.Kind.TheVariants as kind;
 ghost use Rattle.lvm_num.specs.Disks.{has};
 ghost use Rattle.lvm_num.specs.Record.{longest_content};
@@ -108,7 +108,7 @@ fn write_new<S: Shelf>(
     ensures gives { let b = new_beginning epoch descriptor.now status.now (has targets) homes.old in ManyGives b new_order buf.number patience.old.left patience.new.left (S.device shelf.old) (S.device shelf.new) result }
     ensures homes { IfBegun result (λ back. BothFlip (has targets) homes.old homes.new) }
 {
-    let buf = match notes(shelf, epoch, targets, buf, patience) {
+    let buf = match forget_notes(shelf, epoch, targets, buf, patience) {
         Begun::Ended { buf } => buf,
         stopped => return stopped,
     };
@@ -188,14 +188,15 @@ fn write_again<S: Shelf>(
         stopped => return stopped,
     };
     if forget {
-        notes(shelf, epoch, targets, buf, patience)
+        forget_notes(shelf, epoch, targets, buf, patience)
     } else {
         Begun::Ended { buf }
     }
 }
 
-// Empties the notes.
-fn notes<S: Shelf>(
+/// Writes a note without entries to each target, under the epoch. Where one of them failed the others were tried too,
+/// and the lowest that failed is told. It takes no memory.
+pub fn forget_notes<S: Shelf>(
     shelf: &mut S,
     epoch: u64,
     targets: DiskSet,
@@ -237,24 +238,11 @@ fn all_or_lowest(wrote: Wrote) -> Begun
     ensures { IsAnswer wrote result }
 {
     match wrote {
-        Wrote::Ended { failed, buf } => match lowest(failed) {
+        Wrote::Ended { failed, buf } => match failed.lowest() {
             None => Begun::Ended { buf },
             Some(disk) => Begun::DiskFailed { disk, buf },
         },
         Wrote::Dark => Begun::Dark,
         Wrote::Stuck => Begun::Stuck,
     }
-}
-
-// The lowest disk of a set.
-fn lowest(disks: DiskSet) -> Option<u16>
-    ensures some { IfSome result (λ disk. IsTrue (has disks disk) × ((d : ℕ) → d < disk → IsFalse (has disks d))) }
-    ensures none { IfNone result ((d : ℕ) → IsFalse (has disks d)) }
-{
-    for disk in 0..128 {
-        if disks.has(disk) {
-            return Some(disk);
-        }
-    }
-    None
 }

@@ -7,11 +7,11 @@ use Rattle.lvm_num.specs.declared.descriptor.PvRow.{PvRow}
 use Rattle.lvm_num.specs.declared.descriptor.Descriptor.{Descriptor}
 use Rattle.lvm_num.specs.declared.status.Status.{Status}
 use Rattle.lvm_num.specs.Descriptor.{is_member}
-use Rattle.lvm_num.specs.Disks.{Disks}
+use Rattle.lvm_num.specs.Disks.{Disks, IsLowest}
 use Rattle.lvm_num.specs.Status.{calls_missing}
 use Rattle.lvm_num.specs.Votes.{votes_in, is_enough_to_write, CanWrite}
 use Rattle.lvm_num.proofs.VotesLemmas.{more_is_enough, more_have_more}
-use Rattle.lvm_status.specs.Update.{Updates, no_disks, without_disk, is_there, is_held, is_owed, IsLowest}
+use Rattle.lvm_status.specs.Update.{Updates, no_disks, without_disk, is_there, is_held, is_owed}
 use Rattle.lvm_status.specs.Calls.{WantsAtEnd, closed, comes_held, with_start, with_end, with_commit, after_end}
 use Rattle.lvm_status.specs.Runs.{NextWrite, Ended, IsSound}
 use Rattle.lvm_status.proofs.Disks.{no_is_false}

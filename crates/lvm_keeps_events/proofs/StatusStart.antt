@@ -15,7 +15,7 @@ use Rattle.lvm_num.specs.declared.record.Stamp.{Stamp}
 use Rattle.lvm_num.specs.declared.status.Status.{Status}
 use Rattle.lvm_num.specs.declared.status.StatusRow.{StatusRow}
 use Rattle.lvm_num.specs.Descriptor.{is_member}
-use Rattle.lvm_num.specs.Disks.{has}
+use Rattle.lvm_num.specs.Disks.{has, IsLowest}
 use Rattle.lvm_num.specs.Note.{note_bytes}
 use Rattle.lvm_num.specs.Record.{frame, slot_start}
 use Rattle.lvm_homes.specs.Homes.{next_slot}
@@ -30,7 +30,7 @@ use Rattle.lvm_path.specs.declared.ask.Ask.{Ask}
 use Rattle.lvm_path.specs.Asks.{lv_of}
 use Rattle.lvm_path.specs.Targets.{is_failed}
 use Rattle.lvm_status.specs.declared.writes.Writes.{Writes}
-use Rattle.lvm_status.specs.Update.{IsLowest, Stored, Updates, members_there, seen}
+use Rattle.lvm_status.specs.Update.{Stored, Updates, members_there, seen}
 use Rattle.lvm_status.specs.Calls.{with_update, with_start as with_write_start}
 use Rattle.lvm_status.specs.Runs.{NextWrite, Start, IsSound as IsSoundStatus}
 use Rattle.lvm_status.proofs.Sound.{steps_stay_sound}
@@ -249,8 +249,8 @@ module _ (s : State) (sound : IsSound s) (on : s.core.power ≡ power.On) (disk 
   bring : (c : OpenCopy) → IsCopy core c → IsCopy now.core c
   bring c k = copy_marked core now.core c refl (same_next core) k (λ free. free)
       (λ runs short.
-        let both_stale = k.stale runs short in
-        both (is_settled now.core c.pp) (is_wanted_stale core c.pp) (sym (settled_on c.pp) ∙ ap (λ b. b && is_wanted_stale core c.pp) both_stale.0 ∙ both_stale.1))
+      let both_stale = k.stale runs short in
+      both (is_settled now.core c.pp) (is_wanted_stale core c.pp) (sym (settled_on c.pp) ∙ ap (λ b. b && is_wanted_stale core c.pp) both_stale.0 ∙ both_stale.1))
       k.clearing
 
   -- ---- whose it is

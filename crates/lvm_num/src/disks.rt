@@ -1,5 +1,5 @@
 //! A set of disks.
-ghost use Rattle.std.specs.Prelude.{◌≡◌, ◌<◌, ℕ, false, ◌==◌, ◌||◌, ◌&&◌, not, IsTrue};
+ghost use Rattle.std.specs.Prelude.{◌≡◌, ◌<◌, ℕ, false, ◌==◌, ◌||◌, ◌&&◌, not, IsTrue, IfSome};
 
 use std::marker::Model;
 
@@ -20,7 +20,7 @@ impl Model for DiskSet {
 }
 
 impl DiskSet {
-    ghost use Rattle.lvm_num.specs.Disks.{has};
+    ghost use Rattle.lvm_num.specs.Disks.{IsLowest, has};
 
     /// No disks.
     pub fn empty() -> DiskSet
@@ -52,5 +52,18 @@ impl DiskSet {
         ensures { (other : ℕ) → has result other ≡ (has self.now other && not (other == disk)) }
     {
         DiskSet(self.0 & !(1 << disk))
+    }
+
+    /// The lowest disk of the set.
+    pub fn lowest(&self) -> Option<u16>
+        ensures lowest { IsLowest (has self.now) result }
+        ensures within { IfSome result (λ disk. disk < 128) }
+    {
+        for disk in 0..128 {
+            if self.has(disk) {
+                return Some(disk);
+            }
+        }
+        None
     }
 }

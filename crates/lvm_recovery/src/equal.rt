@@ -7,8 +7,7 @@ ghost use Rattle.lvm_recovery.specs.Copying.{IsFull, MayCopy, AreApart};
 ghost use Rattle.lvm_recovery.specs.Equalising.{EqualiseGives, EqualisedStaysKept};
 
 use crate::copying::{Recopy, copy_all};
-use crate::forgetting::forget_notes;
-use lvm_begin::Begun;
+use lvm_begin::{Begun, forget_notes};
 use lvm_disk::Shelf;
 use lvm_num::{DiskSet, Pbuf};
 use lvm_transfer::Patience;

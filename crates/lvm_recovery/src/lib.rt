@@ -3,7 +3,6 @@
 
 mod copying;
 mod equal;
-mod forgetting;
 mod laws;
 mod plan;
 

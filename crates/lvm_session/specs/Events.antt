@@ -2,6 +2,7 @@
 use Rattle.std.specs.Prelude.{◌≡◌, ◌⊎◌, ℕ, ◌+◌, ◌-◌, ◌<◌, ◌++◌, Bool, true, false, ◌&&◌, ◌==◌, not, if◌then◌else◌, List, [], ◌∷◌, length, map, take, count_by, Option, Some, None, slice_get, slice_set, slice_index_or, nat_le}
 use Rattle.std.specs.Option.{option_map_or}
 use Rattle.lvm_num.specs.Buffer.{Buffer, Sector}
+use Rattle.lvm_num.specs.Disks.{IsLowest}
 use Rattle.lvm_num.specs.declared.place.Pp.{Pp}
 use Rattle.lvm_num.specs.declared.record.Kind.TheVariants as kind
 use Rattle.lvm_num.specs.declared.descriptor.Mode.{Mode}
@@ -23,7 +24,7 @@ use Rattle.lvm_hold.specs.Waiting.{without}
 use Rattle.lvm_sched.specs.Reads.{IsReadOrder}
 use Rattle.lvm_mwc.specs.Entries.{note_of}
 use Rattle.lvm_mwc.specs.Cache.{Cached, after_pin, after_unpin, after_start}
-use Rattle.lvm_status.specs.Update.{Stored, seen, MayStart, IsLowest}
+use Rattle.lvm_status.specs.Update.{Stored, seen, MayStart}
 use Rattle.lvm_status.specs.Calls.{with_update, with_start as with_write_start}
 use Rattle.lvm_kept.specs.Contents.{note_sector}
 use Rattle.lvm_homes.specs.Homes.{next_slot}

@@ -2,6 +2,7 @@
 use Rattle.std.specs.Prelude.{◌≡◌, ◌⊎◌, ℕ, Bool, true, false, ◌||◌, List, [], ◌∷◌, Some, None}
 use Rattle.std.specs.List.{list_any}
 use Rattle.lvm_num.specs.declared.place.Pp.{Pp}
+use Rattle.lvm_num.specs.Disks.{IsLowest}
 use Rattle.lvm_num.specs.declared.record.Stamp.{Stamp}
 use Rattle.lvm_num.specs.declared.descriptor.Descriptor.{Descriptor}
 use Rattle.lvm_num.specs.declared.status.Status.{Status}
@@ -12,7 +13,7 @@ use Rattle.lvm_num.specs.Votes.{CanWrite}
 use Rattle.lvm_stale.specs.Table.{is_pp}
 use Rattle.lvm_status.specs.declared.change.Change.{Change}
 use Rattle.lvm_status.specs.declared.change.Change.TheVariants as change
-use Rattle.lvm_status.specs.Update.{Updates, with_disk, is_there, is_held, is_owed, is_settled_stale, MayStart, IsLowest}
+use Rattle.lvm_status.specs.Update.{Updates, with_disk, is_there, is_held, is_owed, is_settled_stale, MayStart}
 use Rattle.lvm_status.specs.Calls.{first_updates, Changes, WantsAtEnd, with_wanted, with_update, with_start, after_end}
 
 -- ---- runs

@@ -1,5 +1,5 @@
 -- The status of a session: what is committed, what is in flight and what is wanted.
-use Rattle.std.specs.Prelude.{◌≡◌, ◌<◌, ℕ, Bool, true, false, ◌&&◌, ◌||◌, ◌==◌, not, Option, Some, None, unwrap_or}
+use Rattle.std.specs.Prelude.{◌≡◌, ℕ, Bool, false, ◌&&◌, ◌||◌, ◌==◌, not, Option, None, unwrap_or}
 use Rattle.std.specs.List.{list_any}
 use Rattle.lvm_num.specs.declared.place.Pp.{Pp}
 use Rattle.lvm_num.specs.declared.record.Stamp.{Stamp}
@@ -89,8 +89,3 @@ is_settled_stale u p = calls_stale u.committed p && calls_stale (unwrap_or u.in_
 pub record MayStart (u : Updates) : Type 0 where
   pub none : u.in_flight ≡ None
   pub differs : u.wanted ≡ u.committed → ⊥
-
--- the least disk of a set, and none exactly where it is empty
-abbrev pub IsLowest : Disks → Option ℕ → Type 0
-IsLowest set None = (disk : ℕ) → set disk ≡ false
-IsLowest set (Some disk) = (set disk ≡ true) × ((other : ℕ) → other < disk → set other ≡ false)

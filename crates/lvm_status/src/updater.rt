@@ -1,14 +1,14 @@
 //! The updater.
-ghost use Rattle.std.specs.Prelude.{All, ◌≡◌, ◌≢◌, ◌↔◌, ◌<◌, ◌+◌, ◌^◌, None, [], ◌||◌, IsTrue, IfOk, IfSome, if◌then◌else◌};
+ghost use Rattle.std.specs.Prelude.{All, ◌≡◌, ◌≢◌, ◌↔◌, ◌<◌, ◌+◌, ◌^◌, None, [], ◌||◌, IsTrue, IfOk, if◌then◌else◌};
 ghost use Rattle.std.specs.List.{list_any};
 ghost use Rattle.std.specs.Option.{option_copied};
 ghost use Rattle.lvm_num.specs.declared.descriptor.PvRow.{PvRow};
 ghost use Rattle.lvm_num.specs.Descriptor.{IsValid, IsLaidOut, is_member, partitions_in};
 ghost use Rattle.lvm_num.specs.Votes.{total_votes};
-ghost use Rattle.lvm_num.specs.Disks.{has};
+ghost use Rattle.lvm_num.specs.Disks.{has, IsLowest};
 ghost use Rattle.lvm_left.specs.Marking.{IsLeftIn, Marks, IsMarkable};
 ghost use Rattle.lvm_status.specs.Members.{HasItsRows, all_rows, all_members};
-ghost use Rattle.lvm_status.specs.Update.{members_there, IsLowest};
+ghost use Rattle.lvm_status.specs.Update.{members_there};
 
 use crate::{Change, Progress, Writes};
 use lvm_left::mark_volumes;
@@ -134,7 +134,7 @@ impl Updater {
         ensures lowest { IsLowest (has self.old.writes.unstarted) result }
         ensures starts { seen self.new ≡ with_start (seen self.old) result }
     {
-        let disk = lowest(self.writes.unstarted)?;
+        let disk = self.writes.unstarted.lowest()?;
         self.writes.unstarted = self.writes.unstarted.without(disk);
         self.writes.started = self.writes.started.with(disk);
         Some(disk)
@@ -415,19 +415,6 @@ pub fn members_there(d: &Descriptor, table: &StaleTable) -> DiskSet
         }
     }
     there
-}
-
-// The least disk of a set.
-fn lowest(disks: DiskSet) -> Option<u16>
-    ensures lowest { IsLowest (has disks) result }
-    ensures within { IfSome result (λ disk. disk < 128) }
-{
-    for disk in 0..128 {
-        if disks.has(disk) {
-            return Some(disk);
-        }
-    }
-    None
 }
 
 // Whether a write to a member is to be started or to end.

@@ -1,13 +1,14 @@
 -- The write of a status that is started next.
 use Rattle.std.specs.Prelude.{◌≡◌, ◌<◌, ℕ, true, false, Option, Some, length, slice_get}
 use Rattle.lvm_num.specs.Buffer.{Buffer}
+use Rattle.lvm_num.specs.Disks.{IsLowest}
 use Rattle.lvm_num.specs.declared.record.Kind.TheVariants as kind
 use Rattle.lvm_num.specs.declared.status.Status.{Status}
 use Rattle.lvm_num.specs.Record.{frame, record_sectors}
 use Rattle.lvm_num.specs.StatusBytes.{status_bytes}
 use Rattle.lvm_disk.specs.Device.{Device}
 use Rattle.lvm_status.specs.Calls.{with_start}
-use Rattle.lvm_status.specs.Update.{IsLowest, Stored, seen}
+use Rattle.lvm_status.specs.Update.{Stored, seen}
 use Rattle.lvm_session.specs.State.{Core}
 use Rattle.lvm_session.specs.Enabled.{is_lost, is_status_due}
 use Rattle.lvm_session.specs.Events.{Begins}

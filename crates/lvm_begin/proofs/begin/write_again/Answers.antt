@@ -47,11 +47,11 @@ returns-then-forget-clause-gives g c =
     let keeps = one.does.keeps in
     more_gives b (TheDescriptor ∷ []) TheStatus c.args.buf.number c.args.patience.now.left c.record.new.patience.left c.record-2.new.patience.left (g.S.Shelf.device c.args.shelf.now) (g.S.Shelf.device c.record.new.shelf) (g.S.Shelf.device c.record-2.new.shelf) c.in-Ended.buf (begun.Ended c.in-Ended-record.buf) many one
     ((λ d target. still_stands b fits TheDescriptor TheStatus (g.S.Shelf.device c.record.new.shelf) (g.S.Shelf.device c.record-2.new.shelf) d (λ e. absurd (cc (e))) keeps (many.how.stand.0 d target)), tt)) in
-    let one : OneGives b.targets (brought b TheNotes) (Stands b TheNotes) c.in-Ended-record.buf.number c.record-2.new.patience.left c.notes.new.patience.left (g.S.Shelf.device c.record-2.new.shelf) (g.S.Shelf.device c.notes.new.shelf) c.notes.result = c.notes.ensures.gives in
+    let one : OneGives b.targets (brought b TheNotes) (Stands b TheNotes) c.in-Ended-record.buf.number c.record-2.new.patience.left c.forget_notes.new.patience.left (g.S.Shelf.device c.record-2.new.shelf) (g.S.Shelf.device c.forget_notes.new.shelf) c.forget_notes.result = c.forget_notes.ensures.gives in
     let keeps = one.does.keeps in
-    subst (λ (forget : Bool). ManyGives b (again_order forget) c.args.buf.number c.args.patience.now.left c.notes.new.patience.left (g.S.Shelf.device c.args.shelf.now) (g.S.Shelf.device c.notes.new.shelf) c.notes.result) (sym c.if-forget.true)
-    (more_gives b (TheDescriptor ∷ TheStatus ∷ []) TheNotes c.args.buf.number c.args.patience.now.left c.record-2.new.patience.left c.notes.new.patience.left (g.S.Shelf.device c.args.shelf.now) (g.S.Shelf.device c.record-2.new.shelf) (g.S.Shelf.device c.notes.new.shelf) c.in-Ended-record.buf c.notes.result many one
-    ((λ d target. still_stands b fits TheDescriptor TheNotes (g.S.Shelf.device c.record-2.new.shelf) (g.S.Shelf.device c.notes.new.shelf) d (λ e. absurd (cc (e))) keeps (many.how.stand.0 d target)), ((λ d target. still_stands b fits TheStatus TheNotes (g.S.Shelf.device c.record-2.new.shelf) (g.S.Shelf.device c.notes.new.shelf) d (λ e. absurd (cc (e))) keeps (many.how.stand.1.0 d target)), tt)))
+    subst (λ (forget : Bool). ManyGives b (again_order forget) c.args.buf.number c.args.patience.now.left c.forget_notes.new.patience.left (g.S.Shelf.device c.args.shelf.now) (g.S.Shelf.device c.forget_notes.new.shelf) c.forget_notes.result) (sym c.if-forget.true)
+    (more_gives b (TheDescriptor ∷ TheStatus ∷ []) TheNotes c.args.buf.number c.args.patience.now.left c.record-2.new.patience.left c.forget_notes.new.patience.left (g.S.Shelf.device c.args.shelf.now) (g.S.Shelf.device c.record-2.new.shelf) (g.S.Shelf.device c.forget_notes.new.shelf) c.in-Ended-record.buf c.forget_notes.result many one
+    ((λ d target. still_stands b fits TheDescriptor TheNotes (g.S.Shelf.device c.record-2.new.shelf) (g.S.Shelf.device c.forget_notes.new.shelf) d (λ e. absurd (cc (e))) keeps (many.how.stand.0 d target)), ((λ d target. still_stands b fits TheStatus TheNotes (g.S.Shelf.device c.record-2.new.shelf) (g.S.Shelf.device c.forget_notes.new.shelf) d (λ e. absurd (cc (e))) keeps (many.how.stand.1.0 d target)), tt)))
 
 pub returns-else-forget-clause-gives : goal.returns-else-forget-clause-gives
 returns-else-forget-clause-gives g c =

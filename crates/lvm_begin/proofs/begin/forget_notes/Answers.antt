@@ -1,7 +1,7 @@
 use Rattle.lvm_num.specs.Disks.{Disks, has}
 use Rattle.lvm_write.specs.Notes.{empty_note_sector, NoteTold}
 use Rattle.lvm_begin.proofs.Answering.{how_one}
-use Rattle.lvm_recovery.proofs.forgetting.forget_notes.Goals as goal
+use Rattle.lvm_begin.proofs.begin.forget_notes.Goals as goal
 
 pub returns : goal.returns
 returns g c =
