@@ -1,19 +1,17 @@
 //! What stands against copies that are to be added or removed, and the descriptor with them.
-ghost use Rattle.std.specs.Prelude.{◌≡◌, ◌≤◌, ◌<◌, ◌==◌, ◌*◌, ℕ, length, IsTrue, IfOk, IfErr, IfSome, IfNone};
-ghost use Rattle.std.specs.List.{find};
-ghost use Rattle.std.specs.Option.{option_copied};
+ghost use Rattle.std.specs.Prelude.{◌≡◌, ◌≤◌, ◌<◌, ◌*◌, ℕ, length, IsTrue, IfOk, IfErr, IfSome, IfNone};
 ghost use Rattle.lvm_num.specs.declared.descriptor.LvRow.{LvRow};
 ghost use Rattle.lvm_core.specs.Settled.{IsSettled};
 ghost use Rattle.lvm_volume_plan.specs.Faults.{TakesCommands};
 ghost use Rattle.lvm_volume_plan.specs.PlannedVolume.{AreOfOneGroup};
-ghost use Rattle.lvm_copy_plan.specs.Faults.{HasVolume, MayGrow, HasFurtherPlaces, MayBeAdded, RefusesMklvcopy, MayShrink, has_fresh, keeps_fresh, IsFirstLoss, KeepsFresh, MayBeTaken, RefusesRmlvcopy};
+ghost use Rattle.lvm_copy_plan.specs.Faults.{MayGrow, HasFurtherPlaces, MayBeAdded, RefusesMklvcopy, MayShrink, has_fresh, keeps_fresh, IsFirstLoss, KeepsFresh, MayBeTaken, RefusesRmlvcopy};
 ghost use Rattle.lvm_copy_plan.specs.PlannedCopies.{ArePlanned, IsWithFewer};
 
 use crate::next::{copies_at, first_copies, further_copies, with_copies};
 use lvm_core::{Driver, Prepared};
 use lvm_disk::Shelf;
 use lvm_map::{MapFault, allocate_more};
-use lvm_num::{LvRow, Memory, Pp, Rows};
+use lvm_num::{LvRow, Memory, Pp, Rows, volume_of};
 use lvm_stale::StaleTable;
 use lvm_status::members_there;
 use lvm_volume_plan::{GroupFault, has_room, takes_commands};
@@ -72,13 +70,6 @@ pub fn prepare_fewer<S: Shelf>(
         Ok(next) => Ok(next),
         Err(Memory) => Err(GroupFault::Memory),
     }
-}
-
-// The volume of a number.
-fn volume_of(lvs: &[LvRow], number: u16) -> Option<&LvRow>
-    ensures { option_copied result ≡ find (λ (row : LvRow). row.number == number) lvs.now }
-{
-    lvs.iter().find(|row| row.number == number)
 }
 
 // What stands against more copies before places are looked for.

@@ -1,12 +1,12 @@
 //! What a listing counts.
-ghost use Rattle.std.specs.Prelude.{◌≡◌, ◌==◌, ◌&&◌, ◌<◌, ◌≤◌, count_by, Contains, length};
+ghost use Rattle.std.specs.Prelude.{◌≡◌, ◌==◌, ◌&&◌, ◌≤◌, count_by, Contains};
 ghost use Rattle.lvm_num.specs.declared.place.Pp.{Pp};
 ghost use Rattle.lvm_num.specs.Descriptor.{IsValid, partitions_used};
 ghost use Rattle.lvm_num.specs.Status.{calls_stale};
 ghost use Rattle.lvm_map.specs.FirstFit.{is_on};
 ghost use Rattle.lvm_counts.specs.Counts.{all_partitions, free_on, all_free, all_stale, stale_on, stale_in, missing_members, carriers, quorum_votes};
 
-use lvm_num::{Descriptor, LvRow, Pp, PvRow};
+use lvm_num::{Descriptor, LvRow, Pp, PvRow, is_on};
 use lvm_stale::StaleTable;
 
 /// The partitions of all members.
@@ -127,12 +127,6 @@ pub fn carriers(d: &Descriptor, row: &LvRow) -> u64
         .iter()
         .filter(|member| is_on(map, member.disk))
         .count() as u64
-}
-
-fn is_on(map: &[Pp], disk: u16) -> bool
-    ensures { result ≡ is_on map.now disk }
-{
-    map.iter().any(|pp| pp.disk == disk)
 }
 
 /// The votes with which the group stays on.

@@ -5,9 +5,8 @@ ghost use Rattle.lvm_num.specs.Disks.{has};
 ghost use Rattle.lvm_map.specs.FirstFit.{is_among, Asked, IsAllocated, IsFault, new_volume, more_copies};
 ghost use Rattle.lvm_map.specs.Room.{TakesNext};
 
-use crate::places::volume_of;
 use crate::room::Room;
-use lvm_num::{Descriptor, DiskSet, Pp, Rows};
+use lvm_num::{Descriptor, DiskSet, Pp, Rows, volume_of};
 use std::alloc::Global;
 
 /// Why there is no map.

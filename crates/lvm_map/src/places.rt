@@ -1,13 +1,11 @@
 //! Where the blocks of volumes stand.
 ghost use Rattle.std.specs.Prelude.{◌≡◌, ◌≤◌, ◌==◌, ◌↔◌, IsSome};
-ghost use Rattle.std.specs.List.{find};
-ghost use Rattle.std.specs.Option.{option_copied};
 ghost use Rattle.lvm_num.specs.declared.descriptor.LvRow.{LvRow};
 ghost use Rattle.lvm_num.specs.Descriptor.{IsLaidOut, IsValid};
 ghost use Rattle.lvm_map.specs.Places.{blocks_of, copy_at, place_on, place_of, IsBlockOfCopy};
 ghost use Rattle.lvm_num.specs.Geometry.{partition_blocks};
 
-use lvm_num::{Descriptor, LvRow, Place, Pp};
+use lvm_num::{Descriptor, LvRow, Place, Pp, volume_of};
 
 const DATA_START: u64 = 4096;
 
@@ -56,13 +54,6 @@ fn place_on(mib: u16, pp: Pp, block: u64) -> Place
         disk: pp.disk,
         sector: DATA_START + size * u64::from(pp.pp) + block % size,
     }
-}
-
-// The volume of a number.
-pub fn volume_of(lvs: &[LvRow], number: u16) -> Option<&LvRow>
-    ensures { option_copied result ≡ find (λ (row : LvRow). row.number == number) lvs.now }
-{
-    lvs.iter().find(|row| row.number == number)
 }
 
 // The blocks of a partition of so many MiB.

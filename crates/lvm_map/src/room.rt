@@ -11,7 +11,7 @@ ghost use Rattle.lvm_num.specs.Marks.{spot};
 ghost use Rattle.lvm_map.specs.FirstFit.{is_on, may_take, partitions_of};
 ghost use Rattle.lvm_map.specs.Room.{is_open, room_of, IsBounded, Takes};
 
-use lvm_num::{Descriptor, DiskSet, Memory, Pp, PvRow, has_bit, set_bit};
+use lvm_num::{Descriptor, DiskSet, Memory, Pp, PvRow, has_bit, is_on, set_bit};
 use std::alloc::Global;
 use std::collections::VecDeque;
 use std::marker::Model;
@@ -95,12 +95,6 @@ fn is_open(others: &[Pp], free: &VecDeque<Pp>) -> bool
         Some(pp) => !is_on(others, pp.disk),
         None => false,
     }
-}
-
-fn is_on(others: &[Pp], disk: u16) -> bool
-    ensures { result ≡ is_on others.now disk }
-{
-    others.iter().any(|pp| pp.disk == disk)
 }
 
 // The partitions of a member whose bits aren't set.

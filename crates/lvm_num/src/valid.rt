@@ -1,5 +1,5 @@
 //! The rules that the rows of a descriptor and of a status keep.
-ghost use Rattle.std.specs.Prelude.{◌≡◌, ◌≢◌, ℕ, false, ◌≤◌, ◌<◌, ◌==◌, ◌||◌, ◌↔◌, length, slice_index, IsTrue, IsSome, IfSome, Any, All, AllPairs};
+ghost use Rattle.std.specs.Prelude.{◌≡◌, ◌≢◌, ℕ, false, ◌≤◌, ◌<◌, ◌==◌, ◌||◌, ◌↔◌, IsTrue, IsSome, IfSome, Any, All, AllPairs};
 ghost use Rattle.std.specs.List.{list_any};
 ghost use Rattle.lvm_num.specs.declared.place.Pp.{Pp};
 ghost use Rattle.lvm_num.specs.declared.descriptor.LvRow.{LvRow};
@@ -9,6 +9,7 @@ ghost use Rattle.lvm_num.specs.Status.{IsStatusRow, AreStatusRows, AreDirty};
 ghost use Rattle.lvm_num.specs.Marks.{AreCounts, AreFree, AreCounted, spot};
 
 use crate::bits::{has_bit, set_bit};
+use crate::listed::is_on;
 use crate::{LvRow, Name, Pp, PvRow, StatusRow};
 
 const DISKS: usize = 128;
@@ -115,12 +116,6 @@ fn are_apart(copies: &[Pp]) -> bool
         }
     }
     true
-}
-
-fn is_on(copies: &[Pp], disk: u16) -> bool
-    ensures { result ≡ list_any (λ (pp : Pp). pp.disk == disk) copies.now }
-{
-    copies.iter().any(|pp| pp.disk == disk)
 }
 
 fn no_marks() -> [u8; 16256]

@@ -1,14 +1,12 @@
 //! The listing of where a volume lies.
-ghost use Rattle.std.specs.Prelude.{◌≡◌, ◌==◌, ◌++◌, ◌<◌, IsSome, OnOk, IfOk, flat_map};
-ghost use Rattle.std.specs.List.{find};
-ghost use Rattle.std.specs.Option.{option_copied};
+ghost use Rattle.std.specs.Prelude.{◌≡◌, ◌++◌, ◌<◌, IsSome, OnOk, IfOk, flat_map};
 ghost use Rattle.std.specs.String.{string_bytes};
 ghost use Rattle.lvm_num.specs.declared.descriptor.LvRow.{LvRow};
 ghost use Rattle.lvm_num.specs.Descriptor.{IsValid, IsLaidOut, volume_of, copies_of};
 ghost use Rattle.lvm_show.specs.Listings.{copy_text, partition_line, map_text, volume_map_text};
 
 use crate::words::FourDigits;
-use lvm_num::{Descriptor, LvRow, Memory, Pp, Text};
+use lvm_num::{Descriptor, LvRow, Memory, Pp, Text, volume_of};
 use lvm_stale::StaleTable;
 use std::alloc::{AllocError, Global};
 
@@ -23,13 +21,6 @@ pub fn show_map(alloc: Global, d: &Descriptor, t: &StaleTable, lv: u16) -> Resul
         Some(row) => Ok(Text::new(map_lines(alloc, t, row)?)),
         None => unreachable!(),
     }
-}
-
-// The volume of a number.
-pub fn volume_of(lvs: &[LvRow], number: u16) -> Option<&LvRow>
-    ensures { option_copied result ≡ find (λ (row : LvRow). row.number == number) lvs.now }
-{
-    lvs.iter().find(|row| row.number == number)
 }
 
 fn map_lines(alloc: Global, t: &StaleTable, row: &LvRow) -> Result<String, AllocError>

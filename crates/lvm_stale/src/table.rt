@@ -1,9 +1,7 @@
 //! The stale table.
-ghost use Rattle.std.specs.Prelude.{◌≡◌, ℕ, ◌<◌, ◌≤◌, ◌&&◌, ◌||◌, ◌==◌, not, if◌then◌else◌, slice_set, length, IsTrue, IfOk, count_by, position};
-ghost use Rattle.std.specs.List.{list_any, find};
-ghost use Rattle.std.specs.Option.{option_copied};
+ghost use Rattle.std.specs.Prelude.{◌≡◌, ℕ, ◌<◌, ◌≤◌, ◌&&◌, ◌||◌, ◌==◌, not, if◌then◌else◌, length, IsTrue, IfOk, count_by, position};
+ghost use Rattle.std.specs.List.{list_any};
 ghost use Rattle.lvm_num.specs.declared.place.Pp.{Pp};
-ghost use Rattle.lvm_num.specs.declared.descriptor.LvRow.{LvRow};
 ghost use Rattle.lvm_num.specs.declared.status.StatusRow.{StatusRow};
 ghost use Rattle.lvm_num.specs.Bits.{has_bit};
 ghost use Rattle.lvm_num.specs.Descriptor.{IsValid};
@@ -12,8 +10,8 @@ ghost use Rattle.lvm_stale.specs.Rows.{IsRowAt, SetsAmong};
 ghost use Rattle.lvm_stale.specs.Table.{has_row, is_pp, SameMembers, SameStale, SameMissing, stale_count};
 
 use lvm_num::{
-    Descriptor, LvRow, Memory, Pp, Rows, Status, StatusRow, VolumeNumbers, clear_bit, has_bit,
-    set_bit,
+    Descriptor, Memory, Pp, Rows, Status, StatusRow, VolumeNumbers, clear_bit, has_bit, set_bit,
+    volume_of,
 };
 use std::alloc::Global;
 use std::marker::Model;
@@ -191,13 +189,6 @@ impl StaleTable {
     {
         map.iter().filter(|pp| self.is_stale(**pp)).count() as u32
     }
-}
-
-// The volume of a number.
-fn volume_of(lvs: &[LvRow], number: u16) -> Option<&LvRow>
-    ensures { option_copied result ≡ find (λ (row : LvRow). row.number == number) lvs.now }
-{
-    lvs.iter().find(|row| row.number == number)
 }
 
 // A status that says the same, with all its room.

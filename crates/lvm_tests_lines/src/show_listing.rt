@@ -1,12 +1,11 @@
-ghost use Rattle.std.specs.Prelude.{IsTrue, IsSome, ◌≡◌, ◌==◌, ◌↔◌, IfOk};
+ghost use Rattle.std.specs.Prelude.{◌≡◌, ◌==◌};
 ghost use Rattle.std.specs.List.{find};
 ghost use Rattle.std.specs.Option.{option_copied};
-ghost use Rattle.lvm_num.specs.Descriptor.{IsValid, volume_of, member_of};
-ghost use Rattle.lvm_num.specs.declared.descriptor.LvRow.{LvRow};
+ghost use Rattle.lvm_num.specs.Descriptor.{volume_of, member_of};
 ghost use Rattle.lvm_num.specs.declared.descriptor.PvRow.{PvRow};
 
 use crate::fixtures::{Member, Volume, check, group, status, volume};
-use lvm_num::{Descriptor, LvRow, Pp, PvRow, Rows, Text};
+use lvm_num::{Descriptor, Pp, PvRow, Rows, Text, volume_of};
 use lvm_show::{show_disk, show_group, show_map, show_volumes};
 use lvm_stale::StaleTable;
 use std::process::Abort;
@@ -25,13 +24,6 @@ enum List {
     Volumes,
     Map(u16),
     Disk(u16),
-}
-
-// The volume of a number.
-fn volume_of(lvs: &[LvRow], number: u16) -> Option<&LvRow>
-    ensures { option_copied result ≡ find (λ (row : LvRow). row.number == number) lvs.now }
-{
-    lvs.iter().find(|row| row.number == number)
 }
 
 // The member on a disk.

@@ -1,12 +1,12 @@
 //! The partitions of volumes.
-ghost use Rattle.std.specs.Prelude.{◌≡◌, ℕ, List, true, ◌==◌, ◌&&◌, ◌++◌, ◌∷◌, [], ◌≤◌, ◌<◌, ◌*◌, not, nat_lt, All, IfOk, IsTrue};
+ghost use Rattle.std.specs.Prelude.{◌≡◌, List, ◌==◌, ◌&&◌, ◌++◌, [], ◌≤◌, ◌<◌, ◌*◌, not, nat_lt, All, IfOk, IsTrue};
 ghost use Rattle.std.specs.List.{list_any};
 ghost use Rattle.std.specs.Int.{w16};
 ghost use Rattle.lvm_num.specs.declared.place.Pp.{Pp};
 ghost use Rattle.lvm_num.specs.declared.descriptor.PvRow.{PvRow};
 ghost use Rattle.lvm_num.specs.declared.descriptor.LvRow.{LvRow};
 ghost use Rattle.lvm_num.specs.Descriptor.{IsMember};
-ghost use Rattle.lvm_num.specs.DescriptorBytes.{unfinished, is_at, partition_at, partitions_at, maps_at};
+ghost use Rattle.lvm_num.specs.DescriptorBytes.{unfinished, partition_at, partitions_at, maps_at};
 ghost use Rattle.lvm_num.specs.Reading.{number_at};
 ghost use Rattle.lvm_fields.specs.Reading.{Gives, rest_of};
 ghost use Rattle.lvm_vgda.specs.Used.{Uses, is_free, free_at};
@@ -14,7 +14,7 @@ ghost use Rattle.lvm_vgda.specs.Used.{Uses, is_free, free_at};
 use crate::used::UsedPps;
 use lvm_descriptor::has_member;
 use lvm_fields::{Fault, Unread, u16_at};
-use lvm_num::{LvRow, Pp, PvRow, Rows};
+use lvm_num::{LvRow, Pp, PvRow, Rows, is_on};
 use std::alloc::Global;
 
 /// The rows with the partitions of each.
@@ -137,12 +137,6 @@ fn copy_disk_at<'a>(
         return Err(Fault::At(unread.place));
     }
     read
-}
-
-fn is_on(copies: &[Pp], disk: u16) -> bool
-    ensures { result ≡ list_any (λ (p : Pp). p.disk == disk) copies.now }
-{
-    copies.iter().any(|pp| pp.disk == disk)
 }
 
 fn has_partition(members: &[PvRow], pp: Pp) -> bool

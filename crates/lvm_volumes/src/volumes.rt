@@ -18,7 +18,7 @@ ghost use Rattle.lvm_volumes.specs.Volumes.{MklvGives, RmlvGives, to_make, to_re
 
 use lvm_core::{CommitFault, Driver, Prepared};
 use lvm_disk::Shelf;
-use lvm_num::{Mode, Name, Policy, Pp};
+use lvm_num::{Mode, Name, Policy, Pp, is_on};
 use lvm_stale::StaleTable;
 use lvm_transfer::Patience;
 use lvm_vol::{Entry, Vol};
@@ -200,18 +200,6 @@ fn lowest_missing(table: &StaleTable, map: &[Pp]) -> Option<u16>
         }
     }
     None
-}
-
-// Whether one of the partitions is on the disk.
-fn is_on(map: &[Pp], disk: u16) -> bool
-    ensures { result ≡ is_on map.now disk }
-{
-    for pp in map {
-        if pp.disk == disk {
-            return true;
-        }
-    }
-    false
 }
 
 // Writes zeros to partitions, until a disk fails.

@@ -1,0 +1,22 @@
+//! What the rows and the copies of a descriptor list.
+ghost use Rattle.std.specs.Prelude.{◌≡◌, ◌==◌};
+ghost use Rattle.std.specs.List.{find, list_any};
+ghost use Rattle.std.specs.Option.{option_copied};
+ghost use Rattle.lvm_num.specs.declared.descriptor.LvRow.{LvRow};
+ghost use Rattle.lvm_num.specs.declared.place.Pp.{Pp};
+
+use crate::{LvRow, Pp};
+
+/// The volume of a number.
+pub fn volume_of(lvs: &[LvRow], number: u16) -> Option<&LvRow>
+    ensures { option_copied result ≡ find (λ (row : LvRow). row.number == number) lvs.now }
+{
+    lvs.iter().find(|row| row.number == number)
+}
+
+/// Whether one of the partitions is on the disk.
+pub fn is_on(pps: &[Pp], disk: u16) -> bool
+    ensures { result ≡ list_any (λ (pp : Pp). pp.disk == disk) pps.now }
+{
+    pps.iter().any(|pp| pp.disk == disk)
+}
