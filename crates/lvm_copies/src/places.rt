@@ -1,7 +1,7 @@
 //! Where the copies of a volume are.
-ghost use Rattle.std.specs.Prelude.{◌≡◌, ◌<◌};
+ghost use Rattle.std.specs.Prelude.{◌≡◌};
 ghost use Rattle.std.specs.Option.{option_copied};
-ghost use Rattle.lvm_num.specs.Descriptor.{copies_of, volume_of, IsLaidOut};
+ghost use Rattle.lvm_num.specs.Descriptor.{volume_of};
 ghost use Rattle.lvm_num.specs.Geometry.{partition_blocks};
 ghost use Rattle.lvm_stale.specs.Table.{is_pp};
 
@@ -12,17 +12,6 @@ pub fn volume_of(d: &Descriptor, lv: u16) -> Option<&LvRow>
     ensures { option_copied result ≡ volume_of d.now lv }
 {
     d.lvs.as_slice().iter().find(|row| row.number == lv)
-}
-
-/// The copies of a logical partition, from 0, of a volume.
-pub fn copies_of(row: &LvRow, lp: u32) -> &[Pp]
-    requires map { IsLaidOut row.now }
-    requires there { lp < row.now.lps }
-    ensures { result.now ≡ copies_of row.now lp }
-{
-    let copies = row.copies;
-    let first = lp as usize * usize::from(copies);
-    &row.map.as_slice()[first..first + usize::from(copies)]
 }
 
 /// The blocks of 512 bytes of a partition of so many MiB.

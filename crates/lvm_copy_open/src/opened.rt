@@ -8,10 +8,10 @@ ghost use Rattle.lvm_session.specs.Sound.{IsGoing};
 ghost use Rattle.lvm_copy_open.specs.Opening.{HasCopy, IsOpened};
 
 use crate::faults::faults_of;
-use lvm_copies::{copies_of, volume_of};
+use lvm_copies::volume_of;
 use lvm_copy_step::step_place;
 use lvm_disk::Shelf;
-use lvm_num::{Descriptor, DiskSet, Pp};
+use lvm_num::{Descriptor, DiskSet, Pp, copies_of};
 use lvm_session::{OpenCopy, Session, Step};
 
 // The copies of a logical partition of a volume.

@@ -1,11 +1,11 @@
 //! Which copies become stale because their disks don't answer.
-ghost use Rattle.std.specs.Prelude.{◌≡◌, ◌<◌, All};
+ghost use Rattle.std.specs.Prelude.{◌≡◌, All};
 ghost use Rattle.lvm_num.specs.Descriptor.{IsLaidOut, copies_of, partitions_in};
 ghost use Rattle.lvm_num.specs.Disks.{has};
 ghost use Rattle.lvm_num.specs.Status.{IsValidStatus};
 ghost use Rattle.lvm_left.specs.Marking.{is_served, IsLeft, IsLeftBelow, IsLeftIn, Marks, IsMarkable};
 
-use lvm_num::{DiskSet, LvRow, Pp};
+use lvm_num::{DiskSet, LvRow, Pp, copies_of};
 use lvm_stale::StaleTable;
 
 /// Marks the copies of these volumes that are left behind: those on disks that don't answer, where a copy
@@ -30,17 +30,6 @@ fn mark_volume(table: &mut StaleTable, volume: &LvRow, answering: DiskSet)
     for lp in 0..volume.lps {
         mark_copies(table, copies_of(volume, lp), answering);
     }
-}
-
-// The copies of a logical partition.
-fn copies_of(volume: &LvRow, lp: u32) -> &[Pp]
-    requires laid_out { IsLaidOut volume.now }
-    requires inside { lp < volume.now.lps }
-    ensures { result.now ≡ copies_of volume.now lp }
-{
-    let copies = usize::from(volume.copies);
-    let first = lp as usize * copies;
-    &volume.map.as_slice()[first..first + copies]
 }
 
 fn mark_copies(table: &mut StaleTable, copies: &[Pp], answering: DiskSet)

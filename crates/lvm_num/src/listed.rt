@@ -1,9 +1,10 @@
 //! What the rows and the copies of a descriptor list.
-ghost use Rattle.std.specs.Prelude.{◌≡◌, ◌==◌};
+ghost use Rattle.std.specs.Prelude.{◌≡◌, ◌==◌, ◌<◌};
 ghost use Rattle.std.specs.List.{find, list_any};
 ghost use Rattle.std.specs.Option.{option_copied};
 ghost use Rattle.lvm_num.specs.declared.descriptor.LvRow.{LvRow};
 ghost use Rattle.lvm_num.specs.declared.place.Pp.{Pp};
+ghost use Rattle.lvm_num.specs.Descriptor.{IsLaidOut, copies_of};
 
 use crate::{LvRow, Pp};
 
@@ -19,4 +20,15 @@ pub fn is_on(pps: &[Pp], disk: u16) -> bool
     ensures { result ≡ list_any (λ (pp : Pp). pp.disk == disk) pps.now }
 {
     pps.iter().any(|pp| pp.disk == disk)
+}
+
+/// The copies of a logical partition, from 0, of a volume.
+pub fn copies_of(row: &LvRow, lp: u32) -> &[Pp]
+    requires map { IsLaidOut row.now }
+    requires there { lp < row.now.lps }
+    ensures { result.now ≡ copies_of row.now lp }
+{
+    let copies = usize::from(row.copies);
+    let first = lp as usize * copies;
+    &row.map.as_slice()[first..first + copies]
 }

@@ -10,9 +10,8 @@ ghost use Rattle.lvm_status.specs.Update.{seen};
 ghost use Rattle.lvm_session.specs.Marks.{WantsStale, is_among};
 ghost use Rattle.lvm_review.specs.Left.{can_stand_in, is_gone, is_left_among, is_left_below, is_left_of};
 
-use lvm_copies::copies_of;
 use lvm_marks::want_stale;
-use lvm_num::{LvRow, Pp};
+use lvm_num::{LvRow, Pp, copies_of};
 use lvm_status::Updater;
 
 // Whether it can be read, and isn't wanted stale.

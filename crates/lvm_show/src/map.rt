@@ -6,7 +6,7 @@ ghost use Rattle.lvm_num.specs.Descriptor.{IsValid, IsLaidOut, volume_of, copies
 ghost use Rattle.lvm_show.specs.Listings.{copy_text, partition_line, map_text, volume_map_text};
 
 use crate::words::FourDigits;
-use lvm_num::{Descriptor, LvRow, Memory, Pp, Text, volume_of};
+use lvm_num::{Descriptor, LvRow, Memory, Pp, Text, copies_of, volume_of};
 use lvm_stale::StaleTable;
 use std::alloc::{AllocError, Global};
 
@@ -43,17 +43,6 @@ fn push_partition(text: &mut String, t: &StaleTable, row: &LvRow, lp: u32) -> Re
     write!(text, "{number}")?;
     push_copies(text, t, copies_of(row, lp))?;
     text.push('\n')
-}
-
-// The copies of a logical partition.
-fn copies_of(row: &LvRow, lp: u32) -> &[Pp]
-    requires laid_out { IsLaidOut row.now }
-    requires within { lp < row.now.lps }
-    ensures { result.now ≡ copies_of row.now lp }
-{
-    let copies = usize::from(row.copies);
-    let first = lp as usize * copies;
-    &row.map.as_slice()[first..first + copies]
 }
 
 fn push_copies(text: &mut String, t: &StaleTable, copies: &[Pp]) -> Result<(), AllocError>
