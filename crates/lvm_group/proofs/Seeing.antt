@@ -1,5 +1,6 @@
 -- A survey of which no read failed says what the disks show.
 use Rattle.std.proofs.Common.{◌≡◌, inl, inr, ⊎_elim, ℕ, suc, zero, ◌+◌, ◌<◌, ◌≤◌, Bool, true, false, List, [], ◌∷◌, length, get_or, Option, Some, None, refl, sym, ap, subst, ◌∙◌, arith}
+use Rattle.lvm_num.specs.Record.{last_moment}
 use Rattle.std.specs.Prelude.{nat_lt, nat_le, slice_get, slice_index_or, IfSome, ◌&&◌, if◌then◌else◌}
 use Rattle.std.proofs.lemmas.Option.{slice_get_within, slice_get_cases}
 use Rattle.std.proofs.lemmas.Bool.{cases_lt}
@@ -23,7 +24,7 @@ use Rattle.lvm_write.specs.Homes.{SparesNewest, SpareNewest}
 use Rattle.lvm_survey.proofs.SurveyRows.{descriptor_shown, status_shown, descriptor_past, status_past}
 use Rattle.lvm_core.specs.declared.refused.Cause.{Cause}
 use Rattle.lvm_core.specs.declared.refused.Cause.TheVariants as cause
-use Rattle.lvm_group.specs.Shown.{IfShown, HasGroup, ShowsMoment, ShowsEarlier, IsLastShown, IsUnread, AllRead, SparesTold, last_moment}
+use Rattle.lvm_group.specs.Shown.{IfShown, HasGroup, ShowsMoment, ShowsEarlier, IsLastShown, IsUnread, AllRead, SparesTold}
 use Rattle.lvm_group.specs.Judged.{IsFirstFailed, NoneFailed, LetsBegin, RefusesShown}
 use Rattle.lvm_group.specs.Steps.{HasOnlyRead, LetsMake, RefusesFound}
 use Rattle.lvm_group.specs.declared.look.Free.{Free}

@@ -1,5 +1,6 @@
 -- What the rows of a survey say against a new group.
 use Rattle.std.specs.Prelude.{◌≡◌, ◌⊎◌, ℕ, ◌<◌, ◌≤◌, Bool, true, false, [], Some, slice_get}
+use Rattle.lvm_num.specs.Record.{last_moment}
 use Rattle.lvm_num.specs.declared.descriptor.Descriptor.{Descriptor}
 use Rattle.lvm_num.specs.declared.status.Status.{Status}
 use Rattle.lvm_survey.specs.declared.row.SurveyRow.{SurveyRow}
@@ -7,7 +8,7 @@ use Rattle.lvm_survey.specs.declared.row.Survey.{Survey}
 use Rattle.lvm_survey.specs.Surveyed.{surveyed}
 use Rattle.lvm_core.specs.declared.refused.Cause.{Cause}
 use Rattle.lvm_core.specs.declared.refused.Cause.TheVariants as cause
-use Rattle.lvm_group.specs.Shown.{HasGroup, ShowsEarlier, IsLastShown, last_moment}
+use Rattle.lvm_group.specs.Shown.{HasGroup, ShowsEarlier, IsLastShown}
 
 -- ---- a row
 

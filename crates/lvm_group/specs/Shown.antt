@@ -1,8 +1,8 @@
 -- What the disks show that stands against a new group.
-use Rattle.std.specs.Prelude.{◌≡◌, ◌⊎◌, ℕ, ◌<◌, ◌≤◌, ◌+◌, ◌-◌, ◌^◌, Bool, true, [], Some, IfSome, length}
+use Rattle.std.specs.Prelude.{◌≡◌, ◌⊎◌, ℕ, ◌<◌, ◌≤◌, ◌+◌, Bool, true, [], Some, IfSome, length}
 use Rattle.lvm_num.specs.declared.descriptor.Descriptor.{Descriptor}
 use Rattle.lvm_num.specs.declared.status.Status.{Status}
-use Rattle.lvm_num.specs.Record.{Stamped}
+use Rattle.lvm_num.specs.Record.{Stamped, last_moment}
 use Rattle.lvm_disk.specs.Counts.{Rose}
 use Rattle.lvm_disk.specs.Device.{Device, image_of}
 use Rattle.lvm_kept.specs.Contents.{Contents, contents_of, has_records}
@@ -40,10 +40,6 @@ ShowsEarlier c moment = (shown : ℕ) → ShowsMoment c shown → shown < moment
 -- no moment that the disks show is later than this one, which they show
 abbrev pub IsLastShown : Contents → ℕ → Type 0
 IsLastShown c seen = ShowsMoment c seen × ShowsEarlier c (seen + 1)
-
--- the last moment that a clock may answer
-abbrev pub last_moment : ℕ
-last_moment = 2 ^ 64 - 1
 
 -- The clock is back: its moment is the last that there is, or isn't later than the last one that the disks show.
 abbrev pub IsClockBack : Device → ℕ → ℕ → Type 0

@@ -1,5 +1,6 @@
 -- The two steps in which a group is made on a shelf: its disks are read, and its records are written.
 use Rattle.std.specs.Prelude.{◌≡◌, ℕ, ◌<◌, ◌≤◌, Bool, true, false, if◌then◌else◌, Result, Ok, Err}
+use Rattle.lvm_num.specs.Record.{last_moment}
 use Rattle.lvm_num.specs.Descriptor.{IsValid}
 use Rattle.lvm_disk.specs.Device.{Device}
 use Rattle.lvm_vol.specs.Log.{Log, cut_log}
@@ -17,7 +18,7 @@ use Rattle.lvm_group.specs.declared.look.Free.{Free}
 use Rattle.lvm_group.specs.declared.make.Standing.{Standing}
 use Rattle.lvm_group.specs.NewGroup.{NewGroup, among, size_for, new_group, new_status, given_up}
 use Rattle.lvm_group.specs.Made.{beginning_for, IsAsBefore}
-use Rattle.lvm_group.specs.Shown.{IfShown, HasGroup, ShowsEarlier, IsClockBack, IsUnread, AllRead, IsClear, SparesTold, last_moment}
+use Rattle.lvm_group.specs.Shown.{IfShown, HasGroup, ShowsEarlier, IsClockBack, IsUnread, AllRead, IsClear, SparesTold}
 
 -- ---- the disks are read
 

@@ -14,12 +14,11 @@ ghost use Rattle.lvm_group.specs.Planned.{CanBeMade, IsChoiceFor, IsPlanOf, IsPl
 use crate::checks::partitions_of;
 use lvm_core::{Parts, Room};
 use lvm_disk::Shelf;
-use lvm_num::{Descriptor, DiskSet, Memory, Name, PvRow, Rows, Status, StatusRow, VolumeNumbers};
+use lvm_num::{
+    DISKS, Descriptor, DiskSet, Memory, Name, PvRow, Rows, Status, StatusRow, VolumeNumbers,
+};
 use lvm_quorum::Choice;
 use std::alloc::Global;
-
-// The most disks of a shelf.
-const DISKS: u16 = 128;
 
 /// All that a new group takes memory for: the bytes of its two records, to which disks they go, and the parts of its
 /// session.

@@ -9,15 +9,12 @@ use lvm_disk::{Arrange, Reaped, Shelf, Started};
 use lvm_flights::{Flying, Tally, free_ticket, take_flight};
 use lvm_image::{Exclusive, Image, ImageFault, ReadBuffer, has_image, image_name};
 use lvm_io::{Sink, write_all};
-use lvm_num::{Memory, Pbuf};
+use lvm_num::{DISKS, Memory, Pbuf};
 use std::alloc::Global;
 use std::fs::OpenFile;
 use std::io::{ErrorKind, Read, Seek, Write};
 use std::rt::Files;
 use std::{fs, io};
-
-// How many disks a shelf may have.
-const DISKS: u16 = 128;
 
 // How many transfers may be out.
 const FLIGHTS: usize = 1_024;

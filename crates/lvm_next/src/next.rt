@@ -14,13 +14,10 @@ ghost use Rattle.lvm_next.specs.Rows.{AreMemberRows};
 
 use lvm_left::mark_volumes;
 use lvm_num::{
-    Descriptor, DiskSet, LvRow, Memory, Mode, PvRow, Rows, Status, StatusRow, VolumeNumbers,
+    DISKS, Descriptor, DiskSet, LvRow, Memory, Mode, PvRow, Rows, Status, StatusRow, VolumeNumbers,
 };
 use lvm_stale::StaleTable;
 use std::alloc::Global;
-
-// How many disks a shelf has at most.
-const DISKS: u16 = 128;
 
 /// The status with which a group comes on: a row for each member, missing those that don't answer, stale
 /// what was and the copies on missing members of which another is fresh on one that answers, dirty the

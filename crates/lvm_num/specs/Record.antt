@@ -120,3 +120,7 @@ HeldIsRead = (kind : Kind) (slot : List ℕ) (r : Framed) → IsRecord kind slot
 -- A record that is read is one that the slot holds, if the slot is bytes.
 abbrev pub ReadIsHeld : Type 0
 ReadIsHeld = (kind : Kind) (slot : List ℕ) (r : Framed) → ((i : ℕ) → slice_index slot i < 256) → record_in kind slot ≡ Some r → IsRecord kind slot r
+
+-- the last moment that a clock may answer
+abbrev pub last_moment : ℕ
+last_moment = 2 ^ 64 - 1

@@ -3,6 +3,9 @@ ghost use Rattle.std.specs.Prelude.{◌≡◌, ◌<◌, ℕ, false, ◌==◌, �
 
 use std::marker::Model;
 
+/// How many disks a shelf may have.
+pub const DISKS: u16 = 128;
+
 /// A set of disks by their numbers, 0 to 127. Contracts see a number, whose members `has` tells.
 #[derive(Clone, Copy, Debug, PartialEq, Eq)]
 pub struct DiskSet(u128);

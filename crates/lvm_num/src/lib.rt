@@ -21,7 +21,7 @@ mod word;
 
 pub use bits::{clear_bit, has_bit, set_bit};
 pub use descriptor::{Descriptor, LvRow, Mode, Policy, PvRow};
-pub use disks::DiskSet;
+pub use disks::{DISKS, DiskSet};
 pub use listed::{copies_of, is_on, volume_of};
 pub use name::Name;
 pub use numbers::VolumeNumbers;

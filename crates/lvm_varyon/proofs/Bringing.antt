@@ -4,7 +4,7 @@ use Rattle.std.proofs.lemmas.Bool.{cases_lt}
 use Rattle.std.specs.Prelude.{IsTrue, false, ◌^◌, IfSome}
 use Rattle.lvm_num.specs.Disks.{Disks, has}
 use Rattle.lvm_num.specs.declared.record.Kind.TheVariants as kind
-use Rattle.lvm_num.specs.Record.{Frames}
+use Rattle.lvm_num.specs.Record.{Frames, last_moment}
 use Rattle.lvm_disk.specs.Counts.{RoseBy, Rose}
 use Rattle.lvm_disk.specs.Device.{Media, Device, image_of, HasSectors}
 use Rattle.lvm_disk.specs.Steps.{BothTold}
@@ -33,7 +33,7 @@ use Rattle.lvm_recovery.specs.Copying.{IsOfCopies, sources_and_targets}
 use Rattle.lvm_recovery.specs.Plan.{ArePlannedInOrder}
 use Rattle.lvm_recovery.specs.Planned.{ArePlanned}
 use Rattle.lvm_varyon.specs.declared.plan.Plan.{Plan}
-use Rattle.lvm_varyon.specs.Chosen.{answering, last_moment}
+use Rattle.lvm_varyon.specs.Chosen.{answering}
 use Rattle.lvm_varyon.specs.Equal.{AllWritesGive, BrokeOff, IsEqualled, OneFailed}
 use Rattle.lvm_varyon.specs.Writing.{beginning, IsStillOut}
 use Rattle.lvm_varyon.specs.Varied.{HasWritten, AtChoice, WasStopped, Stops, IsAheadOfDisks, IsBrought, BringGives, brought_of}

@@ -6,7 +6,7 @@ use Rattle.lvm_num.specs.declared.descriptor.Descriptor.{Descriptor}
 use Rattle.lvm_num.specs.declared.status.Status.{Status}
 use Rattle.lvm_num.specs.Descriptor.{IsValid}
 use Rattle.lvm_num.specs.Disks.{has}
-use Rattle.lvm_num.specs.Record.{Stamped}
+use Rattle.lvm_num.specs.Record.{Stamped, last_moment}
 use Rattle.lvm_num.specs.Status.{IsValidStatus}
 use Rattle.lvm_num.specs.Votes.{all_disks}
 use Rattle.lvm_num.proofs.Newest.{is_one}
@@ -27,7 +27,7 @@ use Rattle.lvm_next.specs.Next.{IsNextStatus}
 use Rattle.lvm_recovery.specs.Plan.{ArePlannedInOrder}
 use Rattle.lvm_recovery.specs.Planned.{ArePlanned}
 use Rattle.lvm_varyon.specs.declared.plan.Plan.{Plan}
-use Rattle.lvm_varyon.specs.Chosen.{Holds, last_moment, IsClockBack}
+use Rattle.lvm_varyon.specs.Chosen.{Holds, IsClockBack}
 use Rattle.lvm_varyon.specs.Parts.{IsPlanFor, IsPlan}
 
 -- a status that is found is valid

@@ -1,9 +1,9 @@
 -- Whether the group of a name may come on under a moment, by what the disks that answered show.
-use Rattle.std.specs.Prelude.{◌≡◌, ◌⊎◌, ℕ, ◌<◌, ◌≤◌, ◌-◌, ◌^◌, List, IsTrue}
+use Rattle.std.specs.Prelude.{◌≡◌, ◌⊎◌, ℕ, ◌<◌, ◌≤◌, List, IsTrue}
 use Rattle.lvm_num.specs.declared.descriptor.Descriptor.{Descriptor}
 use Rattle.lvm_num.specs.declared.status.Status.{Status}
 use Rattle.lvm_num.specs.Disks.{Disks}
-use Rattle.lvm_num.specs.Record.{Stamped}
+use Rattle.lvm_num.specs.Record.{Stamped, last_moment}
 use Rattle.lvm_num.specs.Votes.{all_disks}
 use Rattle.lvm_kept.specs.Contents.{Contents}
 use Rattle.lvm_kept.specs.Group.{is_voter, has_quorum}
@@ -19,10 +19,6 @@ pub record Holds (c : Contents) (name : List ℕ) (group : Descriptor) (was : St
   pub is : newest.value ≡ group
   pub only : IsOnly c name group.id newest was
   pub quorum : IsTrue (has_quorum c all_disks group.id)
-
--- the last moment that a clock may answer
-abbrev pub last_moment : ℕ
-last_moment = 2 ^ 64 - 1
 
 -- So it is, and the moment is later than each record of the group, and not the last one.
 pub record MayComeOn (c : Contents) (name : List ℕ) (moment : ℕ) (group : Descriptor) (was : Stamped Status) : Type 0 where

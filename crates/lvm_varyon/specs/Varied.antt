@@ -5,7 +5,7 @@ use Rattle.lvm_num.specs.declared.descriptor.Descriptor.{Descriptor}
 use Rattle.lvm_num.specs.declared.status.Status.{Status}
 use Rattle.lvm_num.specs.Disks.{Disks}
 use Rattle.lvm_num.specs.Descriptor.{IsValid}
-use Rattle.lvm_num.specs.Record.{Stamped}
+use Rattle.lvm_num.specs.Record.{Stamped, last_moment}
 use Rattle.lvm_disk.specs.Device.{Media, Device, image_of}
 use Rattle.lvm_vol.specs.Log.{Log, spare_entries, cut_log}
 use Rattle.lvm_kept.specs.Contents.{Contents, contents_of}
@@ -26,7 +26,7 @@ use Rattle.lvm_session.specs.State.{Core}
 use Rattle.lvm_begin.specs.Beginning.{Beginning, MayBeginAgain}
 use Rattle.lvm_varyon.specs.Found.{Found, HaveAnswered}
 use Rattle.lvm_next.specs.Next.{IsNextStatus}
-use Rattle.lvm_varyon.specs.Chosen.{answering, last_moment, MayComeOn, IsClockBack}
+use Rattle.lvm_varyon.specs.Chosen.{answering, MayComeOn, IsClockBack}
 use Rattle.lvm_next.specs.Restated.{Restated}
 use Rattle.lvm_recover.specs.Recovered.{HasNoPassive}
 use Rattle.lvm_recovery.specs.declared.copying.Recopy.{Recopy}

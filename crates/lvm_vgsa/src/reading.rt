@@ -13,10 +13,8 @@ ghost use Rattle.lvm_vgsa.specs.Parts.{head_at, status_by_parts, disk_and_missin
 use lvm_fields::{
     Fault, Unread, all, bytes_at, u8_up_to, u16_at, u16_from_1, u64_nonzero, zeros_at,
 };
-use lvm_num::{Rows, Status, StatusRow, VolumeNumbers};
+use lvm_num::{DISKS, Rows, Status, StatusRow, VolumeNumbers};
 use std::alloc::Global;
-
-const DISKS: u16 = 128;
 
 const MOST_VOLUMES: u16 = 511;
 

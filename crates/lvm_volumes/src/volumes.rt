@@ -18,15 +18,12 @@ ghost use Rattle.lvm_volumes.specs.Volumes.{MklvGives, RmlvGives, to_make, to_re
 
 use lvm_core::{CommitFault, Driver, Prepared};
 use lvm_disk::Shelf;
-use lvm_num::{Mode, Name, Policy, Pp, is_on};
+use lvm_num::{DISKS, Mode, Name, Policy, Pp, is_on};
 use lvm_stale::StaleTable;
 use lvm_transfer::Patience;
 use lvm_vol::{Entry, Vol};
 use lvm_volume_plan::{GroupFault, NewVolume, VolumePlan, prepare_without};
 use std::alloc::Global;
-
-// The most disks of a shelf.
-const DISKS: u16 = 128;
 
 /// Makes a volume of the group that is on, and answers its number, the lowest that is free. Its partitions are
 /// those of first fit on the members that aren't missing. They become fresh, and zeros are written to them; then

@@ -1,5 +1,5 @@
 use Rattle.std.proofs.Common.{◌<◌, arith}
-use Rattle.lvm_varyon.specs.Chosen.{last_moment}
+use Rattle.lvm_num.specs.Record.{last_moment}
 use Rattle.lvm_varyon.proofs.Choosing.{group_valid, was_valid, not_later, at_last, planned}
 use Rattle.lvm_varyon.proofs.plan.plan_of.Goals as goal
 
