@@ -268,21 +268,25 @@ module _ (d : Descriptor) (first last : Stored) (valid : IsValid d) (round : Mar
 pub left_same_as : (d : Descriptor) (u : Stored) → MarksLeft d u u
 left_same_as d u = record { none = λ none. none; only = λ p stale. inl stale }
 
+-- a copy passed over since later was so since earlier too, where what was there later was there earlier
+pub passed_before : (d : Descriptor) (first mid last : Stored) (p : Pp) → ((e : ℕ) → IsTrue (there mid e) → IsTrue (there first e)) → IsPassed d mid last p → IsPassed d first last p
+passed_before d first mid last p less is = record {
+  row = is.row;
+  lp = is.lp;
+  volume = is.volume;
+  inside = is.inside;
+  one = is.one;
+  absent = is.absent;
+  other = is.other;
+  among = is.among;
+  fresh = is.fresh;
+  was_there = less is.other.disk is.was_there;
+}
+
 pub left_then : (d : Descriptor) (first mid last : Stored) → IsValid d → ((e : ℕ) → IsTrue (there mid e) → IsTrue (there first e)) → ((e : ℕ) → IsTrue (there last e) → IsTrue (there mid e)) → MarksLeft d first mid → MarksLeft d mid last → MarksLeft d first last
 left_then d first mid last valid less fewer one two = record {
   none = λ none. two.none (one.none none);
-  only = λ p stale. ⊎_elim (λ before. ⊎_elim (λ first_so. inl first_so) (λ (is : IsPassed d first mid p). inr (passed_still p is)) (one.only p before)) (λ (is : IsPassed d mid last p). inr (record {
-    row = is.row;
-    lp = is.lp;
-    volume = is.volume;
-    inside = is.inside;
-    one = is.one;
-    absent = is.absent;
-    other = is.other;
-    among = is.among;
-    fresh = is.fresh;
-    was_there = less is.other.disk is.was_there;
-  })) (two.only p stale);
+  only = λ p stale. ⊎_elim (λ before. ⊎_elim (λ first_so. inl first_so) (λ (is : IsPassed d first mid p). inr (passed_still p is)) (one.only p before)) (λ (is : IsPassed d mid last p). inr (passed_before d first mid last p less is)) (two.only p stale);
 }
   where
     gone_still : (p : Pp) → IsFalse (there mid p.disk) → IsFalse (there last p.disk)

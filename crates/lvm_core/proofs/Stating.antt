@@ -20,6 +20,7 @@ use Rattle.lvm_write.proofs.Writing.{if_told}
 use Rattle.lvm_commit.specs.LawsOfFinding.{FindsNothingNewOn}
 use Rattle.lvm_commit.specs.Settling.{IsPassed, there, IsOf, IsOfStatus, IsPlainStatus, SessionIsHeld, SpendsNumbers, StaysHeld, WantsMarks}
 use Rattle.lvm_commit.proofs.Chaining.{keeps_wider}
+use Rattle.lvm_commit.proofs.Leaving.{passed_before}
 use Rattle.lvm_core.specs.declared.fault.CommitFault.{CommitFault}
 use Rattle.lvm_session.specs.State.{State, is_there}
 use Rattle.lvm_core.specs.Sound.{IsSound}
@@ -107,18 +108,7 @@ module _ (stale fresh : List Pp) (before after : ℕ) (old new : State) (answer 
   there_is_so = there_first Held Plain old.core.descriptor plan w.first before after old new w.how answer w.settles begins settled_is sound sound.fitting.valid same
 
   passed_so : (p : Pp) → IsPassed old.core.descriptor w.first new.core.status p → IsPassed old.core.descriptor old.core.status new.core.status p
-  passed_so p is = record {
-    row = is.row;
-    lp = is.lp;
-    volume = is.volume;
-    inside = is.inside;
-    one = is.one;
-    absent = is.absent;
-    other = is.other;
-    among = is.among;
-    fresh = is.fresh;
-    was_there = subst (λ (set : Disks). IsTrue (set is.other.disk)) (there_is_so ∙ sym (there_is old.core.descriptor old.core.status sound.fitting.group)) is.was_there;
-  }
+  passed_so p is = passed_before old.core.descriptor old.core.status w.first new.core.status p (λ d. subst (λ (set : Disks). IsTrue (set d)) (there_is_so ∙ sym (there_is old.core.descriptor old.core.status sound.fitting.group))) is
 
   pub restates : AreUnused old.core.descriptor (stale ++ fresh) → Restates stale fresh old new
   restates unused = record {

@@ -1,5 +1,5 @@
 -- What is kept after one entry more.
-use Rattle.std.proofs.Common.{◌≡◌, inl, inr, ℕ, zero, suc, ◌+◌, ◌-◌, ◌*◌, ◌/◌, ◌^◌, ◌≤◌, ◌<◌, ◌&&◌, ◌||◌, ◌==◌, not, Bool, true, false, cond, List, [], ◌∷◌, ◌++◌, length, take, drop, get_or, map, replicate, count_by, Option, Some, None, is_some, IsSome, option_map, slice_get, unwrap_or, refl, sym, ◌∙◌, ap, subst, arith, zero-add, length-append, nat_lt}
+use Rattle.std.proofs.Common.{◌≡◌, inl, inr, ℕ, zero, suc, ◌+◌, ◌-◌, ◌*◌, ◌/◌, ◌^◌, ◌≤◌, ◌<◌, ◌&&◌, ◌||◌, ◌==◌, not, Bool, true, false, cond, List, [], ◌∷◌, ◌++◌, length, take, drop, get_or, map, replicate, Option, Some, None, is_some, IsSome, option_map, slice_get, unwrap_or, refl, sym, ◌∙◌, ap, subst, arith, zero-add, length-append, nat_lt}
 use Rattle.std.specs.List.{list_all, list_any, find, cons_option}
 use Rattle.std.specs.Bool.{MatchBool}
 use Rattle.std.specs.Simd.{first_chunks}
@@ -18,7 +18,6 @@ use Rattle.lvm_checker.specs.declared.row.Ask.{Ask}
 use Rattle.lvm_checker.specs.declared.row.Row.{Row}
 use Rattle.lvm_checker.specs.declared.row.Row.TheVariants as row
 use Rattle.lvm_vol.specs.Facts.{Request, Fact, Making, Made, Split, Removing, Removed, Begun, Landed, Taken, Cut, On, Stands, begun, begun_by}
-use Rattle.lvm_vol.specs.Legal.{begins_in}
 use Rattle.lvm_vol.specs.Log.{Log, open_count, landed_count, plain_fact, cut_log, spare_entries, spare_bytes, awaited, blocks_begun, entries_of, entries_from, next_id, blocks_given, next_request, has_id, asked, no_request, request_of, lands_id, takes_id, is_open, is_answered, is_got, got_by, held, blocks_of, blocks_begun_with, got_without_bytes, need, is_uncut_after, is_uncut_from, is_uncut}
 use Rattle.lvm_checker.specs.Fitting.{is_bounded}
 use Rattle.lvm_vol.specs.Order.{Follows, Ordered, IsWhole, IsGotOf}
@@ -26,6 +25,7 @@ use Rattle.lvm_checker.specs.Rows.{no_ask, ask_of, is_landing, is_taking}
 use Rattle.lvm_history.specs.Keeping.{ask_at, ask_found, is_open_by, awaited_by, is_answered_by, entry_kept, IsOneOfAsks, asks_from, row_of, IsKept, HasRoom, if_uncut, blocks_first, Kept, log_of, IsSound}
 use Rattle.lvm_vol.proofs.Order.{IdsFrom, stands_last, stands-at, stands_begun, numbered, begun-push, any-push, ordered-push}
 use Rattle.lvm_vol.proofs.Asking.{found_of, and_left, open_of, follows_taken}
+use Rattle.lvm_vol.proofs.Counting.{count_begun}
 use Rattle.lvm_history.proofs.Keeping.{counts, ask-back, length-asks, length-flat, length-held, asks-push, facts-back, blocks_aside, blocks-begun, blocks-landed, blocks-read, held_same, unlanded_id, place_of}
 use Rattle.lvm_history.proofs.Counting.{stands_get, find_at, find_below, counted, three_needed, no_taking_yet, landing_same, taking_same, needed-push, length-push}
 
@@ -361,29 +361,6 @@ cut_room k sound opened =
     (row_room k Cut sound tt (omega (arith, fits)), omega (arith, fits, few))
 
 -- a beginning
-
-count_begun : (run : ℕ) (facts : List Fact) → ((r : Request) → Stands r (begun facts) → r.run ≡ run) → count_by (begins_in run) facts ≡ length (begun facts)
-count_begun run [] runs = refl
-count_begun run (f ∷ facts) runs = by_fact (λ fewer. count_begun run facts fewer) f runs
-  where
-    counts_one : (g : Fact) → count_by (begins_in run) (g ∷ facts) ≡ cond (begins_in run g) 1 0 + count_by (begins_in run) facts
-    counts_one g = sum_by-cons (λ (x : Fact). cond (begins_in run x) 1 0) g facts
-
-    by_fact : (((r : Request) → Stands r (begun facts) → r.run ≡ run) → count_by (begins_in run) facts ≡ length (begun facts)) → (g : Fact)
-        → ((r : Request) → Stands r (begun (g ∷ facts)) → r.run ≡ run) → count_by (begins_in run) (g ∷ facts) ≡ length (begun (g ∷ facts))
-    by_fact rest (Begun r) all =
-        let one : ◌≡◌ {A = ℕ} (cond (r.run == run) 1 0) 1 = ap (λ (n : ℕ). cond (n == run) 1 0) (all r (inl refl)) ∙ (let e : (run == run) ≡ true = grind (arith, nat_tests) in ap (λ (t : Bool). cond t 1 0) e) in
-        let more = rest (λ s there. all s (inr there)) in
-        omega (arith, counts_one (Begun r), one, more)
-    by_fact rest (Landed r how started got) all = counts_one (Landed r how started got) ∙ (let more = rest all in omega (arith, more))
-    by_fact rest (Taken r) all = counts_one (Taken r) ∙ (let more = rest all in omega (arith, more))
-    by_fact rest (Making lv blocks m) all = counts_one (Making lv blocks m) ∙ (let more = rest all in omega (arith, more))
-    by_fact rest (Made lv) all = counts_one (Made lv) ∙ (let more = rest all in omega (arith, more))
-    by_fact rest (Split from lv) all = counts_one (Split from lv) ∙ (let more = rest all in omega (arith, more))
-    by_fact rest (Removing vol) all = counts_one (Removing vol) ∙ (let more = rest all in omega (arith, more))
-    by_fact rest (Removed vol) all = counts_one (Removed vol) ∙ (let more = rest all in omega (arith, more))
-    by_fact rest Cut all = counts_one Cut ∙ (let more = rest all in omega (arith, more))
-    by_fact rest (On moment) all = counts_one (On moment) ∙ (let more = rest all in omega (arith, more))
 
 length-first_chunks : (n k : ℕ) (xs : List ℕ) → length (first_chunks n k xs) ≡ k
 length-first_chunks n zero xs = refl

@@ -16,19 +16,17 @@ use Rattle.lvm_session.specs.declared.bringing.Step.TheVariants as step
 use Rattle.lvm_session.specs.declared.flown.Flown.{Flown}
 use Rattle.lvm_session.specs.declared.flown.Owner.TheVariants as owner
 use Rattle.lvm_session.specs.declared.open.Open.{Open}
-use Rattle.lvm_session.specs.declared.open.Power.TheVariants as power
 use Rattle.lvm_session.specs.State.{Core, State, is_there}
-use Rattle.lvm_session.specs.Judging.{copies_in, is_running, is_waiting}
+use Rattle.lvm_session.specs.Judging.{copies_in, is_running}
 use Rattle.lvm_session.specs.Bringing.{groups_of, is_whole}
-use Rattle.lvm_session.specs.Enabled.{is_lost}
 use Rattle.lvm_session.specs.Events.{flown}
-use Rattle.lvm_session.specs.Left.{copy_left, left_by, left_of, request_left, status_left, step_left, tried_of, update_work, work_left}
+use Rattle.lvm_session.specs.Left.{copy_left, left_of, request_left, status_left, step_left, tried_of, update_work, work_left}
 use Rattle.lvm_session.specs.Sound.{IsCopy}
 use Rattle.lvm_keeps.specs.Falls.{CopyReadFalls}
 use Rattle.lvm_keeps.proofs.Bounding.{take_few}
 use Rattle.lvm_keeps.proofs.CopyRead.{at_rest, running, short}
 use Rattle.lvm_keeps.proofs.PinFalls.{sum_same}
-use Rattle.lvm_keeps.proofs.Leaving.{request_still}
+use Rattle.lvm_keeps.proofs.Leaving.{request_still, lit}
 
 module _ (core : Core) (c : OpenCopy) (to : Step) (row : Flown) (pool : List Bool) where
   abbrev before : Core
@@ -89,9 +87,6 @@ copy_read_falls old new sound on votes event = subst (λ (s : State). left_of s.
 
     made : Core
     made = record old.core { flying = old.core.flying ++ row ∷ []; pool = new.core.pool; copy = Some (record event.copy { step = step.Reading event.source }) }
-
-    lit : (c : Core) → c.power ≡ power.On → is_lost c ≡ false → left_of c ≡ work_left c
-    lit c is none = ap (λ p. left_by p c) is ∙ ap (λ b. if b then length c.flying + count_by is_waiting c.requests else work_left c) none
 
     fewer : 6 - 2 * tried_of old.core event.copy + 1 < step_left event.copy.step (tried_of old.core event.copy)
     fewer =

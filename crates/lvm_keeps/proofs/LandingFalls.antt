@@ -25,7 +25,7 @@ use Rattle.lvm_session.specs.Requests.{IsOpenOne}
 use Rattle.lvm_session.specs.Sound.{count_if}
 use Rattle.lvm_keeps.specs.Falls.{LandingFalls}
 use Rattle.lvm_keeps.proofs.Lists.{all_at, count_set}
-use Rattle.lvm_keeps.proofs.Leaving.{left_same}
+use Rattle.lvm_keeps.proofs.Leaving.{left_same, grows}
 use Rattle.lvm_keeps.proofs.PinFalls.{sum_less}
 use Rattle.lvm_keeps.proofs.Still.{changed}
 
@@ -43,9 +43,11 @@ read_some phase.Data r = of_two (list_any (λ (t : Target). is_done t.state) r.t
 read_some phase.WantStatus r = of_two (list_any (λ (t : Target). is_done t.state) r.targets.items) 1 (1 + 2 * waiting_targets r) (omega arith) (omega arith)
 read_some phase.Landed r = of_two (list_any (λ (t : Target). is_done t.state) r.targets.items) 1 (1 + 2 * waiting_targets r) (omega arith) (omega arith)
 
+pub left_some : (core : Core) (o : Open) → 1 ≤ (if is_write o.request.ask then write_left core o.request else read_left o.request.phase o.request)
+left_some core o = of_two (is_write o.request.ask) (write_left core o.request) (read_left o.request.phase o.request) (of_two (is_begun o.request.targets.items) (begun_left o.request) (unbegun_left core o.request) (omega arith) (omega arith)) (read_some o.request.phase o.request)
+
 some_left : (core : Core) (o : Open) → is_waiting o ≡ true → 1 ≤ request_left core o
-some_left core o waits = subst (λ b. 1 ≤ if_so b (if is_write o.request.ask then write_left core o.request else read_left o.request.phase o.request)) (sym waits)
-    (of_two (is_write o.request.ask) (write_left core o.request) (read_left o.request.phase o.request) (of_two (is_begun o.request.targets.items) (begun_left o.request) (unbegun_left core o.request) (omega arith) (omega arith)) (read_some o.request.phase o.request))
+some_left core o waits = subst (λ b. 1 ≤ if_so b (if is_write o.request.ask then write_left core o.request else read_left o.request.phase o.request)) (sym waits) (left_some core o)
 
 -- ---- the landing
 
@@ -65,9 +67,6 @@ module _ (core : Core) (place : ℕ) (o : Open) (how : Outcome) (on : core.power
 
   same : made ≡ after
   same = ap (λ (c : Cached). record core { history = made.history; requests = slice_set core.requests place (landed_as how o); queue = made.queue; pool = made.pool; cache = c }) (only_entries core.cache o.request)
-
-  grows : (a b c d x y : ℕ) → x < y → a + b + c + x + d < a + b + c + y + d
-  grows a b c d x y less = omega (arith, less)
 
   work_falls : work_left after < work_left core
   work_falls =

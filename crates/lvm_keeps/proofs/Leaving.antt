@@ -1,5 +1,5 @@
 -- What is left of a request stays where these parts of a session change.
-use Rattle.std.proofs.Common.{◌≡◌, ◌+◌, ◌*◌, ◌&&◌, ◌∙◌, ℕ, Bool, not, if◌then◌else◌, List, refl, ap}
+use Rattle.std.proofs.Common.{◌≡◌, ◌+◌, ◌*◌, ◌&&◌, ◌∙◌, ℕ, Bool, not, if◌then◌else◌, List, refl, ap, false, length, ◌<◌, arith}
 use Rattle.std.specs.List.{sum_by}
 use Rattle.std.specs.Prelude.{count_by}
 use Rattle.lvm_vol.specs.Log.{Log}
@@ -13,10 +13,19 @@ use Rattle.lvm_path.specs.Targets.{is_begun}
 use Rattle.lvm_path.specs.declared.target.Target.{Target}
 use Rattle.lvm_session.specs.declared.flown.Flown.{Flown}
 use Rattle.lvm_session.specs.declared.open.Open.{Open}
+use Rattle.lvm_session.specs.declared.open.Power.TheVariants as power
 use Rattle.lvm_session.specs.State.{Core}
 use Rattle.lvm_session.specs.Judging.{copies_for, is_changed, is_waiting}
-use Rattle.lvm_session.specs.Left.{begun_left, if_so, is_held, lacks_dirty, phase_left, read_left, request_left, turns_of, update_work, lacks_note}
+use Rattle.lvm_session.specs.Left.{begun_left, if_so, is_held, lacks_dirty, phase_left, read_left, request_left, turns_of, update_work, lacks_note, left_by, left_of, work_left}
+use Rattle.lvm_session.specs.Enabled.{is_lost}
 use Rattle.lvm_keeps.proofs.Still.{changed}
+
+-- all that is left is work, while the group is on and has its votes
+pub lit : (c : Core) → c.power ≡ power.On → is_lost c ≡ false → left_of c ≡ work_left c
+lit c is none = ap (λ p. left_by p c) is ∙ ap (λ b. if b then length c.flying + count_by is_waiting c.requests else work_left c) none
+
+pub grows : (a b c d x y : ℕ) → x < y → a + b + c + x + d < a + b + c + y + d
+grows a b c d x y less = omega (arith, less)
 
 -- as much is left of its phase, where as many notes are lacking
 pub phase_still : (core now : Core) (r : Request) → lacks_note now r ≡ lacks_note core r → (p : Phase) → phase_left p now r ≡ phase_left p core r

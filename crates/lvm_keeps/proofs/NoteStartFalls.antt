@@ -21,12 +21,11 @@ use Rattle.lvm_path.specs.Targets.{is_begun}
 use Rattle.lvm_session.specs.declared.flown.Flown.{Flown}
 use Rattle.lvm_session.specs.declared.flown.Owner.TheVariants as owner
 use Rattle.lvm_session.specs.declared.open.Open.{Open}
-use Rattle.lvm_session.specs.declared.open.Power.TheVariants as power
 use Rattle.lvm_session.specs.State.{Core, State, is_there}
 use Rattle.lvm_session.specs.Judging.{copies_for, group_of, is_changed, is_missing, is_waiting}
-use Rattle.lvm_session.specs.Enabled.{is_lost, is_unnamed, note_due, wants_record}
+use Rattle.lvm_session.specs.Enabled.{is_unnamed, note_due, wants_record}
 use Rattle.lvm_session.specs.Events.{flown}
-use Rattle.lvm_session.specs.Left.{begun_left, copy_left, if_so, is_held, lacks_dirty, lacks_note, left_by, left_of, phase_left, read_left, request_left, status_left, turns_of, unbegun_left, update_work, work_left, write_left}
+use Rattle.lvm_session.specs.Left.{begun_left, copy_left, if_so, is_held, lacks_dirty, lacks_note, left_of, phase_left, read_left, request_left, status_left, turns_of, unbegun_left, update_work, work_left, write_left}
 use Rattle.lvm_session.specs.Requests.{IsPhase}
 use Rattle.lvm_session.specs.Sound.{count_if}
 use Rattle.lvm_keeps.specs.Falls.{NoteStartFalls}
@@ -34,18 +33,19 @@ use Rattle.lvm_keeps.proofs.Lists.{all_at, count_cons}
 use Rattle.lvm_keeps.proofs.Noted.{flight_beside, named_still}
 use Rattle.lvm_keeps.proofs.NoteStart.{aim, found, its, kept, no_flight, noted, record_due, waiting}
 use Rattle.lvm_keeps.proofs.Small.{both, is_false, not_so}
+use Rattle.lvm_keeps.proofs.Leaving.{lit}
 
 -- ---- counts and sums
 
 module _ {A : Type 0} (t u : A → Bool) (less : (x : A) → u x ≡ true → t x ≡ true) where
-  one_less : (x : A) → count_if (u x) ≤ count_if (t x)
+  pub one_less : (x : A) → count_if (u x) ≤ count_if (t x)
   one_less x = by (u x) refl
     where
       by : (b : Bool) → u x ≡ b → count_if b ≤ count_if (t x)
       by false e = omega arith
       by true e = let is : count_if (t x) ≡ 1 = ap count_if (less x e) in omega (arith, is)
 
-  count_less : (xs : List A) → count_by u xs ≤ count_by t xs
+  pub count_less : (xs : List A) → count_by u xs ≤ count_by t xs
   count_less [] = omega arith
   count_less (x ∷ xs) = let a = count_cons t x xs in let b = count_cons u x xs in let one = one_less x in let rest = count_less xs in omega (arith, a, b, one, rest)
 
@@ -226,9 +226,6 @@ note_start_falls place disk old new sound on votes event = subst (λ (s : State)
 
     made : Core
     made = record old.core { flying = old.core.flying ++ row ∷ []; pool = new.core.pool; cache = after_start old.core.cache disk }
-
-    lit : (c : Core) → c.power ≡ power.On → is_lost c ≡ false → left_of c ≡ work_left c
-    lit c is none = ap (λ p. left_by p c) is ∙ ap (λ b. if b then length c.flying + count_by is_waiting c.requests else work_left c) none
 
     records : event.request.request.phase ≡ phase.WantRecord
     records = wants_it event.request.request.phase (record_due old sound on place disk event.request event.there event.due event.flight event.writes event.launches.long event.launches.taken.free event.launches.starts.fresh new.device.counts.starts new.device.wrote)

@@ -15,10 +15,10 @@ use Rattle.lvm_session.specs.Judging.{copies_for, group_of, is_changed, is_waiti
 use Rattle.lvm_session.specs.Enabled.{is_lost, may_pin}
 use Rattle.lvm_path.specs.Asks.{is_write, lv_of}
 use Rattle.lvm_path.specs.Targets.{is_begun}
-use Rattle.lvm_session.specs.Left.{begun_left, copy_left, if_so, is_held, lacks_dirty, lacks_note, left_by, left_of, phase_left, read_left, request_left, status_left, turns_of, unbegun_left, update_work, work_left, write_left}
+use Rattle.lvm_session.specs.Left.{begun_left, copy_left, if_so, is_held, lacks_dirty, lacks_note, left_of, phase_left, read_left, request_left, status_left, turns_of, unbegun_left, update_work, work_left, write_left}
 use Rattle.lvm_session.specs.Sound.{IsSound}
 use Rattle.lvm_keeps.specs.Falls.{PinFalls}
-use Rattle.lvm_keeps.proofs.Leaving.{left_same}
+use Rattle.lvm_keeps.proofs.Leaving.{left_same, lit, grows}
 use Rattle.lvm_keeps.proofs.Pin.{entry, full_is, its, now, pinned, shape, waits}
 
 -- ---- sums
@@ -95,9 +95,6 @@ module _ (s : State) (sound : IsSound s) (on : s.core.power ≡ power.On) (place
       let few = count_by-le-length (lacks_note after with_its_pin.request) o.request.targets.items in
       omega (arith, a, b, most, few)
 
-  grows : (a b c d x y : ℕ) → x < y → a + b + c + x + d < a + b + c + y + d
-  grows a b c d x y less = omega (arith, less)
-
   work_falls : work_left after < work_left core
   work_falls =
       grows (length core.flying) ((update_work + 1) * count_by (λ (row : PvRow). is_there core row.disk) core.descriptor.pvs) (status_left core) (option_map_or (copy_left core) core.copy 0)
@@ -106,9 +103,6 @@ module _ (s : State) (sound : IsSound s) (on : s.core.power ≡ power.On) (place
 
   pub falls : is_lost core ≡ false → left_of after < left_of core
   falls votes = subst (λ n. left_of after < n) (sym (lit core on votes)) (subst (λ n. n < work_left core) (sym (lit after on votes)) work_falls)
-    where
-      lit : (c : Core) → c.power ≡ power.On → is_lost c ≡ false → left_of c ≡ work_left c
-      lit c is none = ap (λ p. left_by p c) is ∙ ap (λ b. if b then length c.flying + count_by is_waiting c.requests else work_left c) none
 
 pub pin_falls : PinFalls
 pin_falls place old new sound on votes event =

@@ -50,3 +50,12 @@ most_on n false true false on e = at_most n e
     at_most m few = grind (arith, nat_tests, few)
 most_on n false false true on e = not_so (sym (on refl))
 most_on n false false false on e = e
+
+-- one that is to blame for less is still to blame
+pub same_blame : (f u m w h a b : Bool) → (b ≡ true → a ≡ true) → f || (u && (m || w || h || b)) ≡ true → f || (u && (m || w || h || a)) ≡ true
+same_blame true u m w h a b was e = refl
+same_blame false false m w h a b was e = e
+same_blame false true true w h a b was e = refl
+same_blame false true false true h a b was e = refl
+same_blame false true false false true a b was e = refl
+same_blame false true false false false a b was e = was e

@@ -11,8 +11,8 @@ use Rattle.lvm_vol.specs.Log.{Log, asked, has_id, is_answered, is_open, lands_id
 use Rattle.lvm_vol.specs.Order.{Ordered}
 use Rattle.lvm_vol.proofs.Asking.{find_stands}
 use Rattle.lvm_vol.proofs.Order.{IdsFrom, any-push, begun-push, numbered, stands-at}
+use Rattle.lvm_vol.proofs.Counting.{count_begun}
 use Rattle.lvm_session.specs.Sound.{outcome_by, outcome_in, place_in}
-use Rattle.lvm_submit.proofs.Numbered.{count_begun}
 use Rattle.lvm_keeps.proofs.Small.{not_so}
 
 or_false : (a : Bool) → a || false ≡ a

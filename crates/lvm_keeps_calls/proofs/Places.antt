@@ -1,74 +1,20 @@
 -- The blocks of a volume are fewer than 2 ^ 40.
-use Rattle.std.proofs.Common.{◌≡◌, ◌≢◌, ℕ, zero, suc, ◌+◌, ◌*◌, ◌^◌, ◌<◌, ◌≤◌, ◌==◌, Bool, true, false, ◌||◌, eqb, List, [], ◌∷◌, length, map, get_or, Some, refl, subst, ap, arith, length-append, if◌then◌else◌}
-use Rattle.std.specs.Prelude.{All, AllPairs, find}
-use Rattle.std.specs.List.{list_any, AllByRecursion, IsDistinct}
+use Rattle.std.proofs.Common.{◌≡◌, ℕ, zero, suc, ◌+◌, ◌*◌, ◌^◌, ◌<◌, ◌≤◌, ◌==◌, Bool, true, false, ◌||◌, List, [], ◌∷◌, length, map, get_or, Some, refl, subst, ap, arith, length-append, if◌then◌else◌}
+use Rattle.std.specs.Prelude.{find}
+use Rattle.std.specs.List.{list_any, AllByRecursion}
 use Rattle.std.proofs.Math.Nat.{mul-le-mul_right}
 use Rattle.std.proofs.lemmas.Bool.{eqb-true}
-use Rattle.std.proofs.lemmas.Bool.Decides.{nat_tests}
-use Rattle.std.proofs.lemmas.List.{length-map}
-use Rattle.std.proofs.lemmas.List.Elements.{All-map, All-head, All-tail, recursion_from_All}
-use Rattle.std.proofs.lemmas.List.Folds.{Any-from_list_any}
-use Rattle.std.proofs.lemmas.Map.Steps.{length-le_from_distinct_below}
-use Rattle.lvm_num.specs.declared.place.Pp.{Pp}
-use Rattle.lvm_num.specs.declared.descriptor.PvRow.{PvRow}
 use Rattle.lvm_num.specs.declared.descriptor.LvRow.{LvRow}
 use Rattle.lvm_num.specs.declared.descriptor.Descriptor.{Descriptor}
-use Rattle.lvm_num.specs.Descriptor.{IsLaidOut, IsMember, IsPartitionOf, IsValid, IsVolume, is_size, partitions_in, volume_of}
+use Rattle.lvm_num.specs.Descriptor.{IsLaidOut, IsValid, IsVolume, is_size, partitions_in, volume_of}
 use Rattle.lvm_num.specs.Geometry.{volume_blocks}
-use Rattle.lvm_num.specs.Marks.{spot}
 use Rattle.lvm_num.proofs.MapsLemmas.{find-Some}
-use Rattle.lvm_num.proofs.Pairs.{AllPairs-right}
+use Rattle.lvm_num.proofs.Spots.{bounded, few_apart}
 
 -- ---- partitions that are all different are few
 
-record IsBounded (pp : Pp) : Type 0 where
-  disk : pp.disk < 128
-  number : pp.pp < 1016
-
-spot-same : (a b : Pp) → IsBounded a → IsBounded b → spot a ≡ spot b → a ≡ b
-spot-same a b a-in b-in same =
-    let a-lt : a.pp < 1016 = a-in.number in
-    let b-lt : b.pp < 1016 = b-in.number in
-    let disk : a.disk ≡ b.disk = omega arith in
-    let pp : a.pp ≡ b.pp = omega arith in
-    λ t. record { disk = disk t; pp = pp t }
-
-differ : (m n : ℕ) → m ≢ n → eqb m n ≡ false
-differ m n apart = grind (arith, nat_tests)
-
-distinct : (pps : List Pp) → All IsBounded pps → AllPairs (λ (a b : Pp). a ≢ b) pps → IsDistinct eqb (map spot pps)
-unfolding IsDistinct
-distinct [] in_bounds apart = tt
-distinct (pp ∷ pps) in_bounds apart = (
-  recursion_from_All (λ y. eqb (spot pp) y ≡ false) (map spot pps)
-      (All-map (λ y. eqb (spot pp) y ≡ false) spot pps
-      (λ k d lt. differ (spot pp) (spot (get_or pps k d))
-      (λ same. apart 0 (suc k) d (omega arith) (omega (arith, lt))
-      (spot-same pp (get_or pps k d) (All-head IsBounded pp pps in_bounds) (All-tail IsBounded pp pps in_bounds k d lt) same)))),
-  distinct pps (All-tail IsBounded pp pps in_bounds) (AllPairs-right (λ (a b : Pp). a ≢ b) (pp ∷ []) pps apart),
-)
-
-below : (pps : List Pp) → All IsBounded pps → (q : ℕ) → list_any (eqb q) (map spot pps) ≡ true → q < 130048
-below pps in_bounds q some =
-    let found = Any-from_list_any (eqb q) (map spot pps) some in
-    let small : All (λ n. n < 130048) (map spot pps) =
-    All-map (λ n. n < 130048) spot pps (λ k d lt. let one = in_bounds k d lt in omega (arith, one.disk, one.number)) in
-    let here = small found.0 found.1 found.2 in
-    omega (arith, here, found.3, eqb-true q found.1 found.4)
-
 few_partitions : (d : Descriptor) → IsValid d → length (partitions_in d.lvs) ≤ 130048
-few_partitions d valid = omega (arith, length-le_from_distinct_below (map spot (partitions_in d.lvs)) 130048 (distinct (partitions_in d.lvs) in_bounds valid.maps.used_once) (below (partitions_in d.lvs) in_bounds), length-map (partitions_in d.lvs) spot)
-  where
-    bounded : (p : Pp) → IsPartitionOf d p → IsBounded p
-    bounded p of =
-        let found = find-Some (λ (r : PvRow). r.disk == p.disk) d.pvs of.0 of.1 in
-        let its : IsMember of.0 = subst IsMember (found.1.2 of.0) (valid.members.each found.1.0 of.0 found.1.1) in
-        let most = its.partitions in
-        let less = of.2 in
-        record { disk = subst (λ n. n < 128) (eqb-true of.0.disk p.disk found.0) its.disk; number = omega (arith, most, less) }
-
-    in_bounds : All IsBounded (partitions_in d.lvs)
-    in_bounds k e lt = bounded (get_or (partitions_in d.lvs) k e) (valid.maps.places k e lt)
+few_partitions d valid = few_apart (partitions_in d.lvs) (λ k e lt. bounded d valid (get_or (partitions_in d.lvs) k e) (valid.maps.places k e lt)) valid.maps.used_once
 
 -- ---- those of one volume are among them
 

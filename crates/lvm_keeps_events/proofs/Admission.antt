@@ -43,7 +43,7 @@ use Rattle.lvm_keeps.specs.Keeps.{AdmissionKeeps}
 use Rattle.lvm_keeps.proofs.Causes.{answered_still, copies_still, counted_still, origin_still}
 use Rattle.lvm_keeps.proofs.Lists.{all_at, all_on, all_set, any_set, count_cons, count_same, count_set, length_set, set_beside}
 use Rattle.lvm_keeps.proofs.Rows.{all_fly, rows_on}
-use Rattle.lvm_keeps.proofs.Small.{not_so}
+use Rattle.lvm_keeps.proofs.Small.{not_so, same_blame}
 use Rattle.lvm_keeps.proofs.Still.{bring_on, if_on, moved, no_cause, open_on}
 use Rattle.lvm_keeps.proofs.Tables.{apart, ascending_set, rows_set}
 use Rattle.lvm_keeps.proofs.Whole.{sound_when_on}
@@ -350,14 +350,6 @@ module _ (s : State) (sound : IsSound s) (on : s.core.power ≡ power.On) (place
       ends true true = refl
       ends true false = refl
       ends false b = refl
-
-  same_blame : (f u m w h a b : Bool) → (b ≡ true → a ≡ true) → f || (u && (m || w || h || b)) ≡ true → f || (u && (m || w || h || a)) ≡ true
-  same_blame true u m w h a b was e = refl
-  same_blame false false m w h a b was e = e
-  same_blame false true true w h a b was e = refl
-  same_blame false true false true h a b was e = refl
-  same_blame false true false false true a b was e = refl
-  same_blame false true false false false a b was e = was e
 
   target_caused : (t : Target) → IsCaused s.device core t → IsCaused s.device now.core t
   target_caused t why e = why (same_blame (is_failed t.state) t.usable (is_missing core t.pp.disk) (is_wanted_stale core t.pp) (is_held_stale core t.pp) (list_any (fails_on t.pp) core.requests) (list_any (fails_on t.pp) requests)

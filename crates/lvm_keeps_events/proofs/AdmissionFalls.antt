@@ -38,12 +38,11 @@ use Rattle.lvm_session.specs.Marks.{WantsDirty, WantsDirtyIf}
 use Rattle.lvm_session.specs.Left.{begun_left, copy_left, if_so, is_brought_up, is_held, lacks_dirty, lacks_note, left_of, phase_left, read_left, request_left, status_left, turns_of, unbegun_left, update_work, waiting_targets, work_left, write_left}
 use Rattle.lvm_session.specs.Requests.{IsPhase}
 use Rattle.lvm_session.specs.Sound.{IsSound}
-use Rattle.lvm_keeps.proofs.Leaving.{left_same}
+use Rattle.lvm_keeps.proofs.Leaving.{left_same, lit}
 use Rattle.lvm_keeps.proofs.PinFalls.{sum_less, sum_same}
 use Rattle.lvm_keeps.proofs.Small.{not_so}
 use Rattle.lvm_keeps.proofs.Still.{changed}
 use Rattle.lvm_path.specs.declared.facts.Next.TheVariants as next
-use Rattle.lvm_keeps_events.proofs.CopyWriteFalls.{lit}
 use Rattle.lvm_keeps_events.specs.FallsMoves.{AdmissionFalls}
 use Rattle.lvm_keeps_events.proofs.Admission.{any_fresh, choice, clean, mark, may, one_of, passive, passive_so, request_of, status_sound, unbegun_so, waits_so, writes}
 use Rattle.lvm_keeps_events.proofs.Chosen.{IsChosen}

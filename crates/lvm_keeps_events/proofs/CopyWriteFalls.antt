@@ -1,24 +1,20 @@
 -- The start of a copy's write leaves less work.
-use Rattle.std.proofs.Common.{◌≡◌, ◌<◌, ◌+◌, ◌&&◌, Bool, true, false, List, [], ◌∷◌, ◌++◌, Some, length, if◌then◌else◌, sym, ◌∙◌, ap, subst, arith}
-use Rattle.std.specs.Prelude.{IfSome, count_by, is_some}
+use Rattle.std.proofs.Common.{◌≡◌, ◌<◌, ◌+◌, ◌&&◌, Bool, true, List, [], ◌∷◌, ◌++◌, Some, sym, ap, subst, arith}
+use Rattle.std.specs.Prelude.{IfSome, is_some}
 use Rattle.lvm_session.specs.declared.bringing.Step.{Step}
 use Rattle.lvm_session.specs.declared.bringing.Step.TheVariants as step
 use Rattle.lvm_session.specs.declared.flown.Flown.{Flown}
 use Rattle.lvm_session.specs.declared.flown.Owner.TheVariants as owner
-use Rattle.lvm_session.specs.declared.open.Power.TheVariants as power
 use Rattle.lvm_session.specs.State.{Core, State}
-use Rattle.lvm_session.specs.Judging.{is_running, is_waiting}
+use Rattle.lvm_session.specs.Judging.{is_running}
 use Rattle.lvm_session.specs.Bringing.{hand_of, is_idle, is_whole}
-use Rattle.lvm_session.specs.Enabled.{is_lost}
 use Rattle.lvm_session.specs.Events.{flown}
-use Rattle.lvm_session.specs.Left.{left_by, left_of, step_left, tried_of, work_left}
+use Rattle.lvm_session.specs.Left.{left_of, step_left, tried_of, work_left}
 use Rattle.lvm_session.specs.Sound.{IsCopy}
 use Rattle.lvm_keeps.proofs.CopyReadFalls.{falls}
 use Rattle.lvm_keeps.proofs.Small.{both}
+use Rattle.lvm_keeps.proofs.Leaving.{lit}
 use Rattle.lvm_keeps_events.specs.Falls.{CopyWriteFalls}
-
-pub lit : (c : Core) → c.power ≡ power.On → is_lost c ≡ false → left_of c ≡ work_left c
-lit c is none = ap (λ p. left_by p c) is ∙ ap (λ b. if b then length c.flying + count_by is_waiting c.requests else work_left c) none
 
 pub copy_write_falls : CopyWriteFalls
 copy_write_falls old new sound on votes event = subst (λ (s : State). left_of s.core < left_of old.core) (sym event.is) (subst (λ n. left_of made < n) (sym (lit old.core on votes)) (subst (λ n. n < work_left old.core) (sym (lit made on votes)) work_falls))

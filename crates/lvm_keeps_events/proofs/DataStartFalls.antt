@@ -23,13 +23,12 @@ use Rattle.lvm_session.specs.Events.{begun_as, flown}
 use Rattle.lvm_session.specs.Left.{begun_left, copy_left, if_so, is_held, lacks_dirty, left_of, phase_left, read_left, request_left, status_left, turns_of, unbegun_left, update_work, waiting_targets, work_left, write_left}
 use Rattle.lvm_session.specs.Requests.{IsOpenOne, IsPhase, IsRequest}
 use Rattle.lvm_session.specs.Sound.{IsSound, count_if}
-use Rattle.lvm_keeps.proofs.Leaving.{left_same}
+use Rattle.lvm_keeps.proofs.Leaving.{left_same, lit}
 use Rattle.lvm_keeps.proofs.Lists.{all_at, any_set, count_set}
 use Rattle.lvm_keeps.proofs.PinFalls.{sum_same}
 use Rattle.lvm_keeps.proofs.Small.{not_so}
 use Rattle.lvm_keeps_events.specs.Falls.{DataStartFalls}
 use Rattle.lvm_keeps_events.proofs.Aims.{any_here, at_state, set_state}
-use Rattle.lvm_keeps_events.proofs.CopyWriteFalls.{lit}
 use Rattle.lvm_keeps_events.proofs.DataStart.{unstarted}
 use Rattle.lvm_keeps_events.proofs.Dues.{StartsAt, starts_at}
 

@@ -1,7 +1,6 @@
 -- The end of a write and its review leave less work.
 use Rattle.std.proofs.Common.{◌≡◌, ◌⊎◌, inl, inr, ◌≤◌, ◌<◌, ◌+◌, ◌*◌, ℕ, Bool, true, false, ◌&&◌, ◌||◌, not, nat_lt, if◌then◌else◌, List, [], ◌∷◌, Option, Some, None, filter, length, refl, sym, ◌∙◌, ap, subst, arith}
 use Rattle.std.specs.Prelude.{IfSome, count_by, option_and_then, sum_by, unwrap_or}
-use Rattle.std.specs.List.{list_any}
 use Rattle.std.specs.Option.{option_map_or}
 use Rattle.std.proofs.lemmas.List.Sums.{sum_by-cons}
 use Rattle.arrayvec.specs.ArrayVec.{ArrayVec}
@@ -24,7 +23,7 @@ use Rattle.lvm_path.specs.declared.request.Phase.TheVariants as phase
 use Rattle.lvm_path.specs.declared.request.Request.{Request}
 use Rattle.lvm_path.specs.declared.target.Target.{Target}
 use Rattle.lvm_path.specs.Asks.{is_write, lv_of}
-use Rattle.lvm_path.specs.Targets.{is_begun, is_done}
+use Rattle.lvm_path.specs.Targets.{is_begun}
 use Rattle.lvm_status.specs.Update.{Updates}
 use Rattle.lvm_session.specs.declared.bringing.OpenCopy.{OpenCopy}
 use Rattle.lvm_session.specs.declared.open.Open.{Open}
@@ -34,9 +33,10 @@ use Rattle.lvm_session.specs.Judging.{copies_for, group_in, group_of, is_caught,
 use Rattle.lvm_session.specs.Bringing.{copy_ends, end_of, is_whole}
 use Rattle.lvm_session.specs.Enabled.{is_lost, same_status}
 use Rattle.lvm_session.specs.Events.{is_passive}
-use Rattle.lvm_session.specs.Left.{begun_left, copy_left, if_so, is_brought_up, is_held, lacks_dirty, lacks_note, left_by, left_of, phase_left, read_left, request_left, status_left, turns_of, unbegun_left, unstarted_writes, update_work, waiting_targets, work_left, write_left}
+use Rattle.lvm_session.specs.Left.{begun_left, copy_left, if_so, is_brought_up, is_held, lacks_dirty, lacks_note, left_by, left_of, phase_left, read_left, request_left, status_left, turns_of, unbegun_left, unstarted_writes, update_work, work_left, write_left}
 use Rattle.lvm_session.specs.Sound.{IsCopy, count_if}
 use Rattle.lvm_keeps.proofs.Small.{both, is_false, not_either, not_so}
+use Rattle.lvm_keeps.proofs.LandingFalls.{left_some}
 use Rattle.lvm_keeps_events.proofs.CopyReadFail.{is_here, pp_is}
 use Rattle.lvm_keeps_events.proofs.Copies.{Brings, Fewer}
 use Rattle.lvm_keeps_events.proofs.Finding.{any_known, count_with, sum_on}
@@ -131,24 +131,12 @@ turns_drop false false false false false false false false false false its = inl
 
 -- ---- a request
 
-of_two : (b : Bool) (x y : ℕ) → 1 ≤ x → 1 ≤ y → 1 ≤ (if b then x else y)
-of_two true x y left right = left
-of_two false x y left right = right
-
-read_some : (p : Phase) (r : Request) → 1 ≤ read_left p r
-read_some phase.Held r = omega arith
-read_some phase.WantEntry r = of_two (list_any (λ (t : Target). is_done t.state) r.targets.items) 1 (1 + 2 * waiting_targets r) (omega arith) (omega arith)
-read_some phase.WantRecord r = of_two (list_any (λ (t : Target). is_done t.state) r.targets.items) 1 (1 + 2 * waiting_targets r) (omega arith) (omega arith)
-read_some phase.Data r = of_two (list_any (λ (t : Target). is_done t.state) r.targets.items) 1 (1 + 2 * waiting_targets r) (omega arith) (omega arith)
-read_some phase.WantStatus r = of_two (list_any (λ (t : Target). is_done t.state) r.targets.items) 1 (1 + 2 * waiting_targets r) (omega arith) (omega arith)
-read_some phase.Landed r = of_two (list_any (λ (t : Target). is_done t.state) r.targets.items) 1 (1 + 2 * waiting_targets r) (omega arith) (omega arith)
-
 -- something is left of one that waits
 pub waiting_low : (core : Core) (os : List Open) → count_by is_waiting os ≤ sum_by (request_left core) os
 waiting_low core os = sum_on (request_left core) (λ (o : Open). count_if (is_waiting o)) one os
   where
     one : (o : Open) → count_if (is_waiting o) ≤ request_left core o
-    one o = by (is_waiting o) (of_two (is_write o.request.ask) (write_left core o.request) (read_left o.request.phase o.request) (of_two (is_begun o.request.targets.items) (begun_left o.request) (unbegun_left core o.request) (omega arith) (omega arith)) (read_some o.request.phase o.request))
+    one o = by (is_waiting o) (left_some core o)
       where
         by : (b : Bool) → 1 ≤ (if is_write o.request.ask then write_left core o.request else read_left o.request.phase o.request) → count_if b ≤ if_so b (if is_write o.request.ask then write_left core o.request else read_left o.request.phase o.request)
         by true some = some

@@ -1,5 +1,5 @@
 -- A request lands.
-use Rattle.std.proofs.Common.{◌≡◌, ◌==◌, ◌≤◌, ◌+◌, ◌&&◌, ◌||◌, ℕ, Bool, true, false, not, nat_lt, if◌then◌else◌, List, Option, Some, None, length, slice_get, slice_set, refl, sym, ◌∙◌, ap, subst, arith}
+use Rattle.std.proofs.Common.{◌≡◌, ◌==◌, ◌≤◌, ◌+◌, ◌&&◌, ℕ, Bool, true, false, not, nat_lt, if◌then◌else◌, List, Option, Some, None, length, slice_get, slice_set, refl, sym, ◌∙◌, ap, subst, arith}
 use Rattle.std.specs.Prelude.{IfSome, count_by, slice_index_or, unwrap_or}
 use Rattle.std.specs.List.{list_any, AllByRecursion}
 use Rattle.std.specs.Option.{option_map_or}
@@ -49,7 +49,7 @@ use Rattle.lvm_keeps.proofs.Landing.{cause}
 use Rattle.lvm_keeps.proofs.Lists.{all_at, all_on, all_set, any_set, count_set, length_set, set_here, set_beside}
 use Rattle.lvm_keeps.proofs.NoteStart.{each_counted}
 use Rattle.lvm_keeps.proofs.Rows.{all_fly, rows_on}
-use Rattle.lvm_keeps.proofs.Small.{not_so}
+use Rattle.lvm_keeps.proofs.Small.{not_so, same_blame}
 use Rattle.lvm_keeps.proofs.Still.{bring_on, if_on, moved, open_on}
 use Rattle.lvm_keeps.proofs.Telling.{asked_still, count_still}
 use Rattle.lvm_keeps.proofs.Whole.{sound_when_on}
@@ -291,14 +291,6 @@ module _ (s : State) (sound : IsSound s) (on : s.core.power ≡ power.On) (place
   caused : (x : Open) → AreCaused s.device core x → AreCaused s.device now.core x
   caused x all waiting = all_on (IsCaused s.device core) (IsCaused s.device now.core) target_caused x.request.targets.items (all waiting)
     where
-      same_blame : (f u m w h a b : Bool) → (b ≡ true → a ≡ true) → f || (u && (m || w || h || b)) ≡ true → f || (u && (m || w || h || a)) ≡ true
-      same_blame true u m w h a b was e = refl
-      same_blame false false m w h a b was e = e
-      same_blame false true true w h a b was e = refl
-      same_blame false true false true h a b was e = refl
-      same_blame false true false false true a b was e = refl
-      same_blame false true false false false a b was e = was e
-
       target_caused : (t : Target) → IsCaused s.device core t → IsCaused s.device now.core t
       target_caused t why e = why (same_blame (is_failed t.state) t.usable (is_missing core t.pp.disk) (is_wanted_stale core t.pp) (is_held_stale core t.pp) (list_any (fails_on t.pp) core.requests) (list_any (fails_on t.pp) requests) (blamed_before t.pp) e)
 

@@ -34,25 +34,14 @@ use Rattle.lvm_session.specs.Sound.{IsGoing, count_if, is_clearing}
 use Rattle.lvm_keeps.proofs.Lists.{count_cons}
 use Rattle.lvm_keeps.proofs.PinFalls.{sum_same}
 use Rattle.lvm_keeps.proofs.Small.{both, not_so}
-use Rattle.lvm_keeps.proofs.Leaving.{request_still}
+use Rattle.lvm_keeps.proofs.Leaving.{request_still, lit}
+use Rattle.lvm_keeps.proofs.NoteStartFalls.{count_less, one_less}
 use Rattle.lvm_keeps_events.specs.Falls.{StatusStartFalls}
-use Rattle.lvm_keeps_events.proofs.CopyWriteFalls.{lit}
 use Rattle.lvm_keeps_events.proofs.StatusStart.{Flies, IsUnderWay, next_is, status_own, under_way}
 
 -- ---- fewer writes are to be started
 
 module _ {A : Type 0} (t u p : A → Bool) (less : (x : A) → u x ≡ true → t x ≡ true) (at : (x : A) → p x ≡ true → (t x ≡ true) × (u x ≡ false)) where
-  one_less : (x : A) → count_if (u x) ≤ count_if (t x)
-  one_less x = by (u x) refl
-    where
-      by : (b : Bool) → u x ≡ b → count_if b ≤ count_if (t x)
-      by false e = omega arith
-      by true e = let is : count_if (t x) ≡ 1 = ap count_if (less x e) in omega (arith, is)
-
-  all_less : (xs : List A) → count_by u xs ≤ count_by t xs
-  all_less [] = omega arith
-  all_less (x ∷ xs) = let a = count_cons t x xs in let b = count_cons u x xs in let one = one_less x in let rest = all_less xs in omega (arith, a, b, one, rest)
-
   fewer_there : (xs : List A) → list_any p xs ≡ true → count_by u xs + 1 ≤ count_by t xs
   fewer_there [] is = absurd (cc is)
   fewer_there (x ∷ xs) is = by (p x) refl (λ e. fewer_there xs e) is
@@ -63,9 +52,9 @@ module _ {A : Type 0} (t u p : A → Bool) (less : (x : A) → u x ≡ true → 
           let b = count_cons u x xs in
           let one : count_if (t x) ≡ 1 = ap count_if (at x e).0 in
           let none : count_if (u x) ≡ 0 = ap count_if (at x e).1 in
-          let all = all_less xs in
+          let all = count_less t u less xs in
           omega (arith, a, b, one, none, all)
-      by false e rest some = let a = count_cons t x xs in let b = count_cons u x xs in let one = one_less x in let more = rest some in omega (arith, a, b, one, more)
+      by false e rest some = let a = count_cons t x xs in let b = count_cons u x xs in let one = one_less t u less x in let more = rest some in omega (arith, a, b, one, more)
 
 few_members : (big : Bool) → most_members big ≤ 128
 few_members true = omega arith

@@ -114,14 +114,14 @@ some_source t u (p ∷ ps) free is = by (u p) is (λ e. some_source t u ps free 
 
 -- ---- counts at the opening
 
-at_place : (ps : List Pp) (number : ℕ) (p : Pp) → copy_at ps number ≡ Some p → slice_get ps (number - 1) ≡ Some p
+pub at_place : (ps : List Pp) (number : ℕ) (p : Pp) → copy_at ps number ≡ Some p → slice_get ps (number - 1) ≡ Some p
 at_place ps number p is = by (number == 0) is
   where
     by : (b : Bool) → (if b then None else slice_get ps (number - 1)) ≡ Some p → slice_get ps (number - 1) ≡ Some p
     by true e = absurd (cc e)
     by false e = e
 
-counted_at : (counts : Counts) (ps : List Pp) (k : ℕ) (p : Pp) → length ps ≤ 3 → slice_get ps k ≡ Some p → slice_index_or (faults_of counts ps) k 0 ≡ counts.faults p.disk
+pub counted_at : (counts : Counts) (ps : List Pp) (k : ℕ) (p : Pp) → length ps ≤ 3 → slice_get ps k ≡ Some p → slice_index_or (faults_of counts ps) k 0 ≡ counts.faults p.disk
 counted_at counts [] k p few is = absurd (cc is)
 counted_at counts (a ∷ []) zero p few is = let same : a ≡ p = cc is in ap (λ (x : Pp). counts.faults x.disk) same
 counted_at counts (a ∷ []) (suc k) p few is = absurd (cc is)

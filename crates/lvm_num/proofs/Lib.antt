@@ -1,6 +1,7 @@
 pub mod BitsLemmas
 pub mod DisksLemmas
 pub mod Fresh
+pub mod Fronts
 pub mod MapsLemmas
 pub mod MarksLemmas
 pub mod MembersLemmas
@@ -10,6 +11,7 @@ pub mod Newest
 pub mod Notes
 pub mod Pairs
 pub mod Records
+pub mod Spots
 pub mod Torn
 pub mod VolumesLemmas
 pub mod VotesLemmas

@@ -1,13 +1,7 @@
 -- The front of a buffer, block by block.
-use Rattle.std.proofs.Common.{◌≡◌, ◌+◌, ◌*◌, ◌≤◌, ◌++◌, ◌∷◌, [], ℕ, zero, suc, List, Some, length, take, drop, slice_get, add-one, refl, ◌∙◌, ap, arith, length-drop}
+use Rattle.std.proofs.Common.{◌≡◌, ◌+◌, ◌*◌, ◌≤◌, ◌++◌, ◌∷◌, [], ℕ, zero, suc, List, Some, length, take, slice_get, add-one, ◌∙◌, ap, arith}
 use Rattle.std.specs.Simd.{first_chunks}
-use Rattle.std.proofs.lemmas.List.{take_all, take-append-le, drop-append-le}
-
--- one more of a list's front
-suc_front : {X : Type 0} (xs : List X) (k : ℕ) (x : X) → slice_get xs k ≡ Some x → take (suc k) xs ≡ take k xs ++ x ∷ []
-suc_front [] k x is = absurd (cc (is))
-suc_front (y ∷ xs) zero x is = cc
-suc_front (y ∷ xs) (suc k) x is = ap (λ (l : List _). y ∷ l) (suc_front xs k x is)
+use Rattle.lvm_num.proofs.Fronts.{suc_front, suc_chunks}
 
 pub front_more : {X : Type 0} (xs : List X) (k : ℕ) (x : X) → slice_get xs k ≡ Some x → take (k + 1) xs ≡ take k xs ++ x ∷ []
 front_more xs k x is = ap (λ n. take n xs) (add-one k) ∙ suc_front xs k x is
@@ -16,22 +10,6 @@ pub within : {X : Type 0} (xs : List X) (k : ℕ) (x : X) → slice_get xs k ≡
 within [] k x is = absurd (cc (is))
 within (y ∷ xs) zero x is = omega arith
 within (y ∷ xs) (suc k) x is = let less = within xs k x is in omega (arith, less)
-
-none_left : {X : Type 0} (xs : List X) → length xs ≡ 0 → xs ≡ []
-none_left [] is = refl
-none_left (x ∷ xs) is = absurd (omega (arith, is))
-
--- one more chunk of bytes
-suc_chunks : (k : ℕ) (bytes more : List ℕ) → length bytes ≡ 512 * k → length more ≡ 512 → first_chunks 512 (suc k) (bytes ++ more) ≡ first_chunks 512 k bytes ++ more ∷ []
-suc_chunks zero bytes more long one =
-    let empty : bytes ≡ [] = none_left bytes (omega (arith, long)) in
-    ap (λ (l : List ℕ). first_chunks 512 1 (l ++ more)) empty ∙ ap (λ (l : List ℕ). l ∷ []) (take_all 512 more (omega (arith, one)))
-suc_chunks (suc k) bytes more long one =
-    let enough : 512 ≤ length bytes = omega (arith, long) in
-    let rest : length (drop 512 bytes) ≡ 512 * k = omega (arith, length-drop 512 bytes, long) in
-    ap (λ (l : List ℕ). l ∷ first_chunks 512 (suc k) (drop 512 (bytes ++ more))) (take-append-le 512 bytes more enough)
-    ∙ ap (λ (l : List ℕ). take 512 bytes ∷ first_chunks 512 (suc k) l) (drop-append-le 512 bytes more enough)
-    ∙ ap (λ (l : List (List ℕ)). take 512 bytes ∷ l) (suc_chunks k (drop 512 bytes) more rest one)
 
 pub chunks_more : (k : ℕ) (bytes more : List ℕ) → length bytes ≡ 512 * k → length more ≡ 512 → first_chunks 512 (k + 1) (bytes ++ more) ≡ first_chunks 512 k bytes ++ more ∷ []
 chunks_more k bytes more long one = ap (λ n. first_chunks 512 n (bytes ++ more)) (add-one k) ∙ suc_chunks k bytes more long one

@@ -1,11 +1,10 @@
 -- The answers of a range whose session is gone.
-use Rattle.std.proofs.Common.{◌≡◌, inl, inr, ◌≤◌, ◌<◌, ◌+◌, ◌==◌, ◌&&◌, ◌||◌, ℕ, zero, suc, Bool, true, false, List, [], ◌∷◌, ◌++◌, Option, Some, None, drop, length, map, slice_get, slice_set, take, refl, sym, ◌∙◌, ap, subst, append_assoc, arith, if◌then◌else◌}
+use Rattle.std.proofs.Common.{◌≡◌, ◌≤◌, ◌<◌, ◌+◌, ◌==◌, ◌&&◌, ◌||◌, ℕ, zero, suc, Bool, true, false, List, [], ◌∷◌, ◌++◌, Option, Some, None, drop, length, map, slice_get, slice_set, take, refl, sym, ◌∙◌, ap, subst, append_assoc, arith, if◌then◌else◌}
 use Rattle.std.specs.Prelude.{count_by, is_some, slice_index_or, unwrap_or}
 use Rattle.std.specs.List.{list_any, AllByRecursion}
 use Rattle.std.specs.Option.{option_or}
 use Rattle.std.proofs.lemmas.Bool.{eqb-true, ne_eqb}
 use Rattle.std.proofs.lemmas.List.{append-nil}
-use Rattle.std.proofs.lemmas.List.Folds.{list_any-append}
 use Rattle.lvm_disk.specs.Device.{Device}
 use Rattle.lvm_kept.specs.Moments.{Moment}
 use Rattle.lvm_steps.specs.Moments.{Keeps}
@@ -13,12 +12,13 @@ use Rattle.lvm_steps.specs.Requests.{at}
 use Rattle.lvm_steps.proofs.Entering.{quiet_goes_on}
 use Rattle.lvm_vol.specs.declared.entry.Entry.{Entry}
 use Rattle.lvm_vol.specs.declared.entry.Outcome.{Outcome}
-use Rattle.lvm_vol.specs.Facts.{Request, Fact, Making, Made, Split, Removing, Removed, Begun, Landed, Taken, Cut, On, Stands, joined}
-use Rattle.lvm_vol.specs.Legal.{Fits, begins_in, lands, takes}
+use Rattle.lvm_vol.specs.Facts.{Request, Fact, Making, Made, Split, Removing, Removed, Begun, Landed, Taken, Cut, On}
+use Rattle.lvm_vol.specs.Legal.{begins_in, lands}
 use Rattle.lvm_vol.specs.Order.{Ordered}
 use Rattle.lvm_vol.proofs.Legality.{fits_taken, legal_prefix}
 use Rattle.lvm_vol.specs.Log.{Log, asked, entries_from, entry_at, is_answered, lands_id, no_request, place_after, request_of, taken_fact, with_fact}
 use Rattle.lvm_vol.proofs.Asking.{and_left, and_right, found_of}
+use Rattle.lvm_vol.proofs.Joining.{unjoined}
 use Rattle.lvm_history.proofs.Staying.{answered_stays, request_stays}
 use Rattle.lvm_session.specs.declared.open.Open.{Open}
 use Rattle.lvm_session.specs.Calls.{is_asked}
@@ -103,24 +103,6 @@ has_outcome facts client id answered none =
 
 pub no_outcome : {X : Type 0} (facts : List Fact) (id first n : ℕ) → id ≡ first + n → is_answered facts 1 (first + n) ≡ true → None ≡ outcome_in facts id → X
 no_outcome facts id first n same answered none = absurd (has_outcome facts 1 (first + n) answered (sym (none ∙ ap (outcome_in facts) same)))
-
--- ---- without the cut between an earlier history and this one
-
-stands_unjoined : (past facts : List Fact) (r : Request) → Stands (Begun r) (joined past facts) → Stands (Begun r) (past ++ facts)
-stands_unjoined [] facts r (inl here) = absurd (cc here)
-stands_unjoined [] facts r (inr there) = there
-stands_unjoined (f ∷ past) facts r (inl here) = inl here
-stands_unjoined (f ∷ past) facts r (inr there) = inr (stands_unjoined past facts r there)
-
-any_unjoined : (t : Fact → Bool) (past facts : List Fact) → t Cut ≡ false → list_any t (past ++ facts) ≡ list_any t (joined past facts)
-any_unjoined t past facts none = list_any-append t past facts ∙ sym (list_any-append t past (Cut ∷ facts) ∙ ap (λ b. list_any t past || (b || list_any t facts)) none)
-
-unjoined : (past facts : List Fact) (r : Request) → Fits (joined past facts) (Taken r) → Fits (past ++ facts) (Taken r)
-unjoined past facts r fits = record {
-  began = stands_unjoined past facts r fits.began;
-  answered = any_unjoined (lands r) past facts refl ∙ fits.answered;
-  first = any_unjoined (takes r) past facts refl ∙ fits.first;
-}
 
 -- ---- so far
 

@@ -24,10 +24,10 @@ use Rattle.lvm_recover.proofs.Images.{images_are_recopied}
 use Rattle.lvm_recovery.specs.declared.copying.Recopy.{Recopy}
 use Rattle.lvm_recovery.specs.Copying.{MayTransfer, IsOfCopies}
 use Rattle.lvm_recovery.specs.Planned.{place_on, IsPlannedCopy}
-use Rattle.lvm_recover.proofs.Beginning.{usable_stay, next_leaves_none}
+use Rattle.lvm_recover.proofs.Beginning.{usable_stay, next_leaves_none, is_at}
 use Rattle.lvm_recovery.specs.Ending.{NextSamePlan, RestatedMayEqualise, SameNotesSamePlan, HaveSectors, PlannedMayBeMade, EqualisedEnds}
 use Rattle.lvm_recovery.proofs.AllCopied.{one_at, at_index}
-use Rattle.lvm_recovery.proofs.Planned.{at_one, in_group, planned_are_from_first, planned_are_equalled}
+use Rattle.lvm_recovery.proofs.Planned.{at_one, planned_are_from_first, planned_are_equalled}
 
 other_plan : (a b : Contents) (group : Descriptor) (status : Option (Stamped Status)) (there : Disks) (one : Recopy) → ((d lv g : ℕ) → IsTrue (there d) → is_named a d lv g ≡ is_named b d lv g)
     → IsPlannedCopy a group status there one → IsPlannedCopy b group status there one
@@ -73,7 +73,7 @@ room_of group status there sizes row lp g usable p place valid have volume is on
     let large = have p.disk of.0 (left_true (there p.disk) (not (is_stale_by status p)) passed.1) of.1 in
     let some = mib_positive group valid in
     let positive : 0 < partition_blocks group.mib = omega (arith, some) in
-    let last = (in_group group.mib g 255 some (omega arith)).rest in
+    let last = (is_at group.mib g 255 some (omega arith)).rest in
     let bound = mod-lt (g * 256 + 255) positive in
     let room : (g * 256) % partition_blocks group.mib + 256 ≤ partition_blocks group.mib = omega (arith, last, bound) in
     let within = inside_disk group.mib p.pp of.0.pps ((g * 256) % partition_blocks group.mib) large.0 of.2 room large.2 in

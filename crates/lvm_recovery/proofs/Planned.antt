@@ -1,8 +1,8 @@
 -- Copies that are planned.
-use Rattle.std.proofs.Common.{◌≡◌, ◌⊎◌, inl, inr, ⊎_elim, ℕ, zero, suc, ◌+◌, ◌-◌, ◌*◌, ◌/◌, ◌%◌, ◌<◌, ◌≤◌, ◌&&◌, not, List, [], ◌∷◌, Option, Some, slice_get, slice_index_or, refl, sym, ap, subst, ◌∙◌, arith, All, AllPairs}
+use Rattle.std.proofs.Common.{◌≡◌, ◌⊎◌, inl, inr, ⊎_elim, ℕ, zero, suc, ◌+◌, ◌-◌, ◌*◌, ◌/◌, ◌%◌, ◌<◌, ◌&&◌, not, List, [], ◌∷◌, Option, Some, slice_get, slice_index_or, refl, sym, ap, subst, ◌∙◌, arith, All, AllPairs}
 use Rattle.std.specs.Prelude.{filter}
 use Rattle.std.specs.List.{AllByRecursion}
-use Rattle.std.proofs.lemmas.Nat.{div-mul-add, mod-mul-add}
+use Rattle.std.proofs.lemmas.Nat.{div-mul-add}
 use Rattle.std.proofs.lemmas.List.Kept.{AllPairs-filter}
 use Rattle.std.proofs.Math.Nat.{mod-lt}
 use Rattle.lvm_num.specs.declared.place.Place.{Place}
@@ -13,7 +13,7 @@ use Rattle.lvm_num.specs.declared.descriptor.LvRow.{LvRow}
 use Rattle.lvm_num.specs.declared.descriptor.Descriptor.{Descriptor}
 use Rattle.lvm_num.specs.declared.status.Status.{Status}
 use Rattle.lvm_num.specs.Disks.{Disks}
-use Rattle.lvm_num.specs.Geometry.{partition_blocks, partition_of, track_group_of, sector_of}
+use Rattle.lvm_num.specs.Geometry.{partition_of, track_group_of, sector_of}
 use Rattle.lvm_num.specs.Descriptor.{IsValid, IsLaidOut, copies_of}
 use Rattle.lvm_num.specs.Record.{Stamped}
 use Rattle.lvm_disk.specs.Device.{Media, Device, image_of}
@@ -28,6 +28,7 @@ use Rattle.lvm_recover.specs.Recopied.{IsToEqual, IsFromFirst, IsRecopied, HoldF
 use Rattle.lvm_recover.proofs.Places.{IsSame, one_block}
 use Rattle.lvm_recover.proofs.Copying.{left_passes, cons_same, equal_stays}
 use Rattle.lvm_recover.proofs.Images.{images_are_recopied}
+use Rattle.lvm_recover.proofs.Beginning.{is_at}
 use Rattle.lvm_recovery.specs.declared.copying.Recopy.{Recopy}
 use Rattle.lvm_recovery.specs.Copying.{IsAt, IsOfCopies, IsCopied}
 use Rattle.lvm_recovery.specs.Planned.{place_on, IsNamedByOne, IsPlannedCopy, ArePlanned, PlannedAreApart, PlannedAreFromFirst, PlannedAreEqualled}
@@ -55,29 +56,6 @@ rest_same x y xs ys e = cc
 
 -- ---- blocks of a track group
 
-pub record InGroup (mib g i : ℕ) : Type 0 where
-  pub partition : partition_of mib (g * 256 + i) ≡ partition_of mib (g * 256)
-  pub rest : (g * 256 + i) % partition_blocks mib ≡ (g * 256) % partition_blocks mib + i
-  pub track_group : track_group_of (g * 256 + i) ≡ track_group_of (g * 256)
-
-pub in_group : (mib g i : ℕ) → 1 ≤ mib → i < 256 → InGroup mib g i
-in_group mib g i some low =
-    let n : ℕ = 8 * mib in
-    let q : ℕ = g / n in
-    let r : ℕ = g % n in
-    let parts : q * n + r ≡ g = grind (arith) in
-    let small : r < n = grind (arith) in
-    let whole : q * (2048 * mib) + (r * 256 + i) ≡ g * 256 + i = grind (arith) in
-    let start : q * (2048 * mib) + r * 256 ≡ g * 256 = grind (arith) in
-    let below : r * 256 + i < 2048 * mib = omega (arith, small, low) in
-    let below_start : r * 256 < 2048 * mib = omega (arith, small) in
-    record {
-      partition = ap (λ (k : ℕ). k / (2048 * mib)) (sym whole) ∙ div-mul-add q (2048 * mib) (r * 256 + i) below ∙ sym (div-mul-add q (2048 * mib) (r * 256) below_start) ∙ ap (λ (k : ℕ). k / (2048 * mib)) start;
-      rest = ap (λ (k : ℕ). k % (2048 * mib)) (sym whole) ∙ mod-mul-add q (2048 * mib) (r * 256 + i) below
-          ∙ ap (λ (k : ℕ). k + i) (sym (mod-mul-add q (2048 * mib) (r * 256) below_start) ∙ ap (λ (k : ℕ). k % (2048 * mib)) start);
-      track_group = div-mul-add g 256 i low ∙ sym (div-mul-add g 256 0 (omega arith)) ∙ ap (λ (k : ℕ). k / 256) (omega arith);
-    }
-
 pub group_of_start : (g : ℕ) → track_group_of (g * 256) ≡ g
 group_of_start g = ap (λ (k : ℕ). k / 256) (omega arith) ∙ div-mul-add g 256 0 (omega arith)
 
@@ -94,10 +72,10 @@ module _ (group : Descriptor) (valid : IsValid group) (status : Option (Stamped 
 
   -- the block of a planned copy at sector i of its run
   pub block_inside : (c : Contents) (one : Recopy) (p : IsPlannedCopy c group status there one) (i : ℕ) → i < 256 → IsBlockOf group.mib p.row p.lp (p.g * 256 + i)
-  block_inside c one p i low = record { inside = p.inside.inside; partition = (in_group group.mib p.g i (mib_positive group valid) low).partition ∙ p.inside.partition }
+  block_inside c one p i low = record { inside = p.inside.inside; partition = (is_at group.mib p.g i (mib_positive group valid) low).partition ∙ p.inside.partition }
 
   pub sector_is : (pp g i : ℕ) → i < 256 → sector_of group.mib pp (g * 256 + i) ≡ sector_of group.mib pp (g * 256) + i
-  sector_is pp g i low = let rest = (in_group group.mib g i (mib_positive group valid) low).rest in omega (arith, rest)
+  sector_is pp g i low = let rest = (is_at group.mib g i (mib_positive group valid) low).rest in omega (arith, rest)
 
   module _ (c : Contents) (a b : Recopy) (p : IsPlannedCopy c group status there a) (q : IsPlannedCopy c group status there b) (i j d s : ℕ) where
     -- two usable copies that have a sector in common
@@ -155,7 +133,7 @@ planned_are_from_first group status there copies old media valid told each d s v
       lp = p.lp;
       block = p.g * 256 + i;
       volume = p.volume;
-      made = made_equal c there p.row.mode status p.row.number p.g i p.active low (in_group group.mib p.g i (mib_positive group valid) low).track_group p.named;
+      made = made_equal c there p.row.mode status p.row.number p.g i p.active low (is_at group.mib p.g i (mib_positive group valid) low).track_group p.named;
       inside = block_inside group valid status there c its.one p i low;
       first = p.first;
       others = p.others;
@@ -196,7 +174,7 @@ module _ (group : Descriptor) (status : Option (Stamped Status)) (there : Disks)
         let i : ℕ = b % 256 in
         let low : i < 256 = mod-lt b (omega arith) in
         let whole : g * 256 + i ≡ b = grind (arith, same) in
-        let place = in_group group.mib g i (mib_positive group valid) low in
+        let place = is_at group.mib g i (mib_positive group valid) low in
         let it : Recopy = record { from = place_on group.mib first (g * 256); into = place_on group.mib p (g * 256) } in
         let plan : IsPlannedCopy before group status there it = record {
           row = row;

@@ -17,11 +17,12 @@ use Rattle.lvm_kept.specs.Group.{is_voter, status_among, is_stale_by, is_named, 
 use Rattle.lvm_kept.specs.Recovered.{IsMadeEqual, IsCopyRange}
 use Rattle.lvm_rest.proofs.Good.{mib_positive}
 use Rattle.lvm_recover.proofs.Copying.{left_passes}
+use Rattle.lvm_recover.proofs.Beginning.{is_at}
 use Rattle.lvm_recovery.specs.declared.copying.Recopy.{Recopy}
 use Rattle.lvm_recovery.specs.Copying.{IsInRun}
 use Rattle.lvm_recovery.specs.Ending.{RunsAreOfCopies}
 use Rattle.lvm_recovery.specs.Planned.{IsPlannedCopy}
-use Rattle.lvm_recovery.proofs.Planned.{in_group, group_of_start, block_inside, sector_is}
+use Rattle.lvm_recovery.proofs.Planned.{group_of_start, block_inside, sector_is}
 
 left_true : (p q : Bool) → IsTrue (p && q) → IsTrue p
 left_true true q is = refl
@@ -55,8 +56,8 @@ module _ (old : Contents) (disks : Disks) (group : Descriptor) (was : Stamped St
   fits : (p.g * 256 + k) % partition_blocks group.mib + range.count ≤ partition_blocks group.mib
   fits =
       let some = mib_positive group valid in
-      let last = (in_group group.mib p.g 255 some (omega arith)).rest in
-      let rest = (in_group group.mib p.g k some small).rest in
+      let last = (is_at group.mib p.g 255 some (omega arith)).rest in
+      let rest = (is_at group.mib p.g k some small).rest in
       let positive : 0 < partition_blocks group.mib = omega (arith, some) in
       let bound = mod-lt (p.g * 256 + 255) positive in
       let from = starts in
@@ -69,7 +70,7 @@ module _ (old : Contents) (disks : Disks) (group : Descriptor) (was : Stamped St
       let high = run.high in
       let inside : k + i < 256 = omega (arith, from, high, low) in
       let its : track_group_of (p.g * 256 + k + i) ≡ p.g =
-      ap track_group_of (let e : p.g * 256 + k + i ≡ p.g * 256 + (k + i) = omega arith in e) ∙ (in_group group.mib p.g (k + i) (mib_positive group valid) inside).track_group ∙ group_of_start p.g in
+      ap track_group_of (let e : p.g * 256 + k + i ≡ p.g * 256 + (k + i) = omega arith in e) ∙ (is_at group.mib p.g (k + i) (mib_positive group valid) inside).track_group ∙ group_of_start p.g in
       subst (λ (m : Mode). IsMadeEqual old disks group.id group m p.row.number (p.g * 256 + k + i)) (sym p.active)
       (p.named.0, p.named.1, ap (λ (n : ℕ). is_named old p.named.0 p.row.number n) its ∙ p.named.2)
 

@@ -1,12 +1,12 @@
 -- What has happened where copies aren't brought up.
-use Rattle.std.proofs.Common.{◌≡◌, ◌⊎◌, inl, inr, ⊎_elim, ◌≤◌, ◌-◌, ◌==◌, ℕ, zero, suc, Bool, true, false, List, [], ◌∷◌, Option, None, Some, Result, Ok, Err, if◌then◌else◌, nat_lt, length, slice_get, slice_index_or, refl, sym, ap, subst, ◌∙◌, arith}
+use Rattle.std.proofs.Common.{◌≡◌, ◌⊎◌, inl, inr, ⊎_elim, ◌≤◌, ◌-◌, ℕ, Bool, true, false, List, [], Option, None, Some, Result, Ok, Err, if◌then◌else◌, nat_lt, length, slice_index_or, refl, sym, ap, subst, ◌∙◌, arith}
 use Rattle.std.specs.Prelude.{IfSome, IfErr, is_some}
 use Rattle.std.specs.Option.{option_map_or}
 use Rattle.lvm_num.specs.declared.descriptor.Descriptor.{Descriptor}
 use Rattle.lvm_num.specs.declared.descriptor.LvRow.{LvRow}
 use Rattle.lvm_num.specs.declared.place.Pp.{Pp}
 use Rattle.lvm_num.specs.Descriptor.{IsValid, copies_of, volume_of}
-use Rattle.lvm_disk.specs.Counts.{Counts, Rose}
+use Rattle.lvm_disk.specs.Counts.{Rose}
 use Rattle.lvm_disk.specs.Device.{Device}
 use Rattle.lvm_disk.specs.Paths.{Broke, Ended, Here, Started, Then, Waited, WasCut}
 use Rattle.lvm_disk.specs.Steps.{GoesDark}
@@ -26,7 +26,7 @@ use Rattle.lvm_session.specs.declared.open.Power.{Power}
 use Rattle.lvm_session.specs.declared.open.Power.TheVariants as power
 use Rattle.lvm_session.specs.declared.origin.Origin.{Origin}
 use Rattle.lvm_session.specs.Bringing.{is_out}
-use Rattle.lvm_session.specs.Calls.{copy_at, faults_of, has_numbers, state_at_end, state_of_copy}
+use Rattle.lvm_session.specs.Calls.{copy_at, has_numbers, state_at_end, state_of_copy}
 use Rattle.lvm_session.specs.Causes.{FailedSinceOpening, HaveSourcesFailed, IsCopyCaused as IsCausedAmong, faults_at_first, faults_at_opening}
 use Rattle.lvm_session.specs.Ends.{Ends, EndsAs}
 use Rattle.lvm_session.specs.Judging.{copies_in}
@@ -45,6 +45,7 @@ use Rattle.lvm_resync.specs.Passing.{Copy, EachTurnWhile, FailedFor, IsBroughtUp
 use Rattle.lvm_resync.specs.Syncing.{ArePassed, IsAnswer, NonePassed, OnePassed, Passes, StopsAmong, fault_by, fault_on, group_fault, no_tally, numbers_fault, or_first, partition_fault, volume_fault, with_passed}
 use Rattle.lvm_resync.proofs.Making.{as_opened}
 use Rattle.lvm_resync.proofs.Turning.{TurnsIn, turns_in}
+use Rattle.lvm_keeps_open.proofs.Opening.{at_place, counted_at}
 
 -- ---- a turn leaves the disks as they are
 
@@ -177,26 +178,6 @@ fails_later old mid new since fails = (fails.0, rose_before (seen_more old mid s
 
 fails_still : (old mid new : State) → AnyFails old mid → Since mid new → AnyFails old new
 fails_still old mid new fails since = (fails.0, rose_after fails.1 (since.faults fails.0))
-
-at_place : (ps : List Pp) (number : ℕ) (p : Pp) → copy_at ps number ≡ Some p → slice_get ps (number - 1) ≡ Some p
-at_place ps number p is = by (number == 0) is
-  where
-    by : (b : Bool) → (if b then None else slice_get ps (number - 1)) ≡ Some p → slice_get ps (number - 1) ≡ Some p
-    by true e = absurd (cc e)
-    by false e = e
-
-counted_at : (counts : Counts) (ps : List Pp) (k : ℕ) (p : Pp) → length ps ≤ 3 → slice_get ps k ≡ Some p → slice_index_or (faults_of counts ps) k 0 ≡ counts.faults p.disk
-counted_at counts [] k p few is = absurd (cc is)
-counted_at counts (a ∷ []) zero p few is = let same : a ≡ p = cc is in ap (λ (x : Pp). counts.faults x.disk) same
-counted_at counts (a ∷ []) (suc k) p few is = absurd (cc is)
-counted_at counts (a ∷ b ∷ []) zero p few is = let same : a ≡ p = cc is in ap (λ (x : Pp). counts.faults x.disk) same
-counted_at counts (a ∷ b ∷ []) (suc zero) p few is = let same : b ≡ p = cc is in ap (λ (x : Pp). counts.faults x.disk) same
-counted_at counts (a ∷ b ∷ []) (suc (suc k)) p few is = absurd (cc is)
-counted_at counts (a ∷ b ∷ c ∷ []) zero p few is = let same : a ≡ p = cc is in ap (λ (x : Pp). counts.faults x.disk) same
-counted_at counts (a ∷ b ∷ c ∷ []) (suc zero) p few is = let same : b ≡ p = cc is in ap (λ (x : Pp). counts.faults x.disk) same
-counted_at counts (a ∷ b ∷ c ∷ []) (suc (suc zero)) p few is = let same : c ≡ p = cc is in ap (λ (x : Pp). counts.faults x.disk) same
-counted_at counts (a ∷ b ∷ c ∷ []) (suc (suc (suc k))) p few is = absurd (cc is)
-counted_at counts (a ∷ b ∷ c ∷ d ∷ ps) k p few is = absurd (omega (arith, few))
 
 -- one that has ended as failed, and rests
 failed_end : (c : OpenCopy) (disk : ℕ) → state_of_copy c ≡ copy.SyncFailed disk → c.end ≡ Some ending.SyncFailed

@@ -1,6 +1,6 @@
 -- What a turn starts goes to no slot of descriptors, so none becomes found.
-use Rattle.std.proofs.Common.{◌≡◌, ◌⊎◌, inl, inr, ⊎_elim, ℕ, ◌+◌, ◌<◌, ◌≤◌, Bool, true, false, List, [], ◌∷◌, ◌++◌, length, Option, Some, None, sym, ap, subst, ◌∙◌, arith}
-use Rattle.std.specs.Prelude.{IfSome, if◌then◌else◌, slice_get}
+use Rattle.std.proofs.Common.{◌≡◌, ◌⊎◌, inl, inr, ⊎_elim, ℕ, ◌+◌, ◌<◌, ◌≤◌, Bool, true, false, List, [], ◌∷◌, ◌++◌, length, Some, None, sym, ap, subst, ◌∙◌, arith}
+use Rattle.std.specs.Prelude.{if◌then◌else◌, slice_get}
 use Rattle.lvm_num.specs.declared.descriptor.Descriptor.{Descriptor}
 use Rattle.lvm_num.specs.declared.record.Kind.TheVariants as kind
 use Rattle.lvm_num.specs.declared.status.Status.{Status}
@@ -19,8 +19,6 @@ use Rattle.lvm_kept.specs.Contents.{contents_of, data_at, descriptor_on, note_on
 use Rattle.lvm_kept.specs.Plans.{ChangesBy}
 use Rattle.lvm_kept.specs.Torn.{IsOutside}
 use Rattle.lvm_kept.proofs.Records.{newest_stays}
-use Rattle.lvm_status.specs.Update.{Stored, Updates, seen}
-use Rattle.lvm_status.specs.Calls.{with_start as with_write_start, with_update}
 use Rattle.lvm_commit.specs.LawsOfFinding.{FindsNothingNew}
 use Rattle.lvm_commit.proofs.NoMore.{rest_finds_nothing_new}
 use Rattle.lvm_commit.proofs.Sizes.{status_fits}
@@ -35,7 +33,7 @@ use Rattle.lvm_session.specs.declared.open.Open.{Open}
 use Rattle.lvm_session.specs.declared.open.Power.TheVariants as power
 use Rattle.lvm_session.specs.Enabled.{target_next}
 use Rattle.lvm_session.specs.Ends.{EndsAs}
-use Rattle.lvm_session.specs.Events.{Begins, StartsStatus}
+use Rattle.lvm_session.specs.Events.{StartsStatus}
 use Rattle.lvm_session.specs.Judging.{is_waiting}
 use Rattle.lvm_session.specs.Requests.{IsOpenOne, IsTarget}
 use Rattle.lvm_session.specs.State.{State}
@@ -47,6 +45,7 @@ use Rattle.lvm_tie_shelf.proofs.Owned.{reads_none}
 use Rattle.lvm_tie.specs.Spares.{LeavesDescriptors}
 use Rattle.lvm_tie.specs.Stamps.{AreValid}
 use Rattle.lvm_tie.proofs.LandingsCauses.{waits_unless}
+use Rattle.lvm_tie.proofs.Stamps.{valid_started}
 use Rattle.lvm_running.specs.Running.{GoesOffByCut, MayFindNoMore}
 use Rattle.lvm_running.proofs.Running.{keeps_power}
 
@@ -167,24 +166,9 @@ low_slot : (second : Bool) → (if second then 1 else 0) ≤ 1
 low_slot true = omega arith
 low_slot false = omega arith
 
-some_status : (a b : Status) → Some a ≡ Some b → a ≡ b
-some_status a b e = cc
-
 module _ (old new : State) (made : StartsStatus old new) (valid : AreValid old.core.status) where
   valid_now : IsValidStatus made.status
-  valid_now = by made.begins
-    where
-      in_flight_is : (m : Option Status) → m ≡ Some made.status → IfSome m IsValidStatus → IsValidStatus made.status
-      in_flight_is None is its = absurd (cc is)
-      in_flight_is (Some u) is its = subst IsValidStatus (some_status u made.status is) its
-
-      by : Begins old.core.status made.begun → IsValidStatus made.status
-      by (inl same) =
-          let is : seen new.core.status ≡ with_write_start (seen old.core.status) (Some made.disk) = made.started ∙ ap (λ (s : Stored). with_write_start (seen s) (Some made.disk)) same.1 in
-          in_flight_is old.core.status.in_flight (sym (ap (λ (x : Updates). x.in_flight) is) ∙ made.flies) valid.in_flight
-      by (inr begins) =
-          let is : seen new.core.status ≡ with_write_start (with_update (seen old.core.status)) (Some made.disk) = made.started ∙ ap (λ (x : Updates). with_write_start x (Some made.disk)) begins.1 in
-          subst IsValidStatus (some_status old.core.status.wanted made.status (sym (ap (λ (x : Updates). x.in_flight) is) ∙ made.flies)) valid.wanted
+  valid_now = valid_started old new made valid
 
   status_outside : Outside made.flight
   status_outside d s value brings =

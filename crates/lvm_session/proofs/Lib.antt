@@ -1,5 +1,6 @@
 pub mod RoomsLemmas
 pub mod Small
+pub mod Statuses
 pub mod Parts
 pub mod Requests
 pub mod While

@@ -307,23 +307,13 @@ note_brings stamp f first count d s value brings =
     let high : s < f.first + f.count = is.high in
     inl (λ k. notes_and_data_are_outside k d s value (inl (omega (arith, low, high, first, count))))
 
--- the write of an update is one of the session's moment
-module _ (moment : ℕ) (old new : Session) (made : StartsStatus old new) (on : new.core.power ≡ power.On) (sound : IsSound new) (stamped : IsStamped old.core.status) (valid : AreValid old.core.status)
-    (earlier : old.core.status.stamp.epoch < moment) where
-  abbrev f : Flight
-  f = made.flight
+some_status : (a b : Status) → Some a ≡ Some b → a ≡ b
+some_status a b e = cc
 
-  abbrev w : RecordWrite
-  w = record { kind = kind.Status; framed = record { stamp = new.core.status.stamp; content = status_bytes made.status }; targets = λ d. true; slots = next_slot kind.Status new.core.homes }
-
-  stamped_now : IsStamped new.core.status
-  stamped_now = (start_epoch old new made).stamped stamped
-
-  some_status : (a b : Status) → Some a ≡ Some b → a ≡ b
-  some_status a b e = cc
-
-  valid_now : IsValidStatus made.status
-  valid_now = by made.begins
+-- the status that is written is valid
+module _ (old new : Session) (made : StartsStatus old new) (valid : AreValid old.core.status) where
+  pub valid_started : IsValidStatus made.status
+  valid_started = by made.begins
     where
       in_flight_is : (m : Option Status) → m ≡ Some made.status → IfSome m IsValidStatus → IsValidStatus made.status
       in_flight_is None is its = absurd (cc is)
@@ -336,6 +326,21 @@ module _ (moment : ℕ) (old new : Session) (made : StartsStatus old new) (on : 
       by (inr begins) =
           let is : seen new.core.status ≡ with_write_start (with_update (seen old.core.status)) (Some made.disk) = made.started ∙ ap (λ (x : Updates). with_write_start x (Some made.disk)) begins.1 in
           subst IsValidStatus (some_status old.core.status.wanted made.status (sym (ap (λ (x : Updates). x.in_flight) is) ∙ made.flies)) valid.wanted
+
+-- the write of an update is one of the session's moment
+module _ (moment : ℕ) (old new : Session) (made : StartsStatus old new) (on : new.core.power ≡ power.On) (sound : IsSound new) (stamped : IsStamped old.core.status) (valid : AreValid old.core.status)
+    (earlier : old.core.status.stamp.epoch < moment) where
+  abbrev f : Flight
+  f = made.flight
+
+  abbrev w : RecordWrite
+  w = record { kind = kind.Status; framed = record { stamp = new.core.status.stamp; content = status_bytes made.status }; targets = λ d. true; slots = next_slot kind.Status new.core.homes }
+
+  stamped_now : IsStamped new.core.status
+  stamped_now = (start_epoch old new made).stamped stamped
+
+  valid_now : IsValidStatus made.status
+  valid_now = valid_started old new made valid
 
   frames : Frames w.kind w.framed
   frames = record {

@@ -14,6 +14,7 @@ use Rattle.lvm_vol.specs.Legal.{begins_in}
 use Rattle.lvm_vol.specs.Log.{asked, blocks_begun, has_id, next_id, next_request, no_request, request_of}
 use Rattle.lvm_vol.proofs.Asking.{find_stands}
 use Rattle.lvm_vol.proofs.Order.{begun-push, numbered, stands-at}
+use Rattle.lvm_vol.proofs.Counting.{count_begun}
 use Rattle.lvm_history.proofs.Staying.{request_stays}
 use Rattle.lvm_disk.specs.Device.{Flight, image_of}
 use Rattle.lvm_kept.specs.Contents.{contents_of}
@@ -36,7 +37,7 @@ use Rattle.lvm_session.specs.declared.answers.AskFault.{AskFault}
 use Rattle.lvm_session.specs.Calls.{ask_fault, new_open, submitted}
 use Rattle.lvm_session.specs.Asking.{IsAsking}
 use Rattle.lvm_session.specs.Sound.{IsSound}
-use Rattle.lvm_submit.proofs.Numbered.{below_next, count_begun}
+use Rattle.lvm_submit.proofs.Numbered.{below_next}
 use Rattle.lvm_invariant.specs.State.{Held, Queued, State, covers}
 use Rattle.lvm_invariant.specs.Submit.{IsPlaced, Submits, submitted as sees_submitted}
 use Rattle.lvm_invariant.specs.Events.{Event, Submit}

@@ -1,13 +1,12 @@
 -- Answers that are taken.
-use Rattle.std.proofs.Common.{◌≡◌, inl, inr, ℕ, Bool, false, ◌||◌, List, [], ◌∷◌, ◌++◌, Option, Some, None, position, slice_get, refl, sym, ap, subst, ◌∙◌}
+use Rattle.std.proofs.Common.{◌≡◌, ℕ, List, [], ◌∷◌, ◌++◌, Option, Some, None, position, slice_get, refl, sym, ap, subst}
 use Rattle.std.specs.Prelude.{MatchOption, is_none}
-use Rattle.std.specs.List.{list_any}
-use Rattle.std.proofs.lemmas.List.Folds.{list_any-append}
 use Rattle.lvm_vol.specs.declared.entry.Outcome.{Outcome}
-use Rattle.lvm_vol.specs.Facts.{Request, Fact, Begun, Taken, Cut, Stands, joined}
-use Rattle.lvm_vol.specs.Legal.{Fits, lands, takes}
+use Rattle.lvm_vol.specs.Facts.{Fact, Taken}
+use Rattle.lvm_vol.specs.Legal.{takes}
 use Rattle.lvm_vol.specs.Log.{request_of}
 use Rattle.lvm_vol.proofs.Legality.{fits_taken, legal_prefix}
+use Rattle.lvm_vol.proofs.Joining.{unjoined}
 use Rattle.lvm_kept.specs.Moments.{Moment}
 use Rattle.lvm_steps.specs.Moments.{Keeps}
 use Rattle.lvm_steps.specs.Requests.{at}
@@ -20,24 +19,6 @@ use Rattle.lvm_session.specs.State.{Core, State as Session}
 use Rattle.lvm_session.specs.Sound.{IsAsked, IsSound}
 use Rattle.lvm_tie.proofs.Orderly.{all_at}
 use Rattle.lvm_tie.specs.Over.{TakeGoesOn}
-
--- without the cut between an earlier history and this one
-
-stands_unjoined : (past facts : List Fact) (r : Request) → Stands (Begun r) (joined past facts) → Stands (Begun r) (past ++ facts)
-stands_unjoined [] facts r (inl here) = absurd (cc here)
-stands_unjoined [] facts r (inr there) = there
-stands_unjoined (f ∷ past) facts r (inl here) = inl here
-stands_unjoined (f ∷ past) facts r (inr there) = inr (stands_unjoined past facts r there)
-
-any_unjoined : (t : Fact → Bool) (past facts : List Fact) → t Cut ≡ false → list_any t (past ++ facts) ≡ list_any t (joined past facts)
-any_unjoined t past facts none = list_any-append t past facts ∙ sym (list_any-append t past (Cut ∷ facts) ∙ ap (λ b. list_any t past || (b || list_any t facts)) none)
-
-unjoined : (past facts : List Fact) (r : Request) → Fits (joined past facts) (Taken r) → Fits (past ++ facts) (Taken r)
-unjoined past facts r fits = record {
-  began = stands_unjoined past facts r fits.began;
-  answered = any_unjoined (lands r) past facts refl ∙ fits.answered;
-  first = any_unjoined (takes r) past facts refl ∙ fits.first;
-}
 
 module _ (first : Moment) (old : Session) (sound : IsSound old) (span : Keeps old.core.history.run first (at old.device old.core.history.facts)) where
   abbrev facts : List Fact
