@@ -24,3 +24,4 @@ pub mod Refusing
 mod Endings
 pub mod OneGroup
 pub mod Turning
+pub mod Woven

@@ -11,3 +11,4 @@ pub mod Turn
 pub mod Standing
 pub mod Laws
 pub mod OneGroup
+pub mod Woven

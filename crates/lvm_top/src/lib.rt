@@ -8,16 +8,19 @@ mod program;
 mod run;
 mod script;
 mod status;
+mod workload;
 
 pub use generate::run_gen;
 pub use image::run_image;
 pub use laws::{runs_follow, varyons_recover};
 pub use lvm_core::Room;
 pub use lvm_line::below::stage::{Refusal, Reply};
+pub use lvm_load::Workload;
 pub use lvm_words::{Job, WordsFault, read_words};
 pub use program::run_words;
 pub use run::{Ended, run_script};
 pub use status::ExitStatus;
+pub use workload::run_weave;
 
 mod found_laws;
 
