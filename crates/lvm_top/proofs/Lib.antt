@@ -1,5 +1,5 @@
+pub mod passed
 pub mod Blanks
-pub mod Commanding
 mod Firsts
 pub mod Lining
 mod Runs
@@ -24,4 +24,3 @@ pub mod Refusing
 mod Endings
 pub mod OneGroup
 pub mod Turning
-pub mod Woven

@@ -44,7 +44,7 @@ pub struct Ended<S> {
 }
 
 /// The status of a run of which so many lines were refused, and that stopped so.
-pub(crate) fn status_of(stop: Option<Stop>, refused: u32) -> ExitStatus
+pub fn status_of(stop: Option<Stop>, refused: u32) -> ExitStatus
     ensures { result ≡ status_of stop refused }
 {
     match stop {
@@ -59,7 +59,7 @@ pub(crate) fn status_of(stop: Option<Stop>, refused: u32) -> ExitStatus
 }
 
 /// The end of a run for which no memory was found.
-pub(crate) fn unbegun<S>(shelf: S) -> Ended<S>
+pub fn unbegun<S>(shelf: S) -> Ended<S>
     ensures { result ≡ record { status = ExitStatus.Memory; refused = 0; history = None; shelf = shelf; sim = None } }
 {
     Ended {
@@ -105,15 +105,15 @@ fn at_rest<S: Shelf>(driver: Driver<S>) -> (Driver<S>, bool)
     (Driver::from_parts(shelf, session), rests)
 }
 
-/// The session of a driver is sound.
-pub(crate) fn is_sound<S: Shelf>(driver: &Driver<S>)
+// The session of a driver is sound.
+fn is_sound<S: Shelf>(driver: &Driver<S>)
     ensures { IsSound (state_of S.device driver.now) }
 {
     let _ = driver.power();
 }
 
 /// Makes turns until one doesn't move.
-pub(crate) fn run_on<S: Shelf>(driver: &mut Driver<S>)
+pub fn run_on<S: Shelf>(driver: &mut Driver<S>)
     requires unstuck { driver.old.1.power ≡ power.Stuck → ⊥ }
     ensures turns { MakesTurns (state_of S.device driver.old) (state_of S.device driver.new) }
     ensures runs { RunsOn (state_of S.device driver.old) (state_of S.device driver.new) }
@@ -131,11 +131,7 @@ pub(crate) fn run_on<S: Shelf>(driver: &mut Driver<S>)
 }
 
 /// Closes a session that is over or has nothing left to do. After a power cut the power is put on again.
-pub(crate) fn close_ended<S: Shelf>(
-    driver: Driver<S>,
-    posts: Vec<Post>,
-    bytes: Vec<u8>,
-) -> Closed<S>
+pub fn close_ended<S: Shelf>(driver: Driver<S>, posts: Vec<Post>, bytes: Vec<u8>) -> Closed<S>
     ensures shelf { IsClosed driver.1.power (S.device driver.0) (S.device result.shelf) }
     ensures history { result.history ≡ driver.1.history }
 {
@@ -157,7 +153,7 @@ fn run_out<S: Shelf>(driver: Driver<S>, posts: Vec<Post>, bytes: Vec<u8>) -> Clo
 }
 
 /// Ends what stands after the last line: a session that is on makes turns until one doesn't move, and is closed.
-pub(crate) fn conclude<S: Shelf>(stage: Stage<S>) -> Closed<S>
+pub fn conclude<S: Shelf>(stage: Stage<S>) -> Closed<S>
     requires between { (session_in stage ≡ None) ⊎ IsBetweenStage S.device stage }
     requires fits { IsFitting stage }
     ensures concludes { Concludes (history_in stage).run (moment_in S.device stage) (record { device = S.device result.shelf; facts = result.history.facts }) (session_in stage) }

@@ -18,13 +18,18 @@ use lvm_num::{Memory, Rows, Text};
 use lvm_replies::{show_stepped, show_synced};
 use std::alloc::Global;
 
-// Why a run ends before the input does.
+/// Why a run ends before the input does.
 #[derive(Clone, Copy, Drop)]
 pub enum Stop {
+    /// The source failed.
     SourceFault,
+    /// The sink failed.
     SinkFault,
+    /// Memory ran out for a further line.
     Memory,
+    /// Nothing was heard of a transfer.
     Stuck,
+    /// The source gave too much.
     TooLong,
 }
 
@@ -115,7 +120,7 @@ fn with_refusals(refused: u32, reply: &Reply) -> u32
 }
 
 /// Writes the reply to a line. Answers how many lines are refused with it, and why the run ends with it, if so.
-pub(crate) fn write_reply<O: Sink>(
+pub fn write_reply<O: Sink>(
     alloc: Global,
     out: &mut O,
     answer: Reply,

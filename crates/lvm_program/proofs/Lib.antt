@@ -1,0 +1,4 @@
+mod Blanks
+mod Commanding
+mod Sim
+mod Woven
