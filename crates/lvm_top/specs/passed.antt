@@ -1,6 +1,7 @@
 pub mod Driver
 pub mod HolderVariants
 pub mod Lines
+pub mod Recover
 pub mod RefusalVariants
 pub mod ReplyVariants
 pub mod Running
