@@ -74,8 +74,8 @@ pub volume_reads : (disks mib : ℕ) → IsSized disks mib → line_of (mklv_lin
 volume_reads disks mib sized = by (disks == 1)
   where
     by : (single : Bool) → line_of (volume_line (if single then 1 else 2) (mib - 2)) ≡ new_volume (if single then 1 else 2) (mib - 2)
-    by true = lps_read 1 mib single_read sized.2.2.0 sized.2.2.1
-    by false = lps_read 2 mib mirrors_read sized.2.2.0 sized.2.2.1
+    by true = lps_read 1 mib single_read sized.2 sized.3
+    by false = lps_read 2 mib mirrors_read sized.2 sized.3
 
 -- ---- neither is a `mkvg -f`, and they ask for nothing of the session
 

@@ -351,7 +351,8 @@ pub fn run_weave<S: Shelf, O: Sink, C: Clock>(
 ) -> Ended<S>
     requires ready { IsReady (S.device shelf) }
     requires room { IsRoom room }
-    requires some { IsDrawable load.now × IsSized disks mib }
+    requires some { IsDrawable load.now }
+    requires sized { IsSized disks mib }
     ensures run { PromisesWoven disks mib load.now (C.last clock.old) (ran room (S.device shelf) (S.device result.shelf) untold (passage O.held O.faults out.old out.new) (C.last clock.new) result.history result.status result.refused) }
     ensures sim { result.sim ≡ None }
 {
