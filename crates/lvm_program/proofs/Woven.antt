@@ -21,13 +21,11 @@ use Rattle.lvm_session.specs.State.{Core, State as Session, state}
 use Rattle.lvm_load.specs.declared.workload.Workload.{Workload}
 use Rattle.lvm_load.specs.declared.workload.Woven.{Woven}
 use Rattle.lvm_top.specs.passed.HolderVariants as holder
-use Rattle.lvm_top.specs.passed.RefusalVariants as refusal
 use Rattle.lvm_top.specs.passed.Running.{RunsOn}
 use Rattle.lvm_top.specs.passed.ReplyVariants as reply
 use Rattle.lvm_top.specs.passed.Lines.{IsLine, role_of}
 use Rattle.lvm_top.specs.passed.Recover.{HasNoPassive}
-use Rattle.lvm_top.specs.passed.Stage.{ArePosted, GoesOn, Holder, IsBetween, IsBetweenStage, IsFitting, IsOfKind, IsAllowed, IsAlone, IsStuck, IsTimely, OfRequests, Reply, Stage, StandsAlone, StandsBy, State, history_in, history_of, moment_in, most_refusals, session_in, session_of, shelf_of, state_in, without_facts}
-use Rattle.lvm_top.proofs.passed.Stage.{over_goes}
+use Rattle.lvm_top.specs.passed.Stage.{Holder, IsBetween, IsBetweenStage, IsFitting, IsOfKind, IsAllowed, IsAlone, IsStuck, IsTimely, OfRequests, Reply, Stage, StandsAlone, StandsBy, State, history_in, history_of, moment_in, most_refusals, session_in, session_of, shelf_of, state_in, without_facts}
 use Rattle.lvm_top.specs.declared.run.Ended.{Ended}
 use Rattle.lvm_top.specs.declared.status.ExitStatus.{ExitStatus}
 use Rattle.lvm_top.specs.declared.status.ExitStatus.TheVariants as ended
@@ -43,7 +41,7 @@ use Rattle.lvm_program.specs.Woven.{AreMadeAlone, Drawn, EndsWoven, Exit, GoesWo
 use Rattle.lvm_top.proofs.Blanks.{told_behind, told_earlier}
 use Rattle.lvm_program.proofs.Making.{group_allowed, group_unforced, volume_allowed, volume_reads, volume_unforced}
 use Rattle.lvm_program.proofs.Sim.{sim_few, sim_told}
-use Rattle.lvm_top.proofs.Concluding.{Concluded, concluded, off_still}
+use Rattle.lvm_top.proofs.Concluding.{Concluded, closed_concluded, concluded, off_still}
 use Rattle.lvm_top.proofs.Lining.{stuck_is_off}
 use Rattle.lvm_top.proofs.Modes.{HasNoPassiveOn}
 use Rattle.lvm_top.proofs.OneGroup.{alone_so, blank_finds_one, not_more, script_one}
@@ -116,9 +114,6 @@ module _ (log : Log) (room : Room) (past : List Fact) (group volume : List ℕ) 
 
 -- ---- the workload
 
-none_posted : (facts : List Fact) (on : Option Core) → ArePosted facts on []
-none_posted facts on = record { each = λ k d less. absurd (omega (arith, less)); rise = λ i j d before less. absurd (omega (arith, less)) }
-
 -- turns and calls don't leave a session stuck that was on
 pub runs_unstuck : (old new : Session) → RunsOn old new → old.core.power ≡ power.On → new.core.power ≡ power.Stuck → ⊥
 runs_unstuck old new runs on stuck = by runs.leaves.keeps.power
@@ -128,24 +123,13 @@ runs_unstuck old new runs on stuck = by runs.leaves.keeps.power
     by (inr (inl dark)) = let e = sym dark ∙ stuck in cc e
     by (inr (inr off)) = let e = sym off.1 ∙ stuck in cc e
 
-module _ (end : State) (exit : Moment) (between : IsBetween end.moment end.session end.posts) (core : Core) (some : end.session ≡ Some core) (vols : core.descriptor.lvs ≢ []) (facts : end.moment.facts ≡ core.history.facts) where
-  abbrev behind : State
-  behind = record { moment = exit; session = None; posts = []; last = end.last }
-
-  on : core.power ≡ power.On
-  on = (subst (λ (o : Option Core). IsBetween end.moment o end.posts) some between).session.power
-
-  drawn_goes : (blocks : ℕ) (load : Workload) (woven : Woven) → IsDrawn blocks load (state end.moment.device core) exit woven → GoesOn core.history.run OfRequests (reply.Refused refusal.Stuck) end behind
-  drawn_goes blocks load woven drawn =
-      over_goes OfRequests end core drawn.end
-      (record { alone = λ new alone. alone.acts tt; session = some; facts = facts; volumes = vols; between = between; leaves = drawn.runs.leaves; sound = drawn.sound })
-      (reply.Refused refusal.Stuck) behind drawn.closed drawn.facts refl refl (runs_unstuck (state end.moment.device core) drawn.end drawn.runs on) (λ heard. absurd (heard refl)) (none_posted _ _)
-      (λ not_asking. absurd (not_asking tt)) (omega arith)
-
-  pub drawn_concluded : (run : ℕ) → core.history.run ≡ run → (blocks : ℕ) (load : Workload) (woven : Woven) → IsDrawn blocks load (state end.moment.device core) exit woven → Concluded run end exit
-  drawn_concluded run named blocks load woven drawn =
-      let goes : GoesOn run OfRequests (reply.Refused refusal.Stuck) end behind = subst (λ n. GoesOn n OfRequests (reply.Refused refusal.Stuck) end behind) named (drawn_goes blocks load woven drawn) in
-      record { keeps = λ timely alone first span stands. (goes.keeps timely alone first span stands).0; left = λ timely. goes.left timely; power = goes.power }
+pub drawn_concluded : (end : State) (exit : Moment) → IsBetween end.moment end.session end.posts → (core : Core) → end.session ≡ Some core → core.descriptor.lvs ≢ [] → end.moment.facts ≡ core.history.facts → (run : ℕ) → core.history.run ≡ run
+    → (blocks : ℕ) (load : Workload) (woven : Woven) → IsDrawn blocks load (state end.moment.device core) exit woven → Concluded run end exit
+drawn_concluded end exit between core some vols facts run named blocks load woven drawn =
+    closed_concluded run end exit between core some vols facts named drawn.end (runs_unstuck (state end.moment.device core) drawn.end drawn.runs on) drawn.runs drawn.sound drawn.closed drawn.facts
+  where
+    on : core.power ≡ power.On
+    on = (subst (λ (o : Option Core). IsBetween end.moment o end.posts) some between).session.power
 
 -- the lines are those that are named
 pub made_by : (log : Log) (room : Room) (group group1 volume volume1 : List ℕ) (first : State) (answer : Reply) (last : State) → group ≡ group1 → volume ≡ volume1 → IsMade log room group volume first answer last → IsMade log room group1 volume1 first answer last

@@ -2,7 +2,6 @@ pub mod Driver
 pub mod HolderVariants
 pub mod Lines
 pub mod Recover
-pub mod RefusalVariants
 pub mod ReplyVariants
 pub mod Running
 pub mod Stage
