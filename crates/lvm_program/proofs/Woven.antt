@@ -34,7 +34,7 @@ use Rattle.lvm_top.specs.Laws.{MayStart}
 use Rattle.lvm_top.specs.OneGroup.{FindsNoPassive, FindsOneGroup, IsUnforced}
 use Rattle.lvm_top.specs.Run.{Run, exit_state, ran}
 use Rattle.lvm_top.specs.Standing.{HasFewDisks}
-use Rattle.lvm_top.specs.Script.{NextLine, NoLine, Passage, Stream, empty_log, entry_state, facts_of, stream}
+use Rattle.lvm_top.specs.Script.{NextLine, NoLine, Passage, Stream, empty_log, entry_state, facts_of}
 use Rattle.lvm_top.specs.Blank.{IsToldBlank}
 use Rattle.lvm_program.specs.Sim.{full_room, sim_device}
 use Rattle.lvm_program.specs.Woven.{AreMadeAlone, Drawn, EndsWoven, Exit, GoesWoven, HasGroup, IsDrawn, IsMade, IsMadeForCause, HasServed, IsServed, IsSized, IsWoven, IsWovenAlone, NoGroup, NotMade, PromisesWoven, TellsWoven, exit_from, exit_of, mklv_line, mkvg_line, status_woven, untold, woven_text}
@@ -46,7 +46,7 @@ use Rattle.lvm_top.proofs.Lining.{stuck_is_off}
 use Rattle.lvm_top.proofs.Modes.{HasNoPassiveOn}
 use Rattle.lvm_top.proofs.OneGroup.{alone_so, blank_finds_one, not_more, script_one}
 use Rattle.lvm_top.proofs.Refusing.{line_caused}
-use Rattle.lvm_top.proofs.Scripting.{begins_timely}
+use Rattle.lvm_top.proofs.Scripting.{begins_timely, through}
 use Rattle.lvm_top.proofs.Scripts.{run_may_start}
 use Rattle.lvm_top.proofs.Stopping.{how_stopped}
 use Rattle.lvm_top.proofs.Volumes.{mklv_serves}
@@ -156,9 +156,6 @@ made_few log room group volume first answer last (HasGroup mid makes it) none =
     let first_few = makes.goes.few in let few = it.goes.few in let zero : length first.posts ≡ 0 = ap (λ (l : List Post). length l) none in omega (arith, first_few, few, zero)
 
 -- ---- what is told
-
-abbrev through : Option (List ℕ) → ℕ → Option (List ℕ) → ℕ → Passage
-through a f b g = record { before = stream a f; after = stream b g }
 
 pub told_none : (woven : Woven) (requests : ℕ) (status : ExitStatus) → status ≡ status_woven woven requests (Some ended.Memory) → (held : Option (List ℕ)) (faults : ℕ) → TellsWoven woven requests status (through held faults held faults)
 told_none woven requests status is held faults = record {
