@@ -4,7 +4,7 @@ use crate::outside::{check, sink, source, texts};
 use lvm_io::{MemClock, MemSink};
 use lvm_memory::MemShelf;
 use lvm_num::Rows;
-use lvm_top::run_words;
+use lvm_program::run_words;
 use std::process::Abort;
 
 // How the words end, with a script as their input, and what they write.

@@ -4,7 +4,7 @@ use crate::outside::{check, sink, source, texts};
 use lvm_image::ImageSink;
 use lvm_io::{MemClock, MemSink};
 use lvm_lane::FileShelf;
-use lvm_top::run_words;
+use lvm_program::run_words;
 use std::fs;
 use std::fs::File;
 use std::process::Abort;

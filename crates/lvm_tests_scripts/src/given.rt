@@ -5,7 +5,7 @@ use lvm_disk::Shelf;
 use lvm_io::{MemClock, MemSink};
 use lvm_memory::MemShelf;
 use lvm_num::Rows;
-use lvm_top::{Ended, run_words};
+use lvm_program::{Ended, run_words};
 use std::process::Abort;
 
 const WRITE: &[u8] = b"wr hdisk0 4096 1 0000000000000001\n";
