@@ -27,7 +27,7 @@ enum Step {
     Calls,
 }
 
-#[derive(Clone, Copy, Debug, PartialEq, Eq)]
+#[derive(Clone, Copy, PartialEq, Eq)]
 enum Answer {
     Ticket(u64),
     Empty,
