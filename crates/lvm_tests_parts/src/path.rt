@@ -83,47 +83,62 @@ const SECOND: Target = Target {
 
 const PAIR: [Target; 2] = [FIRST, SECOND];
 
-fn lands(outcome: Outcome) -> Next {
-    Next::Land { outcome }
-}
+const ALONE: [Target; 1] = [FIRST];
+
+// whether it is blocked, something is pending and a copy is usable, and what it does next
+static HELD: [(bool, bool, bool, Next); 6] = [
+    (false, false, true, Next::Admit),
+    (true, false, true, Next::Wait),
+    (false, true, true, Next::Wait),
+    (false, true, false, Next::Wait),
+    (true, false, false, Next::Wait),
+    (
+        false,
+        false,
+        false,
+        Next::Land {
+            outcome: Outcome::NoFresh,
+        },
+    ),
+];
 
 #[test]
 fn a_held_request_waits_or_is_admitted_or_finds_no_copy(rt: HostRuntime) {
-    for (blocked, pending, usable, want) in [
-        (false, false, true, Next::Admit),
-        (true, false, true, Next::Wait),
-        (false, true, true, Next::Wait),
-        (false, true, false, Next::Wait),
-        (true, false, false, Next::Wait),
-        (false, false, false, lands(Outcome::NoFresh)),
-    ] {
+    for (blocked, pending, usable, want) in &HELD {
         let facts = Facts {
-            blocked,
-            pending,
-            usable,
+            blocked: *blocked,
+            pending: *pending,
+            usable: *usable,
             ..READY
         };
         let write = Request::new(1, 1, WRITE);
         let read = Request::new(2, 1, READ);
-        check(&rt, write.next(facts) == want, "a write");
-        check(&rt, read.next(facts) == want, "a read");
+        check(&rt, write.next(facts) == *want, "a write");
+        check(&rt, read.next(facts) == *want, "a read");
     }
+}
+
+static BEGINNINGS: [(Ask, Mode, Phase); 5] = [
+    (WRITE, Mode::Active, Phase::WantEntry),
+    (WRITE, Mode::Passive, Phase::WantRecord),
+    (WRITE, Mode::Off, Phase::Data),
+    (READ, Mode::Active, Phase::Data),
+    (READ, Mode::Passive, Phase::Data),
+];
+
+// How far a request is that has got two copies, and then once it has got one of them again.
+fn begun(ask: Ask, mode: Mode) -> (Phase, Phase) {
+    let mut request = Request::new(1, 1, ask);
+    request.admit(Policy::Parallel, mode, &PAIR);
+    let phase = request.phase();
+    request.admit(Policy::Parallel, mode, &ALONE);
+    (phase, request.phase())
 }
 
 #[test]
 fn a_request_that_is_admitted_begins_by_the_mode_of_its_volume(rt: HostRuntime) {
-    for (ask, mode, want) in [
-        (WRITE, Mode::Active, Phase::WantEntry),
-        (WRITE, Mode::Passive, Phase::WantRecord),
-        (WRITE, Mode::Off, Phase::Data),
-        (READ, Mode::Active, Phase::Data),
-        (READ, Mode::Passive, Phase::Data),
-    ] {
-        let mut request = Request::new(1, 1, ask);
-        request.admit(Policy::Parallel, mode, &PAIR);
-        check(&rt, request.phase() == want, "two copies");
-        request.admit(Policy::Parallel, mode, &[FIRST]);
-        check(&rt, request.phase() == Phase::Data, "one copy");
+    for (ask, mode, want) in &BEGINNINGS {
+        check(&rt, begun(*ask, *mode) == (*want, Phase::Data), "a phase");
     }
 }
 
@@ -242,6 +257,38 @@ fn a_write_goes_from_its_entry_to_its_landing(rt: HostRuntime) {
     play(&rt, WRITE, &TO_ITS_LANDING);
 }
 
+// Of a volume in mode active, and of one in mode off.
+static AGAIN: [[(&str, Step); 4]; 2] = [
+    [
+        ("two copies", Admit(Policy::Sequential, Mode::Active, &PAIR)),
+        ("other copies", Does(CHANGED, Next::Admit)),
+        (
+            "no copy",
+            Does(
+                GONE,
+                Next::Land {
+                    outcome: Outcome::NoFresh,
+                },
+            ),
+        ),
+        ("something is pending", Does(PENDING, Next::Pin)),
+    ],
+    [
+        ("two copies", Admit(Policy::Sequential, Mode::Off, &PAIR)),
+        ("other copies", Does(CHANGED, Next::Admit)),
+        (
+            "no copy",
+            Does(
+                GONE,
+                Next::Land {
+                    outcome: Outcome::NoFresh,
+                },
+            ),
+        ),
+        ("something is pending", Does(PENDING, Next::Wait)),
+    ],
+];
+
 static ONE_AFTER_THE_OTHER: [(&str, Step); 6] = [
     ("two copies", Admit(Policy::Sequential, Mode::Off, &PAIR)),
     ("the first copy", Does(READY, Next::Start { target: 0 })),
@@ -253,17 +300,8 @@ static ONE_AFTER_THE_OTHER: [(&str, Step); 6] = [
 
 #[test]
 fn a_write_that_has_not_started_looks_at_its_copies_again(rt: HostRuntime) {
-    for (mode, on) in [(Mode::Active, Next::Pin), (Mode::Off, Next::Wait)] {
-        play(
-            &rt,
-            WRITE,
-            &[
-                ("two copies", Admit(Policy::Sequential, mode, &PAIR)),
-                ("other copies", Does(CHANGED, Next::Admit)),
-                ("no copy", Does(GONE, lands(Outcome::NoFresh))),
-                ("something is pending", Does(PENDING, on)),
-            ],
-        );
+    for steps in &AGAIN {
+        play(&rt, WRITE, steps);
     }
     play(&rt, WRITE, &ONE_AFTER_THE_OTHER);
 }

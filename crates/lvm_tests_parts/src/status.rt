@@ -202,7 +202,139 @@ fn updater(rt: &(impl Abort + AllocGlobal), of: Of) -> Updater {
     }
 }
 
-static SCRIPTS: [(&str, Of, &[Do]); 10] = [
+static SCRIPTS: [(&str, Of, &[Do]); 16] = [
+    (
+        "the member on disk 2 fails before the others, is missing and written no more",
+        Of::Three(true),
+        &[
+            Mark,
+            Starts(true),
+            Writes(2),
+            Writes(5),
+            Writes(9),
+            Ends(2, false, Waiting),
+            Missing(2),
+            Ends(5, true, Waiting),
+            Ends(9, true, Committed),
+            Flies(false),
+            Votes(2, 3),
+            Stale(true, true),
+            Starts(true),
+            Writes(5),
+            Writes(9),
+            WritesNone,
+        ],
+    ),
+    (
+        "the member on disk 2 fails after the others, is missing and written no more",
+        Of::Three(true),
+        &[
+            Mark,
+            Starts(true),
+            Writes(2),
+            Writes(5),
+            Writes(9),
+            Ends(5, true, Waiting),
+            Ends(9, true, Committed),
+            Flies(true),
+            Ends(2, false, Waiting),
+            Missing(2),
+            Flies(false),
+            Votes(2, 3),
+            Starts(true),
+            Writes(5),
+            Writes(9),
+            WritesNone,
+        ],
+    ),
+    (
+        "the member on disk 5 fails before the others, is missing and written no more",
+        Of::Three(true),
+        &[
+            Mark,
+            Starts(true),
+            Writes(2),
+            Writes(5),
+            Writes(9),
+            Ends(5, false, Waiting),
+            Missing(5),
+            Ends(2, true, Waiting),
+            Ends(9, true, Committed),
+            Flies(false),
+            Votes(2, 3),
+            Stale(true, true),
+            Starts(true),
+            Writes(2),
+            Writes(9),
+            WritesNone,
+        ],
+    ),
+    (
+        "the member on disk 5 fails after the others, is missing and written no more",
+        Of::Three(true),
+        &[
+            Mark,
+            Starts(true),
+            Writes(2),
+            Writes(5),
+            Writes(9),
+            Ends(2, true, Waiting),
+            Ends(9, true, Committed),
+            Flies(true),
+            Ends(5, false, Waiting),
+            Missing(5),
+            Flies(false),
+            Votes(2, 3),
+            Starts(true),
+            Writes(2),
+            Writes(9),
+            WritesNone,
+        ],
+    ),
+    (
+        "the member on disk 9 fails before the others, is missing and written no more",
+        Of::Three(true),
+        &[
+            Mark,
+            Starts(true),
+            Writes(2),
+            Writes(5),
+            Writes(9),
+            Ends(9, false, Waiting),
+            Missing(9),
+            Ends(2, true, Waiting),
+            Ends(5, true, Committed),
+            Flies(false),
+            Votes(2, 3),
+            Stale(true, true),
+            Starts(true),
+            Writes(2),
+            Writes(5),
+            WritesNone,
+        ],
+    ),
+    (
+        "the member on disk 9 fails after the others, is missing and written no more",
+        Of::Three(true),
+        &[
+            Mark,
+            Starts(true),
+            Writes(2),
+            Writes(5),
+            Writes(9),
+            Ends(2, true, Waiting),
+            Ends(5, true, Committed),
+            Flies(true),
+            Ends(9, false, Waiting),
+            Missing(9),
+            Flies(false),
+            Votes(2, 3),
+            Starts(true),
+            Writes(2),
+            Writes(5),
+            WritesNone,
+        ],
+    ),
     (
         "an update goes to each member and is committed by more than half",
         Of::Three(true),
@@ -384,78 +516,18 @@ fn updates_go_as_it_is_said(rt: HostRuntime) {
     }
 }
 
-// What three members do where the first of these fails, before the others or after them.
-fn fails_first(failing: u16, a: u16, b: u16) -> [Do; 16] {
-    [
-        Mark,
-        Starts(true),
-        Writes(2),
-        Writes(5),
-        Writes(9),
-        Ends(failing, false, Waiting),
-        Missing(failing),
-        Ends(a, true, Waiting),
-        Ends(b, true, Committed),
-        Flies(false),
-        Votes(2, 3),
-        Stale(true, true),
-        Starts(true),
-        Writes(a),
-        Writes(b),
-        WritesNone,
-    ]
-}
-
-fn fails_last(failing: u16, a: u16, b: u16) -> [Do; 16] {
-    [
-        Mark,
-        Starts(true),
-        Writes(2),
-        Writes(5),
-        Writes(9),
-        Ends(a, true, Waiting),
-        Ends(b, true, Committed),
-        Flies(true),
-        Ends(failing, false, Waiting),
-        Missing(failing),
-        Flies(false),
-        Votes(2, 3),
-        Starts(true),
-        Writes(a),
-        Writes(b),
-        WritesNone,
-    ]
-}
-
-#[test]
-fn a_member_that_fails_at_any_write_is_missing_and_written_no_more(rt: HostRuntime) {
-    for (failing, a, b) in [(2, 5, 9), (5, 2, 9), (9, 2, 5)] {
-        run(
-            &rt,
-            "fails first",
-            three(&rt, true),
-            &fails_first(failing, a, b),
-        );
-        run(
-            &rt,
-            "fails last",
-            three(&rt, true),
-            &fails_last(failing, a, b),
-        );
-    }
-}
+static TABLES: [(&[u16], bool); 4] = [
+    (&[2, 5, 9], true),
+    (&[2, 5, 8], false),
+    (&[2, 9], false),
+    (&[2, 5, 9, 10], false),
+];
 
 #[test]
 fn a_table_of_other_members_does_not_fit(rt: HostRuntime) {
     let group = group(&rt, &THREE, &[]);
-    let tables: [(&[u16], bool); 4] = [
-        (&[2, 5, 9], true),
-        (&[2, 5, 8], false),
-        (&[2, 9], false),
-        (&[2, 5, 9, 10], false),
-    ];
-    for (disks, fits) in tables {
+    for (disks, fits) in &TABLES {
         let table = table_of(&rt, disks);
-        check(&rt, Updater::has_its_rows(&group, &table) == fits, "fits");
+        check(&rt, Updater::has_its_rows(&group, &table) == *fits, "fits");
     }
 }
