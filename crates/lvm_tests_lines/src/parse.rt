@@ -14,13 +14,6 @@ fn refused(rt: &(impl Abort + AllocGlobal), line: &[u8], column: u32) {
     );
 }
 
-// None of these lines is.
-fn all_refused(rt: &(impl Abort + AllocGlobal), lines: &[(&[u8], u32)]) {
-    for (line, column) in lines {
-        refused(rt, line, *column);
-    }
-}
-
 // The line spells this command.
 fn spells(rt: &(impl Abort + AllocGlobal), line: &[u8], command: Command) {
     let read = parse(rt.alloc(), line);
@@ -48,19 +41,20 @@ fn repeated(rt: &(impl Abort + AllocGlobal), byte: u8, times: usize, end: &[u8])
     line
 }
 
+static UNPRINTED: [(&[u8], u32); 6] = [
+    (b"rd\thdisk0 0 1", 3),
+    (b"# remark \x07", 10),
+    (b"foo \x80", 5),
+    (b"\x7f", 1),
+    (b"mkvg -y 9 hdisk0\r", 17),
+    (b"rd hdisk0 0 1\n", 14),
+];
+
 #[test]
 fn a_byte_that_does_not_print_comes_first(rt: HostRuntime) {
-    all_refused(
-        &rt,
-        &[
-            (b"rd\thdisk0 0 1", 3),
-            (b"# remark \x07", 10),
-            (b"foo \x80", 5),
-            (b"\x7f", 1),
-            (b"mkvg -y 9 hdisk0\r", 17),
-            (b"rd hdisk0 0 1\n", 14),
-        ],
-    );
+    for (line, column) in &UNPRINTED {
+        refused(&rt, line, *column);
+    }
 }
 
 #[test]
