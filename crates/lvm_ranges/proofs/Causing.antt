@@ -1,5 +1,5 @@
 -- Why a range that was asked for, and waited for, ended otherwise than well.
-use Rattle.std.proofs.Common.{◌≡◌, ◌≤◌, ◌+◌, ◌*◌, ◌||◌, ◌==◌, ℕ, Bool, true, false, List, [], ◌∷◌, Option, Some, None, Result, Ok, Err, position, if◌then◌else◌, refl, sym, ◌∙◌, ap, subst, arith}
+use Rattle.std.proofs.Common.{◌≡◌, inl, inr, ◌≤◌, ◌+◌, ◌*◌, ◌||◌, ◌==◌, ℕ, Bool, true, false, List, [], ◌∷◌, Option, Some, None, Result, Ok, Err, position, if◌then◌else◌, refl, sym, ◌∙◌, ap, subst, arith}
 use Rattle.std.specs.Prelude.{IfSome, MatchOption, is_some, nat_lt}
 use Rattle.std.specs.List.{list_any, AllByRecursion}
 use Rattle.std.proofs.lemmas.Bool.{eqb-true, ltb-false}
@@ -27,6 +27,7 @@ use Rattle.lvm_keeps.proofs.Lists.{all_on, all_push}
 use Rattle.lvm_keeps.proofs.Losing.{loss_is_caused}
 use Rattle.lvm_keeps.proofs.Small.{both, is_false, not_so}
 use Rattle.lvm_turn_answers.proofs.Stepping.{turn_counts}
+use Rattle.lvm_turn_losses.specs.Losing.{LosesVotesByFaults, LostForFaults}
 use Rattle.lvm_driver.specs.Drains.{IsAny}
 use Rattle.lvm_posts.specs.declared.asked.Asked.{Asked}
 use Rattle.lvm_posts.specs.declared.fault.RangeFault.{RangeFault}
@@ -59,6 +60,11 @@ none_chosen (OnePiece {core = core} before less) faults since all = all_push (λ
 
 begun_since : (write : Option ℕ) (lv at count : ℕ) (old new : Core) (asked : Asked) → IsTold old → Asks write lv at count old new asked → (faults : ℕ → ℕ) → AreAllSince faults asked.first new
 begun_since write lv at count old new asked told asks faults = none_chosen asks.submits faults asked.first (subst (λ n. AreAllSince faults n old) (sym asks.first) (none_earlier old faults told))
+
+-- nor are the votes lost by that
+begun_votes : {write : Option ℕ} {lv at end : ℕ} {first : Core} {from n : ℕ} {core : Core} → Submits write lv at end first from n core → is_lost core ≡ is_lost first
+begun_votes NoPiece = refl
+begun_votes (OnePiece before less) = begun_votes before
 
 -- ---- nor while it is waited for
 
@@ -117,22 +123,27 @@ still_lost : {id : ℕ} {first : Core} {n : ℕ} {new : Core} → Takes id first
 still_lost NoTake = refl
 still_lost (OneTake {n = n} {core = core} {new = new} before answer gives landed) = lost_still core new 1 _ answer gives ∙ still_lost before
 
-module _ (first : Device) (mid end : State) (asked : Asked) (left : ℕ) (answer : Result (Unit {0}) RangeFault) (takes : TakesRange asked mid end answer) (sound : IsSound end) (since : AreAllSince first.counts.faults asked.first mid.core) where
-  own_since : (k : ℕ) (how : Outcome) (it : HasLandedSo mid (asked.first + k) how) → AreSince first.counts.faults it.request
+module _ (first mid end : State) (asked : Asked) (left : ℕ) (answer : Result (Unit {0}) RangeFault) (takes : TakesRange asked mid end answer) (sound : IsSound end)
+    (since : AreAllSince first.device.counts.faults asked.first mid.core) (votes : LosesVotesByFaults first mid) where
+  own_since : (k : ℕ) (how : Outcome) (it : HasLandedSo mid (asked.first + k) how) → AreSince first.device.counts.faults it.request
   own_since k how it = its (let is = own in omega (arith, is))
     where
       own : it.request.request.id ≡ asked.first + k
       own = eqb-true it.request.request.id (asked.first + k) (both (it.request.request.client == 1) (it.request.request.id == asked.first + k) (find-Some (is_asked 1 (asked.first + k)) mid.core.requests it.request it.found).0).1
 
-      its : asked.first ≤ it.request.request.id → AreSince first.counts.faults it.request
-      its = subst (λ (m : Option Open). IfSome m (λ (o : Open). asked.first ≤ o.request.id → AreSince first.counts.faults o)) it.found
-          (found_holds (λ (o : Open). asked.first ≤ o.request.id → AreSince first.counts.faults o) (is_asked 1 (asked.first + k)) mid.core.requests since)
+      its : asked.first ≤ it.request.request.id → AreSince first.device.counts.faults it.request
+      its = subst (λ (m : Option Open). IfSome m (λ (o : Open). asked.first ≤ o.request.id → AreSince first.device.counts.faults o)) it.found
+          (found_holds (λ (o : Open). asked.first ≤ o.request.id → AreSince first.device.counts.faults o) (is_asked 1 (asked.first + k)) mid.core.requests since)
 
-  failed_at_end : AnyFailed first mid.device → AnyFailed first end.device
-  failed_at_end = subst (λ (d : Device). AnyFailed first d) (sym takes.shelf)
+  failed_at_end : AnyFailed first.device mid.device → AnyFailed first.device end.device
+  failed_at_end = subst (λ (d : Device). AnyFailed first.device d) (sym takes.shelf)
 
-  off_at_end : is_lost mid.core ≡ true → (2 * votes_there mid.core ≤ total_votes mid.core.descriptor) × AnyFailedSince end
-  off_at_end lost = (few_votes mid.core lost, loss_is_caused end sound (still_lost takes.takes ∙ lost))
+  lost_at_end : LostForFaults first mid → LostForFaults first end
+  lost_at_end (inl was) = inl was
+  lost_at_end (inr failed) = inr (failed_at_end failed)
+
+  off_at_end : is_lost mid.core ≡ true → (2 * votes_there mid.core ≤ total_votes mid.core.descriptor) × AnyFailedSince end × LostForFaults first end
+  off_at_end lost = (few_votes mid.core lost, loss_is_caused end sound (still_lost takes.takes ∙ lost), lost_at_end (votes lost))
 
   abbrev so : ℕ → Outcome → RangeFault → Type 0
   so k how why = fault_by (piece_lp asked k) (votes_there mid.core) (total_votes mid.core.descriptor) how ≡ Some why
@@ -142,10 +153,10 @@ module _ (first : Device) (mid end : State) (asked : Asked) (left : ℕ) (answer
   piece_cause k outcome.Got why is it = absurd (cc is)
   piece_cause k outcome.Lost why is it =
       let same : fault.Lost ≡ why = cc is in
-      subst (RangeCause left first end) same (failed_at_end (some_failed first mid.device it.request.request.targets.items it.cause.0 it.cause.1 (own_since k outcome.Lost it)))
+      subst (RangeCause left first end) same (failed_at_end (some_failed first.device mid.device it.request.request.targets.items it.cause.0 it.cause.1 (own_since k outcome.Lost it)))
   piece_cause k outcome.ReadFailed why is it =
       let same : fault.ReadFailed ≡ why = cc is in
-      subst (RangeCause left first end) same (failed_at_end (some_failed first mid.device it.request.request.targets.items it.cause.0
+      subst (RangeCause left first end) same (failed_at_end (some_failed first.device mid.device it.request.request.targets.items it.cause.0
       (all_on (λ (t : Target). (is_failed t.state ≡ true) × HasFailed mid.device t) (λ (t : Target). t.usable ≡ true → HasFailed mid.device t) (λ t its usable. its.1) it.request.request.targets.items it.cause.1)
       (own_since k outcome.ReadFailed it)))
   piece_cause k outcome.NoFresh why is it = let same : fault.NoFresh (piece_lp asked k) ≡ why = cc is in subst (RangeCause left first end) same tt
@@ -165,18 +176,26 @@ asks_so write lv at count old new asked gives = by (range_fault old lv at count)
     by (Some why) it = absurd (let e = it.0 in cc e)
 
 pub range_cause : (write : Option ℕ) (lv at count : ℕ) (device : Device) (old begun : Core) (asked : Asked) (left : ℕ) (end : State) (why : RangeFault)
-    → IsTold old → AskRangeGives write lv at count old begun (Ok asked) → FinishGives asked left (state device begun) end (Err why) → IsSound end → RangeCause left device end why
-range_cause write lv at count device old begun asked left end why told gives (WasStuck path table unfinished none is) sound = let same : fault.Stuck ≡ why = cc is in subst (RangeCause left device end) same none
-range_cause write lv at count device old begun asked left end why told gives (Finished mid path table takes) sound = by takes.ends
+    → IsTold old → AskRangeGives write lv at count old begun (Ok asked) → FinishGives asked left (state device begun) end (Err why) → IsSound end → RangeCause left (state device old) end why
+range_cause write lv at count device old begun asked left end why told gives (WasStuck path table unfinished none is) sound = let same : fault.Stuck ≡ why = cc is in subst (RangeCause left (state device old) end) same none
+range_cause write lv at count device old begun asked left end why told gives (Finished mid path table votes takes) sound = by takes.ends
   where
+    asks : Asks write lv at count old begun asked
+    asks = asks_so write lv at count old begun asked gives
+
     begins : AreAllSince device.counts.faults asked.first begun
-    begins = begun_since write lv at count old begun asked told (asks_so write lv at count old begun asked gives) device.counts.faults
+    begins = begun_since write lv at count old begun asked told asks device.counts.faults
+
+    lost_since : LostForFaults (state device begun) mid → LostForFaults (state device old) mid
+    lost_since (inl was) = inl (sym (begun_votes asks.submits) ∙ was)
+    lost_since (inr failed) = inr failed
 
     since : AreAllSince device.counts.faults asked.first mid.core
     since = (turned asked (state device begun) mid path).chooses device.counts.faults asked.first (λ d. omega arith) begins
 
-    by : RangeEnds end.core.history.facts asked (votes_there mid.core) (total_votes mid.core.descriptor) (Err why) → RangeCause left device end why
+    by : RangeEnds end.core.history.facts asked (votes_there mid.core) (total_votes mid.core.descriptor) (Err why) → RangeCause left (state device old) end why
     by (AllWell well is) = absurd (cc is)
     by (FirstFails k failed less before fails is) =
         let same : failed ≡ why = cc is in
-        subst (RangeCause left device end) same (piece_cause device mid end asked left (Err why) takes sound since k fails.how failed fails.fault (takes.caused k fails.how less fails.landed))
+        subst (RangeCause left (state device old) end) same
+        (piece_cause (state device old) mid end asked left (Err why) takes sound since (λ lost. lost_since (votes lost)) k fails.how failed fails.fault (takes.caused k fails.how less fails.landed))
