@@ -58,7 +58,7 @@ module _ (read : Result (Option Command) Misfit) (old new : State) (core : Core)
   why_undrained (drain_fault.WentOff have total) ends =
       let votes = off_votes ends.end ends.sound ends.fails.power_is in
       let few : 2 * have ≤ total = subst (λ (n : ℕ). 2 * have ≤ n) (sym ends.fails.total_is) (subst (λ (n : ℕ). 2 * n ≤ total_votes ends.end.core.descriptor) (sym ends.fails.have_is) votes.0) in
-      let since = off_cause old new core ends.end between ends.runs.leaves ends.sound (ap (λ (d : Device). d.counts) ends.over.lit) have total some (few, votes.1) in
+      let since = off_cause old new core ends.end between ends.runs.leaves ends.sound (ap (λ (d : Device). d.counts) ends.over.lit) have total some (few, votes.1) (ends.votes (ends.sound.off ends.fails.power_is)) in
       has_by read (refusal.WentOff have total) old new other (since.0, inr (record { core = core; fault = drain_fault.WentOff have total; on = some; ends = ends }, since.1))
   why_undrained drain_fault.Stuck ends =
       has_by read refusal.Stuck old new other (stuck_cause old new core ends.end between ends.runs.leaves ends.sound (ap (λ (d : Device). d.counts) ends.over.lit) ends.left ends.fails ends.waited)

@@ -10,6 +10,7 @@ use Rattle.lvm_commit.specs.Settling.{there}
 use Rattle.lvm_core.specs.declared.parts.Room.{Room}
 use Rattle.lvm_session.specs.Causes.{AnyFailedSince}
 use Rattle.lvm_session.specs.State.{Core, state}
+use Rattle.lvm_turn_losses.specs.Losing.{LostForFaults}
 use Rattle.lvm_num.specs.declared.descriptor.Descriptor.{Descriptor}
 use Rattle.lvm_num.specs.Descriptor.{is_member}
 use Rattle.lvm_disk.specs.Device.{Device}
@@ -66,13 +67,14 @@ pub record WasUndrained (why : Refusal) (old new : State) : Type 0 where
   pub on : old.session ≡ Some core
   pub ends : IsUndrained core old new fault (reply.Refused why)
 
--- a transfer has failed since the session began that was on
+-- a transfer has failed since the session began that was on, and its votes were lost before the line, or one has failed in it
 pub record HasFailedInSession (old new : State) : Type 0 where
   pub core : Core
   pub on : old.session ≡ Some core
   pub failed : AnyFailedSince (state new.moment.device core)
+  pub lost : LostForFaults (state old.moment.device core) (state new.moment.device core)
 
--- the votes were lost with a transfer that failed in the line, or by the turns before the command, and a transfer has failed since the session began
+-- the votes were lost with a transfer that failed in the line, or the turns before the command ended for them, which were lost before the line or so
 abbrev pub WereLost : Refusal → State → State → Type 0
 WereLost why old new = HasLost old new.moment.device.counts ⊎ (WasUndrained why old new × HasFailedInSession old new)
 
@@ -82,9 +84,9 @@ pub record HasFailedAsCounted (old new : State) : Type 0 where
   pub on : old.session ≡ Some core
   pub failed : AnyFails (state old.moment.device core) (state new.moment.device core)
 
--- Transfers of the line's disk have failed; the votes that are left are at most half, and a transfer of a member has failed, or one has since the session began
--- where the turns before the command ended for that; the power was cut; the shelf waited a million times; transfers of the disk that is named have failed; or
--- the clock's moment isn't later than the one that is told. For the other refusals nothing has to have happened.
+-- Transfers of the line's disk have failed; the votes that are left are at most half, and a transfer of a member has failed, or, where the turns before the command
+-- ended for that, they were lost before, or some transfer has failed; the power was cut; the shelf waited a million times; transfers of the disk that is named have
+-- failed; or the clock's moment isn't later than the one that is told. For the other refusals nothing has to have happened.
 abbrev pub CauseOf : Result (Option Command) Misfit → Refusal → State → State → Type 0
 CauseOf read refusal.Lost old new = RoseOn (disk_of read) old.moment.device.counts.faults new.moment.device.counts.faults
 CauseOf read refusal.ReadFailed old new = RoseOn (disk_of read) old.moment.device.counts.faults new.moment.device.counts.faults
@@ -96,8 +98,8 @@ CauseOf read (refusal.SyncFailed disk) old new = ⊥
 CauseOf read (refusal.ClockBack seen) old new = new.last ≤ seen
 CauseOf read other old new = Unit {0}
 
--- What a line of requests is refused for: the power was cut; the shelf waited a million times; the votes that are left are at most half, and a transfer has failed
--- since the session began; or a transfer has failed in the line. For the other refusals nothing has to have happened.
+-- What a line of requests is refused for: the power was cut; the shelf waited a million times; the votes that are left are at most half, and were lost before the
+-- line, or a transfer has failed in it; or a transfer has failed in the line. For the other refusals nothing has to have happened.
 abbrev pub TurnCause : Refusal → State → State → Type 0
 TurnCause refusal.Dark old new = Rose old.moment.device.counts.cuts new.moment.device.counts.cuts
 TurnCause refusal.Stuck old new = RoseBy patience_of_line old.moment.device.counts.waits new.moment.device.counts.waits

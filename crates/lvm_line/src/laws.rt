@@ -8,7 +8,7 @@ pub fn refusals_have_causes()
 {}
 
 /// A line in which no transfer failed, the power wasn't cut and the shelf didn't wait a million times is refused, if it is, by a
-/// rule of its own, for want of memory, or since the votes are lost.
+/// rule of its own, for want of memory, or since the votes were lost before it.
 pub fn lines_are_complete()
     ensures { CompleteLaw }
 {}
