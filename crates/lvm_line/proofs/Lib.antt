@@ -7,4 +7,5 @@ pub mod Faulting
 pub mod Causing
 pub mod Requesting
 pub mod Completing
+pub mod Worked
 pub mod Staying

@@ -57,3 +57,8 @@ IsOwn old other = Unit {0}
 abbrev pub CompleteLaw : Type 0
 CompleteLaw = (log : Log) (room : Room) (line : List ℕ) (why : Refusal) (old new : State) → IsLine log room line (reply.Refused why) old new
     → NothingFailed (line_of line) old new → IsOwn old why
+
+-- And some line is refused in which nothing failed.
+abbrev pub NothingMayFail : Type 0
+NothingMayFail =
+    (log : Log) (room : Room) → (line : List ℕ) × (why : Refusal) × (old : State) × (new : State) × IsLine log room line (reply.Refused why) old new × NothingFailed (line_of line) old new
