@@ -105,7 +105,7 @@ module _ {S : Type 0} (device : S → Device) (first : S × Core) (posts : Vec P
   posted = others_posted mid.1 posts.items asked (kept posts.items between.posted) (asked_behind first.1 write count mid.1 asked posts.items between.session.sound.told.requests between.posted its) end.1 others
 
   -- why it ended otherwise than well
-  caused_so : (left lv : ℕ) (done : Ending) → AskRangeGives write lv at count first.1 mid.1 (Ok asked) → FinishGives asked left (state_of device mid) (state_of device end) done → IfErr done (RangeCause left (state_of device first) (state_of device end))
+  caused_so : (left lv : ℕ) (done : Ending) → AskRangeGives write lv at count first.1 mid.1 (Ok asked) → FinishGives asked left (state_of device mid) (state_of device end) done → IfErr done (RangeCause lv left (state_of device first) (state_of device end))
   caused_so left lv (Ok well) gives finishes = tt
   caused_so left lv (Err why) gives finishes = range_cause write lv at count (device first.0) first.1 mid.1 asked left (state_of device end) why between.session.sound.told gives
       (subst (λ (s : S). FinishGives asked left (state (device s) mid.1) (state_of device end) (Err why)) shelf finishes) sound

@@ -66,7 +66,7 @@ pub record IsFinished (write : Option ℕ) (lv at count : ℕ) (core : Core) (ol
   pub left : ℕ
   pub finishes : FinishGives asked left (session_over old begun) end done
   pub waited : Waited left (session_over old begun) end
-  pub caused : IfErr done (RangeCause left (session_over old core) end)
+  pub caused : IfErr done (RangeCause lv left (session_over old core) end)
   pub runs : RunsOn (session_over old core) end
   pub sound : IsSound end
   pub ends : EndsBy done end old.posts old.last new
