@@ -1,5 +1,5 @@
 -- Lines in which nothing failed.
-use Rattle.std.proofs.Common.{ℕ, Option, Some, None, Result, Ok, inl, inr, subst}
+use Rattle.std.proofs.Common.{ℕ, List, Option, Some, None, Result, Ok, inl, inr, subst}
 use Rattle.std.specs.Prelude.{IfSome}
 use Rattle.lvm_parse.specs.declared.command.Command.{Command}
 use Rattle.lvm_parse.specs.declared.command.Command.TheVariants as command
@@ -9,7 +9,7 @@ use Rattle.lvm_copy_lines.specs.passed.Resync.{AnyFails}
 use Rattle.lvm_copy_lines.specs.passed.Stage.{Refusal, State}
 use Rattle.lvm_copy_lines.specs.passed.RefusalVariants as refusal
 use Rattle.lvm_turn_losses.specs.Losing.{LostForFaults}
-use Rattle.lvm_line.specs.Causes.{CauseOf, HasCause, HasFailed, HasFailedInSession, RoseOn, TurnCause, WereLost, disk_of}
+use Rattle.lvm_line.specs.Causes.{CauseOf, HasCause, HasFailed, HasFailedInSession, RangeLineCause, RoseOn, TurnCause, WereLost, disk_of}
 use Rattle.lvm_line.specs.Complete.{CompleteLaw, HasLostVotes, IsOwn, NothingFailed}
 use Rattle.lvm_line.proofs.Causing.{has_cause}
 
@@ -61,9 +61,13 @@ module _ (old new : State) where
         unseen cause.failed
     turn_own other cause = tt
 
+    range_own : (name : List ℕ) (why : Refusal) → RangeLineCause name why old new → IsOwn old why
+    range_own name (refusal.NoFresh lp) cause = tt
+    range_own name why cause = turn_own why cause
+
   is_own : (read : Result (Option Command) Misfit) → NothingFailed read old new → (why : Refusal) → HasCause read why old new → IsOwn old why
-  is_own (Ok (Some (command.Rd name at count))) nothing why cause = turn_own _ nothing why cause
-  is_own (Ok (Some (command.Wr name at count word))) nothing why cause = turn_own _ nothing why cause
+  is_own (Ok (Some (command.Rd name at count))) nothing why cause = range_own _ nothing name why cause
+  is_own (Ok (Some (command.Wr name at count word))) nothing why cause = range_own _ nothing name why cause
   is_own (Ok (Some (command.Post name at count word))) nothing why cause = turn_own _ nothing why cause
   is_own (Ok (Some command.Wait)) nothing why cause = turn_own _ nothing why cause
   is_own (Ok (Some (command.SyncVolume name))) nothing why cause = turn_own _ nothing why cause

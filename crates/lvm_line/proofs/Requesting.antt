@@ -69,7 +69,7 @@ module _ (old new : State) (between : IsBetween old.moment old.session old.posts
         counts : LeavesBy end.core.power end old.posts old.last new → new.moment.device.counts ≡ end.device.counts
         counts left = leaves_counts end old.posts old.last new left
 
-        by : (w : RangeFault) → RangeCause its.left (session_over old core) end w → FailsBy w end old.posts old.last new → Told (range_refusal w) old new
+        by : (w : RangeFault) → RangeCause lv its.left (session_over old core) end w → FailsBy w end old.posts old.last new → Told (range_refusal w) old new
         by fault.Dark dark left = told_easy _ old new (dark_cause old new core end between its.runs.leaves its.sound (counts left) dark) (λ e. cc) (λ h t e. cc)
         by fault.Stuck none over = record {
           cause = stuck_cause old new core end between its.runs.leaves its.sound (over_counts end old.posts old.last new over) its.left none its.waited;

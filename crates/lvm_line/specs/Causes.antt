@@ -1,5 +1,6 @@
 -- What has happened where a line is refused for it.
-use Rattle.std.specs.Prelude.{◌≡◌, ◌⊎◌, ◌≤◌, ◌*◌, ℕ, List, Option, Some, None, Result, Ok, IsTrue}
+use Rattle.std.specs.Prelude.{◌≡◌, ◌⊎◌, ◌≤◌, ◌*◌, ℕ, false, List, Option, Some, None, Result, Ok, IsTrue}
+use Rattle.std.specs.List.{list_any}
 use Rattle.lvm_disk.specs.Counts.{Counts, Rose, RoseBy}
 use Rattle.lvm_parse.specs.declared.command.Command.{Command}
 use Rattle.lvm_parse.specs.declared.command.Command.TheVariants as command
@@ -8,7 +9,9 @@ use Rattle.lvm_parse.specs.Grammar.{line_of}
 use Rattle.lvm_vol.specs.Log.{Log}
 use Rattle.lvm_commit.specs.Settling.{there}
 use Rattle.lvm_core.specs.declared.parts.Room.{Room}
-use Rattle.lvm_session.specs.Causes.{AnyFailedSince}
+use Rattle.lvm_core.specs.Looking.{IsNumberOf}
+use Rattle.lvm_session.specs.Causes.{AnyFailedSince, was_usable}
+use Rattle.lvm_session.specs.Judging.{copies_in}
 use Rattle.lvm_session.specs.State.{Core, state}
 use Rattle.lvm_turn_losses.specs.Losing.{LostForFaults}
 use Rattle.lvm_num.specs.declared.descriptor.Descriptor.{Descriptor}
@@ -110,10 +113,23 @@ TurnCause (refusal.SyncFailed disk) old new = HasFailedAsCounted old new
 TurnCause (refusal.DiskFailed disk) old new = ⊥
 TurnCause other old new = Unit {0}
 
--- so it is of a line that makes requests or turns, and of each other as above
+-- in the session that was on a transfer has failed since it began, or no copy of the logical partition of the volume of this name could be used then
+pub record LackedSource (name : List ℕ) (lp : ℕ) (old new : State) : Type 0 where
+  pub core : Core
+  pub on : old.session ≡ Some core
+  pub lv : ℕ
+  pub named : IsNumberOf core.descriptor.lvs name lv
+  pub lacks : AnyFailedSince (state new.moment.device core) ⊎ (list_any (was_usable core) (copies_in core.descriptor lv lp) ≡ false)
+
+-- So it is of a line that reads or writes the volume of this name, which is refused for want of a source where that was lacking.
+abbrev pub RangeLineCause : List ℕ → Refusal → State → State → Type 0
+RangeLineCause name (refusal.NoFresh lp) old new = LackedSource name lp old new
+RangeLineCause name why old new = TurnCause why old new
+
+-- so it is of each line that makes requests or turns, and of each other as above
 abbrev pub HasCause : Result (Option Command) Misfit → Refusal → State → State → Type 0
-HasCause (Ok (Some (command.Rd name at count))) why old new = TurnCause why old new
-HasCause (Ok (Some (command.Wr name at count word))) why old new = TurnCause why old new
+HasCause (Ok (Some (command.Rd name at count))) why old new = RangeLineCause name why old new
+HasCause (Ok (Some (command.Wr name at count word))) why old new = RangeLineCause name why old new
 HasCause (Ok (Some (command.Post name at count word))) why old new = TurnCause why old new
 HasCause (Ok (Some command.Wait)) why old new = TurnCause why old new
 HasCause (Ok (Some (command.SyncVolume name))) why old new = TurnCause why old new
