@@ -7,11 +7,10 @@ use Rattle.lvm_parse.specs.declared.command.Command.TheVariants as command
 use Rattle.lvm_operands.specs.declared.rest.Misfit.{Misfit}
 use Rattle.lvm_parse.specs.Grammar.{line_of}
 use Rattle.lvm_vol.specs.Log.{Log}
-use Rattle.lvm_commit.specs.Settling.{there}
 use Rattle.lvm_core.specs.declared.parts.Room.{Room}
 use Rattle.lvm_core.specs.Looking.{IsNumberOf}
 use Rattle.lvm_session.specs.Causes.{AnyFailedSince, was_usable}
-use Rattle.lvm_session.specs.Judging.{copies_in}
+use Rattle.lvm_session.specs.Judging.{copies_in, is_missing}
 use Rattle.lvm_session.specs.State.{Core, state}
 use Rattle.lvm_turn_losses.specs.Losing.{LostForFaults}
 use Rattle.lvm_num.specs.declared.descriptor.Descriptor.{Descriptor}
@@ -53,14 +52,13 @@ pub record IsDrained (old : State) (core mid : Core) : Type 0 where
   pub descriptor : mid.descriptor ≡ core.descriptor
   pub still : IsAtRest old → mid ≡ core
 
--- a transfer of a member has failed since that wasn't missing then
+-- a transfer has failed since of a member of the group that was on, which wasn't missing then
 pub record HasLost (old : State) (new : Counts) : Type 0 where
   pub core : Core
-  pub mid : Core
-  pub drained : IsDrained old core mid
+  pub on : old.session ≡ Some core
   pub disk : ℕ
   pub member : IsTrue (is_member core.descriptor disk)
-  pub was : IsTrue (there mid.status disk)
+  pub was : is_missing core disk ≡ false
   pub failed : Rose (old.moment.device.counts.faults disk) (new.faults disk)
 
 -- The turns before the command ended for that.
