@@ -5,3 +5,4 @@ pub mod Queue
 mod Rest
 pub mod Might
 mod Usable
+mod Searching
