@@ -64,7 +64,10 @@ fn any_fails(session: &Session, place: usize) -> bool
 fn place_of(session: &Session, id: u64) -> Option<usize>
     ensures { result ≡ position (λ (o : Open). o.request.id == id) session.now.requests.items }
 {
-    session.requests.iter().position(|open| open.request.id == id)
+    session
+        .requests
+        .iter()
+        .position(|open| open.request.id == id)
 }
 
 /// Whether the session is calm, and no target of the request at a place counts as failed.

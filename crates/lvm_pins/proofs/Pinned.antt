@@ -121,7 +121,7 @@ module _ (first core new : Core) (same : core ≡ first) (due : Due) (are_due : 
         admission = are_due.admission;
         pinning = narrowed (pinning_at core) core.requests due.pinning are_due.pinning test made refl;
         note = are_due.note;
-        data = are_due.data;
+        «data» = are_due.data;
       } in
       let P : Core → Type 0 = λ c. IsDue c (record due { pinning = record due.pinning { from = place + 1 } }) in
       (stays.0 ∙ same, subst P (sym stays.0) narrow)

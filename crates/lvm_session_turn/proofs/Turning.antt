@@ -42,12 +42,6 @@ starts event.WriteCopy device core can = refl
 
 -- ---- the request of which a transfer is started
 
-pub start_there : (it : Event) (device : Device) (core : Core) → CanStart it device core → (place target : ℕ) → it ≡ event.StartData place target → place < length core.requests
-start_there it device core can place target is =
-    let may : CanStart (event.StartData place target) device core = subst (λ (e : Event). CanStart e device core) is can in
-    slice_get_within core.requests place may.1.due.request may.1.due.there
-
--- it stands there still
 pub started_there : (it : Event) (old new : State) → Makes it old new → (place target : ℕ) → it ≡ event.StartData place target → place < length new.core.requests
 started_there it old new made place target is =
     let starts : StartsData old new place target = subst (λ (e : Event). Makes e old new) is made in

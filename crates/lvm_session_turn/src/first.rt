@@ -1,36 +1,24 @@
 //! The first event of a turn that may be made.
-ghost use Rattle.std.specs.Prelude.{◌≡◌, ◌<◌, ℕ, true, false, length};
+ghost use Rattle.std.specs.Prelude.{◌≡◌, true, false};
 ghost use Rattle.lvm_disk.specs.Device.{Device};
-ghost use Rattle.lvm_session.specs.declared.event.Event.TheVariants as kind;
 ghost use Rattle.lvm_session.specs.declared.open.Power.TheVariants as power;
 ghost use Rattle.lvm_session.specs.Enabled.{is_lost};
 ghost use Rattle.lvm_session.specs.Fields.{core_of};
 ghost use Rattle.lvm_session.specs.Rooms.{HasRooms, SameRooms};
 ghost use Rattle.lvm_session.specs.State.{state};
 ghost use Rattle.lvm_session.specs.Sound.{IsGoing, IsSound};
-ghost use Rattle.lvm_due.specs.Due.{IsDue, IsQuiet};
+ghost use Rattle.lvm_due.specs.Due.{IsDue};
 ghost use Rattle.lvm_launch.specs.Launching.{StartGives};
 ghost use Rattle.lvm_starts.specs.Starts.{CanStart, StartsFirst};
 ghost use Rattle.lvm_session_turn.specs.Taking.{FirstMakes};
 
 use lvm_disk::Shelf;
-use lvm_due::{Due, is_quiet};
+use lvm_due::Due;
 use lvm_enabled::first_start;
 use lvm_firsts::is_lost;
 use lvm_moves::{land_first, move_first};
 use lvm_session::{Event, Session, Turned};
 use lvm_starts::make_start;
-
-// Whether the session is quiet at the place of the request of which a transfer is started.
-fn is_quiet_to_start(session: &Session, event: Event) -> bool
-    requires { (place target : ℕ) → event ≡ kind.StartData place target → place < length session.now.requests.items }
-    ensures { result ≡ true → (place target : ℕ) → event ≡ kind.StartData place target → IsQuiet (core_of session.now) place }
-{
-    match event {
-        Event::StartData { place, .. } => is_quiet(session, place),
-        _ => false,
-    }
-}
 
 // The transfer of an event that starts one is.
 fn start<S: Shelf>(session: &mut Session, shelf: &mut S, event: Event, due: &mut Due) -> Turned
@@ -42,10 +30,9 @@ fn start<S: Shelf>(session: &mut Session, shelf: &mut S, event: Event, due: &mut
     ensures rooms { SameRooms session.old session.new }
     ensures due { IsDue (core_of session.new) due.new }
 {
-    let quiet = is_quiet_to_start(session, event);
     match make_start(session, shelf, event) {
         Turned::Moved => {
-            due.started(session, event, quiet);
+            due.started(session, event);
             Turned::Moved
         }
         answer => {

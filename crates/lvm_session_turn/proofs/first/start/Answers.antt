@@ -1,11 +1,8 @@
 use Rattle.std.proofs.Common.{refl, sym}
 use Rattle.lvm_session.specs.Fields.{core_of}
 use Rattle.lvm_session.specs.State.{state}
-use Rattle.lvm_session_turn.proofs.Turning.{start_there, started_there, starts}
+use Rattle.lvm_session_turn.proofs.Turning.{started_there, starts}
 use Rattle.lvm_session_turn.proofs.first.start.Goals as goal
-
-pub is_quiet_to_start-requires : goal.is_quiet_to_start-requires
-is_quiet_to_start-requires g c = start_there c.args.event (g.S.Shelf.device c.args.shelf.now) (core_of c.args.session.now) c.requires.may
 
 pub started-requires : goal.started-requires
 started-requires g c =
@@ -15,7 +12,7 @@ pub returns-in-Moved-clause-due : goal.returns-in-Moved-clause-due
 returns-in-Moved-clause-due g c =
     let device = g.S.Shelf.device c.args.shelf.now in
     let core = core_of c.args.session.now in
-    c.started.ensures (state device core) (state (g.S.Shelf.device c.make_start.new.shelf) (core_of c.make_start.new.session)) c.requires.going c.is_quiet_to_start-quiet.ensures refl (starts c.args.event device core c.requires.may)
+    c.started.ensures (state device core) (state (g.S.Shelf.device c.make_start.new.shelf) (core_of c.make_start.new.session)) c.requires.going refl (starts c.args.event device core c.requires.may)
     c.in-Moved.ensures.gives c.requires.due
 
 pub returns-in-answer-clause-due : goal.returns-in-answer-clause-due
