@@ -1,6 +1,6 @@
 //! At which places of the table events of a kind may be due.
-ghost use Rattle.std.specs.Prelude.{◌≡◌, ◌≤◌, ◌<◌, ◌+◌, ◌^◌, ℕ, true};
-ghost use Rattle.lvm_firsts.specs.Spans.{is_in, Adds, Leaves};
+ghost use Rattle.std.specs.Prelude.{◌≡◌, ◌<◌, ◌+◌, ◌^◌};
+ghost use Rattle.lvm_firsts.specs.Spans.{Adds, Leaves};
 
 /// Places of the table, from 0: from one on, up to another.
 #[derive(Clone, Copy, Debug, PartialEq, Eq)]
