@@ -1,5 +1,5 @@
 -- What the first event of a part is.
-use Rattle.std.proofs.Common.{◌≡◌, ◌<◌, ◌+◌, ℕ, zero, suc, Bool, true, false, List, [], ◌∷◌, Option, Some, None, length, length-set, slice_get, if◌then◌else◌, refl, sym, ◌∙◌, ap, subst, arith}
+use Rattle.std.proofs.Common.{◌≡◌, ◌<◌, ◌+◌, ℕ, zero, suc, Bool, true, false, List, [], ◌∷◌, Option, Some, None, length, length-set, slice_get, if◌then◌else◌, refl, sym, ◌∙◌, ap, arith}
 use Rattle.std.specs.Option.{option_map, option_map_or}
 use Rattle.std.proofs.lemmas.Option.{slice_get_within}
 use Rattle.lvm_disk.specs.Device.{Device}
@@ -9,13 +9,10 @@ use Rattle.lvm_path.specs.declared.facts.Next.TheVariants as next
 use Rattle.lvm_session.specs.declared.event.Event.{Event}
 use Rattle.lvm_session.specs.declared.event.Event.TheVariants as event
 use Rattle.lvm_session.specs.declared.open.Open.{Open}
-use Rattle.lvm_session.specs.declared.session.Session.{Session}
-use Rattle.lvm_session.specs.Rooms.{SameRooms}
-use Rattle.lvm_session.specs.State.{Core, State, state}
+use Rattle.lvm_session.specs.State.{Core, State}
 use Rattle.lvm_session.specs.Judging.{mode_of, next_for, policy_of}
-use Rattle.lvm_session.specs.Enabled.{Part, admission, admission_at, first_from, first_of, is_admit, landing, landing_at, or_next, outcome_next, parts_to_settle, pinning}
+use Rattle.lvm_session.specs.Enabled.{admission, admission_at, first_from, first_of, is_admit, landing, landing_at, or_next, outcome_next, parts_to_settle, pinning}
 use Rattle.lvm_session.specs.Events.{Admits, Lands, admitted_as, landed_as}
-use Rattle.lvm_session.specs.Turns.{Makes}
 use Rattle.lvm_pins.specs.Pinning.{PinGives}
 use Rattle.lvm_moves.specs.Moving.{FirstGives}
 
@@ -158,22 +155,6 @@ module _ (core : Core) (found : Option Event) (result : Option ℕ) (is : found 
       by_found (Some it) at =
           let l = admission_found core it (sym is ∙ at) in
           absurd (let e : ◌≡◌ {A = Option ℕ} (Some l.place) None = sym (some l.place (at ∙ ap Some l.is)) ∙ got in cc e)
-
-pub rooms_on : (a b c : Session) → SameRooms a b → SameRooms b c → SameRooms a c
-rooms_on a b c one two = record { requests = two.requests ∙ one.requests; flying = two.flying ∙ one.flying; bytes = two.bytes ∙ one.bytes }
-
--- the last two parts of three, where nothing came of the first
-pub record HasStayed (part : Part) (old now : Core) : Type 0 where
-  pub none : part old ≡ None
-  pub same : now ≡ old
-
-pub stayed : (part : Part) (device : Device) (old now : Core) (answer : Bool) → answer ≡ false → FirstGives part device old now answer → HasStayed part old now
-stayed part device old now false is gives = record { none = gives.0; same = gives.1 }
-stayed part device old now true is gives = absurd (cc is)
-
-pub made_by : (part : Part) (device : Device) (old now : Core) (answer : Bool) → answer ≡ true → FirstGives part device old now answer → FirstGives part device old now true
-made_by part device old now true is gives = gives
-made_by part device old now false is gives = absurd (cc is)
 
 -- ---- the table is as long as it was
 

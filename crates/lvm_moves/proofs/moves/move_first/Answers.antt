@@ -1,4 +1,4 @@
-use Rattle.std.proofs.Common.{◌≡◌, true, None, sym, ◌∙◌, ap, subst}
+use Rattle.std.proofs.Common.{true, sym, ◌∙◌, ap, subst}
 use Rattle.lvm_session.specs.State.{Core}
 use Rattle.lvm_session.specs.Fields.{core_of}
 use Rattle.lvm_session.specs.Enabled.{admission}
@@ -6,7 +6,7 @@ use Rattle.lvm_pins.specs.Pinning.{PinGives}
 use Rattle.lvm_session.specs.Sound.{IsGoing}
 use Rattle.lvm_admit.specs.Choosing.{MayChoose}
 use Rattle.lvm_moves.specs.Moving.{FirstGives}
-use Rattle.lvm_moves.proofs.Found.{admit_gives, land_gives, pin_gives, rooms_on}
+use Rattle.lvm_moves.proofs.Found.{admit_gives, land_gives, pin_gives}
 use Rattle.lvm_moves.proofs.moves.move_first.Goals as goal
 
 pub returns-then-land_first-clause-gives : goal.returns-then-land_first-clause-gives
