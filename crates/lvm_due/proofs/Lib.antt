@@ -1,1 +1,11 @@
+mod Alike
+mod Calm
 mod Frames
+mod Moving
+mod Noting
+mod Queues
+mod Spanning
+mod Starting
+mod Table
+mod Telling
+mod Unread
