@@ -1,11 +1,11 @@
 -- What shows that a session is calm.
 use Rattle.std.proofs.Common.{◌≡◌, Bool, true, false, Option, Some, None, refl, sym, ◌∙◌, ap}
-use Rattle.std.specs.Prelude.{◌≢◌, ◌↔◌, IsTrue, is_none}
+use Rattle.std.specs.Prelude.{◌≢◌, ◌↔◌, IsTrue, is_some}
 use Rattle.lvm_num.specs.declared.status.Status.{Status}
 use Rattle.lvm_session.specs.Enabled.{same_status}
 use Rattle.lvm_session.proofs.Statuses.{status_one}
 
-pub none_there : {A : Type 0} (x : Option A) → is_none x ≡ true → x ≡ None
+pub none_there : {A : Type 0} (x : Option A) → is_some x ≡ false → x ≡ None
 none_there None is = refl
 none_there (Some a) is = absurd (cc is)
 

@@ -21,6 +21,7 @@ use Rattle.lvm_session.specs.Judging.{facts_of, is_beside, is_failing, is_held_b
 use Rattle.lvm_session.specs.Enabled.{admission_at, can_pin, data_at, is_admit, is_pin, landing_at, note_at, note_due, outcome_next, pinning_at, target_next}
 use Rattle.lvm_session.specs.Requests.{wants_entry}
 use Rattle.lvm_firsts.proofs.Might.{pins_not}
+use Rattle.lvm_firsts.specs.Might.{wants_entry as might_want}
 use Rattle.lvm_firsts.specs.declared.span.Span.{Span}
 use Rattle.lvm_firsts.specs.Spans.{is_in, Adds, Spans}
 use Rattle.lvm_due.specs.declared.due.Due.{Due}
@@ -50,6 +51,14 @@ any_set test (x ∷ os) zero was is there same =
     let its : x ≡ was = cc there in
     ap (λ (b : Bool). b || list_any test os) (same ∙ sym (ap test its))
 any_set test (x ∷ os) (suc place) was is there same = ap (λ (b : Bool). test x || b) (any_set test os place was is there same)
+
+same_phases : (p : Phase) → might_want p ≡ wants_entry p
+same_phases phase.Held = refl
+same_phases phase.WantEntry = refl
+same_phases phase.WantRecord = refl
+same_phases phase.Data = refl
+same_phases phase.WantStatus = refl
+same_phases phase.Landed = refl
 
 -- ---- one has changed
 
@@ -102,15 +111,12 @@ module _ (frees pins : Open → Bool) (old new : Core) (place : ℕ) (moves : Mo
       not_held phase.Landed is = refl
   pins_same k o kept false not_so was =
       ap (λ (b : Bool). if b && can_pin new.cache o.request.ask then Some (event.Pin k) else None)
-      (pins_not (facts_of new o.request) o.request o.request.phase (and_left (wants_entry o.request.phase) (not (facts_of new o.request).pinned) not_so))
+      (pins_not (facts_of new o.request) o.request o.request.phase (and_left (might_want o.request.phase) (not (facts_of new o.request).pinned) (same_phases o.request.phase ∙ not_so)))
 
   -- ---- a wider span of each kind
 
   module _ (s t : Span) (wider : (k : ℕ) → is_in s k ≡ true → is_in t k ≡ true) (has : is_in t place ≡ true) (within : t.to ≤ length new.requests) where
-    abbrev Event_at : Type 0
-    Event_at = ℕ → Open → Option Event
-
-    at_others : (was now : Event_at) → Spans was old.requests s → ((k : ℕ) (o : Open) → slice_get new.requests k ≡ Some o → slice_get old.requests k ≡ Some o → is_in t k ≡ false → was k o ≡ None → now k o ≡ None) → Spans now new.requests t
+    at_others : (was now : ℕ → Open → Option Event) → Spans was old.requests s → ((k : ℕ) (o : Open) → slice_get new.requests k ≡ Some o → slice_get old.requests k ≡ Some o → is_in t k ≡ false → was k o ≡ None → now k o ≡ None) → Spans now new.requests t
     at_others was now spans same = keep was now old.requests new.requests s t spans within wider
         (λ k o there out. let before = earlier k o there out in (before, same k o there before out))
       where
@@ -153,18 +159,18 @@ pub moved_due : (frees pins : Open → Bool) (old new : Core) (place : ℕ) (was
     → Covers pins new.requests (length new.requests) entries → AddsEach place was each → Joins freed each.landing now.landing → Joins freed each.admission now.admission → Joins entries each.pinning now.pinning
     → now.note ≡ each.note → now.data ≡ each.data → Moves frees pins old new place → IsDue old was → IsDue new now
 moved_due frees pins old new place was each now freed entries low free enter adds lands admits pinned notes datas moves due = record {
-  landing = landing_keeps frees pins old new place moves was.landing now.landing (λ k is. lands.wider k (adds.landing.wider k is)) (lands.wider place adds.landing.has) (lands.within n (first adds.landing due.landing) free.within)
+  landing = landing_keeps frees pins old new place moves was.landing now.landing (λ k is. lands.wider k (adds.landing.wider k is)) (lands.wider place adds.landing.has) (lands.within n (first (landing_at old) was.landing each.landing adds.landing due.landing) free.within)
       (λ k o there is. lands.has k (free.has k o (slice_get_within new.requests k o there) there is)) due.landing;
-  admission = admission_keeps frees pins old new place moves was.admission now.admission (λ k is. admits.wider k (adds.admission.wider k is)) (admits.wider place adds.admission.has) (admits.within n (first adds.admission due.admission) free.within)
+  admission = admission_keeps frees pins old new place moves was.admission now.admission (λ k is. admits.wider k (adds.admission.wider k is)) (admits.wider place adds.admission.has) (admits.within n (first (admission_at old) was.admission each.admission adds.admission due.admission) free.within)
       (λ k o there is. admits.has k (free.has k o (slice_get_within new.requests k o there) there is)) due.admission;
-  pinning = pinning_keeps frees pins old new place moves was.pinning now.pinning (λ k is. pinned.wider k (adds.pinning.wider k is)) (pinned.wider place adds.pinning.has) (pinned.within n (first adds.pinning due.pinning) enter.within)
+  pinning = pinning_keeps frees pins old new place moves was.pinning now.pinning (λ k is. pinned.wider k (adds.pinning.wider k is)) (pinned.wider place adds.pinning.has) (pinned.within n (first (pinning_at old) was.pinning each.pinning adds.pinning due.pinning) enter.within)
       (λ k o there is. pinned.has k (enter.has k o (slice_get_within new.requests k o there) there is)) due.pinning;
-  note = subst (Spans (note_at new) new.requests) (sym notes) (note_keeps frees pins old new place moves was.note each.note adds.note.wider adds.note.has (first adds.note due.note) due.note);
-  «data» = subst (Spans (data_at new) new.requests) (sym datas) (data_keeps frees pins old new place moves was.data each.data adds.data.wider adds.data.has (first adds.data due.data) due.data);
+  note = subst (Spans (note_at new) new.requests) (sym notes) (note_keeps frees pins old new place moves was.note each.note adds.note.wider adds.note.has (first (note_at old) was.note each.note adds.note due.note) due.note);
+  «data» = subst (Spans (data_at new) new.requests) (sym datas) (data_keeps frees pins old new place moves was.data each.data adds.data.wider adds.data.has (first (data_at old) was.data each.data adds.data due.data) due.data);
 }
   where
     n : ℕ
     n = length new.requests
 
-    first : {make : ℕ → Open → Option Event} {s t : Span} → Adds place s t → Spans make old.requests s → t.to ≤ length new.requests
-    first {make} {s} {t} adds spans = adds.within (length new.requests) (let within = spans.within in let same = long_same frees pins old new place moves in omega (arith, within, same)) low
+    first : (make : ℕ → Open → Option Event) (s t : Span) → Adds place s t → Spans make old.requests s → t.to ≤ length new.requests
+    first make s t adds spans = adds.within (length new.requests) (let within = spans.within in let same = long_same frees pins old new place moves in omega (arith, within, same)) low

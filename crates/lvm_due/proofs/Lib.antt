@@ -2,6 +2,7 @@ mod Alike
 mod Calm
 mod Frames
 mod Moving
+mod Narrow
 mod Noting
 mod Queues
 mod Spanning

@@ -111,7 +111,7 @@ module _ (old : State) (new : Core) (place : ℕ) (how : Outcome) (going : IsGoi
       ∙ sym (ap (list_any test) landed_rows)
     where
       test : Row → Bool
-      test row = nat_lt row.id (place_of r.id) && conflicts row.ask (held_of r.ask)
+      test = λ (row : Row). nat_lt row.id (place_of r.id) && conflicts row.ask (held_of r.ask)
 
       fails : (k : ℕ) (o : Open) → slice_get old.core.requests k ≡ Some o → o.request.id ≡ lands.request.request.id → test (row_of o) ≡ false
       fails k o there is =
@@ -206,7 +206,7 @@ pin_moves old new place pins = record {
 
 -- ---- StartData
 
-pub start_moves : (old new : State) (place target : ℕ) → StartsData old new place target → ((o : Open) → slice_get new.core.requests place ≡ Some o → any_fails new.core o ≡ false) → Moves none none old.core new.core place
+start_moves : (old new : State) (place target : ℕ) → StartsData old new place target → ((o : Open) → slice_get new.core.requests place ≡ Some o → any_fails new.core o ≡ false) → Moves none none old.core new.core place
 start_moves old new place target starts fine = record {
   reads = reads;
   notes = ap (λ (c : Core). c.cache.notes) core_is;
@@ -253,6 +253,11 @@ start_moves old new place target starts fine = record {
     by true writes = calm_one old.core was (sym
         (sym fine_now ∙ fails_read old.core new.core reads one
         ∙ start_fails old.core was.request.targets.items target starts.its.aim starts.its.aim_is (start_waits (facts_of old.core was.request) was.request target starts.its.aim starts.its.aim_is writes starts.its.due)))
+
+pub start_moves_now : (old new : State) (now : Core) (place target : ℕ) → new.core ≡ now → StartsData old new place target → ((o : Open) → slice_get now.requests place ≡ Some o → any_fails now o ≡ false) → Moves none none old.core now place
+start_moves_now old new now place target same starts fine =
+    subst (λ (c : Core). Moves none none old.core c place) same
+    (start_moves old new place target starts (subst (λ (c : Core). (o : Open) → slice_get c.requests place ≡ Some o → any_fails c o ≡ false) (sym same) fine))
 
 -- ---- the end of a transfer
 

@@ -5,10 +5,13 @@ use Rattle.std.specs.List.{list_all, list_any}
 use Rattle.std.specs.Option.{option_map, option_map_or}
 use Rattle.std.proofs.lemmas.Bool.{and_from, and_parts, eqb-true}
 use Rattle.lvm_num.specs.Buffer.{Buffer}
+use Rattle.lvm_num.specs.declared.descriptor.Descriptor.{Descriptor}
 use Rattle.lvm_num.specs.declared.record.NoteEntry.{NoteEntry}
 use Rattle.lvm_num.specs.declared.descriptor.Mode.{Mode}
 use Rattle.lvm_num.specs.declared.descriptor.Mode.TheVariants as mode
 use Rattle.arrayvec.specs.ArrayVec.{ArrayVec}
+use Rattle.lvm_hold.specs.declared.queue.Row.{Row}
+use Rattle.lvm_hold.specs.Waiting.{is_blocked}
 use Rattle.lvm_mwc.specs.declared.entries.CacheEntry.{CacheEntry}
 use Rattle.lvm_mwc.specs.declared.notes.DiskNotes.{DiskNotes}
 use Rattle.lvm_mwc.specs.Firsts.{with_first}
@@ -31,7 +34,7 @@ use Rattle.lvm_session.specs.State.{Core, State, state}
 use Rattle.lvm_session.specs.Ends.{NoteLearns, with_return}
 use Rattle.lvm_session.specs.Events.{StartsNote, with_flight}
 use Rattle.lvm_session.specs.Enabled.{admission_at, can_pin, data_at, is_admit, is_pin, is_unnamed, landing_at, note_at, note_due, outcome_next, pinning_at, target_next, wants_record}
-use Rattle.lvm_session.specs.Judging.{facts_of, group_of, has_names, is_held_back, is_missing, is_pending, mode_of, next_for}
+use Rattle.lvm_session.specs.Judging.{facts_of, group_of, has_names, held_of, is_held_back, is_missing, is_pending, mode_of, next_for, place_of}
 use Rattle.lvm_firsts.specs.declared.span.Span.{Span}
 use Rattle.lvm_firsts.specs.Spans.{is_in, Spans}
 use Rattle.lvm_due.specs.declared.due.Due.{Due}
@@ -71,7 +74,7 @@ module _ (old new : Core) (reads : ReadsSame old new) (requests : new.requests �
   facts_named r = facts_read old new reads r ∙ (λ i. record (facts_of old r) { blocked = blocked i; pending = pending i; named = has_names new (mode_of new r.ask) r })
     where
       blocked : is_held_back new r ≡ is_held_back old r
-      blocked = ap (λ rows. Rattle.lvm_hold.specs.Waiting.is_blocked rows (Rattle.lvm_session.specs.Judging.place_of r.id) (Rattle.lvm_session.specs.Judging.held_of r.ask)) queue
+      blocked = ap (λ (rows : List Row). is_blocked rows (place_of r.id) (held_of r.ask)) queue
 
       pending : is_pending new r ≡ is_pending old r
       pending = pending_read old new reads r ∙ ap (λ (os : List Open). is_unsettled old r || list_any (fails_beside old r) os) requests
@@ -79,10 +82,7 @@ module _ (old new : Core) (reads : ReadsSame old new) (requests : new.requests �
   next_named : (o : Open) → next_for new o ≡ next_in o.request.phase (record (facts_of old o.request) { named = has_names new (mode_of new o.request.ask) o.request }) o.request
   next_named o = ap (λ (l : Facts). next_in o.request.phase l o.request) (facts_named o.request)
 
-  abbrev Event_at : Type 0
-  Event_at = ℕ → Open → Option Event
-
-  spans_same : (was now : Event_at) (s : Span) → ((k : ℕ) (o : Open) → was k o ≡ None → now k o ≡ None) → Spans was old.requests s → Spans now new.requests s
+  spans_same : (was now : ℕ → Open → Option Event) (s : Span) → ((k : ℕ) (o : Open) → was k o ≡ None → now k o ≡ None) → Spans was old.requests s → Spans now new.requests s
   spans_same was now s same spans = keep was now old.requests new.requests s s spans (subst (λ (os : List Open). s.to ≤ length os) (sym requests) spans.within) (λ k is. is)
       (λ k o there out. (ap (λ (os : List Open). slice_get os k) (sym requests) ∙ there, same k o))
 
@@ -108,7 +108,7 @@ module _ (old new : Core) (reads : ReadsSame old new) (requests : new.requests �
     names_fewer mode.Off r is = refl
 
     same_mode : (r : Request) → mode_of new r.ask ≡ mode_of old r.ask
-    same_mode r = ap (λ d. mode_of (record old { descriptor = d }) r.ask) reads.descriptor
+    same_mode r = ap (λ (d : Descriptor). mode_of (record old { descriptor = d }) r.ask) reads.descriptor
 
     data_named : (s : Span) → Spans (data_at old) old.requests s → Spans (data_at new) new.requests s
     data_named s = spans_same (data_at old) (data_at new) s (λ k o none. none_mapped (event.StartData k) (event.StartData k) (target_next (next_for old o)) (target_next (next_for new o))
@@ -118,20 +118,14 @@ module _ (old new : Core) (reads : ReadsSame old new) (requests : new.requests �
 -- ---- the start of a note
 
 module _ (cache : Cached) (disk : ℕ) (none : flight_on cache disk ≡ None) where
-  abbrev then_on : ℕ → Option DiskNotes
-  then_on other = notes_on (after_start cache disk) other
-
-  on_other : (other : ℕ) → (disk == other) ≡ false → then_on other ≡ notes_on cache other
+  on_other : (other : ℕ) → (disk == other) ≡ false → notes_on (after_start cache disk) other ≡ notes_on cache other
   on_other other apart = find-with_other (is_on other) (is_on disk) (started cache.entries) cache.notes (λ n on. let it = not_there n on in (it, it))
     where
       not_there : (n : DiskNotes) → is_on disk n ≡ true → is_on other n ≡ false
       not_there n on = ap (λ (d : ℕ). d == other) (eqb-true n.disk disk on) ∙ apart
 
-  on_same : then_on disk ≡ option_map (started cache.entries) (notes_on cache disk)
+  on_same : notes_on (after_start cache disk) disk ≡ option_map (started cache.entries) (notes_on cache disk)
   on_same = find-with (is_on disk) (started cache.entries) cache.notes (λ n on. on)
-
-  named_by : Option DiskNotes → ℕ → ℕ → Bool
-  named_by o lv group = option_map_or (both_name lv group) o false
 
   fewer_in : (o : Option DiskNotes) (lv group : ℕ) → option_and_then (λ (n : DiskNotes). n.flight) o ≡ None → option_map_or (both_name lv group) (option_map (started cache.entries) o) false ≡ true → option_map_or (both_name lv group) o false ≡ true
   fewer_in None lv group flies is = is
@@ -155,8 +149,8 @@ module _ (cache : Cached) (disk : ℕ) (none : flight_on cache disk ≡ None) wh
       → (not missing && is_none (flight_on cache other) && not (is_named cache other lv group)) ≡ true
   start_lacks_fewer missing other lv group is = by (disk == other) refl
     where
-      abbrev lacks : Option DiskNotes → Bool
-      lacks o = not missing && is_none (option_and_then (λ (n : DiskNotes). n.flight) o) && not (option_map_or (both_name lv group) o false)
+      lacks : Option DiskNotes → Bool
+      lacks = λ (o : Option DiskNotes). not missing && is_none (option_and_then (λ (n : DiskNotes). n.flight) o) && not (option_map_or (both_name lv group) o false)
 
       here : (o : Option DiskNotes) → lacks (option_map (started cache.entries) o) ≡ true → lacks o ≡ true
       here None it = it
@@ -183,7 +177,7 @@ due_flies_not core o disk due = by (wants_record o.request.phase && o.request.pi
     by true (Some t) found is =
         let its : t.pp.disk ≡ disk = cc is in
         let lacks = find_passes (is_unnamed core o.request.ask) o.request.targets.items t found in
-        let parts = and_parts (not (is_missing core t.pp.disk) && is_none (flight_on core.cache t.pp.disk)) (not (Rattle.lvm_mwc.specs.Cache.is_named core.cache t.pp.disk (lv_of o.request.ask) (group_of o.request.ask))) lacks in
+        let parts = and_parts (not (is_missing core t.pp.disk) && is_none (flight_on core.cache t.pp.disk)) (not (is_named core.cache t.pp.disk (lv_of o.request.ask) (group_of o.request.ask))) lacks in
         subst (λ (d : ℕ). flight_on core.cache d ≡ None) its (no_flight (flight_on core.cache t.pp.disk) (and_parts (not (is_missing core t.pp.disk)) (is_none (flight_on core.cache t.pp.disk)) parts.0).1)
 
 pub note_starts_due : (old new : State) (place disk : ℕ) (due : Due) → StartsNote old new place disk → IsDue old.core due → IsDue new.core due

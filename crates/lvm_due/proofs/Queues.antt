@@ -1,10 +1,10 @@
 -- Requests by their numbers, and who stands in the queue.
-use Rattle.std.proofs.Common.{◌≡◌, ◌<◌, ◌*◌, ◌&&◌, ◌||◌, ◌==◌, not, cond, nat_lt, ℕ, zero, suc, Bool, true, false, List, [], ◌∷◌, Option, Some, None, length, slice_get, slice_set, refl, sym, subst, ◌∙◌, ap, arith}
-use Rattle.std.specs.Prelude.{if◌then◌else◌, filter, position}
+use Rattle.std.proofs.Common.{◌≡◌, ◌<◌, ◌+◌, ◌*◌, ◌&&◌, ◌||◌, ◌==◌, not, cond, nat_lt, ℕ, zero, suc, Bool, true, false, List, [], ◌∷◌, Option, Some, None, length, slice_get, slice_set, refl, sym, subst, ◌∙◌, ap, arith}
+use Rattle.std.specs.Prelude.{if◌then◌else◌, filter, position, IfSome}
 use Rattle.std.specs.List.{list_any, position_or_len}
-use Rattle.std.proofs.lemmas.Bool.{eq-eqb, eqb-true, lt-ltb, ne_eqb}
+use Rattle.std.proofs.lemmas.Bool.{eq-eqb, eqb-true, lt-ltb, ltb-true, ne_eqb}
 use Rattle.std.proofs.lemmas.List.Folds.{position_or_len-set}
-use Rattle.std.proofs.lemmas.Option.{get_or_from_slice_get, slice_get_within}
+use Rattle.std.proofs.lemmas.Option.{cond_some, get_or_from_slice_get, slice_get_within}
 use Rattle.lvm_hold.specs.declared.queue.Held.{Held}
 use Rattle.lvm_hold.specs.declared.queue.Row.{Row}
 use Rattle.lvm_hold.specs.Waiting.{without}
@@ -18,7 +18,7 @@ use Rattle.lvm_due.proofs.Frames.{long_set}
 -- ---- numbers
 
 abbrev pub has_number : ℕ → Open → Bool
-has_number id o = o.request.id == id
+has_number id = λ (o : Open). o.request.id == id
 
 -- requests of one number are one
 pub one_numbered : (os : List Open) (j k : ℕ) (x y : Open) → IsAscending os → slice_get os j ≡ Some x → slice_get os k ≡ Some y → x.request.id ≡ y.request.id → x ≡ y
@@ -61,6 +61,13 @@ pub get_set : (os : List Open) (k : ℕ) (was is : Open) → slice_get os k ≡ 
 get_set [] k was is there = absurd (cc there)
 get_set (x ∷ os) zero was is there = refl
 get_set (x ∷ os) (suc k) was is there = get_set os k was is there
+
+pub place_within : (test : Open → Bool) (os : List Open) (place : Option ℕ) → place ≡ position test os → IfSome place (λ k. k < length os)
+place_within test os None is = tt
+place_within test os (Some k) is =
+    let both = cond_some (nat_lt (position_or_len test os) (length os)) (position_or_len test os) k (sym is) in
+    let low = ltb-true (position_or_len test os) (length os) both.0 in
+    omega (arith, low, both.1)
 
 -- ---- the queue
 

@@ -1,5 +1,5 @@
 -- Spans, and what is due outside them.
-use Rattle.std.proofs.Common.{◌≡◌, ◌<◌, ◌≤◌, ◌+◌, ◌-◌, ◌&&◌, ◌==◌, ℕ, zero, suc, Bool, true, false, nat_le, nat_lt, List, [], ◌∷◌, Option, Some, None, length, slice_get, refl, sym, ◌∙◌, ap, arith}
+use Rattle.std.proofs.Common.{◌≡◌, ◌<◌, ◌≤◌, ◌+◌, ◌&&◌, ◌==◌, ℕ, zero, suc, Bool, true, false, nat_le, nat_lt, List, [], ◌∷◌, Option, Some, None, length, slice_get, refl, sym, ◌∙◌, ap, arith}
 use Rattle.std.proofs.lemmas.Bool.{and_from, and_parts, eqb-false, eqb-true, le-leb, leb-true, lt-ltb, ltb-true, true_from_ne_false, false_from_ne_true}
 use Rattle.std.proofs.lemmas.Option.{slice_get_within}
 use Rattle.lvm_session.specs.declared.event.Event.{Event}
@@ -9,7 +9,7 @@ use Rattle.lvm_session.specs.Enabled.{admission_at, data_at, landing_at, note_at
 use Rattle.lvm_firsts.specs.declared.span.Span.{Span}
 use Rattle.lvm_firsts.specs.Spans.{is_in, Adds, Spans}
 use Rattle.lvm_due.specs.declared.due.Due.{Due}
-use Rattle.lvm_due.specs.Due.{AddsIf, Covers, IsDue, Joins}
+use Rattle.lvm_due.specs.Due.{none, AddsIf, Covers, IsDue}
 
 pub in_parts : (s : Span) (k : ℕ) → is_in s k ≡ true → (s.from ≤ k) × (k < s.to)
 in_parts s k is = let both = and_parts (nat_le s.from k) (nat_lt k s.to) is in (leb-true s.from k both.0, ltb-true k s.to both.1)
@@ -45,24 +45,6 @@ all_due core n s from to long = record {
 
 -- ---- what is added
 
-pub joined : (other s first last : Span) → other.from < other.to → Adds other.from s first → Adds (other.to - 1) first last → Joins other s last
-joined other s first last some begins ends = record {
-  wider = λ k is. ends.wider k (begins.wider k is);
-  has = λ k is.
-      let low = in_parts last other.from (ends.wider other.from begins.has) in
-      let high = in_parts last (other.to - 1) ends.has in
-      let its = in_parts other k is in
-      in_from last k (omega (arith, low.0, its.0)) (omega (arith, high.1, its.1));
-  within = λ n old_in other_in. ends.within n (begins.within n old_in (omega (arith, some, other_in))) (omega (arith, some, other_in));
-}
-
-pub joined_none : (other s : Span) → other.to ≤ other.from → Joins other s s
-joined_none other s none = record {
-  wider = λ k is. is;
-  has = λ k is. let its = in_parts other k is in absurd (omega (arith, its.0, its.1, none));
-  within = λ n old_in other_in. old_in;
-}
-
 module _ (which : Open → Bool) (requests : List Open) where
   pub covers_none : (s : Span) → s.to ≡ 0 → Covers which requests 0 s
   covers_none s to = record { within = omega (arith, to); has = λ k o low there is. absurd (omega (arith, low)) }
@@ -87,6 +69,10 @@ module _ (which : Open → Bool) (requests : List Open) where
           let its : p ≡ o = cc (at_last, there) in
           absurd (let e : true ≡ false = sym is ∙ ap which its ∙ sym tells in cc e)
       by k p low at is false apart = ap (λ (x : Span). is_in x k) same ∙ covers.has k p (let other = eqb-false k n apart in omega (arith, low, other)) at is
+
+-- no request passes this test
+pub covers_nothing : (requests : List Open) (n : ℕ) (s : Span) → s.to ≡ 0 → Covers none requests n s
+covers_nothing requests n s to = record { within = omega (arith, to); has = λ k o low there is. absurd (cc is) }
 
 -- ---- a span that has become wider
 

@@ -33,8 +33,8 @@ module _ (k : Facts) (r : Request) (target : ℕ) where
   abbrev Waits : Type 0
   Waits = position is_waiting (states_of r.targets.items) ≡ Some target
 
-  none_starts : {n : Next} → target_next n ≡ None → target_next n ≡ Some target → Waits
-  none_starts none some = absurd (let e : ◌≡◌ {A = Option ℕ} None (Some target) = sym none ∙ some in cc e)
+  none_starts : (n : Next) → target_next n ≡ None → target_next n ≡ Some target → Waits
+  none_starts n none some = absurd (let e : ◌≡◌ {A = Option ℕ} None (Some target) = sym none ∙ some in cc e)
 
   by_write : target_next goes ≡ Some target → Waits
   by_write is = by_policy r.policy (by_target (next_target r.policy (states_of r.targets.items)) is)
@@ -77,11 +77,11 @@ module _ (k : Facts) (r : Request) (target : ℕ) where
 
   -- of a write it is the first that waits
   first_waits : (p : Phase) → is_write r.ask ≡ true → target_next (next_in p k r) ≡ Some target → Waits
-  first_waits phase.Held writes is = none_starts (starts_not k r phase.Held refl) is
-  first_waits phase.WantEntry writes is = none_starts (starts_not k r phase.WantEntry refl) is
+  first_waits phase.Held writes is = none_starts (next_in phase.Held k r) (starts_not k r phase.Held refl) is
+  first_waits phase.WantEntry writes is = none_starts (next_in phase.WantEntry k r) (starts_not k r phase.WantEntry refl) is
   first_waits phase.WantRecord writes is = by_chosen (if k.named && k.dirty && not k.pending then goes else next.Wait) (by_either (k.named && k.dirty && not k.pending)) is
   first_waits phase.Data writes is = by_data (is_write r.ask) (is_begun r.targets.items) writes is
-  first_waits phase.WantStatus writes is = none_starts (starts_not k r phase.WantStatus refl) is
+  first_waits phase.WantStatus writes is = none_starts (next_in phase.WantStatus k r) (starts_not k r phase.WantStatus refl) is
   first_waits phase.Landed writes is = absurd (cc is)
 
   pub start_waits : (aim : Target) → slice_get r.targets.items target ≡ Some aim → is_write r.ask ≡ true → target_next (next_in r.phase k r) ≡ Some target → is_waiting aim.state ≡ true

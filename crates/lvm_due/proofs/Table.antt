@@ -1,11 +1,11 @@
 -- What a request that begins, and one that leaves the table, leave of the events of the others.
 use Rattle.std.proofs.Common.{◌≡◌, ◌<◌, ◌≤◌, ◌+◌, ◌*◌, ◌⊎◌, ◌&&◌, ◌||◌, ◌++◌, ◌==◌, inl, inr, not, nat_lt, ℕ, zero, suc, Bool, true, false, List, [], ◌∷◌, Option, Some, None, length, slice_get, refl, sym, subst, ◌∙◌, ap, arith}
 use Rattle.std.specs.List.{list_any, remove, AllByRecursion}
-use Rattle.std.proofs.lemmas.Bool.{and_left, and_right, le-ltb}
+use Rattle.std.proofs.lemmas.Bool.{and_left, and_right, false_from_ne_true, le-ltb}
 use Rattle.std.proofs.lemmas.List.Folds.{list_any-append}
 use Rattle.std.proofs.lemmas.Option.{slice_get_within}
 use Rattle.lvm_vol.specs.Facts.{begun}
-use Rattle.lvm_vol.specs.Log.{Log, next_id}
+use Rattle.lvm_vol.specs.Log.{Log, blocks_begun, next_id}
 use Rattle.lvm_vol.specs.Order.{Ordered}
 use Rattle.lvm_vol.proofs.Asking.{find_stands}
 use Rattle.lvm_vol.proofs.Counting.{count_begun}
@@ -16,6 +16,7 @@ use Rattle.lvm_path.specs.declared.ask.Ask.{Ask}
 use Rattle.lvm_path.specs.declared.facts.Facts.{Facts}
 use Rattle.lvm_path.specs.declared.request.Request.{Request}
 use Rattle.lvm_path.specs.Asks.{is_write}
+use Rattle.lvm_path.specs.Targets.{is_begun}
 use Rattle.lvm_session.specs.declared.event.Event.{Event}
 use Rattle.lvm_session.specs.declared.open.Open.{Open}
 use Rattle.lvm_session.specs.State.{Core}
@@ -57,7 +58,7 @@ long_push (y ∷ os) x = let rest = long_push os x in omega (arith, rest)
 
 module _ (old new : Core) (client : ℕ) (ask : Ask) (bytes : Option (List ℕ)) (told : IsTold old) (begins : new ≡ submitted old client ask bytes) where
   abbrev fresh : Open
-  fresh = new_open (next_id old.history) client ask (Rattle.lvm_vol.specs.Log.blocks_begun old.history.facts)
+  fresh = new_open (next_id old.history) client ask (blocks_begun old.history.facts)
 
   begun_requests : new.requests ≡ old.requests ++ fresh ∷ []
   begun_requests = ap (λ (c : Core). c.requests) begins
@@ -99,7 +100,7 @@ module _ (old new : Core) (client : ℕ) (ask : Ask) (bytes : Option (List ℕ))
       row = record { id = place_of (next_id old.history); ask = held_of ask }
 
       test : Row → Bool
-      test r = nat_lt r.id (place_of o.request.id) && conflicts r.ask (held_of o.request.ask)
+      test = λ (r : Row). nat_lt r.id (place_of o.request.id) && conflicts r.ask (held_of o.request.ask)
 
       later : nat_lt row.id (place_of o.request.id) ≡ false
       later = let low = below_next old.history o told.ordered (at_place (IsAsked old.history.facts) old.requests k o told.requests there) in le-ltb (place_of (next_id old.history)) (place_of o.request.id) (omega (arith, low))
@@ -110,10 +111,7 @@ module _ (old new : Core) (client : ℕ) (ask : Ask) (bytes : Option (List ℕ))
       ∙ ap (λ (b : Bool). let l : Facts = record (facts_of old o.request) { blocked = b } in l) (begun_behind k o there)
 
   module _ (s t : Span) (adds : Adds (length old.requests) s t) where
-    abbrev Event_at : Type 0
-    Event_at = ℕ → Open → Option Event
-
-    begun_keeps : (was now : Event_at) → ((k : ℕ) (o : Open) → slice_get old.requests k ≡ Some o → was k o ≡ None → now k o ≡ None) → Spans was old.requests s → Spans now new.requests t
+    begun_keeps : (was now : ℕ → Open → Option Event) → ((k : ℕ) (o : Open) → slice_get old.requests k ≡ Some o → was k o ≡ None → now k o ≡ None) → Spans was old.requests s → Spans now new.requests t
     begun_keeps was now same spans = keep was now old.requests new.requests s t spans within adds.wider
         (λ k o there out. let before = earlier k o there out in (before, same k o before))
       where
@@ -126,14 +124,20 @@ module _ (old new : Core) (client : ℕ) (ask : Ask) (bytes : Option (List ℕ))
         earlier : (k : ℕ) (o : Open) → slice_get new.requests k ≡ Some o → is_in t k ≡ false → slice_get old.requests k ≡ Some o
         earlier k o there out = get_before old.requests fresh k o (λ same. not_both t k (ap (is_in t) same ∙ adds.has) out) (ap (λ (os : List Open). slice_get os k) (sym begun_requests) ∙ there)
 
-  pub begun_due : (was now : Due) → AddsEach (length old.requests) was now → IsDue old was → IsDue new now
-  begun_due was now adds due = record {
+  pub begun_due : (place : ℕ) (was now : Due) → place + 1 ≡ length new.requests → AddsEach place was now → IsDue old was → IsDue new now
+  begun_due place was now is added due = record {
     landing = begun_keeps was.landing now.landing adds.landing (landing_at old) (landing_at new) (λ k o there. landing_alike old new o (begun_facts k o there) k k) due.landing;
     admission = begun_keeps was.admission now.admission adds.admission (admission_at old) (admission_at new) (λ k o there. admission_alike old new o (begun_facts k o there) k k) due.admission;
     pinning = begun_keeps was.pinning now.pinning adds.pinning (pinning_at old) (pinning_at new) (λ k o there. pinning_alike old new o (begun_facts k o there) k k (ap (λ (c : Cached). can_pin c o.request.ask) begun_cache)) due.pinning;
     note = begun_keeps was.note now.note adds.note (note_at old) (note_at new) (λ k o there. note_alike old new o (begun_facts k o there) k k (note_same old new begun_reads (ap (λ (c : Cached). c.notes) begun_cache) o)) due.note;
     «data» = begun_keeps was.data now.data adds.data (data_at old) (data_at new) (λ k o there. data_alike old new o (begun_facts k o there) k k) due.data;
   }
+    where
+      last : place ≡ length old.requests
+      last = let long = ap length begun_requests ∙ long_push old.requests fresh in omega (arith, is, long)
+
+      adds : AddsEach (length old.requests) was now
+      adds = subst (λ (n : ℕ). AddsEach n was now) last added
 
 -- ---- one leaves
 
@@ -178,40 +182,34 @@ module _ (old new : Core) (place id : ℕ) (o : Open) (there : slice_get old.req
     where
       fails : fails_beside old r o ≡ false
       fails = and_right (not (o.request.id == r.id) && is_beside old o.request.ask r.ask) (is_failing old o)
-          (and_left (is_waiting o && is_write o.request.ask && Rattle.lvm_path.specs.Targets.is_begun o.request.targets.items) (list_any (counts_failed old) o.request.targets.items)
-          (and_left (is_waiting o && is_write o.request.ask) (Rattle.lvm_path.specs.Targets.is_begun o.request.targets.items) (and_left (is_waiting o) (is_write o.request.ask) landed)))
+          (and_left (is_waiting o && is_write o.request.ask && is_begun o.request.targets.items) (list_any (counts_failed old) o.request.targets.items)
+          (and_left (is_waiting o && is_write o.request.ask) (is_begun o.request.targets.items) (and_left (is_waiting o) (is_write o.request.ask) landed)))
 
   left_facts : (e : Open) → facts_of new e.request ≡ facts_of old e.request
   left_facts e =
       facts_but old new left_reads (ap (λ (c : Cached). c.notes) left_cache) e.request (left_pending e.request)
       ∙ ap (λ (c : Core). let l : Facts = record (facts_of old e.request) { blocked = is_held_back c e.request } in l) leaves
 
-  module _ (s t : Span) (gone : Leaves (length new.requests) s t) where
-    abbrev Event_at : Type 0
-    Event_at = ℕ → Open → Option Event
-
-    left_keeps : (was now : Event_at) → ((j k : ℕ) (e : Open) → was j e ≡ None → now k e ≡ None) → Spans was old.requests s → Spans now new.requests t
-    left_keeps was now same spans = record { within = gone.within; none = none }
+  module _ (n : ℕ) (s t : Span) (few : n ≡ length new.requests) (gone : Leaves n s t) where
+    left_keeps : (was now : ℕ → Open → Option Event) → ((j k : ℕ) (e : Open) → was j e ≡ None → now k e ≡ None) → Spans was old.requests s → Spans now new.requests t
+    left_keeps was now same spans = record { within = let low = gone.within in omega (arith, low, few); none = none_left }
       where
-        none : (k : ℕ) (e : Open) → slice_get new.requests k ≡ Some e → is_in t k ≡ false → now k e ≡ None
-        none k e at out = by (get_removed old.requests place k e (ap (λ (os : List Open). slice_get os k) (sym left_requests) ∙ at))
+        none_left : (k : ℕ) (e : Open) → slice_get new.requests k ≡ Some e → is_in t k ≡ false → now k e ≡ None
+        none_left k e at out = by (get_removed old.requests place k e (ap (λ (os : List Open). slice_get os k) (sym left_requests) ∙ at))
           where
-            low : k < length new.requests
-            low = slice_get_within new.requests k e at
+            low : k < n
+            low = let within = slice_get_within new.requests k e at in omega (arith, within, few)
 
             by : (slice_get old.requests k ≡ Some e) ⊎ (slice_get old.requests (k + 1) ≡ Some e) → now k e ≡ None
-            by (inl here) = same k k e (spans.none k e here (out_here (gone.same k low)))
-              where
-                out_here : (is_in s k ≡ true → is_in t k ≡ true) → is_in s k ≡ false
-                out_here wider = out_of s t k wider out
-            by (inr next) = same (k + 1) k e (spans.none (k + 1) e next (Rattle.std.proofs.lemmas.Bool.false_from_ne_true (is_in s (k + 1)) (λ is. not_both t k (gone.before k low is) out)))
+            by (inl here) = same k k e (spans.none k e here (out_of s t k (gone.same k low) out))
+            by (inr next) = same (k + 1) k e (spans.none (k + 1) e next (false_from_ne_true (is_in s (k + 1)) (λ is. not_both t k (gone.before k low is) out)))
 
-  pub left_due : (was now : Due) → Leaves (length new.requests) was.landing now.landing → Leaves (length new.requests) was.admission now.admission → Leaves (length new.requests) was.pinning now.pinning
-      → Leaves (length new.requests) was.note now.note → Leaves (length new.requests) was.data now.data → IsDue old was → IsDue new now
-  left_due was now lands admits pins notes datas due = record {
-    landing = left_keeps was.landing now.landing lands (landing_at old) (landing_at new) (λ j k e. landing_alike old new e (left_facts e) j k) due.landing;
-    admission = left_keeps was.admission now.admission admits (admission_at old) (admission_at new) (λ j k e. admission_alike old new e (left_facts e) j k) due.admission;
-    pinning = left_keeps was.pinning now.pinning pins (pinning_at old) (pinning_at new) (λ j k e. pinning_alike old new e (left_facts e) j k (ap (λ (c : Cached). can_pin c e.request.ask) left_cache)) due.pinning;
-    note = left_keeps was.note now.note notes (note_at old) (note_at new) (λ j k e. note_alike old new e (left_facts e) j k (note_same old new left_reads (ap (λ (c : Cached). c.notes) left_cache) e)) due.note;
-    «data» = left_keeps was.data now.data datas (data_at old) (data_at new) (λ j k e. data_alike old new e (left_facts e) j k) due.data;
+  pub left_due : (n : ℕ) (was now : Due) → n ≡ length new.requests → Leaves n was.landing now.landing → Leaves n was.admission now.admission → Leaves n was.pinning now.pinning → Leaves n was.note now.note
+      → Leaves n was.data now.data → IsDue old was → IsDue new now
+  left_due n was now few lands admits pins notes datas due = record {
+    landing = left_keeps n was.landing now.landing few lands (landing_at old) (landing_at new) (λ j k e. landing_alike old new e (left_facts e) j k) due.landing;
+    admission = left_keeps n was.admission now.admission few admits (admission_at old) (admission_at new) (λ j k e. admission_alike old new e (left_facts e) j k) due.admission;
+    pinning = left_keeps n was.pinning now.pinning few pins (pinning_at old) (pinning_at new) (λ j k e. pinning_alike old new e (left_facts e) j k (ap (λ (c : Cached). can_pin c e.request.ask) left_cache)) due.pinning;
+    note = left_keeps n was.note now.note few notes (note_at old) (note_at new) (λ j k e. note_alike old new e (left_facts e) j k (note_same old new left_reads (ap (λ (c : Cached). c.notes) left_cache) e)) due.note;
+    «data» = left_keeps n was.data now.data few datas (data_at old) (data_at new) (λ j k e. data_alike old new e (left_facts e) j k) due.data;
   }

@@ -79,7 +79,7 @@ impl Due {
 
     // So it has, where nothing else has; else all places are due.
     fn moved_if(&mut self, session: &Session, place: usize, still: bool, freed: Span, entries: Span)
-        requires there { place < length session.now.requests.items }
+        requires { place < length session.now.requests.items }
         ensures { (frees pins : Open → Bool) (old : Core) → Covers frees session.now.requests.items (length session.now.requests.items) freed → Covers pins session.now.requests.items (length session.now.requests.items) entries → (still ≡ true → Moves frees pins old (core_of session.now) place) → IsDue old self.old → IsDue (core_of session.now) self.new }
     {
         if still {
@@ -118,11 +118,11 @@ impl Due {
 
     // A transfer of the request at a place has been started.
     fn data_started(&mut self, session: &Session, place: usize)
-        requires there { place < length session.now.requests.items }
+        requires { place < length session.now.requests.items }
         ensures { (old new : State) (target : ℕ) → new.core ≡ core_of session.now → StartsData old new place target → IsDue old.core self.old → IsDue new.core self.new }
     {
-        let still = !any_fails(session, place);
-        self.moved_if(session, place, still, Span::all(0), Span::all(0));
+        let fails = any_fails(session, place);
+        self.moved_if(session, place, !fails, Span::all(0), Span::all(0));
     }
 
     /// A transfer has been started.
@@ -140,7 +140,7 @@ impl Due {
 
     // The transfer of the request at a place has ended well.
     fn data_ended_at(&mut self, session: &Session, place: usize, quiet: bool)
-        requires there { place < length session.now.requests.items }
+        requires { place < length session.now.requests.items }
         ensures { (old : Core) → (quiet ≡ true → IsQuiet (core_of session.now) place → Moves none none old (core_of session.now) place) → IsDue old self.old → IsDue (core_of session.now) self.new }
     {
         let still = stays_quiet(session, place, quiet);
@@ -166,15 +166,26 @@ impl Due {
         self.data = all;
     }
 
+    // A transfer has ended well.
+    fn ended_well(&mut self, session: &Session, owner: Owner, quiet: bool)
+        ensures { (old : Core) (at : ℕ) (buf : Buffer) → IsGoing old → (quiet ≡ true → IsQuietFor old owner) → Learns owner old at true buf (core_of session.now) → IsDue old self.old → IsDue (core_of session.now) self.new }
+    {
+        match owner {
+            Owner::Data { id, .. } => self.data_ended(session, id, quiet),
+            Owner::Note { .. } => self.note_ended(session),
+            Owner::Status { .. } | Owner::Copy => self.fill(session),
+        }
+    }
+
     /// A transfer has ended, and its owner has learned how; the session was quiet before at the place of its request, where
     /// this is so.
     pub fn ended(&mut self, session: &Session, owner: Owner, ok: bool, quiet: bool)
         ensures { (old : Core) (at : ℕ) (buf : Buffer) → IsGoing old → (quiet ≡ true → IsQuietFor old owner) → Learns owner old at ok buf (core_of session.now) → IsDue old self.old → IsDue (core_of session.now) self.new }
     {
-        match owner {
-            Owner::Data { id, .. } if ok => self.data_ended(session, id, quiet),
-            Owner::Note { .. } if ok => self.note_ended(session),
-            _ => self.fill(session),
+        if ok {
+            self.ended_well(session, owner, quiet);
+        } else {
+            self.fill(session);
         }
     }
 

@@ -8,13 +8,16 @@ ghost use Rattle.lvm_due.specs.Due.{any_fails, IsCalm, IsQuiet, IsQuietFor};
 
 use lvm_facts::counts_failed;
 use lvm_path::Target;
-use lvm_session::{Owner, Session};
+use lvm_session::{Open, Owner, Session};
 
 // Whether no copy is open, and nothing is wanted of the status that isn't committed.
 fn is_calm(session: &Session) -> bool
     ensures { result ≡ true → IsCalm (core_of session.now) }
 {
-    session.copy.is_none() && session.updater.in_flight().is_none() && !session.updater.differs()
+    if session.copy.is_some() || session.updater.in_flight().is_some() {
+        return false;
+    }
+    !session.updater.differs()
 }
 
 fn any_counts_failed(session: &Session, targets: &[Target]) -> bool
@@ -23,19 +26,31 @@ fn any_counts_failed(session: &Session, targets: &[Target]) -> bool
     targets.iter().any(|target| counts_failed(session, target))
 }
 
+fn fails(session: &Session, open: &Open) -> bool
+    ensures { result ≡ any_fails (core_of session.now) open.now }
+{
+    any_counts_failed(session, &open.request.targets)
+}
+
 /// Whether a target of the request at a place counts as failed.
 pub fn any_fails(session: &Session, place: usize) -> bool
     requires { place < length session.now.requests.items }
     ensures { (o : Open) → slice_get session.now.requests.items place ≡ Some o → result ≡ any_fails (core_of session.now) o }
 {
-    any_counts_failed(session, &session.requests[place].request.targets)
+    fails(session, &session.requests[place])
+}
+
+fn position_of(requests: &[Open], id: u64) -> Option<usize>
+    ensures { result ≡ position (λ (o : Open). o.request.id == id) requests.now }
+{
+    requests.iter().position(|open| open.request.id == id)
 }
 
 /// The place of the request of a number.
 pub fn place_of(session: &Session, id: u64) -> Option<usize>
     ensures { result ≡ position (λ (o : Open). o.request.id == id) session.now.requests.items }
 {
-    session.requests.iter().position(|open| open.request.id == id)
+    position_of(&session.requests, id)
 }
 
 /// Whether no copy is open, nothing is wanted of the status that isn't committed, and no target of the request at a
@@ -44,7 +59,10 @@ pub fn is_quiet(session: &Session, place: usize) -> bool
     requires { place < length session.now.requests.items }
     ensures { result ≡ true → IsQuiet (core_of session.now) place }
 {
-    is_calm(session) && !any_fails(session, place)
+    if !is_calm(session) {
+        return false;
+    }
+    !any_fails(session, place)
 }
 
 /// Whether it is so, where it was.
@@ -53,7 +71,10 @@ pub fn stays_quiet(session: &Session, place: usize, quiet: bool) -> bool
     ensures was { result ≡ true → quiet ≡ true }
     ensures is { result ≡ true → IsQuiet (core_of session.now) place }
 {
-    quiet && is_quiet(session, place)
+    if !quiet {
+        return false;
+    }
+    is_quiet(session, place)
 }
 
 // Whether it is so at this place, where there is one.
