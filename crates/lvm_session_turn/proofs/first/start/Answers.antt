@@ -6,7 +6,7 @@ use Rattle.lvm_session_turn.proofs.first.start.Goals as goal
 
 pub started-requires : goal.started-requires
 started-requires g c =
-    started_there c.args.event (state (g.S.Shelf.device c.args.shelf.now) (core_of c.args.session.now)) (state (g.S.Shelf.device c.make_start.new.shelf) (core_of c.make_start.new.session)) c.in-Moved.ensures.gives
+    record { there = started_there c.args.event (state (g.S.Shelf.device c.args.shelf.now) (core_of c.args.session.now)) (state (g.S.Shelf.device c.make_start.new.shelf) (core_of c.make_start.new.session)) c.in-Moved.ensures.gives }
 
 pub returns-in-Moved-clause-due : goal.returns-in-Moved-clause-due
 returns-in-Moved-clause-due g c =
