@@ -6,7 +6,7 @@ use Rattle.lvm_driver.proofs.Due.{begun, refused, some}
 use Rattle.lvm_driver.proofs.dues.submit.Goals as goal
 
 pub submitted-requires : goal.submitted-requires
-submitted-requires c = some (core_of c.args.session.now) (core_of c.submit_request.new.session) _ _ _ (begun (core_of c.args.session.now) (core_of c.submit_request.new.session) _ _ _ c.in-Ok.id c.in-Ok.ensures.gives)
+submitted-requires c = record { some = some (core_of c.args.session.now) (core_of c.submit_request.new.session) _ _ _ (begun (core_of c.args.session.now) (core_of c.submit_request.new.session) _ _ _ c.in-Ok.id c.in-Ok.ensures.gives) }
 
 pub returns-in-Ok-clause-due : goal.returns-in-Ok-clause-due
 returns-in-Ok-clause-due c =

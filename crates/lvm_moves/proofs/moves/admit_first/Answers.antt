@@ -9,8 +9,8 @@ use Rattle.lvm_session.specs.State.{state}
 use Rattle.lvm_moves.proofs.Found.{admitted_there, next_admission, no_admission}
 use Rattle.lvm_moves.proofs.moves.admit_first.Goals as goal
 
-pub is_quiet-requires : goal.is_quiet-requires
-is_quiet-requires g c =
+pub is_quiet-quiet-requires : goal.is_quiet-quiet-requires
+is_quiet-quiet-requires g c =
     let core = core_of c.args.session.now in
     let found = next_admission core c.first_admission.result c.admission_of.result c.first_admission.ensures.first c.admission_of.ensures.some c.admission_of.ensures.none c.in-Some.place c.in-Some.is in
     slice_get_within core.requests c.in-Some.place found.request found.there
@@ -40,7 +40,7 @@ returns-in-None-clause-gives g c = (no_admission (core_of c.args.session.now) c.
 pub admitted-requires : goal.admitted-requires
 admitted-requires g c =
     let device = g.S.Shelf.device c.args.shelf.now in
-    admitted_there (state device (core_of c.args.session.now)) (state device (core_of c.admit_at.new.session)) c.in-Some.place c.admit_at.ensures.admits
+    record { there = admitted_there (state device (core_of c.args.session.now)) (state device (core_of c.admit_at.new.session)) c.in-Some.place c.admit_at.ensures.admits }
 
 pub returns-in-Some-clause-due : goal.returns-in-Some-clause-due
 returns-in-Some-clause-due g c =

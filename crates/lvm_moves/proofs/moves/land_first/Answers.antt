@@ -33,7 +33,7 @@ pub returns-in-None-clause-gives : goal.returns-in-None-clause-gives
 returns-in-None-clause-gives c device = (no_landing (core_of c.args.session.now) c.first_landing.result c.landing_of.result c.first_landing.ensures.first c.landing_of.ensures.some c.landing_of.ensures.none c.in-None.is, refl)
 
 pub landed-requires : goal.landed-requires
-landed-requires c = landed_there (state faultless (core_of c.args.session.now)) (state faultless (core_of c.land_at.new.session)) c.in-Some.place c.in-Some.outcome (c.land_at.ensures.lands faultless)
+landed-requires c = record { there = landed_there (state faultless (core_of c.args.session.now)) (state faultless (core_of c.land_at.new.session)) c.in-Some.place c.in-Some.outcome (c.land_at.ensures.lands faultless) }
 
 pub returns-in-Some-clause-due : goal.returns-in-Some-clause-due
 returns-in-Some-clause-due c =

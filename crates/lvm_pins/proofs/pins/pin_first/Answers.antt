@@ -15,7 +15,7 @@ pin_at-requires-clause-there c = is_place (core_of c.args.session.now) (core_of 
 pub pinned-requires : goal.pinned-requires
 pinned-requires c =
     let core = core_of c.loop-due.session in
-    as_long core (core_of c.pin_at.new.session) c.loop-due.due.pinning.from c.if-pin_at.ensures.at (is_place (core_of c.args.session.now) core core c.loop-due.invariant.same c.loop-due.due c.loop-due.invariant.due c.loop-due-test.true)
+    record { there = as_long core (core_of c.pin_at.new.session) c.loop-due.due.pinning.from c.if-pin_at.ensures.at (is_place (core_of c.args.session.now) core core c.loop-due.invariant.same c.loop-due.due c.loop-due.invariant.due c.loop-due-test.true) }
 
 pub returns-then-pin_at-clause-gives : goal.returns-then-pin_at-clause-gives
 returns-then-pin_at-clause-gives c =

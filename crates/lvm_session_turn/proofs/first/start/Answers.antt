@@ -1,4 +1,4 @@
-use Rattle.std.proofs.Common.{refl, sym}
+use Rattle.std.proofs.Common.{refl, arith}
 use Rattle.lvm_session.specs.Fields.{core_of}
 use Rattle.lvm_session.specs.State.{state}
 use Rattle.lvm_session_turn.proofs.Turning.{started_there, starts}
@@ -6,7 +6,7 @@ use Rattle.lvm_session_turn.proofs.first.start.Goals as goal
 
 pub started-requires : goal.started-requires
 started-requires g c =
-    started_there c.args.event (state (g.S.Shelf.device c.args.shelf.now) (core_of c.args.session.now)) (state (g.S.Shelf.device c.make_start.new.shelf) (core_of c.make_start.new.session)) c.in-Moved.ensures.gives
+    record { there = started_there c.args.event (state (g.S.Shelf.device c.args.shelf.now) (core_of c.args.session.now)) (state (g.S.Shelf.device c.make_start.new.shelf) (core_of c.make_start.new.session)) c.in-Moved.ensures.gives }
 
 pub returns-in-Moved-clause-due : goal.returns-in-Moved-clause-due
 returns-in-Moved-clause-due g c =
@@ -16,4 +16,4 @@ returns-in-Moved-clause-due g c =
     c.in-Moved.ensures.gives c.requires.due
 
 pub returns-in-answer-clause-due : goal.returns-in-answer-clause-due
-returns-in-answer-clause-due g c = c.all.ensures (core_of c.make_start.new.session) (sym c.len.ensures)
+returns-in-answer-clause-due g c = let long = c.len.ensures in c.all.ensures (core_of c.make_start.new.session) (omega (arith, long))
