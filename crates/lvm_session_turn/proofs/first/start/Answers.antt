@@ -1,4 +1,4 @@
-use Rattle.std.proofs.Common.{refl, arith}
+use Rattle.std.proofs.Common.{refl}
 use Rattle.lvm_session.specs.Fields.{core_of}
 use Rattle.lvm_session.specs.State.{state}
 use Rattle.lvm_session_turn.proofs.Turning.{started_there, starts}
@@ -14,6 +14,3 @@ returns-in-Moved-clause-due g c =
     let core = core_of c.args.session.now in
     c.started.ensures (state device core) (state (g.S.Shelf.device c.make_start.new.shelf) (core_of c.make_start.new.session)) c.requires.going refl (starts c.args.event device core c.requires.may)
     c.in-Moved.ensures.gives c.requires.due
-
-pub returns-in-answer-clause-due : goal.returns-in-answer-clause-due
-returns-in-answer-clause-due g c = let long = c.len.ensures in c.all.ensures (core_of c.make_start.new.session) (omega (arith, long))
