@@ -6,7 +6,7 @@ use lvm_disk::Shelf;
 use lvm_io::{Images, MemClock, MemSink, MemSource};
 use lvm_memory::MemShelf;
 use lvm_num::{Rows, Text};
-use lvm_top::{Ended, run_words};
+use lvm_program::{Ended, run_words};
 use std::process::Abort;
 
 /// Ends the test where this isn't so, and says of what.

@@ -1,9 +1,9 @@
 //! A script, line by line.
-ghost use Rattle.std.specs.Prelude.{◌≡◌, ◌⊎◌, ◌↔◌, ◌+◌, ◌++◌, ◌^◌, if◌then◌else◌, ◌<◌, ◌≤◌, [], Some, None, OnOk, OnErr, IfOk, IfErr, IsTrue};
+ghost use Rattle.std.specs.Prelude.{◌≡◌, ◌↔◌, ◌+◌, ◌++◌, ◌^◌, if◌then◌else◌, ◌<◌, ◌≤◌, [], Some, None, OnOk, OnErr, IfOk, IfErr, IsTrue};
 ghost use Rattle.lvm_io.specs.Count.{Rose};
 ghost use Rattle.lvm_io.specs.Stream.{WhereTold, WritesFront};
 ghost use Rattle.lvm_core.specs.Starting.{IsRoom};
-ghost use Rattle.lvm_line.specs.passed.Stage.{reply_text, most_refusals, refusals_of, IsStuck, shelf_in, history_in, session_in, state_in};
+ghost use Rattle.lvm_line.specs.passed.Stage.{reply_text, most_refusals, refusals_of, IsStuck, history_in, session_in, state_in};
 ghost use Rattle.lvm_line.specs.passed.Stage.{IsBetweenStage, IsFitting, without_facts};
 ghost use Rattle.lvm_top.specs.Script.{Says, is_made_late, passage};
 ghost use Rattle.lvm_top.specs.Statuses.{GoesUntil};
@@ -18,13 +18,18 @@ use lvm_num::{Memory, Rows, Text};
 use lvm_replies::{show_stepped, show_synced};
 use std::alloc::Global;
 
-// Why a run ends before the input does.
+/// Why a run ends before the input does.
 #[derive(Clone, Copy, Drop)]
 pub enum Stop {
+    /// The source failed.
     SourceFault,
+    /// The sink failed.
     SinkFault,
+    /// Memory ran out for a further line.
     Memory,
+    /// Nothing was heard of a transfer.
     Stuck,
+    /// The source gave too much.
     TooLong,
 }
 
@@ -114,8 +119,8 @@ fn with_refusals(refused: u32, reply: &Reply) -> u32
     }
 }
 
-// Writes the reply to a line. Answers how many lines are refused with it, and why the run ends with it, if so.
-fn write_reply<O: Sink>(
+/// Writes the reply to a line. Answers how many lines are refused with it, and why the run ends with it, if so.
+pub fn write_reply<O: Sink>(
     alloc: Global,
     out: &mut O,
     answer: Reply,
