@@ -84,7 +84,7 @@ pub nothing_ran : (last : ℕ) (room : Room) (device : Device) (input output : S
 nothing_ran last room device input output ready = record {
   ready = ready;
   history_is = tt;
-  none = (refl, refl, refl);
+  none = (refl, refl, refl, refl, refl);
   read_words = λ is. cc (is);
   counted = λ end. absurd end;
   end = entry_state device 0;

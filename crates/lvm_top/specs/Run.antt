@@ -65,7 +65,7 @@ LinesOf r end = AreDone (empty_log r.named r.room) r.room (entry_state r.entry r
 pub record IsRun (r : Run) : Type 0 where
   pub ready : IsReady r.entry
   pub history_is : IfSome r.history (λ log. log ≡ record (empty_log r.named r.room) { facts = log.facts })
-  pub none : IfNone r.history ((r.status ≡ ended.Memory) × (r.refused ≡ 0) × (r.exit ≡ r.entry))
+  pub none : IfNone r.history ((r.status ≡ ended.Memory) × (r.refused ≡ 0) × (r.exit ≡ r.entry) × (r.output.after ≡ r.output.before) × (r.input.after ≡ r.input.before))
   pub read_words : r.status ≡ ended.Usage → ⊥
   pub counted : IsAtEnd r.status → r.status ≡ at_end r.refused
   pub end : State
