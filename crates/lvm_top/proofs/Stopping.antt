@@ -93,6 +93,8 @@ nothing_ran last room device input output ready = record {
   whole = λ end. absurd end;
   between = λ no_sink no_stuck. nothing_broken (empty_log 0 room) room (entry_state device 0) input output refl;
   wanting = λ is. tt;
+  behind = λ is. absurd (cc (is));
+  beyond = λ is. absurd (cc (is));
   source = λ is. absurd (cc (is));
   sink = λ is. absurd (cc (is));
   read_well = λ no. refl;
@@ -127,6 +129,8 @@ module _ (run last : ℕ) (room : Room) (entry exit : Device) (input output : Pa
     whole = λ end. goes.whole (at_its_end why refused end);
     between = λ no_sink no_stuck. goes.between (λ is. no_sink (says_so is)) (λ is. no_stuck (says_so is));
     wanting = λ is. goes.wanting (why_at why refused ended.Memory is);
+    behind = λ is. goes.behind (why_at why refused ended.SourceFault is);
+    beyond = λ is. goes.beyond (why_at why refused ended.TooLong is);
     source = λ is. goes.source (why_at why refused ended.SourceFault is);
     sink = λ is. goes.sink (why_at why refused ended.SinkFault is);
     read_well = λ no. goes.read_well (λ is. no (says_so is));

@@ -1,4 +1,4 @@
-use Rattle.std.proofs.Common.{◌≡◌, ◌≤◌, ◌<◌, ◌↔◌, ℕ, List, inl, inr, refl}
+use Rattle.std.proofs.Common.{◌≡◌, ◌≤◌, ◌<◌, ◌↔◌, ℕ, List, [], inl, inr, refl, length, ap, arith}
 use Rattle.std.proofs.lemmas.Bool.{cases_lt}
 use Rattle.lvm_io.specs.declared.lines.NextLine.TheVariants as next
 use Rattle.lvm_top.proofs.script.read_line.Goals as goal
@@ -6,6 +6,9 @@ use Rattle.lvm_top.proofs.script.read_line.Goals as goal
 -- the limit isn't passed where a line is given out
 within : (line : List ℕ) (given : ℕ) → (next.Line line ≡ next.TooLong) ↔ (16777216 < given) → given ≤ 16777216
 within line given too_long = elim (cases_lt 16777216 given) [ inl over ↦ absurd (let e = too_long.1 over in cc (e)) | inr fits ↦ fits ]
+
+none_few : (block : List ℕ) → block ≡ [] → length block ≤ 0
+none_few block none = let e : length block ≡ 0 = ap (λ (l : List ℕ). length l) none in omega (arith, e)
 
 pub returns-in-Line-clause-line : goal.returns-in-Line-clause-line
 returns-in-Line-clause-line g c = record {
@@ -24,6 +27,8 @@ returns-in-End-clause-none g c = record {
   unstuck = λ is. cc (is);
   ends = λ is. c.in-End.ensures.line;
   wanting = λ is. absurd (cc (is));
+  behind = λ is. absurd (cc (is));
+  beyond = λ is. absurd (cc (is));
   failed = λ is. absurd (cc (is));
   well = λ no. c.in-End.ensures.well (λ is. cc (is));
 }
@@ -36,6 +41,8 @@ returns-in-Failed-clause-none g c = record {
   unstuck = λ is. cc (is);
   ends = λ is. absurd (cc (is));
   wanting = λ is. absurd (cc (is));
+  behind = λ is. record { same = c.in-Failed.ensures.line; clean = c.in-Failed.ensures.front.0; few = none_few c.next_line.new.self.block c.in-Failed.ensures.front.1 };
+  beyond = λ is. absurd (cc (is));
   failed = λ is. c.in-Failed.ensures.cause refl;
   well = λ no. absurd (no refl);
 }
@@ -48,6 +55,8 @@ returns-in-TooLong-clause-none g c = record {
   unstuck = λ is. cc (is);
   ends = λ is. absurd (cc (is));
   wanting = λ is. absurd (cc (is));
+  behind = λ is. absurd (cc (is));
+  beyond = λ is. record { same = c.in-TooLong.ensures.line; clean = c.in-TooLong.ensures.front.0; few = c.in-TooLong.ensures.front.1 };
   failed = λ is. absurd (cc (is));
   well = λ no. c.in-TooLong.ensures.well (λ is. cc (is));
 }
@@ -60,6 +69,8 @@ returns-in-Memory-clause-none g c = record {
   unstuck = λ is. cc (is);
   ends = λ is. absurd (cc (is));
   wanting = λ is. c.in-Memory.ensures.line;
+  behind = λ is. absurd (cc (is));
+  beyond = λ is. absurd (cc (is));
   failed = λ is. absurd (cc (is));
   well = λ no. c.in-Memory.ensures.well (λ is. cc (is));
 }

@@ -1,4 +1,4 @@
-use Rattle.lvm_io.proofs.Coming.{line_given, line_wanted, last_given}
+use Rattle.lvm_io.proofs.Coming.{front_left, line_given, line_wanted, last_given}
 use Rattle.lvm_io.proofs.lines.Lines.next_line.Goals as goal
 
 pub returns-in-Ok-Some-clause-line : goal.returns-in-Ok-Some-clause-line
@@ -13,3 +13,7 @@ returns-in-End-clause-line g c =
 pub returns-in-Err-clause-line : goal.returns-in-Err-clause-line
 returns-in-Err-clause-line g c =
     line_wanted c.args.self.now c.loop-self.self c.take_line.new.self (g.I.Source.left c.args.input.now) (g.I.Source.left c.loop-self.input) _ c.loop-self.invariant.same c.in-Err.ensures
+
+pub returns-in-Failed-clause-front : goal.returns-in-Failed-clause-front
+returns-in-Failed-clause-front g c =
+    front_left c.loop-self.self c.take_line.new.self c.refill.new.self (rw c.in-Ok-None.field-0-is at c.in-Ok-None.ensures) c.in-Failed.ensures.block.0
