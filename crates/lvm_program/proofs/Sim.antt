@@ -1,5 +1,5 @@
 -- Runs over disks in memory.
-use Rattle.std.proofs.Common.{◌≡◌, ◌*◌, ◌<◌, zero, suc, ◌∷◌, [], length, refl, ℕ, List, replicate, subst, sym, arith}
+use Rattle.std.proofs.Common.{◌≡◌, ◌*◌, ◌<◌, ◌≤◌, zero, suc, ◌∷◌, [], length, refl, ℕ, List, replicate, subst, sym, arith}
 use Rattle.std.proofs.lemmas.List.{get_or-replicate, length-replicate}
 use Rattle.std.specs.Prelude.{slice_index_or}
 use Rattle.lvm_num.specs.Buffer.{Sector, zero_sector}
@@ -11,6 +11,8 @@ use Rattle.lvm_steps.specs.Moments.{IsEarlier, IsUpheld}
 use Rattle.lvm_steps.proofs.Zeros.{blank_is_earlier}
 use Rattle.lvm_stamps.specs.Behind.{IsBehind}
 use Rattle.lvm_stamps.proofs.Records.{blank_is_behind}
+use Rattle.lvm_top.specs.Blank.{IsToldBlank}
+use Rattle.lvm_top.specs.Standing.{HasFewDisks}
 use Rattle.lvm_top.specs.Run.{Run, Promises, WhereAlone}
 use Rattle.lvm_top.specs.Script.{facts_of}
 use Rattle.lvm_program.specs.Program.{PromisesBlank}
@@ -33,6 +35,16 @@ sim_earlier run disks mib = blank_is_earlier run (sim_device disks mib) (media_o
 
 pub sim_behind : (run disks mib : ℕ) → IsBehind run (sim_device disks mib)
 sim_behind run disks mib = blank_is_behind run (sim_device disks mib) (sim_is_blank disks mib)
+
+pub sim_told : (disks mib : ℕ) → IsToldBlank (sim_device disks mib)
+sim_told disks mib = record { media = media_of (blank_disks_of (replicate disks (2048 * mib))); told = refl; still = refl; blank = sim_is_blank disks mib }
+
+sizes_of_zeros : (disks count : ℕ) → length (sizes_of (blank_disks_of (replicate disks count))) ≡ disks
+sizes_of_zeros zero count = refl
+sizes_of_zeros (suc disks) count = let rest = sizes_of_zeros disks count in omega (arith, rest)
+
+pub sim_few : (disks mib : ℕ) → disks ≤ 8 → HasFewDisks (sim_device disks mib)
+sim_few disks mib few = let is = sizes_of_zeros disks (2048 * mib) in omega (arith, is, few)
 
 -- ---- a script over them
 

@@ -1,18 +1,19 @@
 -- Runs of a workload.
-use Rattle.std.proofs.Common.{◌≡◌, ◌≢◌, ◌⊎◌, inl, inr, ⊎_elim, ◌≤◌, ◌+◌, ◌-◌, ◌*◌, ◌++◌, ℕ, List, [], Option, Some, None, IfSome, length, true, refl, sym, ◌∙◌, ap, subst, arith}
+use Rattle.std.proofs.Common.{◌≡◌, ◌≢◌, ◌⊎◌, inl, inr, ⊎_elim, ◌≤◌, ◌+◌, ◌-◌, ◌*◌, ◌++◌, ℕ, List, [], ◌∷◌, Option, Some, None, IfSome, length, true, refl, sym, ◌∙◌, ap, subst, arith}
 use Rattle.std.specs.Prelude.{IsSomeAnd}
 use Rattle.std.proofs.lemmas.List.{append-nil}
 use Rattle.lvm_disk.specs.Device.{Device, IsReady}
 use Rattle.lvm_io.specs.Count.{Rose}
 use Rattle.lvm_io.specs.Stream.{WhereTold, WritesFront}
 use Rattle.lvm_io.proofs.Told.{told_same}
-use Rattle.lvm_vol.specs.Facts.{Fact, joined}
+use Rattle.lvm_vol.specs.Facts.{Cut, Fact, joined}
 use Rattle.lvm_vol.specs.Legal.{Legal}
 use Rattle.lvm_vol.specs.Log.{Log}
 use Rattle.lvm_kept.specs.Moments.{Moment}
-use Rattle.lvm_steps.specs.Moments.{ImagesKept, IsEarlier, IsUpheld, Keeps}
+use Rattle.lvm_steps.specs.Moments.{ImagesKept, IsUpheld, Keeps}
 use Rattle.lvm_steps.proofs.Spans.{keeps_still, span_upholds}
 use Rattle.lvm_stamps.specs.Behind.{IsAhead, IsBehind}
+use Rattle.lvm_parse.specs.Grammar.{line_of}
 use Rattle.lvm_core.specs.declared.parts.Room.{Room}
 use Rattle.lvm_posts.specs.declared.posts.Post.{Post}
 use Rattle.lvm_session.specs.declared.open.Power.TheVariants as power
@@ -20,27 +21,35 @@ use Rattle.lvm_session.specs.State.{Core, State as Session, state}
 use Rattle.lvm_load.specs.declared.workload.Workload.{Workload}
 use Rattle.lvm_load.specs.declared.workload.Woven.{Woven}
 use Rattle.lvm_top.specs.passed.HolderVariants as holder
-use Rattle.lvm_top.specs.passed.RefusalVariants as refusal
 use Rattle.lvm_top.specs.passed.Running.{RunsOn}
 use Rattle.lvm_top.specs.passed.ReplyVariants as reply
-use Rattle.lvm_top.specs.passed.Stage.{ArePosted, GoesOn, Holder, IsBetween, IsBetweenStage, IsFitting, IsOfKind, IsStuck, IsTimely, OfRequests, Reply, Stage, StandsBy, State, history_in, history_of, moment_in, most_refusals, session_in, session_of, shelf_of, state_in, without_facts}
-use Rattle.lvm_top.proofs.passed.Stage.{over_goes}
+use Rattle.lvm_top.specs.passed.Lines.{IsLine, role_of}
+use Rattle.lvm_top.specs.passed.Recover.{HasNoPassive}
+use Rattle.lvm_top.specs.passed.Stage.{Holder, IsBetween, IsBetweenStage, IsFitting, IsOfKind, IsAllowed, IsAlone, IsStuck, IsTimely, OfRequests, Reply, Stage, StandsAlone, StandsBy, State, history_in, history_of, moment_in, most_refusals, session_in, session_of, shelf_of, state_in, without_facts}
 use Rattle.lvm_top.specs.declared.run.Ended.{Ended}
 use Rattle.lvm_top.specs.declared.status.ExitStatus.{ExitStatus}
 use Rattle.lvm_top.specs.declared.status.ExitStatus.TheVariants as ended
 use Rattle.lvm_program.specs.Program.{PromisesWovenBlank}
-use Rattle.lvm_top.specs.Run.{Run, ran}
-use Rattle.lvm_top.specs.Script.{Passage, Stream, empty_log, entry_state, facts_of, stream}
+use Rattle.lvm_top.specs.Laws.{MayStart}
+use Rattle.lvm_top.specs.OneGroup.{FindsNoPassive, FindsOneGroup, IsUnforced}
+use Rattle.lvm_top.specs.Run.{Run, exit_state, ran}
+use Rattle.lvm_top.specs.Standing.{HasFewDisks}
+use Rattle.lvm_top.specs.Script.{NextLine, NoLine, Passage, Stream, empty_log, entry_state, facts_of}
 use Rattle.lvm_top.specs.Blank.{IsToldBlank}
 use Rattle.lvm_program.specs.Sim.{full_room, sim_device}
-use Rattle.lvm_program.specs.Woven.{AreMadeAlone, Drawn, EndsWoven, Exit, GoesWoven, HasGroup, IsDrawn, IsMade, IsMadeForCause, EndsRefused, HasServed, IsWoven, IsWovenAlone, NoGroup, NotMade, NotServed, PromisesWoven, TellsWoven, exit_from, exit_of, mklv_line, mkvg_line, status_woven, untold, woven_text}
+use Rattle.lvm_program.specs.Woven.{AreMadeAlone, Drawn, EndsWoven, Exit, GoesWoven, HasGroup, IsDrawn, IsMade, IsMadeForCause, HasServed, IsServed, IsSized, IsWoven, IsWovenAlone, NoGroup, NotMade, PromisesWoven, TellsWoven, exit_from, exit_of, mklv_line, mkvg_line, status_woven, untold, woven_text}
 use Rattle.lvm_top.proofs.Blanks.{told_behind, told_earlier}
-use Rattle.lvm_program.proofs.Sim.{sim_behind, sim_earlier}
-use Rattle.lvm_top.proofs.Concluding.{Concluded, concluded, off_still}
+use Rattle.lvm_program.proofs.Making.{group_allowed, group_unforced, volume_allowed, volume_reads, volume_unforced}
+use Rattle.lvm_program.proofs.Sim.{sim_few, sim_told}
+use Rattle.lvm_top.proofs.Concluding.{Concluded, closed_concluded, concluded, off_still}
 use Rattle.lvm_top.proofs.Lining.{stuck_is_off}
+use Rattle.lvm_top.proofs.Modes.{HasNoPassiveOn}
+use Rattle.lvm_top.proofs.OneGroup.{alone_so, blank_finds_one, not_more, script_one}
 use Rattle.lvm_top.proofs.Refusing.{line_caused}
-use Rattle.lvm_top.proofs.Scripting.{begins_timely}
+use Rattle.lvm_top.proofs.Scripting.{begins_timely, through}
+use Rattle.lvm_top.proofs.Scripts.{run_may_start}
 use Rattle.lvm_top.proofs.Stopping.{how_stopped}
+use Rattle.lvm_top.proofs.Volumes.{mklv_serves}
 
 -- ---- the lines that make the volume
 
@@ -79,10 +88,31 @@ makes_so log room group volume first answer last (HasGroup mid makes it) = recor
   clock = let a = makes.goes.clock in let b = it.goes.clock in omega (arith, a, b);
 }
 
--- ---- the workload
+-- What holds of them where one group may be found at first, without volumes in mode passive: no other has a quorum, and none comes.
+pub record LinesAlone {log : Log} {room : Room} {group volume : List ℕ} {first : State} {answer : Reply} {last : State} (made : IsMade log room group volume first answer last) : Type 0 where
+  pub alone : AreMadeAlone made
+  pub finds : (IsStuck answer → ⊥) → FindsOneGroup last.moment.device × HasNoPassiveOn last
 
-none_posted : (facts : List Fact) (on : Option Core) → ArePosted facts on []
-none_posted facts on = record { each = λ k d less. absurd (omega (arith, less)); rise = λ i j d before less. absurd (omega (arith, less)) }
+module _ (log : Log) (room : Room) (past : List Fact) (group volume : List ℕ) (first : State) (begin : MayStart log.run past first) (one : FindsOneGroup first.moment.device) (off : FindsNoPassive first.moment.device)
+    (no_force : IsUnforced group) (nor_force : IsUnforced volume) (allowed : (old : State) → IsAllowed (role_of (line_of group)) old) (allowed_too : (old : State) → IsAllowed (role_of (line_of volume)) old) where
+  first_off : HasNoPassiveOn first
+  first_off = subst (λ (o : Option Core). IfSome o (λ core. HasNoPassive core.descriptor)) (sym begin.off) tt
+
+  pub lines_alone : (answer : Reply) (last : State) (made : IsMade log room group volume first answer last) → LinesAlone made
+  lines_alone answer last (NoGroup not it) = record {
+    alone = alone_so (role_of (line_of group)) first last (allowed first) one first_off;
+    finds = λ heard. let all = script_one log room past first begin one off (NextLine group answer answer heard (inl refl) NoLine it) (tt, no_force) (tt, allowed first) in (all.finds_one, all.session);
+  }
+  lines_alone answer last (HasGroup mid makes it) =
+      let so_far = script_one log room past first begin one off (NextLine group reply.Ok reply.Ok ok_heard (inl refl) NoLine makes) (tt, no_force) (tt, allowed first) in
+      record {
+        alone = (so_far.alone.1, alone_so (role_of (line_of volume)) mid last (allowed_too mid) so_far.finds_one so_far.session);
+        finds = λ heard.
+            let all = script_one log room past first begin one off (NextLine volume answer answer heard (inl refl) (NextLine group reply.Ok reply.Ok ok_heard (inl refl) NoLine makes) it) ((tt, no_force), nor_force) ((tt, allowed first), allowed_too mid) in
+            (all.finds_one, all.session);
+      }
+
+-- ---- the workload
 
 -- turns and calls don't leave a session stuck that was on
 pub runs_unstuck : (old new : Session) → RunsOn old new → old.core.power ≡ power.On → new.core.power ≡ power.Stuck → ⊥
@@ -93,29 +123,25 @@ runs_unstuck old new runs on stuck = by runs.leaves.keeps.power
     by (inr (inl dark)) = let e = sym dark ∙ stuck in cc e
     by (inr (inr off)) = let e = sym off.1 ∙ stuck in cc e
 
-module _ (end : State) (exit : Moment) (between : IsBetween end.moment end.session end.posts) (core : Core) (some : end.session ≡ Some core) (vols : core.descriptor.lvs ≢ []) (facts : end.moment.facts ≡ core.history.facts) where
-  abbrev behind : State
-  behind = record { moment = exit; session = None; posts = []; last = end.last }
-
-  on : core.power ≡ power.On
-  on = (subst (λ (o : Option Core). IsBetween end.moment o end.posts) some between).session.power
-
-  drawn_goes : (blocks : ℕ) (load : Workload) (woven : Woven) → IsDrawn blocks load (state end.moment.device core) exit woven → GoesOn core.history.run OfRequests (reply.Refused refusal.Stuck) end behind
-  drawn_goes blocks load woven drawn =
-      over_goes OfRequests end core drawn.end
-      (record { alone = λ new alone. alone.acts tt; session = some; facts = facts; volumes = vols; between = between; leaves = drawn.runs.leaves; sound = drawn.sound })
-      (reply.Refused refusal.Stuck) behind drawn.closed drawn.facts refl refl (runs_unstuck (state end.moment.device core) drawn.end drawn.runs on) (λ heard. absurd (heard refl)) (none_posted _ _)
-      (λ not_asking. absurd (not_asking tt)) (omega arith)
-
-  pub drawn_concluded : (run : ℕ) → core.history.run ≡ run → (blocks : ℕ) (load : Workload) (woven : Woven) → IsDrawn blocks load (state end.moment.device core) exit woven → Concluded run end exit
-  drawn_concluded run named blocks load woven drawn =
-      let goes : GoesOn run OfRequests (reply.Refused refusal.Stuck) end behind = subst (λ n. GoesOn n OfRequests (reply.Refused refusal.Stuck) end behind) named (drawn_goes blocks load woven drawn) in
-      record { keeps = λ timely alone first span stands. (goes.keeps timely alone first span stands).0; left = λ timely. goes.left timely; power = goes.power }
+pub drawn_concluded : (end : State) (exit : Moment) → IsBetween end.moment end.session end.posts → (core : Core) → end.session ≡ Some core → core.descriptor.lvs ≢ [] → end.moment.facts ≡ core.history.facts → (run : ℕ) → core.history.run ≡ run
+    → (blocks : ℕ) (load : Workload) (woven : Woven) → IsDrawn blocks load (state end.moment.device core) exit woven → Concluded run end exit
+drawn_concluded end exit between core some vols facts run named blocks load woven drawn =
+    closed_concluded run end exit between core some vols facts named drawn.end (runs_unstuck (state end.moment.device core) drawn.end drawn.runs on) drawn.runs drawn.sound drawn.closed drawn.facts
+  where
+    on : core.power ≡ power.On
+    on = (subst (λ (o : Option Core). IsBetween end.moment o end.posts) some between).session.power
 
 -- the lines are those that are named
 pub made_by : (log : Log) (room : Room) (group group1 volume volume1 : List ℕ) (first : State) (answer : Reply) (last : State) → group ≡ group1 → volume ≡ volume1 → IsMade log room group volume first answer last → IsMade log room group1 volume1 first answer last
 made_by log room group group1 volume volume1 first answer last is_group is_volume made =
     subst (λ (l : List ℕ). IsMade log room l volume1 first answer last) is_group (subst (λ (l : List ℕ). IsMade log room group l first answer last) is_volume made)
+
+-- where the last is answered `ok` a session is on that serves requests
+pub made_serves : (log : Log) (room : Room) (disks mib : ℕ) → IsSized disks mib → (first : State) (answer : Reply) (last : State) → IsMade log room (mkvg_line disks) (mklv_line disks mib) first answer last → answer ≡ reply.Ok → IsServed last.session
+made_serves log room disks mib sized first answer last (NoGroup not it) ok = absurd (not ok)
+made_serves log room disks mib sized first answer last (HasGroup mid makes it) ok =
+    let on = mklv_serves log room (mklv_line disks mib) mid last _ _ _ _ _ _ (volume_reads disks mib sized) (subst (λ (a : Reply). IsLine log room (mklv_line disks mib) a mid last) ok it) in
+    subst IsServed (sym on.1) on.2
 
 -- a refusal of them has its cause
 pub made_caused : (log : Log) (room : Room) (group volume : List ℕ) (first : State) (answer : Reply) (last : State) (made : IsMade log room group volume first answer last) → IsMadeForCause made
@@ -130,9 +156,6 @@ made_few log room group volume first answer last (HasGroup mid makes it) none =
     let first_few = makes.goes.few in let few = it.goes.few in let zero : length first.posts ≡ 0 = ap (λ (l : List Post). length l) none in omega (arith, first_few, few, zero)
 
 -- ---- what is told
-
-abbrev through : Option (List ℕ) → ℕ → Option (List ℕ) → ℕ → Passage
-through a f b g = record { before = stream a f; after = stream b g }
 
 pub told_none : (woven : Woven) (requests : ℕ) (status : ExitStatus) → status ≡ status_woven woven requests (Some ended.Memory) → (held : Option (List ℕ)) (faults : ℕ) → TellsWoven woven requests status (through held faults held faults)
 told_none woven requests status is held faults = record {
@@ -196,17 +219,15 @@ module _ {S : Type 0} (device : S → Device) (blocks : ℕ) (load : Workload) (
   abbrev EndsAt : Holder S → Type 0
   EndsAt h = EndsWoven blocks load answer (history_of h).run (record { device = device (shelf_of h); facts = (history_of h).facts }) (session_of h) exit
 
-  abbrev RefusedAt : Holder S → Type 0
-  RefusedAt h = EndsRefused (reply.Refused refusal.Memory) (history_of h).run (record { device = device (shelf_of h); facts = (history_of h).facts }) (session_of h) exit
-
   pub serving_ends : (driver : S × Core) (h : Holder S) → h ≡ holder.Serving driver → IsOfKind h → HasServed blocks load (state (device driver.0) driver.1) exit → EndsAt h
   serving_ends driver h is kind served = subst (λ (k : Holder S). IsOfKind k → EndsAt k) (sym is) (λ vols. Drawn ok driver.1 refl vols refl refl served) kind
 
-  pub empty_ends : (driver : S × Core) (h : Holder S) → h ≡ holder.Empty driver → IsOfKind h → RefusedAt (holder.Empty driver) → EndsAt h
-  empty_ends driver h is kind none = subst (λ (k : Holder S). IsOfKind k → EndsAt k) (sym is) (λ empty. NotServed ok empty none) kind
+-- neither is another holder one that serves requests
+pub never_empty : {S : Type 0} (driver : S × Core) (h : Holder S) → h ≡ holder.Empty driver → IsOfKind h → IsServed (session_of h) → ⊥
+never_empty {S} driver h is kind served = (subst (λ (k : Holder S). IsOfKind k → IsServed (session_of k) → ⊥) (sym is) (λ empty some. some empty)) kind served
 
-  pub off_ends : (shelf : S) (history : Log) (h : Holder S) → h ≡ holder.Off shelf history → RefusedAt (holder.Off shelf history) → EndsAt h
-  off_ends shelf history h is none = subst EndsAt (sym is) (NotServed ok tt none)
+pub never_off : {S : Type 0} (shelf : S) (history : Log) (h : Holder S) → h ≡ holder.Off shelf history → IsServed (session_of h) → ⊥
+never_off {S} shelf history h is served = (subst (λ (k : Holder S). IsServed (session_of k) → ⊥) (sym is) (λ none. none)) served
 
 -- what holds of the stage with its holder holds with what that is
 module _ {S : Type 0} (device : S → Device) (old : Stage S) (h : Holder S) (is : old.holder ≡ h) where
@@ -239,9 +260,6 @@ concludes_so blocks load answer run end exit (NotMade not it) off between = ⊎_
     (λ stuck. let is = it.tells.stuck.0 stuck in Unheard is (off_still run end.moment exit.moment end.session it.concludes (off is)))
     (λ heard. let not_stuck : IsStuck answer → ⊥ = λ is. heard (it.tells.stuck.1 is) in Heard not_stuck (concluded run end exit.moment it.concludes (between not_stuck)))
     (how_stopped it.stop)
-concludes_so blocks load answer run end exit (NotServed ok none it) off between =
-    let heard : IsStuck answer → ⊥ = λ is. ok_heard (sym ok ∙ is) in
-    Heard heard (concluded run end exit.moment it.concludes (between heard))
 concludes_so blocks load answer run end exit (Drawn ok core some vols named facts served) off between =
     let heard : IsStuck answer → ⊥ = λ is. ok_heard (sym ok ∙ is) in
     Heard heard (drawn_concluded end exit.moment (between heard) core some vols facts run named blocks load served.woven served.drawn)
@@ -283,31 +301,50 @@ module _ (disks mib : ℕ) (load : Workload) (r : Run) (ready : IsReady r.entry)
   pub woven_upheld : IsWovenAlone goes → IsBehind r.named r.entry → IsUpheld r.named r.entry r.exit (facts_of r.history)
   woven_upheld alone clock = span_upholds r.named r.entry r.exit (facts_of r.history) (spanned clock alone)
 
-  pub woven_first : IsWovenAlone goes → IsToldBlank r.entry → Legal (joined [] (facts_of r.history)) × ImagesKept r.exit (joined [] (facts_of r.history))
-  woven_first alone blank =
-      let upheld = woven_upheld alone (told_behind r.named r.entry blank) in
-      let earlier = told_earlier r.named r.entry blank in
-      (upheld.legal [] earlier, upheld.kept [] earlier)
+  -- over disks of zeros no group is found but its own
+  module _ (sized : IsSized disks mib) (few : HasFewDisks r.entry) (blank : IsToldBlank r.entry) where
+    pub woven_alone : IsWovenAlone goes
+    woven_alone =
+        let begin = run_may_start r.named r.entry [] few ready (told_behind r.named r.entry blank) (told_earlier r.named r.entry blank) in
+        let none = blank_finds_one r.entry blank in
+        let own = lines_alone (empty_log r.named r.room) r.room ([] ++ Cut ∷ []) (mkvg_line disks) (mklv_line disks mib) (entry_state r.entry r.named) begin none.0 none.1
+        (group_unforced disks mib sized) (volume_unforced disks mib sized) (group_allowed disks mib sized) (volume_allowed disks mib sized) goes.answer goes.end goes.made
+        in
+        (own.alone, by its_end own.finds)
+      where
+        by : ConcludesSo r.named goes.answer goes.end (exit_from r).moment → ((IsStuck goes.answer → ⊥) → FindsOneGroup goes.end.moment.device × HasNoPassiveOn goes.end) → IsAlone OfRequests goes.end (exit_state r.exit r.history goes.end)
+        by (Unheard stuck same) finds = record {
+          enters = λ enters. absurd (not_more goes.end.moment.facts (facts_of r.history) (ap (λ (m : Moment). m.facts) same) enters);
+          acts = λ acting. subst (λ (o : Option Core). IfSome o (StandsAlone goes.end.moment.device)) (sym (made.stuck stuck)) tt;
+          allowed = tt;
+        }
+        by (Heard heard its) finds = alone_so OfRequests goes.end (exit_state r.exit r.history goes.end) tt (finds heard).0 (finds heard).1
+
+    pub woven_first : Legal (joined [] (facts_of r.history)) × ImagesKept r.exit (joined [] (facts_of r.history))
+    woven_first =
+        let upheld = woven_upheld woven_alone (told_behind r.named r.entry blank) in
+        let earlier = told_earlier r.named r.entry blank in
+        (upheld.legal [] earlier, upheld.kept [] earlier)
 
 -- what is promised of a run, by what it does
-pub woven_promises : (disks mib : ℕ) (load : Workload) (asked : ℕ) (r : Run) → IfSome r.history (λ log. Rose asked log.run × (log.run ≤ r.last)) → IsWoven disks mib load r → PromisesWoven disks mib load asked r
-woven_promises disks mib load asked r clock does = record {
+pub woven_promises : (disks mib : ℕ) → IsSized disks mib → (load : Workload) (asked : ℕ) (r : Run) → IfSome r.history (λ log. Rose asked log.run × (log.run ≤ r.last)) → IsWoven disks mib load r → PromisesWoven disks mib load asked r
+woven_promises disks mib sized load asked r clock does = record {
   clock = clock;
   does = does;
   causes = λ goes. made_caused (empty_log r.named r.room) r.room (mkvg_line disks) (mklv_line disks mib) (entry_state r.entry r.named) goes.answer goes.end goes.made;
   upheld = woven_upheld disks mib load r does.ready;
-  first = woven_first disks mib load r does.ready;
+  first = λ goes few blank. woven_first disks mib load r does.ready goes sized few blank;
   ahead = woven_ahead disks mib load r does.ready;
 }
 
 -- no memory was found for it
-pub unwoven : (disks mib : ℕ) (load : Workload) (asked last : ℕ) (room : Room) (device : Device) (output : Stream) → IsReady device
+pub unwoven : (disks mib : ℕ) → IsSized disks mib → (load : Workload) (asked last : ℕ) (room : Room) (device : Device) (output : Stream) → IsReady device
     → PromisesWoven disks mib load asked (ran room device device untold (record { before = output; after = output }) last None ended.Memory 0)
-unwoven disks mib load asked last room device output ready =
-    woven_promises disks mib load asked (ran room device device untold (record { before = output; after = output }) last None ended.Memory 0) tt
+unwoven disks mib sized load asked last room device output ready =
+    woven_promises disks mib sized load asked (ran room device device untold (record { before = output; after = output }) last None ended.Memory 0) tt
     (record { ready = ready; history_is = tt; none = (refl, refl, refl, refl); goes = tt; power = ready.power })
 
-module _ {S : Type 0} (device : S → Device) (disks mib : ℕ) (load : Workload) (entry : Device) (run begun last asked : ℕ) (room : Room) (start : Stage S) (first_is : state_in device start begun ≡ entry_state entry run)
+module _ {S : Type 0} (device : S → Device) (disks mib : ℕ) (sized : IsSized disks mib) (load : Workload) (entry : Device) (run begun last asked : ℕ) (room : Room) (start : Stage S) (first_is : state_in device start begun ≡ entry_state entry run)
     (fresh : without_facts (history_in start) ≡ empty_log run room) (it : Stage S) (answer : Reply) (lines : IsMade (without_facts (history_in start)) room (mkvg_line disks) (mklv_line disks mib) (state_in device start begun) answer (state_in device it last))
     (rooms : without_facts (history_in it) ≡ without_facts (history_in start)) (ready : IsReady entry) (rose : Rose asked run) where
   the_lines : IsMade (empty_log run room) room (mkvg_line disks) (mklv_line disks mib) (entry_state entry run) answer (state_in device it last)
@@ -348,7 +385,7 @@ module _ {S : Type 0} (device : S → Device) (disks mib : ℕ) (load : Workload
 
       pub some_promises : PromisesWoven disks mib load asked (ran room entry (device closed) untold out last (Some kept) status refused)
       some_promises = subst (λ n. PromisesWoven disks mib load asked (record (ran room entry (device closed) untold out last (Some kept) status refused) { named = n })) (sym named)
-          (woven_promises disks mib load asked its (subst (λ n. Rose asked n) (sym named) rose, (let is = named in let le = so.clock in omega (arith, is, le))) does)
+          (woven_promises disks mib sized load asked its (subst (λ n. Rose asked n) (sym named) rose, (let is = named in let le = so.clock in omega (arith, is, le))) does)
 
   abbrev exit_with : S → Option Log → ExitStatus → ℕ → Passage → Exit
   exit_with closed h status refused out = record { moment = record { device = device closed; facts = facts_of h }; status = status; refused = refused; out = out }
@@ -365,16 +402,21 @@ module _ {S : Type 0} (device : S → Device) (disks mib : ℕ) (load : Workload
       by (Some log) kept ends = some_promises end.shelf log end.status end.refused out ends kept
 
 -- over disks in memory
-pub sim_weaves : (disks mib : ℕ) (load : Workload) (asked : ℕ) (r : Run) (d m : ℕ) → r.entry ≡ sim_device d m → r.room ≡ full_room → PromisesWoven disks mib load asked r → PromisesWovenBlank disks mib load asked (record r { entry = sim_device d m; room = full_room })
-sim_weaves disks mib load asked r d m is room_is promises =
-    subst (λ (e : Device). PromisesWovenBlank disks mib load asked (record r { entry = e; room = full_room })) is
-    (subst (λ (room : Room). PromisesWovenBlank disks mib load asked (record r { room = room })) room_is blank)
-  where
-    upheld : (goes : GoesWoven disks mib load r) → IsWovenAlone goes → IsUpheld r.named r.entry r.exit (facts_of r.history)
-    upheld goes alone = promises.upheld goes alone (subst (IsBehind r.named) (sym is) (sim_behind r.named d m))
+module _ (disks mib : ℕ) (sized : IsSized disks mib) (load : Workload) (asked : ℕ) (r : Run) (is : r.entry ≡ sim_device disks mib) (promises : PromisesWoven disks mib load asked r) where
+  its_few : HasFewDisks r.entry
+  its_few = subst HasFewDisks (sym is) (sim_few disks mib sized.1)
 
-    earlier : IsEarlier r.named r.entry []
-    earlier = subst (λ (e : Device). IsEarlier r.named e []) (sym is) (sim_earlier r.named d m)
+  its_blank : IsToldBlank r.entry
+  its_blank = subst IsToldBlank (sym is) (sim_told disks mib)
 
-    blank : PromisesWovenBlank disks mib load asked r
-    blank = record { promises = promises; upheld = upheld; first = λ goes alone. ((upheld goes alone).legal [] earlier, (upheld goes alone).kept [] earlier) }
+  blank_promises : PromisesWovenBlank disks mib load asked r
+  blank_promises = record {
+    promises = promises;
+    upheld = λ goes. promises.upheld goes (woven_alone disks mib load r promises.does.ready goes sized its_few its_blank) (told_behind r.named r.entry its_blank);
+    first = λ goes. promises.first goes its_few its_blank;
+  }
+
+  pub sim_weaves : r.room ≡ full_room → PromisesWovenBlank disks mib load asked (record r { entry = sim_device disks mib; room = full_room })
+  sim_weaves room_is =
+      subst (λ (e : Device). PromisesWovenBlank disks mib load asked (record r { entry = e; room = full_room })) is
+      (subst (λ (room : Room). PromisesWovenBlank disks mib load asked (record r { room = room })) room_is blank_promises)

@@ -10,7 +10,7 @@ use Rattle.lvm_vol.specs.Legal.{Legal}
 use Rattle.lvm_load.specs.declared.workload.Workload.{Workload}
 use Rattle.lvm_top.specs.Run.{Run, Promises, WhereAlone}
 use Rattle.lvm_top.specs.Script.{Passage, facts_of}
-use Rattle.lvm_program.specs.Woven.{GoesWoven, IsWovenAlone, PromisesWoven}
+use Rattle.lvm_program.specs.Woven.{GoesWoven, PromisesWoven}
 use Rattle.lvm_top.specs.declared.run.Ended.{Ended}
 use Rattle.lvm_top.specs.declared.status.ExitStatus.{ExitStatus}
 use Rattle.lvm_top.specs.declared.status.ExitStatus.TheVariants as ended
@@ -130,8 +130,8 @@ pub record PromisesBlank (asked : ℕ) (r : Run) : Type 0 where
 -- and what one of a workload does so
 pub record PromisesWovenBlank (disks mib : ℕ) (load : Workload) (asked : ℕ) (r : Run) : Type 0 where
   pub promises : PromisesWoven disks mib load asked r
-  pub upheld : (goes : GoesWoven disks mib load r) → IsWovenAlone goes → IsUpheld r.named r.entry r.exit (facts_of r.history)
-  pub first : (goes : GoesWoven disks mib load r) → IsWovenAlone goes → Legal (joined [] (facts_of r.history)) × ImagesKept r.exit (joined [] (facts_of r.history))
+  pub upheld : GoesWoven disks mib load r → IsUpheld r.named r.entry r.exit (facts_of r.history)
+  pub first : GoesWoven disks mib load r → Legal (joined [] (facts_of r.history)) × ImagesKept r.exit (joined [] (facts_of r.history))
 
 -- The script was written whole, or else a front of it was, and the sink failed or memory ran out.
 pub record IsGenerated (seed count : ℕ) (status : ExitStatus) (out : Passage) : Type 0 where

@@ -22,7 +22,6 @@ use Rattle.lvm_load.specs.Totals.{entries_since, totals_of}
 use Rattle.lvm_load.specs.Weaving.{Weaves, first_weaving}
 use Rattle.lvm_top.specs.passed.Lines.{IsLine, role_of}
 use Rattle.lvm_top.specs.passed.Running.{RunsOn}
-use Rattle.lvm_top.specs.passed.RefusalVariants as refusal
 use Rattle.lvm_top.specs.passed.ReplyVariants as reply
 use Rattle.lvm_top.specs.passed.Stage.{IsAlone, IsClosed, OfRequests, Reply, State}
 use Rattle.lvm_top.specs.declared.run.Ended.{Ended}
@@ -32,6 +31,7 @@ use Rattle.lvm_top.specs.declared.status.ExitStatus.TheVariants as ended
 use Rattle.lvm_top.specs.Ending.{Concludes, MakesTurns}
 use Rattle.lvm_top.specs.Refused.{IsForCause}
 use Rattle.lvm_top.specs.Run.{Run, exit_state}
+use Rattle.lvm_top.specs.Standing.{HasFewDisks}
 use Rattle.lvm_top.specs.Script.{Passage, empty_log, entry_state, facts_of, stream}
 use Rattle.lvm_top.specs.Blank.{IsToldBlank}
 use Rattle.lvm_top.specs.Statuses.{status_of}
@@ -74,6 +74,10 @@ IsMadeForCause {volume = volume} {answer = answer} {last = last} (HasGroup mid m
 -- it has 1 to 64 clients
 abbrev pub IsDrawable : Workload → Type 0
 IsDrawable load = (1 ≤ load.clients) × (load.clients ≤ 64)
+
+-- 1 to 8 disks, each of 8 to 64 MiB
+abbrev pub IsSized : ℕ → ℕ → Type 0
+IsSized disks mib = (1 ≤ disks) × (disks ≤ 8) × (8 ≤ mib) × (mib ≤ 64)
 
 -- turns are made until one doesn't move, unless nothing is heard
 abbrev pub TurnsBehind : Bool → Session → Session → Type 0
@@ -171,15 +175,14 @@ pub record HasServed (blocks : ℕ) (load : Workload) (first : Session) (exit : 
   pub tells : TellsWoven woven load.requests exit.status exit.out
   pub refused_is : exit.refused ≡ refusals_told woven
 
--- no volume serves requests
-abbrev pub IsUnserved : Option Core → Type 0
-IsUnserved None = Unit {0}
-IsUnserved (Some core) = core.descriptor.lvs ≡ []
+-- a session is on that serves requests of volumes
+abbrev pub IsServed : Option Core → Type 0
+IsServed None = ⊥
+IsServed (Some core) = core.descriptor.lvs ≢ []
 
--- How a run ends behind its lines: their answer is told where it isn't `ok`, or want of memory where no volume serves requests; or the workload is drawn, and told.
+-- How a run ends behind its lines: their answer is told where it isn't `ok`; or the workload is drawn, and told.
 pub data EndsWoven (blocks : ℕ) (load : Workload) (answer : Reply) (run : ℕ) (end : Moment) (on : Option Core) (exit : Exit) : Type 0 where
   NotMade : (answer ≡ reply.Ok → ⊥) → EndsRefused answer run end on exit → EndsWoven blocks load answer run end on exit
-  NotServed : answer ≡ reply.Ok → IsUnserved on → EndsRefused (reply.Refused refusal.Memory) run end on exit → EndsWoven blocks load answer run end on exit
   Drawn : answer ≡ reply.Ok → (core : Core) → on ≡ Some core → core.descriptor.lvs ≢ [] → core.history.run ≡ run → end.facts ≡ core.history.facts
       → HasServed blocks load (state end.device core) exit → EndsWoven blocks load answer run end on exit
 
@@ -212,11 +215,11 @@ pub record IsWoven (disks mib : ℕ) (load : Workload) (r : Run) : Type 0 where
 abbrev pub IsWovenAlone : {disks mib : ℕ} {load : Workload} {r : Run} → GoesWoven disks mib load r → Type 0
 IsWovenAlone {r = r} goes = AreMadeAlone goes.made × IsAlone OfRequests goes.end (exit_state r.exit r.history goes.end)
 
--- What every run of a workload promises, of its history, its images and the clock as one of a script does.
+-- What every run of a workload promises, of its history, its images and the clock as one of a script does; over disks of zeros no other group can be there.
 pub record PromisesWoven (disks mib : ℕ) (load : Workload) (asked : ℕ) (r : Run) : Type 0 where
   pub clock : IfSome r.history (λ log. Rose asked log.run × (log.run ≤ r.last))
   pub does : IsWoven disks mib load r
   pub causes : (goes : GoesWoven disks mib load r) → IsMadeForCause goes.made
   pub upheld : (goes : GoesWoven disks mib load r) → IsWovenAlone goes → IsBehind r.named r.entry → IsUpheld r.named r.entry r.exit (facts_of r.history)
-  pub first : (goes : GoesWoven disks mib load r) → IsWovenAlone goes → IsToldBlank r.entry → Legal (joined [] (facts_of r.history)) × ImagesKept r.exit (joined [] (facts_of r.history))
+  pub first : GoesWoven disks mib load r → HasFewDisks r.entry → IsToldBlank r.entry → Legal (joined [] (facts_of r.history)) × ImagesKept r.exit (joined [] (facts_of r.history))
   pub ahead : GoesWoven disks mib load r → IsBehind r.named r.entry → IsAhead r.named (r.last + 1) r.exit (facts_of r.history)

@@ -1,5 +1,5 @@
 //! The program by the words of its command line.
-ghost use Rattle.std.specs.Prelude.{◌≡◌, ◌⊎◌, ◌≤◌, ◌<◌, length, [], None, IfOk, IfErr, IfSome, IfNone};
+ghost use Rattle.std.specs.Prelude.{◌≡◌, ◌≤◌, None, IfOk, IfErr, IfSome, IfNone};
 ghost use Rattle.lvm_disk.specs.Device.{IsReady};
 ghost use Rattle.lvm_memory.specs.Memory.{device_of};
 ghost use Rattle.lvm_program.specs.Program.{OnScript, OnSim, OnDrawn, OnImage, OnText, help_text, version_line, usage_line, IsTold, IsSaid, IsUnrun, IsUsage, IsGenerated, IsImaged, LeavesAlone, PromisesBlank, PromisesWovenBlank};
@@ -111,9 +111,10 @@ fn unrun<S>(status: ExitStatus, files: S) -> Ended<S>
 
 /// Does what the words of the command line, without the program's name, ask for. `script` runs a script
 /// over the files. `sim DISKS MIB` runs one over so many disks of zeros in memory, which are given back
-/// as the run left them. `weave DISKS MIB CLIENTS REQUESTS SEED` runs a workload over such disks. `gen SEED COUNT` writes a script of so many requests to `out`. `image N MIB` writes so
-/// many MiB of zeros to a new image of disk N. Words that are not in the language are answered by a line of usage
-/// to `err`. `--help` and `--version` write a text to `out`. Where no memory is found for the words nothing is done.
+/// as the run left them. `weave DISKS MIB CLIENTS REQUESTS SEED` runs a workload over such disks. `gen SEED
+/// COUNT` writes a script of so many requests to `out`. `image N MIB` writes so many MiB of zeros to a new
+/// image of disk N. Words that are not in the language are answered by a line of usage to `err`. `--help` and
+/// `--version` write a text to `out`. Where no memory is found for the words nothing is done.
 pub fn run_words<I: Source, O: Sink, E: Sink, C: Clock, S: Shelf, P: Images>(
     alloc: Global,
     words: &[Text],

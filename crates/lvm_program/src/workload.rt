@@ -10,7 +10,7 @@ ghost use Rattle.lvm_top.specs.passed.Running.{RunsOn};
 ghost use Rattle.lvm_top.specs.passed.Stage.{IsBetweenStage, IsFitting, IsStuck, history_in, moment_in, most_refusals, session_in, state_in, without_facts};
 ghost use Rattle.lvm_top.specs.Run.{ran};
 ghost use Rattle.lvm_top.specs.Script.{passage};
-ghost use Rattle.lvm_program.specs.Woven.{EndsWoven, IsDrawable, IsDrawn, IsMade, EndsRefused, HasServed, PromisesWoven, TellsWoven, TurnsBehind, copy_count, exit_of, is_whole, mkvg_line, mklv_line, refusal_text, refusals_told, status_woven, total_line, untold, with_ill, with_well, woven_text};
+ghost use Rattle.lvm_program.specs.Woven.{EndsWoven, IsDrawable, IsDrawn, IsMade, IsServed, IsSized, EndsRefused, HasServed, PromisesWoven, TellsWoven, TurnsBehind, copy_count, exit_of, is_whole, mkvg_line, mklv_line, refusal_text, refusals_told, status_woven, total_line, untold, with_ill, with_well, woven_text};
 
 use lvm_core::{Closed, Room};
 use lvm_disk::Shelf;
@@ -20,7 +20,7 @@ use lvm_load::{Totals, Workload, Woven, weave};
 use lvm_posts::Post;
 use lvm_top::below::driver::Driver;
 use lvm_top::below::line::do_line;
-use lvm_top::below::stage::{Holder, Refusal, Reply, Stage, take_rooms};
+use lvm_top::below::stage::{Holder, Reply, Stage, take_rooms};
 use lvm_top::{Ended, ExitStatus, close_ended, conclude, run_on, status_of, unbegun, write_reply};
 use std::alloc::{AllocError, Global};
 
@@ -310,6 +310,7 @@ fn end_woven<S: Shelf, O: Sink>(
     requires between { (IsStuck made.reply → ⊥) → IsBetweenStage S.device made.stage }
     requires fits { IsFitting made.stage }
     requires few { most_refusals made.reply ≤ 2 }
+    requires served { made.reply ≡ Reply.Ok → IsServed (session_in made.stage) }
     requires some { IsDrawable load.now × (1 ≤ blocks) }
     ensures ends { EndsWoven blocks load.now made.reply (history_in made.stage).run (moment_in S.device made.stage) (session_in made.stage) (exit_of S.device result (passage O.held O.faults out.old out.new)) }
     ensures rooms { IsSomeAnd result.history (λ log. without_facts log ≡ without_facts (history_in made.stage)) }
@@ -326,32 +327,11 @@ fn end_woven<S: Shelf, O: Sink>(
     } = stage;
     match holder {
         Holder::Serving { driver } => draw(alloc, out, driver, posts, bytes, blocks, load),
-        Holder::Empty { driver } => {
-            let holder = Holder::Empty { driver };
-            refuse(
-                alloc,
-                out,
-                Stage {
-                    holder,
-                    posts,
-                    bytes,
-                },
-                Reply::Refused(Refusal::Memory),
-            )
-        }
-        Holder::Off { shelf, history } => {
-            let holder = Holder::Off { shelf, history };
-            refuse(
-                alloc,
-                out,
-                Stage {
-                    holder,
-                    posts,
-                    bytes,
-                },
-                Reply::Refused(Refusal::Memory),
-            )
-        }
+        Holder::Empty { driver: _ } => unreachable!(),
+        Holder::Off {
+            shelf: _,
+            history: _,
+        } => unreachable!(),
     }
 }
 
@@ -371,7 +351,8 @@ pub fn run_weave<S: Shelf, O: Sink, C: Clock>(
 ) -> Ended<S>
     requires ready { IsReady (S.device shelf) }
     requires room { IsRoom room }
-    requires some { IsDrawable load.now × (disks ≤ 8) × (3 ≤ mib) }
+    requires some { IsDrawable load.now }
+    requires sized { IsSized disks mib }
     ensures run { PromisesWoven disks mib load.now (C.last clock.old) (ran room (S.device shelf) (S.device result.shelf) untold (passage O.held O.faults out.old out.new) (C.last clock.new) result.history result.status result.refused) }
     ensures sim { result.sim ≡ None }
 {

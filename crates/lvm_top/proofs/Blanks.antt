@@ -1,5 +1,5 @@
 -- Disks of zeros: nothing was told before a run over them, and no stamp stands there.
-use Rattle.std.proofs.Common.{◌≡◌, ℕ, [], Option, IfSome, sym, subst}
+use Rattle.std.proofs.Common.{ℕ, [], Option, IfSome, sym, subst}
 use Rattle.lvm_disk.specs.Device.{Media, Device, image_of}
 use Rattle.lvm_kept.specs.Changes.{IsBlank}
 use Rattle.lvm_steps.specs.Moments.{IsEarlier}

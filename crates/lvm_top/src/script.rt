@@ -1,9 +1,9 @@
 //! A script, line by line.
-ghost use Rattle.std.specs.Prelude.{◌≡◌, ◌⊎◌, ◌↔◌, ◌+◌, ◌++◌, ◌^◌, if◌then◌else◌, ◌<◌, ◌≤◌, [], Some, None, OnOk, OnErr, IfOk, IfErr, IsTrue};
+ghost use Rattle.std.specs.Prelude.{◌≡◌, ◌↔◌, ◌+◌, ◌++◌, ◌^◌, if◌then◌else◌, ◌<◌, ◌≤◌, [], Some, None, OnOk, OnErr, IfOk, IfErr, IsTrue};
 ghost use Rattle.lvm_io.specs.Count.{Rose};
 ghost use Rattle.lvm_io.specs.Stream.{WhereTold, WritesFront};
 ghost use Rattle.lvm_core.specs.Starting.{IsRoom};
-ghost use Rattle.lvm_line.specs.passed.Stage.{reply_text, most_refusals, refusals_of, IsStuck, shelf_in, history_in, session_in, state_in};
+ghost use Rattle.lvm_line.specs.passed.Stage.{reply_text, most_refusals, refusals_of, IsStuck, history_in, session_in, state_in};
 ghost use Rattle.lvm_line.specs.passed.Stage.{IsBetweenStage, IsFitting, without_facts};
 ghost use Rattle.lvm_top.specs.Script.{Says, is_made_late, passage};
 ghost use Rattle.lvm_top.specs.Statuses.{GoesUntil};

@@ -21,7 +21,7 @@ returns-in-Err-Memory-clause-drawn g c =
 pub returns-in-Ok-clause-sim : goal.returns-in-Ok-clause-sim
 returns-in-Ok-clause-sim g c =
     let is : job_of c.args.words.now ≡ Ok (Sim c.in-Ok-Sim.disks c.in-Ok-Sim.mib) = c.in-Ok-Sim.ensures.job ∙ ap (λ (j : Job). Ok j) c.in-Ok-Sim.field-0-is in
-    on_sim_at _ c.in-Ok-Sim.disks c.in-Ok-Sim.mib is _ (sim_promises _ _ c.in-Ok-Sim.disks c.in-Ok-Sim.mib c.in-Ok.ensures c.full_room-in-Ok.ensures c.run_script-ended.ensures.run, tt)
+    on_sim_at _ c.in-Ok-Sim.disks c.in-Ok-Sim.mib is _ (sim_promises _ _ c.in-Ok-Sim.disks c.in-Ok-Sim.mib c.in-Ok.ensures c.run_script-ended.ensures.run c.full_room-in-Ok.ensures, tt)
 
 pub returns-in-Ok-2-clause-drawn : goal.returns-in-Ok-2-clause-drawn
 returns-in-Ok-2-clause-drawn g c =
@@ -29,4 +29,4 @@ returns-in-Ok-2-clause-drawn g c =
     let mib = c.in-Ok-Weave.mib in
     let is : job_of c.args.words.now ≡ Ok (Weave disks mib c.in-Ok-Weave.clients c.in-Ok-Weave.requests c.in-Ok-Weave.seed) = c.in-Ok-Weave.ensures.job ∙ ap (λ (j : Job). Ok j) c.in-Ok-Weave.field-0-is in
     on_weave_at _ disks mib c.in-Ok-Weave.clients c.in-Ok-Weave.requests c.in-Ok-Weave.seed is _ _
-    (sim_weaves disks mib _ _ _ disks mib c.in-Ok-2.ensures c.full_room-in-Ok-2.ensures c.run_weave-ended.ensures.run, tt)
+    (sim_weaves disks mib _ _ _ _ c.in-Ok-2.ensures c.run_weave-ended.ensures.run c.full_room-in-Ok-2.ensures, tt)
