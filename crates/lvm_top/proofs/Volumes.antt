@@ -32,11 +32,7 @@ use Rattle.lvm_line.specs.passed.VolumeLines.{Drains, IsDone, IsUndrained, Stays
 use Rattle.lvm_line.specs.passed.VolumeLines.{MakesVolume, MklvFails, NoGroupForRmlv, BusyRmlv, UndrainedRmlv, NoVolumeForRmlv, RemovesVolume}
 use Rattle.lvm_line.specs.passed.VolumeLines.{RmlvFails, MklvEnds, RmlvEnds, ends_session, refusal_for, wanted}
 use Rattle.lvm_line.specs.passed.ReplyVariants as reply
-<<<<<<< HEAD
-=======
-use Rattle.lvm_line.specs.Causes.{IsDrained}
 use Rattle.lvm_line.specs.Lines.{IsLine, LineDoes}
->>>>>>> 1f8b7f53a181a9e6f6e43f09a44656748be7d6af
 use Rattle.lvm_top.specs.Standing.{MayHaveCommitted, StoodBefore, HeldAtRest, StandsSince}
 use Rattle.lvm_top.proofs.Devices.{NothingNew, then_nothing, same_nothing}
 use Rattle.lvm_top.proofs.Quiet.{runs_nothing}
