@@ -13,7 +13,7 @@ use Rattle.lvm_operands.specs.declared.rest.Misfit.{Misfit}
 use Rattle.lvm_status.specs.Update.{Stored}
 use Rattle.lvm_commit.specs.Settling.{HasLostQuorum, there}
 use Rattle.lvm_session.specs.State.{Core, State as Session}
-use Rattle.lvm_line.specs.Causes.{HasCause, HasFailed, HasLost, IsDrained}
+use Rattle.lvm_line.specs.Causes.{HasCause, HasFailed, HasLost}
 use Rattle.lvm_write.proofs.Transfers.{rose_then}
 use Rattle.lvm_disk.proofs.Rising.{rose_before}
 use Rattle.lvm_copy_lines.specs.passed.Driver.{DrainFault}

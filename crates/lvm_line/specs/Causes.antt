@@ -20,7 +20,7 @@ use Rattle.lvm_copy_lines.specs.passed.Driver.{DrainFault}
 use Rattle.lvm_copy_lines.specs.passed.Ranges.{AnyFailed}
 use Rattle.lvm_copy_lines.specs.passed.Resync.{AnyFails}
 use Rattle.lvm_copy_lines.specs.passed.VolumeLines.{Drains, IsUndrained}
-use Rattle.lvm_copy_lines.specs.passed.Stage.{patience_of_line, IsAtRest, State, IsTimely, Refusal}
+use Rattle.lvm_copy_lines.specs.passed.Stage.{patience_of_line, State, IsTimely, Refusal}
 use Rattle.lvm_line.specs.Lines.{IsLine}
 use Rattle.lvm_copy_lines.specs.passed.RefusalVariants as refusal
 use Rattle.lvm_copy_lines.specs.passed.ReplyVariants as reply
