@@ -1,5 +1,5 @@
 -- Lines that are being read.
-use Rattle.std.proofs.Common.{◌≡◌, ◌≤◌, ◌++◌, ◌∷◌, [], ℕ, List, Option, Some, None, Ok, Err, false, refl, sym, ◌∙◌, ap, subst, append_assoc}
+use Rattle.std.proofs.Common.{◌≡◌, ◌≤◌, ◌++◌, ◌∷◌, [], ℕ, List, Option, Some, None, Ok, Err, false, length, refl, sym, ◌∙◌, ap, subst, append_assoc}
 use Rattle.lvm_num.specs.declared.Memory.{Memory}
 use Rattle.std.proofs.lemmas.List.{append-nil}
 use Rattle.lvm_io.specs.Stream.{WhereTold}
@@ -78,3 +78,7 @@ last_given first old mid now new before left after next.Memory same takes stays 
 -- nothing is left of what was read but the front of a line
 pub front_left : (old mid now : Reading) → TakesLine old mid (Ok None) → now ≡ mid → LeavesFront now next.Failed
 front_left old mid now (clean, is) stays = subst (λ (r : Reading). LeavesFront r next.Failed) (sym stays) (clean, ap (λ (r : Reading). r.block) is)
+
+-- that and the block, where nothing was taken
+pub front_stays : (old new : Reading) (want : Memory) → TakesLine old new (Err want) → has_feed old.front ≡ false → length old.block ≤ 65536 → LeavesFront new next.Memory
+front_stays old new want (stays, some) clean few = subst (λ (r : Reading). LeavesFront r next.Memory) (sym stays) (clean, few)

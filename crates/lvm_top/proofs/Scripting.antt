@@ -1,7 +1,7 @@
 -- Runs of lines.
 use Rattle.std.specs.Prelude.{is_some, IsTrue}
 use Rattle.std.specs.List.{list_any}
-use Rattle.std.proofs.Common.{◌≡◌, ◌||◌, inl, inr, ⊎_elim, ◌↔◌, ◌+◌, ◌≤◌, ◌<◌, ℕ, List, [], ◌∷◌, ◌++◌, Option, Some, None, Bool, true, false, if◌then◌else◌, length, refl, sym, ◌∙◌, ap, subst, arith, zero-add, append_assoc}
+use Rattle.std.proofs.Common.{◌≡◌, ◌⊎◌, ◌||◌, inl, inr, ⊎_elim, ◌↔◌, ◌+◌, ◌≤◌, ◌<◌, ℕ, List, [], ◌∷◌, ◌++◌, Option, Some, None, Bool, true, false, if◌then◌else◌, length, refl, sym, ◌∙◌, ap, subst, arith, zero-add, append_assoc}
 use Rattle.std.proofs.lemmas.Bool.{cases_lt}
 use Rattle.std.proofs.lemmas.List.{append-nil}
 use Rattle.std.proofs.lemmas.List.Sums.{sum_by-append}
@@ -51,7 +51,7 @@ pub record RunSoFar (log : Log) (room : Room) (first now : State) (reading : Rea
 abbrev pub through : Option (List ℕ) → ℕ → Option (List ℕ) → ℕ → Passage
 through a f b g = record { before = record { content = a; faults = f }; after = record { content = b; faults = g } }
 
-told_then : (x y : Option (List ℕ)) (R S : List ℕ → List ℕ → Type 0) → ((a b : List ℕ) → R a b → S a b) → WhereTold x y R → WhereTold x y S
+pub told_then : (x y : Option (List ℕ)) (R S : List ℕ → List ℕ → Type 0) → ((a b : List ℕ) → R a b → S a b) → WhereTold x y R → WhereTold x y S
 told_then None None R S f one = tt
 told_then (Some a) (Some b) R S f one = f a b one
 told_then None (Some b) R S f one = absurd one
@@ -240,7 +240,7 @@ module _ (log : Log) (room : Room) (first now : State) (reading : Reading) (inpu
       (why : Option Stop) (reading' : Reading) (left' : Option (List ℕ)) (f g h k : ℕ) → CountsGiven reading reading' left left' → (why ≡ Some stop.TooLong) ↔ (16777216 < reading'.given) → (why ≡ Some stop.SinkFault → ⊥) → (why ≡ Some stop.Stuck → ⊥)
       → (why ≡ None → WhereTold (to_come reading left) (to_come reading' left') (λ a b. (a ≡ []) × (b ≡ []))) → (why ≡ Some stop.SourceFault → Rose f g) → ((why ≡ Some stop.SourceFault → ⊥) → g ≡ f) → k ≡ h
       → (why ≡ Some stop.Memory → WhereTold (to_come reading left) (to_come reading' left') (λ a b. (b ≡ a) × (a ≡ [] → ⊥)))
-      → (why ≡ Some stop.SourceFault → KeepsFront 0 reading reading' (through left f left' g)) → (why ≡ Some stop.TooLong → KeepsFront 65536 reading reading' (through left f left' g))
+      → (why ≡ Some stop.SourceFault → KeepsFront 0 reading reading' (through left f left' g)) → ((why ≡ Some stop.TooLong) ⊎ (why ≡ Some stop.Memory) → KeepsFront 65536 reading reading' (through left f left' g))
       → GoesUntil why log room first now (through input f left' g) (through before h after k) refused
   unfolding lines_so_far
   stops_between why reading' left' f g h k given too_long no_sink no_stuck ends source read_well written_well some behind beyond = record {
@@ -249,7 +249,7 @@ module _ (log : Log) (room : Room) (first now : State) (reading : Reading) (inpu
     between = λ no_sink no_stuck. refl;
     wanting = λ is. line_left reading' left' f g h k (some is) given;
     behind = λ is. kept_front 0 reading' left' f g h k (behind is) given;
-    beyond = λ is. kept_front 65536 reading' left' f g h k (beyond is) given;
+    beyond = λ cause. kept_front 65536 reading' left' f g h k (beyond cause) given;
     source = source;
     sink = λ is. absurd (no_sink is);
     read_well = read_well;
@@ -288,7 +288,7 @@ module _ (log : Log) (room : Room) (first now : State) (reading : Reading) (inpu
     between = λ no_sink no_stuck. absurd (no_stuck (either no_sink));
     wanting = λ is. absurd (let stuck_too = either (λ sink_too. cc (is, sink_too)) in cc (is, stuck_too));
     behind = λ is. absurd (no_source is);
-    beyond = λ is. absurd (not_long is);
+    beyond = λ cause. absurd (⊎_elim not_long (λ is. let stuck_too = either (λ sink_too. cc (is, sink_too)) in cc (is, stuck_too)) cause);
     source = λ is. absurd (no_source is);
     sink = sink;
     read_well = λ no_source. well;
@@ -447,6 +447,11 @@ nothing_done log room first input output none =
 pub nothing_broken : (log : Log) (room : Room) (first : State) (input output : Stream) (none : first.posts ≡ []) → (nothing_done log room first input output none).done ≡ []
 unfolding nothing_done lines_so_far
 nothing_broken log room first input output none = refl
+
+-- nor is a line left of what was read
+pub nothing_left : (log : Log) (room : Room) (first : State) (input output : Stream) (none : first.posts ≡ []) (most : ℕ) → AreDoneBut most (nothing_done log room first input output none) (record { before = input; after = input })
+unfolding nothing_done lines_so_far at_start
+nothing_left log room first input output none most = told_same input.content (λ a b. ComesBehind [] most a b) (λ a. record { front = []; block = []; clean = refl; few = omega arith; whole = refl })
 
 -- nor was anything not heard of
 pub nothing_heard : (log : Log) (room : Room) (first : State) (input output : Stream) (none : first.posts ≡ []) → EndsHeard (nothing_done log room first input output none).ends

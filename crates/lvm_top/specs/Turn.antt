@@ -36,7 +36,7 @@ pub record ReadsNone (old new : Reading) (input : Passage) (why : Option Stop) :
   pub ends : why ≡ None → Comes old new input (λ a b. (a ≡ []) × (b ≡ []))
   pub wanting : why ≡ Some stop.Memory → Comes old new input (λ a b. (b ≡ a) × (a ≡ [] → ⊥))
   pub behind : why ≡ Some stop.SourceFault → KeepsFront 0 old new input
-  pub beyond : why ≡ Some stop.TooLong → KeepsFront 65536 old new input
+  pub beyond : (why ≡ Some stop.TooLong) ⊎ (why ≡ Some stop.Memory) → KeepsFront 65536 old new input
   pub failed : why ≡ Some stop.SourceFault → Rose input.before.faults input.after.faults
   pub well : (why ≡ Some stop.SourceFault → ⊥) → input.after.faults ≡ input.before.faults
 

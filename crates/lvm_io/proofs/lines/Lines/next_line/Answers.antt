@@ -1,4 +1,4 @@
-use Rattle.lvm_io.proofs.Coming.{front_left, line_given, line_wanted, last_given}
+use Rattle.lvm_io.proofs.Coming.{front_left, front_stays, line_given, line_wanted, last_given}
 use Rattle.lvm_io.proofs.lines.Lines.next_line.Goals as goal
 
 pub returns-in-Ok-Some-clause-line : goal.returns-in-Ok-Some-clause-line
@@ -17,3 +17,6 @@ returns-in-Err-clause-line g c =
 pub returns-in-Failed-clause-front : goal.returns-in-Failed-clause-front
 returns-in-Failed-clause-front g c =
     front_left c.loop-self.self c.take_line.new.self c.refill.new.self (rw c.in-Ok-None.field-0-is at c.in-Ok-None.ensures) c.in-Failed.ensures.block.0
+
+pub returns-in-Err-clause-front : goal.returns-in-Err-clause-front
+returns-in-Err-clause-front g c = front_stays c.loop-self.self c.take_line.new.self _ c.in-Err.ensures c.given.ensures.clean c.given.ensures.block
