@@ -11,7 +11,7 @@ use Rattle.lvm_core.specs.declared.parts.Room.{Room}
 use Rattle.lvm_core.specs.Looking.{IsNumberOf}
 use Rattle.lvm_session.specs.Causes.{AnyFailedSince, was_usable}
 use Rattle.lvm_session.specs.Judging.{copies_in, is_missing}
-use Rattle.lvm_session.specs.State.{Core, state}
+use Rattle.lvm_session.specs.State.{Core, State as Session, state}
 use Rattle.lvm_turn_losses.specs.Losing.{LostForFaults}
 use Rattle.lvm_num.specs.declared.descriptor.Descriptor.{Descriptor}
 use Rattle.lvm_num.specs.Descriptor.{is_member}
@@ -22,8 +22,8 @@ use Rattle.lvm_copy_lines.specs.passed.Quiesce.{Quiesces}
 use Rattle.lvm_copy_lines.specs.passed.Driver.{DrainFault}
 use Rattle.lvm_copy_lines.specs.passed.Ranges.{AnyFailed}
 use Rattle.lvm_copy_lines.specs.passed.Resync.{AnyFails}
-use Rattle.lvm_copy_lines.specs.passed.VolumeLines.{IsUndrained}
-use Rattle.lvm_copy_lines.specs.passed.Stage.{patience_of_line, IsAtRest, State, IsTimely, Refusal}
+use Rattle.lvm_copy_lines.specs.passed.VolumeLines.{Drains, IsUndrained}
+use Rattle.lvm_copy_lines.specs.passed.Stage.{patience_of_line, State, IsTimely, Refusal}
 use Rattle.lvm_line.specs.Lines.{IsLine}
 use Rattle.lvm_copy_lines.specs.passed.RefusalVariants as refusal
 use Rattle.lvm_copy_lines.specs.passed.ReplyVariants as reply
@@ -47,10 +47,10 @@ HasFailed (Ok (Some (command.RawWr on at count word))) disk old new = Rose (old.
 HasFailed other disk old new = Rose (old.faults disk) (new.faults disk)
 
 -- The session on whose group a command was made: that which was on, after the turns by which what was under way in it was ended; none where nothing was.
-pub record IsDrained (old : State) (core mid : Core) : Type 0 where
+pub record IsDrained (old : State) (core : Core) (mid : Session) : Type 0 where
   pub on : old.session ≡ Some core
-  pub descriptor : mid.descriptor ≡ core.descriptor
-  pub still : IsAtRest old → mid ≡ core
+  pub left : ℕ
+  pub drains : Drains core old left mid
 
 -- a transfer has failed since of a member of the group that was on, which wasn't missing then
 pub record HasLost (old : State) (new : Counts) : Type 0 where
