@@ -17,7 +17,7 @@ fn read(rt: &(impl Abort + AllocGlobal), words: &[&str]) -> Result<Job, WordsFau
     read_words(rt.alloc(), texts.as_slice())
 }
 
-static JOBS: [(&[&str], Job); 4] = [
+static JOBS: [(&[&str], Job); 5] = [
     (&["script"], Job::Script),
     (&["sim", "32", "064"], Job::Sim { disks: 32, mib: 64 }),
     (
@@ -25,6 +25,16 @@ static JOBS: [(&[&str], Job); 4] = [
         Job::Gen {
             seed: u64::MAX,
             count: 100_000,
+        },
+    ),
+    (
+        &["weave", "8", "64", "64", "50000", "18446744073709551615"],
+        Job::Weave {
+            disks: 8,
+            mib: 64,
+            clients: 64,
+            requests: 50_000,
+            seed: u64::MAX,
         },
     ),
     (
