@@ -1,28 +1,24 @@
 //! The places at which events are due, and how each event changes them.
-ghost use Rattle.std.specs.Prelude.{◌≡◌, ◌<◌, ◌≤◌, ◌+◌, ℕ, true, false, length, slice_get, Some, None};
-ghost use Rattle.std.specs.List.{list_any};
+ghost use Rattle.std.specs.Prelude.{◌≡◌, ◌<◌, ◌≤◌, ◌+◌, ◌^◌, ℕ, Bool, true, false, List, Option, Some, length, slice_get};
 ghost use Rattle.lvm_num.specs.Buffer.{Buffer};
 ghost use Rattle.lvm_vol.specs.declared.entry.Outcome.{Outcome};
 ghost use Rattle.lvm_path.specs.declared.ask.Ask.{Ask};
-ghost use Rattle.lvm_path.specs.declared.target.Target.{Target};
+ghost use Rattle.lvm_session.specs.declared.event.Event.TheVariants as kind;
+ghost use Rattle.lvm_session.specs.declared.flown.Owner.TheVariants as whose;
 ghost use Rattle.lvm_session.specs.declared.open.Open.{Open};
-ghost use Rattle.lvm_session.specs.declared.answers.Taken.{Taken};
-ghost use Rattle.lvm_session.specs.declared.answers.Taken.TheVariants as answer;
 ghost use Rattle.lvm_session.specs.Fields.{core_of};
 ghost use Rattle.lvm_session.specs.State.{Core, State, state};
-ghost use Rattle.lvm_session.specs.Judging.{counts_failed, held_of};
-ghost use Rattle.lvm_session.specs.Calls.{submitted, TakeGives};
-ghost use Rattle.lvm_session.specs.Events.{Admits, Lands, Pins};
-ghost use Rattle.lvm_session.specs.Ends.{Learns};
+ghost use Rattle.lvm_session.specs.Judging.{is_waiting};
+ghost use Rattle.lvm_session.specs.Calls.{after_take, submitted};
+ghost use Rattle.lvm_session.specs.Events.{Admits, Lands, Pins, StartsData};
+ghost use Rattle.lvm_session.specs.Ends.{DataLearns, Learns, NoteLearns};
 ghost use Rattle.lvm_session.specs.Turns.{is_start, Makes};
 ghost use Rattle.lvm_session.specs.Sound.{IsGoing, IsTold};
-ghost use Rattle.lvm_hold.specs.Conflicts.{have_common_block};
-ghost use Rattle.lvm_due.specs.Due.{any_fails, is_freed, AddsEach, AddsWhere, IsDue, IsQuiet, IsQuietFor, TouchesOnly};
+ghost use Rattle.lvm_due.specs.Due.{none, AddsEach, Covers, IsDue, IsQuiet, IsQuietFor, Moves};
 
-use crate::calm::is_calm;
-use lvm_facts::counts_failed;
+use crate::places::{entries, freed_by, join};
+use crate::quiet::{any_fails, is_quiet, place_of, stays_quiet};
 use lvm_firsts::Span;
-use lvm_path::{Ask, Phase, Target};
 use lvm_session::{Event, Owner, Session};
 
 /// For each kind of event the places of the table at which it may be due.
@@ -33,62 +29,6 @@ pub struct Due {
     pub pinning: Span,
     pub note: Span,
     pub data: Span,
-}
-
-// Whether some block of a volume is a block of both.
-fn overlaps(a: &Ask, b: &Ask) -> bool
-    requires a { at_of a.now + count_of a.now < 2 ^ 64 }
-    requires b { at_of b.now + count_of b.now < 2 ^ 64 }
-    ensures { result ≡ have_common_block (held_of a.now) (held_of b.now) }
-{
-    a.lv() == b.lv()
-        && a.at() < b.at() + u64::from(b.count())
-        && b.at() < a.at() + u64::from(a.count())
-}
-
-fn any_counts_failed(session: &Session, targets: &[Target]) -> bool
-    ensures { result ≡ list_any (counts_failed (core_of session.now)) targets.now }
-{
-    targets.iter().any(|target| counts_failed(session, target))
-}
-
-// Whether a target of the request at a place counts as failed.
-fn any_fails(session: &Session, place: usize) -> bool
-    requires { place < length session.now.requests.items }
-    ensures { (o : Open) → slice_get session.now.requests.items place ≡ Some o → result ≡ any_fails (core_of session.now) o }
-{
-    any_counts_failed(session, &session.requests[place].request.targets)
-}
-
-// The place of the request of a number.
-fn place_of(session: &Session, id: u64) -> Option<usize>
-    ensures { result ≡ position (λ (o : Open). o.request.id == id) session.now.requests.items }
-{
-    session
-        .requests
-        .iter()
-        .position(|open| open.request.id == id)
-}
-
-/// Whether the session is calm, and no target of the request at a place counts as failed.
-pub fn is_quiet(session: &Session, place: usize) -> bool
-    requires { place < length session.now.requests.items }
-    ensures { result ≡ true → IsQuiet (core_of session.now) place }
-{
-    is_calm(session) && !any_fails(session, place)
-}
-
-/// Whether it is so at the place of the request whose transfer this is.
-pub fn is_quiet_for(session: &Session, owner: Owner) -> bool
-    ensures { result ≡ true → IsQuietFor (core_of session.now) owner }
-{
-    match owner {
-        Owner::Data { id, .. } => match place_of(session, id) {
-            Some(place) => is_quiet(session, place),
-            None => false,
-        },
-        Owner::Status { .. } | Owner::Note { .. } | Owner::Copy => false,
-    }
 }
 
 impl Due {
@@ -106,6 +46,13 @@ impl Due {
         }
     }
 
+    // All places are due.
+    fn fill(&mut self, session: &Session)
+        ensures { IsDue (core_of session.now) self.new }
+    {
+        *self = Due::all(session.requests.len());
+    }
+
     // One request may make an event of each kind.
     fn add(&mut self, place: usize)
         requires { place + 1 < 2 ^ 64 }
@@ -118,85 +65,115 @@ impl Due {
         self.data.add(place);
     }
 
-    // Those that wait for an entry of the cache may find a place there.
-    fn add_entries(&mut self, session: &Session)
-        ensures { AddsWhere (λ (o : Open). wants_entry o.request.phase) session.now.requests.items self.old.pinning self.new.pinning }
-        ensures rest { self.new ≡ record self.old { pinning = self.new.pinning } }
+    // The request at a place has changed: it may make an event of each kind, those that are freed may land or be admitted,
+    // and those of the entries may pin.
+    fn moved(&mut self, place: usize, freed: Span, entries: Span)
+        requires { place + 1 < 2 ^ 64 }
+        ensures { (frees pins : Open → Bool) (old new : Core) → place < length new.requests → Covers frees new.requests (length new.requests) freed → Covers pins new.requests (length new.requests) entries → Moves frees pins old new place → IsDue old self.old → IsDue new self.new }
     {
-        for place in 0..session.requests.len() {
-            if matches!(session.requests[place].request.phase, Phase::WantEntry) {
-                self.pinning.add(place);
-            }
-        }
+        self.add(place);
+        join(&mut self.landing, freed);
+        join(&mut self.admission, freed);
+        join(&mut self.pinning, entries);
     }
 
-    // Those that aren't admitted, and that one of these blocks may have held back, may be.
-    fn add_freed(&mut self, session: &Session, ask: &Ask)
-        ensures landing { AddsWhere (is_freed ask.now) session.now.requests.items self.old.landing self.new.landing }
-        ensures admission { AddsWhere (is_freed ask.now) session.now.requests.items self.old.admission self.new.admission }
-        ensures rest { self.new ≡ record self.old { landing = self.new.landing; admission = self.new.admission } }
+    // So it has, where nothing else has; else all places are due.
+    fn moved_if(&mut self, session: &Session, place: usize, still: bool, freed: Span, entries: Span)
+        requires { place < length session.now.requests.items }
+        ensures { (frees pins : Open → Bool) (old : Core) → Covers frees session.now.requests.items (length session.now.requests.items) freed → Covers pins session.now.requests.items (length session.now.requests.items) entries → (still ≡ true → Moves frees pins old (core_of session.now) place) → IsDue old self.old → IsDue (core_of session.now) self.new }
     {
-        for place in 0..session.requests.len() {
-            let request = &session.requests[place].request;
-            if matches!(request.phase, Phase::Held) && overlaps(ask, &request.ask) {
-                self.landing.add(place);
-                self.admission.add(place);
-            }
-        }
-    }
-
-    /// The request at a place has landed; the session was quiet there before, where this is so.
-    pub fn landed(&mut self, session: &Session, place: usize, quiet: bool)
-        requires there { place < length session.now.requests.items }
-        ensures { (old : State) (how : Outcome) → IsGoing old.core → (quiet ≡ true → IsQuiet old.core place) → Lands old (state old.device (core_of session.now)) place how → IsDue old.core self.old → IsDue (core_of session.now) self.new }
-    {
-        if quiet && is_quiet(session, place) {
-            self.add(place);
-            self.add_freed(session, &session.requests[place].request.ask);
-            self.add_entries(session);
+        if still {
+            self.moved(place, freed, entries);
         } else {
-            *self = Due::all(session.requests.len());
+            self.fill(session);
         }
     }
 
-    /// It has been admitted.
+    /// The request at a place has landed.
+    pub fn landed(&mut self, session: &Session, place: usize)
+        requires there { place < length session.now.requests.items }
+        ensures { (old : State) (how : Outcome) → IsGoing old.core → Lands old (state old.device (core_of session.now)) place how → IsDue old.core self.old → IsDue (core_of session.now) self.new }
+    {
+        let freed = freed_by(session, &session.requests[place].request.ask);
+        let still = is_quiet(session, place);
+        self.moved_if(session, place, still, freed, entries(session));
+    }
+
+    /// It has been admitted; the session was quiet there before, where this is so.
     pub fn admitted(&mut self, session: &Session, place: usize, quiet: bool)
         requires there { place < length session.now.requests.items }
         ensures { (old : State) → IsGoing old.core → (quiet ≡ true → IsQuiet old.core place) → Admits old (state old.device (core_of session.now)) place → IsDue old.core self.old → IsDue (core_of session.now) self.new }
     {
-        self.moved(session, place, quiet);
+        let still = stays_quiet(session, place, quiet);
+        self.moved_if(session, place, still, Span::all(0), entries(session));
     }
 
     /// It has pinned its track group.
-    pub fn pinned(&mut self, session: &Session, place: usize, quiet: bool)
+    pub fn pinned(&mut self, session: &Session, place: usize)
         requires there { place < length session.now.requests.items }
-        ensures { (old : State) → IsGoing old.core → (quiet ≡ true → IsQuiet old.core place) → Pins old (state old.device (core_of session.now)) place → IsDue old.core self.old → IsDue (core_of session.now) self.new }
+        ensures { (old : State) → IsGoing old.core → Pins old (state old.device (core_of session.now)) place → IsDue old.core self.old → IsDue (core_of session.now) self.new }
     {
-        self.moved(session, place, quiet);
+        self.moved(place, Span::all(0), entries(session));
     }
 
-    // The request at a place has changed, and perhaps what is pinned.
-    fn moved(&mut self, session: &Session, place: usize, quiet: bool)
-        requires there { place < length session.now.requests.items }
-        ensures { (old : Core) → (quiet ≡ true → IsQuiet old place) → TouchesOnly old (core_of session.now) place → IsDue old self.old → IsDue (core_of session.now) self.new }
+    // A transfer of the request at a place has been started.
+    fn data_started(&mut self, session: &Session, place: usize)
+        requires { place < length session.now.requests.items }
+        ensures { (old new : State) (target : ℕ) → new.core ≡ core_of session.now → StartsData old new place target → IsDue old.core self.old → IsDue new.core self.new }
     {
-        if quiet && is_quiet(session, place) {
-            self.add(place);
-            self.add_entries(session);
-        } else {
-            *self = Due::all(session.requests.len());
+        let fails = any_fails(session, place);
+        self.moved_if(session, place, !fails, Span::all(0), Span::all(0));
+    }
+
+    /// A transfer has been started.
+    pub fn started(&mut self, session: &Session, event: Event)
+        requires there { (place target : ℕ) → event ≡ kind.StartData place target → place < length session.now.requests.items }
+        ensures { (old new : State) → IsGoing old.core → new.core ≡ core_of session.now → is_start event ≡ true → Makes event old new → IsDue old.core self.old → IsDue new.core self.new }
+    {
+        match event {
+            Event::StartData { place, .. } => self.data_started(session, place),
+            // It names no track group that wasn't named, and no other note may start there.
+            Event::StartNote { .. } => {}
+            _ => self.fill(session),
         }
     }
 
-    /// A transfer has been started; the session was quiet before at the place of its request, where this is so.
-    pub fn started(&mut self, session: &Session, event: Event, quiet: bool)
-        requires there { (place target : ℕ) → event ≡ kind.StartData place target → place < length session.now.requests.items }
-        ensures { (old new : State) → IsGoing old.core → (quiet ≡ true → (place target : ℕ) → event ≡ kind.StartData place target → IsQuiet old.core place) → new.core ≡ core_of session.now → is_start event ≡ true → Makes event old new → IsDue old.core self.old → IsDue new.core self.new }
+    // The transfer of the request at a place has ended well.
+    fn data_ended_at(&mut self, session: &Session, place: usize, quiet: bool)
+        requires { place < length session.now.requests.items }
+        ensures { (old : Core) → (quiet ≡ true → IsQuiet (core_of session.now) place → Moves none none old (core_of session.now) place) → IsDue old self.old → IsDue (core_of session.now) self.new }
     {
-        match event {
-            Event::StartData { place, .. } => self.moved(session, place, quiet),
-            Event::StartNote { .. } => {}
-            _ => *self = Due::all(session.requests.len()),
+        let still = stays_quiet(session, place, quiet);
+        self.moved_if(session, place, still, Span::all(0), Span::all(0));
+    }
+
+    // The transfer of the request of a number has ended well.
+    fn data_ended(&mut self, session: &Session, id: u64, quiet: bool)
+        ensures { (old : Core) (at target : ℕ) (buf : Buffer) → IsGoing old → (quiet ≡ true → IsQuietFor old (whose.Data id target)) → DataLearns old at id target true buf (core_of session.now) → IsDue old self.old → IsDue (core_of session.now) self.new }
+    {
+        match place_of(session, id) {
+            None => self.fill(session),
+            Some(place) => self.data_ended_at(session, place, quiet),
+        }
+    }
+
+    // A note has ended well: more track groups may be named, and another note may start there.
+    fn note_ended(&mut self, session: &Session)
+        ensures { (old : Core) (at disk : ℕ) (buf : Buffer) → NoteLearns old at disk true buf (core_of session.now) → IsDue old self.old → IsDue (core_of session.now) self.new }
+    {
+        let all = Span::all(session.requests.len());
+        self.note = all;
+        self.data = all;
+    }
+
+    // A transfer has ended well.
+    fn ended_well(&mut self, session: &Session, owner: Owner, quiet: bool)
+        ensures { (old : Core) (at : ℕ) (buf : Buffer) → IsGoing old → (quiet ≡ true → IsQuietFor old owner) → Learns owner old at true buf (core_of session.now) → IsDue old self.old → IsDue (core_of session.now) self.new }
+    {
+        match owner {
+            Owner::Data { id, .. } => self.data_ended(session, id, quiet),
+            Owner::Note { .. } => self.note_ended(session),
+            Owner::Status { .. } | Owner::Copy => self.fill(session),
         }
     }
 
@@ -205,17 +182,10 @@ impl Due {
     pub fn ended(&mut self, session: &Session, owner: Owner, ok: bool, quiet: bool)
         ensures { (old : Core) (at : ℕ) (buf : Buffer) → IsGoing old → (quiet ≡ true → IsQuietFor old owner) → Learns owner old at ok buf (core_of session.now) → IsDue old self.old → IsDue (core_of session.now) self.new }
     {
-        let all = Due::all(session.requests.len());
-        match owner {
-            Owner::Data { id, .. } if ok => match place_of(session, id) {
-                Some(place) => self.moved(session, place, quiet),
-                None => *self = all,
-            },
-            Owner::Note { .. } if ok => {
-                self.note = all.note;
-                self.data = all.data;
-            }
-            _ => *self = all,
+        if ok {
+            self.ended_well(session, owner, quiet);
+        } else {
+            self.fill(session);
         }
     }
 
