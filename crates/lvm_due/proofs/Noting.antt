@@ -47,21 +47,21 @@ use Rattle.lvm_due.proofs.Unread.{named_falls, named_unread, named_unread_admit,
 -- what is found passes
 find_passes : {X : Type 0} (test : X → Bool) (xs : List X) (x : X) → find test xs ≡ Some x → test x ≡ true
 find_passes test [] x is = absurd (cc is)
-find_passes test (y ∷ xs) x is = by (test y) refl is
+find_passes test (y ∷ xs) x is = by (find_passes test xs x) (test y) refl is
   where
-    by : (b : Bool) → test y ≡ b → cond b (Some y) (find test xs) ≡ Some x → test x ≡ true
-    by true passes same = let its : y ≡ x = cc same in ap test (sym its) ∙ passes
-    by false fails same = find_passes test xs x same
+    by : (find test xs ≡ Some x → test x ≡ true) → (b : Bool) → test y ≡ b → cond b (Some y) (find test xs) ≡ Some x → test x ≡ true
+    by rest true passes same = let its : y ≡ x = cc same in ap test (sym its) ∙ passes
+    by rest false fails same = rest same
 
 -- where none passes, none passes a test that fewer pass
 find_fewer : {X : Type 0} (more fewer : X → Bool) (xs : List X) → ((x : X) → fewer x ≡ true → more x ≡ true) → find more xs ≡ None → find fewer xs ≡ None
 find_fewer more fewer [] all is = refl
-find_fewer more fewer (y ∷ xs) all is = by (more y) (fewer y) refl refl is
+find_fewer more fewer (y ∷ xs) all is = by (find_fewer more fewer xs all) (more y) (fewer y) refl refl is
   where
-    by : (a b : Bool) → more y ≡ a → fewer y ≡ b → cond a (Some y) (find more xs) ≡ None → cond b (Some y) (find fewer xs) ≡ None
-    by true b mores fewers same = absurd (cc same)
-    by false true mores fewers same = absurd (let e : true ≡ false = sym (all y fewers) ∙ mores in cc e)
-    by false false mores fewers same = find_fewer more fewer xs all same
+    by : (find more xs ≡ None → find fewer xs ≡ None) → (a b : Bool) → more y ≡ a → fewer y ≡ b → cond a (Some y) (find more xs) ≡ None → cond b (Some y) (find fewer xs) ≡ None
+    by rest true b mores fewers same = absurd (cc same)
+    by rest false true mores fewers same = absurd (let e : true ≡ false = sym (all y fewers) ∙ mores in cc e)
+    by rest false false mores fewers same = rest same
 
 all_more : {X : Type 0} (more fewer : X → Bool) (xs : List X) → ((x : X) → fewer x ≡ true → more x ≡ true) → list_all fewer xs ≡ true → list_all more xs ≡ true
 all_more more fewer [] all is = refl

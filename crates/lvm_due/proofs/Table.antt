@@ -142,12 +142,12 @@ module _ (old new : Core) (client : ℕ) (ask : Ask) (bytes : Option (List ℕ))
 -- ---- one leaves
 
 -- each of the others stood at its place or at the next
-get_removed : (os : List Open) (place k : ℕ) (o : Open) → slice_get (remove os place) k ≡ Some o → (slice_get os k ≡ Some o) ⊎ (slice_get os (k + 1) ≡ Some o)
-get_removed [] place k o there = inl there
-get_removed (x ∷ os) zero zero o there = inr there
-get_removed (x ∷ os) zero (suc k) o there = inr (subst (λ (n : ℕ). slice_get (x ∷ os) n ≡ Some o) (let e : suc (suc k) ≡ suc k + 1 = omega arith in e) there)
-get_removed (x ∷ os) (suc place) zero o there = inl there
-get_removed (x ∷ os) (suc place) (suc k) o there = by (get_removed os place k o there)
+get_removed : (os : List Open) (place k : ℕ) (gone o : Open) → slice_get os place ≡ Some gone → slice_get (remove os place) k ≡ Some o → (slice_get os k ≡ Some o) ⊎ (slice_get os (k + 1) ≡ Some o)
+get_removed [] place k gone o at there = absurd (cc at)
+get_removed (x ∷ os) zero zero gone o at there = inr there
+get_removed (x ∷ os) zero (suc k) gone o at there = inr (subst (λ (n : ℕ). slice_get (x ∷ os) n ≡ Some o) (let e : suc (suc k) ≡ suc k + 1 = omega arith in e) there)
+get_removed (x ∷ os) (suc place) zero gone o at there = inl there
+get_removed (x ∷ os) (suc place) (suc k) gone o at there = by (get_removed os place k gone o at there)
   where
     by : (slice_get os k ≡ Some o) ⊎ (slice_get os (k + 1) ≡ Some o) → (slice_get (x ∷ os) (suc k) ≡ Some o) ⊎ (slice_get (x ∷ os) (suc k + 1) ≡ Some o)
     by (inl here) = inl here
@@ -195,7 +195,7 @@ module _ (old new : Core) (place id : ℕ) (o : Open) (there : slice_get old.req
     left_keeps was now same spans = record { within = let low = gone.within in omega (arith, low, few); none = none_left }
       where
         none_left : (k : ℕ) (e : Open) → slice_get new.requests k ≡ Some e → is_in t k ≡ false → now k e ≡ None
-        none_left k e at out = by (get_removed old.requests place k e (ap (λ (os : List Open). slice_get os k) (sym left_requests) ∙ at))
+        none_left k e at out = by (get_removed old.requests place k o e there (ap (λ (os : List Open). slice_get os k) (sym left_requests) ∙ at))
           where
             low : k < n
             low = let within = slice_get_within new.requests k e at in omega (arith, within, few)
