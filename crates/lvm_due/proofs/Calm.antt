@@ -1,5 +1,5 @@
 -- What shows that a session is calm.
-use Rattle.std.proofs.Common.{◌≡◌, Bool, true, false, Option, Some, None, refl, sym, ◌∙◌, ap}
+use Rattle.std.proofs.Common.{◌≡◌, Bool, true, false, Option, Some, None, refl, sym, ◌∙◌}
 use Rattle.std.specs.Prelude.{◌≢◌, ◌↔◌, IsTrue, is_some}
 use Rattle.lvm_num.specs.declared.status.Status.{Status}
 use Rattle.lvm_session.specs.Enabled.{same_status}

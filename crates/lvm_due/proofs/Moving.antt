@@ -1,16 +1,14 @@
 -- What each event moves.
-use Rattle.std.proofs.Common.{◌≡◌, ◌&&◌, ◌||◌, ◌==◌, not, ℕ, Bool, true, false, nat_lt, List, [], ◌∷◌, Option, Some, None, slice_get, slice_set, refl, sym, subst, ◌∙◌, ap, arith}
+use Rattle.std.proofs.Common.{◌≡◌, ◌&&◌, ◌||◌, not, ℕ, Bool, true, false, nat_lt, List, Option, Some, None, slice_get, slice_set, refl, sym, subst, ◌∙◌, ap}
 use Rattle.std.specs.Prelude.{if◌then◌else◌, position}
 use Rattle.std.specs.List.{list_any}
 use Rattle.std.specs.Option.{option_map_or}
 use Rattle.std.proofs.lemmas.Bool.{and_left, and_right}
 use Rattle.lvm_num.specs.Buffer.{Buffer}
 use Rattle.lvm_vol.specs.declared.entry.Outcome.{Outcome}
-use Rattle.lvm_hold.specs.declared.queue.Held.{Held}
 use Rattle.lvm_hold.specs.declared.queue.Row.{Row}
-use Rattle.lvm_hold.specs.Conflicts.{conflicts, have_common_block, is_write as is_write_of}
-use Rattle.lvm_hold.specs.Waiting.{is_blocked, without}
-use Rattle.lvm_mwc.specs.declared.notes.DiskNotes.{DiskNotes}
+use Rattle.lvm_hold.specs.Conflicts.{conflicts, is_write as is_write_of}
+use Rattle.lvm_hold.specs.Waiting.{without}
 use Rattle.lvm_mwc.specs.Cache.{Cached, after_pin, after_unpin}
 use Rattle.lvm_mwc.specs.Entries.{are_all_pinned, with_pin as with_entry}
 use Rattle.lvm_status.specs.Update.{Stored, Updates, is_held as has_votes, is_owed, no_disks, seen}
@@ -32,7 +30,7 @@ use Rattle.lvm_session.specs.Events.{Admits, Lands, Pins, StartsData, admitted_a
 use Rattle.lvm_session.specs.Judging.{facts_of, group_of, held_of, is_failing, is_held_back, is_waiting, mode_of, place_of, policy_of}
 use Rattle.lvm_session.specs.Marks.{WantsDirtyIf, hits_copy}
 use Rattle.lvm_session.specs.Sound.{IsGoing, rows_of, waiting_rows}
-use Rattle.lvm_due.specs.Due.{any_fails, is_freed, is_held, none, overlap, waits_entry, IsCalm, IsQuiet, IsQuietFor, Moves, ReadsSame}
+use Rattle.lvm_due.specs.Due.{any_fails, is_freed, none, overlap, waits_entry, IsCalm, IsQuiet, IsQuietFor, Moves, ReadsSame}
 use Rattle.lvm_due.proofs.Telling.{fails_read, failing_read}
 use Rattle.lvm_due.proofs.Starting.{start_fails, start_waits}
 use Rattle.lvm_due.proofs.Queues.{get_set, has_number, one_numbered, position_is, position_set, row_of, unqueued}

@@ -1,5 +1,5 @@
 -- Where events are due in sessions that are written out.
-use Rattle.std.proofs.Common.{◌≡◌, ℕ, zero, suc, Bool, true, false, List, [], ◌∷◌, Option, Some, None, length, slice_get, refl, sym, ◌∙◌, ap, arith}
+use Rattle.std.proofs.Common.{◌≡◌, ℕ, zero, suc, true, false, [], ◌∷◌, Option, Some, None, slice_get, refl, sym, ◌∙◌, ap, arith}
 use Rattle.lvm_num.specs.Bits.{has_bit}
 use Rattle.lvm_session.specs.declared.event.Event.{Event}
 use Rattle.lvm_session.specs.declared.open.Open.{Open}

@@ -1,5 +1,5 @@
 -- What the start of a note and its end leave of the events of requests.
-use Rattle.std.proofs.Common.{◌≡◌, ◌≤◌, ◌&&◌, ◌||◌, ◌==◌, not, cond, ℕ, Bool, true, false, List, [], ◌∷◌, Option, Some, None, length, slice_get, refl, sym, subst, ◌∙◌, ap, arith}
+use Rattle.std.proofs.Common.{◌≡◌, ◌≤◌, ◌&&◌, ◌||◌, ◌==◌, not, cond, ℕ, Bool, true, false, List, [], ◌∷◌, Option, Some, None, length, slice_get, refl, sym, subst, ◌∙◌, ap}
 use Rattle.std.specs.Prelude.{if◌then◌else◌, find, is_none, option_and_then}
 use Rattle.std.specs.List.{list_all, list_any}
 use Rattle.std.specs.Option.{option_map, option_map_or}
@@ -14,14 +14,12 @@ use Rattle.lvm_hold.specs.declared.queue.Row.{Row}
 use Rattle.lvm_hold.specs.Waiting.{is_blocked}
 use Rattle.lvm_mwc.specs.declared.entries.CacheEntry.{CacheEntry}
 use Rattle.lvm_mwc.specs.declared.notes.DiskNotes.{DiskNotes}
-use Rattle.lvm_mwc.specs.Firsts.{with_first}
 use Rattle.lvm_mwc.specs.Entries.{note_of}
 use Rattle.lvm_mwc.specs.Notes.{both_name, is_on, names_group}
-use Rattle.lvm_mwc.specs.Cache.{Cached, after_end, after_start, flight_on, is_named, notes_on, started}
+use Rattle.lvm_mwc.specs.Cache.{Cached, after_start, flight_on, is_named, notes_on, started}
 use Rattle.lvm_mwc.proofs.FirstsLemmas.{find-with, find-with_other}
 use Rattle.lvm_path.specs.declared.ask.Ask.{Ask}
 use Rattle.lvm_path.specs.declared.facts.Facts.{Facts}
-use Rattle.lvm_path.specs.declared.facts.Next.{Next}
 use Rattle.lvm_path.specs.declared.request.Request.{Request}
 use Rattle.lvm_path.specs.declared.target.Target.{Target}
 use Rattle.lvm_path.specs.Asks.{lv_of}
@@ -30,13 +28,13 @@ use Rattle.lvm_session.specs.declared.event.Event.{Event}
 use Rattle.lvm_session.specs.declared.event.Event.TheVariants as event
 use Rattle.lvm_session.specs.declared.flown.Owner.TheVariants as owner
 use Rattle.lvm_session.specs.declared.open.Open.{Open}
-use Rattle.lvm_session.specs.State.{Core, State, state}
-use Rattle.lvm_session.specs.Ends.{NoteLearns, with_return}
+use Rattle.lvm_session.specs.State.{Core, State}
+use Rattle.lvm_session.specs.Ends.{NoteLearns}
 use Rattle.lvm_session.specs.Events.{StartsNote, with_flight}
 use Rattle.lvm_session.specs.Enabled.{admission_at, can_pin, data_at, is_admit, is_pin, is_unnamed, landing_at, note_at, note_due, outcome_next, pinning_at, target_next, wants_record}
 use Rattle.lvm_session.specs.Judging.{facts_of, group_of, has_names, held_of, is_held_back, is_missing, is_pending, mode_of, next_for, place_of}
 use Rattle.lvm_firsts.specs.declared.span.Span.{Span}
-use Rattle.lvm_firsts.specs.Spans.{is_in, Spans}
+use Rattle.lvm_firsts.specs.Spans.{Spans}
 use Rattle.lvm_due.specs.declared.due.Due.{Due}
 use Rattle.lvm_due.specs.Due.{IsDue, ReadsSame}
 use Rattle.lvm_due.proofs.Alike.{none_chosen, none_mapped}

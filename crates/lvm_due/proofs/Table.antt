@@ -1,6 +1,6 @@
 -- What a request that begins, and one that leaves the table, leave of the events of the others.
-use Rattle.std.proofs.Common.{◌≡◌, ◌<◌, ◌≤◌, ◌+◌, ◌*◌, ◌⊎◌, ◌&&◌, ◌||◌, ◌++◌, ◌==◌, inl, inr, not, nat_lt, ℕ, zero, suc, Bool, true, false, List, [], ◌∷◌, Option, Some, None, length, slice_get, refl, sym, subst, ◌∙◌, ap, arith}
-use Rattle.std.specs.List.{list_any, remove, AllByRecursion}
+use Rattle.std.proofs.Common.{◌≡◌, ◌<◌, ◌≤◌, ◌+◌, ◌⊎◌, ◌&&◌, ◌||◌, ◌++◌, ◌==◌, inl, inr, not, nat_lt, ℕ, zero, suc, Bool, true, false, List, [], ◌∷◌, Option, Some, None, length, slice_get, refl, sym, subst, ◌∙◌, ap, arith}
+use Rattle.std.specs.List.{list_any, remove}
 use Rattle.std.proofs.lemmas.Bool.{and_left, and_right, false_from_ne_true, le-ltb}
 use Rattle.std.proofs.lemmas.List.Folds.{list_any-append}
 use Rattle.std.proofs.lemmas.Option.{slice_get_within}
@@ -21,7 +21,7 @@ use Rattle.lvm_session.specs.declared.event.Event.{Event}
 use Rattle.lvm_session.specs.declared.open.Open.{Open}
 use Rattle.lvm_session.specs.State.{Core}
 use Rattle.lvm_session.specs.Calls.{after_take, new_open, submitted}
-use Rattle.lvm_session.specs.Enabled.{admission_at, can_pin, data_at, landing_at, note_at, note_due, pinning_at}
+use Rattle.lvm_session.specs.Enabled.{admission_at, can_pin, data_at, landing_at, note_at, pinning_at}
 use Rattle.lvm_session.specs.Judging.{counts_failed, facts_of, held_of, is_beside, is_failing, is_held_back, is_pending, is_waiting, place_of}
 use Rattle.lvm_session.specs.Sound.{IsAsked, IsTold}
 use Rattle.lvm_mwc.specs.Cache.{Cached}

@@ -1,5 +1,5 @@
 -- At which places of the table events are due.
-use Rattle.std.specs.Prelude.{◌≡◌, ◌≤◌, ◌<◌, ℕ, Bool, true, false, ◌&&◌, ◌==◌, List, None, Some, length, position, slice_get, slice_set}
+use Rattle.std.specs.Prelude.{◌≡◌, ◌≤◌, ◌<◌, ℕ, Bool, true, false, ◌&&◌, ◌==◌, List, None, Some, position, slice_get, slice_set}
 use Rattle.std.specs.List.{list_any}
 use Rattle.lvm_hold.specs.Conflicts.{have_common_block}
 use Rattle.lvm_path.specs.declared.ask.Ask.{Ask}

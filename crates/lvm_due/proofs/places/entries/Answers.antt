@@ -1,4 +1,4 @@
-use Rattle.std.proofs.Common.{◌∙◌, sym, ap, subst, arith}
+use Rattle.std.proofs.Common.{ap, subst, arith}
 use Rattle.lvm_firsts.proofs.Places.{stands}
 use Rattle.lvm_due.specs.Due.{Covers, waits_entry}
 use Rattle.lvm_due.proofs.Spanning.{covers_more, covers_none}

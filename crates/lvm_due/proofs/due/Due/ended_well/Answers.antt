@@ -1,4 +1,4 @@
-use Rattle.std.proofs.Common.{◌≡◌, Bool, true, subst}
+use Rattle.std.proofs.Common.{true, subst}
 use Rattle.lvm_session.specs.Fields.{core_of}
 use Rattle.lvm_session.specs.declared.flown.Owner.{Owner}
 use Rattle.lvm_session.specs.Ends.{Learns}

@@ -1,5 +1,4 @@
 use Rattle.std.proofs.Common.{sym, subst}
-use Rattle.lvm_session.specs.Fields.{core_of}
 use Rattle.lvm_session.specs.declared.event.Event.{Event}
 use Rattle.lvm_session.specs.State.{Core}
 use Rattle.lvm_session.specs.Turns.{Makes}
