@@ -1,5 +1,5 @@
 -- Sectors in pieces, of which only the front is kept.
-use Rattle.std.proofs.Common.{◌≡◌, ◌+◌, ◌*◌, ◌-◌, ◌<◌, ◌≤◌, ◌^◌, ◌++◌, [], ◌∷◌, ℕ, zero, suc, List, slice_index_or, slice_set, length, map, take, drop, replicate, refl, sym, ◌∙◌, ap, subst, arith, length-append, length-set, true}
+use Rattle.std.proofs.Common.{◌≡◌, ◌+◌, ◌*◌, ◌-◌, ◌<◌, ◌≤◌, ◌^◌, ◌++◌, [], ◌∷◌, ℕ, zero, suc, List, slice_index_or, slice_set, length, replicate, refl, sym, ◌∙◌, ap, subst, arith, length-append, length-set}
 use Rattle.std.proofs.lemmas.List.{append-nil, append_assoc, length-replicate, replicate-append-replicate, set_at}
 use Rattle.lvm_num.specs.Buffer.{Sector, zero_sector}
 use Rattle.lvm_media.specs.Media.{sizes_of, AllSectors}
