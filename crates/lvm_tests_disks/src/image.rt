@@ -4,7 +4,6 @@ use crate::trial::{Fault, MOST_OF_NEW, Trial};
 use Step::*;
 use lvm_image::{Exclusive, ImageSink};
 use lvm_io::{Images, Put, Sink};
-use std::process::Abort;
 use std::rt::Files;
 
 // What is asked of the sink.
@@ -119,24 +118,6 @@ where
     }
 }
 
-fn see_rows<R: Files>(
-    rt: &impl Abort,
-    trial: &Trial,
-    sink: &mut ImageSink<'_, R>,
-    bytes: &[u8],
-    name: &str,
-    rows: &[Row],
-)
-where
-    R::File: Exclusive,
-{
-    for (fault, step, answer, counts) in rows {
-        trial.set_fault(*fault);
-        let is = (ask(sink, bytes, *step), trial.counts());
-        check(rt, is == (*answer, *counts), name);
-    }
-}
-
 #[test]
 fn an_image_is_made_and_synced(rt: HostRuntime) {
     let bytes = vec![in rt.alloc(); 0; MOST_OF_NEW + 1].expect(&rt, "memory");
@@ -144,6 +125,10 @@ fn an_image_is_made_and_synced(rt: HostRuntime) {
         let trial = Trial::new(&rt, true, 2, 0);
         let files = &trial;
         let mut sink = ImageSink::new(&files);
-        see_rows(&rt, &trial, &mut sink, &bytes, name, rows);
+        for (fault, step, answer, counts) in *rows {
+            trial.set_fault(*fault);
+            let is = (ask(&mut sink, &bytes, *step), trial.counts());
+            check(&rt, is == (*answer, *counts), name);
+        }
     }
 }
