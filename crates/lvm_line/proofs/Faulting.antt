@@ -13,7 +13,7 @@ use Rattle.lvm_operands.specs.declared.rest.Misfit.{Misfit}
 use Rattle.lvm_status.specs.Update.{Stored}
 use Rattle.lvm_commit.specs.Settling.{HasLostQuorum, there}
 use Rattle.lvm_session.specs.State.{Core, State as Session}
-use Rattle.lvm_line.specs.Causes.{HasCause, HasFailed, HasLost}
+use Rattle.lvm_line.specs.Causes.{HasCause, HasFailed, HasLost, IsDrained}
 use Rattle.lvm_write.proofs.Transfers.{rose_then}
 use Rattle.lvm_disk.proofs.Rising.{rose_before}
 use Rattle.lvm_copy_lines.specs.passed.Driver.{DrainFault}
@@ -78,6 +78,9 @@ rose_in_line left a b c few before later =
 
 module _ (read : Result (Option Command) Misfit) (other : IsOther read) (failed : (d : ℕ) (a b : Counts) → Rose (a.faults d) (b.faults d) → HasFailed read d a b) where
   module _ (old new : State) (core : Core) (patience : ℕ) (mid left : Session) (some : old.session ≡ Some core) (drains : Drains core old patience mid) where
+    drained : IsDrained old core mid.core
+    drained = record { on = some; descriptor = drains.runs.leaves.keeps.descriptor; still = λ rests. ap (λ (s : Session). s.core) (drains.still rests) }
+
     faults_since : (disk : ℕ) (n : Counts) → Rose (mid.device.counts.faults disk) (n.faults disk) → Rose (old.moment.device.counts.faults disk) (n.faults disk)
     faults_since disk n rose = rose_before (drains.runs.leaves.keeps.counts.faults disk) rose
 
@@ -95,8 +98,8 @@ module _ (read : Result (Option Command) Misfit) (other : IsOther read) (failed 
       subst (λ (n : ℕ). 2 * have ≤ n) (sym it.total_is) (at_most_half last.group have it.few),
       record {
         core = core;
-        mid = mid;
-        drained = record { on = some; left = patience; drains = drains };
+        mid = mid.core;
+        drained = drained;
         disk = it.disk;
         member = member_of it.disk it.was;
         was = it.was;

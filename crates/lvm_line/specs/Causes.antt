@@ -9,7 +9,7 @@ use Rattle.lvm_vol.specs.Log.{Log}
 use Rattle.lvm_commit.specs.Settling.{there}
 use Rattle.lvm_core.specs.declared.parts.Room.{Room}
 use Rattle.lvm_session.specs.Causes.{AnyFailedSince}
-use Rattle.lvm_session.specs.State.{Core, State as Session, state}
+use Rattle.lvm_session.specs.State.{Core, state}
 use Rattle.lvm_num.specs.declared.descriptor.Descriptor.{Descriptor}
 use Rattle.lvm_num.specs.Descriptor.{is_member}
 use Rattle.lvm_disk.specs.Device.{Device}
@@ -19,8 +19,8 @@ use Rattle.lvm_copy_lines.specs.passed.Quiesce.{Quiesces}
 use Rattle.lvm_copy_lines.specs.passed.Driver.{DrainFault}
 use Rattle.lvm_copy_lines.specs.passed.Ranges.{AnyFailed}
 use Rattle.lvm_copy_lines.specs.passed.Resync.{AnyFails}
-use Rattle.lvm_copy_lines.specs.passed.VolumeLines.{Drains, IsUndrained}
-use Rattle.lvm_copy_lines.specs.passed.Stage.{patience_of_line, State, IsTimely, Refusal}
+use Rattle.lvm_copy_lines.specs.passed.VolumeLines.{IsUndrained}
+use Rattle.lvm_copy_lines.specs.passed.Stage.{patience_of_line, IsAtRest, State, IsTimely, Refusal}
 use Rattle.lvm_line.specs.Lines.{IsLine}
 use Rattle.lvm_copy_lines.specs.passed.RefusalVariants as refusal
 use Rattle.lvm_copy_lines.specs.passed.ReplyVariants as reply
@@ -44,19 +44,19 @@ HasFailed (Ok (Some (command.RawWr on at count word))) disk old new = Rose (old.
 HasFailed other disk old new = Rose (old.faults disk) (new.faults disk)
 
 -- The session on whose group a command was made: that which was on, after the turns by which what was under way in it was ended; none where nothing was.
-pub record IsDrained (old : State) (core : Core) (mid : Session) : Type 0 where
+pub record IsDrained (old : State) (core mid : Core) : Type 0 where
   pub on : old.session ≡ Some core
-  pub left : ℕ
-  pub drains : Drains core old left mid
+  pub descriptor : mid.descriptor ≡ core.descriptor
+  pub still : IsAtRest old → mid ≡ core
 
 -- a transfer of a member has failed since that wasn't missing then
 pub record HasLost (old : State) (new : Counts) : Type 0 where
   pub core : Core
-  pub mid : Session
+  pub mid : Core
   pub drained : IsDrained old core mid
   pub disk : ℕ
   pub member : IsTrue (is_member core.descriptor disk)
-  pub was : IsTrue (there mid.core.status disk)
+  pub was : IsTrue (there mid.status disk)
   pub failed : Rose (old.moment.device.counts.faults disk) (new.faults disk)
 
 -- The turns before the command ended for that.
