@@ -47,6 +47,17 @@ fn blocks_text(alloc: Global, at: u64, blocks: &[[u8; 512]]) -> Result<Text, Mem
     Ok(Text::new(text))
 }
 
+/// The lines of blocks, the first of this number, if there is memory for them.
+pub fn lines_reply(alloc: Global, at: u64, blocks: &[[u8; 512]]) -> Reply
+    requires { at + length blocks.now < 2 ^ 64 }
+    ensures { Shows (blocks_text at blocks.now) result }
+{
+    match blocks_text(alloc, at, blocks) {
+        Ok(text) => Reply::Lines(text),
+        Err(Memory) => Reply::Refused(Refusal::Memory),
+    }
+}
+
 // The reply to a write.
 fn write_reply(done: Result<(), RawFault>) -> Reply
     ensures { result ≡ write_reply done }
@@ -64,10 +75,7 @@ fn read_reply(alloc: Global, at: u64, read: Result<Rows<[u8; 512]>, RawFault>) -
     ensures fault { IfErr read (λ why. result ≡ Reply.Refused (refusal_by why)) }
 {
     match read {
-        Ok(blocks) => match blocks_text(alloc, at, blocks.as_slice()) {
-            Ok(text) => Reply::Lines(text),
-            Err(Memory) => Reply::Refused(Refusal::Memory),
-        },
+        Ok(blocks) => lines_reply(alloc, at, blocks.as_slice()),
         Err(why) => Reply::Refused(refusal_by(why)),
     }
 }

@@ -4,6 +4,7 @@ use Rattle.lvm_num.specs.Buffer.{Sector}
 use Rattle.lvm_core.specs.Looking.{IsNumberOf, HasNoVolume}
 use Rattle.lvm_session.specs.Sound.{IsSound}
 use Rattle.lvm_session.specs.State.{Core, State as Session}
+use Rattle.lvm_group_lines.specs.passed.DiskLines.{blocks_text}
 use Rattle.lvm_group_lines.specs.passed.Running.{RunsOn}
 use Rattle.lvm_posts.specs.declared.asked.Asked.{Asked}
 use Rattle.lvm_posts.specs.declared.fault.RangeFault.{RangeFault}
@@ -13,7 +14,7 @@ use Rattle.lvm_group_lines.specs.passed.Stage.{State, IsRefused, Shows, Refusal,
 use Rattle.lvm_group_lines.specs.passed.RefusalVariants as refusal
 use Rattle.lvm_group_lines.specs.passed.ReplyVariants as reply
 use Rattle.lvm_range_lines.specs.Leaving.{EndsBy, GoesOnWith, Waited, session_over}
-use Rattle.lvm_range_lines.specs.Refusals.{ask_refusal, blocks_text, range_refusal}
+use Rattle.lvm_range_lines.specs.Refusals.{ask_refusal, range_refusal}
 
 -- The line is refused where no group is on, or has no volume of this name; else this happens to the session and the volume of that number.
 pub data OnVolume (name : List ℕ) (Happens : Core → ℕ → Type 0) (old new : State) (answer : Reply) : Type 0 where
@@ -58,14 +59,14 @@ PostDoes name at count word old new answer = OnVolume name (λ core lv. Posts lv
 
 -- ---- wr and rd
 
--- It is asked for and waited for, and its answers are taken; so much patience is left. Where it ended otherwise than well, that has its cause since it was asked for.
+-- It is asked for and waited for, and its answers are taken; so much patience is left. Where it ended otherwise than well, that has its cause.
 pub record IsFinished (write : Option ℕ) (lv at count : ℕ) (core : Core) (old new : State) (end : Session) (asked : Asked) (done : Result (Unit {0}) RangeFault) : Type 0 where
   pub begun : Core
   pub gives : AskRangeGives write lv at count core begun (Ok asked)
   pub left : ℕ
   pub finishes : FinishGives asked left (session_over old begun) end done
   pub waited : Waited left (session_over old begun) end
-  pub caused : IfErr done (RangeCause left old.moment.device end)
+  pub caused : IfErr done (RangeCause lv left (session_over old core) end)
   pub runs : RunsOn (session_over old core) end
   pub sound : IsSound end
   pub ends : EndsBy done end old.posts old.last new

@@ -16,6 +16,11 @@ pub fn check(rt: &impl Abort, is: bool, what: &str) {
     assert!(rt; is, "{what}");
 }
 
+/// The same, with the place of a step.
+pub fn check_at(rt: &impl Abort, is: bool, what: &str, at: usize) {
+    assert!(rt; is, "{what} {at}");
+}
+
 pub fn name(rt: &impl Abort, text: &str) -> Name {
     Name::read(text.as_bytes()).expect(rt, "a name")
 }
