@@ -1,5 +1,5 @@
 -- What a call of a client leaves of the table.
-use Rattle.std.proofs.Common.{◌≡◌, ◌≤◌, ℕ, Bool, true, false, List, [], ◌∷◌, ◌++◌, Option, Some, None, length, length-append, slice_get, refl, sym, ◌∙◌, ap, arith}
+use Rattle.std.proofs.Common.{◌≡◌, ◌≤◌, ◌+◌, ℕ, Bool, true, false, List, [], ◌∷◌, ◌++◌, Option, Some, None, length, length-append, slice_get, refl, sym, ◌∙◌, ap, arith}
 use Rattle.std.specs.Prelude.{MatchOption, Result, Ok, Err, is_none, position}
 use Rattle.lvm_vol.specs.declared.entry.Outcome.{Outcome}
 use Rattle.lvm_vol.specs.declared.entry.Outcome.TheVariants as outcome
@@ -36,7 +36,7 @@ module _ (old new : Core) (client : ℕ) (ask : Ask) (bytes : Option (List ℕ))
   pub some : new ≡ submitted old client ask bytes → 1 ≤ length new.requests
   some is =
       let long : length new.requests ≡ length (old.requests ++ new_open (next_id old.history) client ask (blocks_begun old.history.facts) ∷ []) = ap (λ (core : Core). length core.requests) is in
-      let more = length-append old.requests (new_open (next_id old.history) client ask (blocks_begun old.history.facts) ∷ []) in
+      let more : length (old.requests ++ new_open (next_id old.history) client ask (blocks_begun old.history.facts) ∷ []) ≡ length old.requests + 1 = length-append old.requests (new_open (next_id old.history) client ask (blocks_begun old.history.facts) ∷ []) in
       omega (arith, long, more)
 
 -- ---- Take
