@@ -25,7 +25,7 @@ use Rattle.lvm_top.specs.passed.Running.{RunsOn}
 use Rattle.lvm_top.specs.passed.ReplyVariants as reply
 use Rattle.lvm_top.specs.passed.Lines.{IsLine, role_of}
 use Rattle.lvm_top.specs.passed.Recover.{HasNoPassive}
-use Rattle.lvm_top.specs.passed.Stage.{Holder, IsBetween, IsBetweenStage, IsFitting, IsOfKind, IsAllowed, IsAlone, IsStuck, IsTimely, OfRequests, Reply, Stage, StandsAlone, StandsBy, State, history_in, history_of, moment_in, most_refusals, session_in, session_of, shelf_of, state_in, without_facts}
+use Rattle.lvm_top.specs.passed.Stage.{Holder, IsBetween, IsBetweenStage, IsOfKind, IsAllowed, IsAlone, IsStuck, IsTimely, OfRequests, Reply, Stage, StandsAlone, StandsBy, State, history_in, history_of, moment_in, most_refusals, session_in, session_of, shelf_of, state_in, without_facts}
 use Rattle.lvm_top.specs.declared.run.Ended.{Ended}
 use Rattle.lvm_top.specs.declared.status.ExitStatus.{ExitStatus}
 use Rattle.lvm_top.specs.declared.status.ExitStatus.TheVariants as ended
@@ -222,13 +222,6 @@ module _ {S : Type 0} (device : S → Device) (blocks : ℕ) (load : Workload) (
   pub serving_ends : (driver : S × Core) (h : Holder S) → h ≡ holder.Serving driver → IsOfKind h → HasServed blocks load (state (device driver.0) driver.1) exit → EndsAt h
   serving_ends driver h is kind served = subst (λ (k : Holder S). IsOfKind k → EndsAt k) (sym is) (λ vols. Drawn ok driver.1 refl vols refl refl served) kind
 
--- neither is another holder one that serves requests
-pub never_empty : {S : Type 0} (driver : S × Core) (h : Holder S) → h ≡ holder.Empty driver → IsOfKind h → IsServed (session_of h) → ⊥
-never_empty {S} driver h is kind served = (subst (λ (k : Holder S). IsOfKind k → IsServed (session_of k) → ⊥) (sym is) (λ empty some. some empty)) kind served
-
-pub never_off : {S : Type 0} (shelf : S) (history : Log) (h : Holder S) → h ≡ holder.Off shelf history → IsServed (session_of h) → ⊥
-never_off {S} shelf history h is served = (subst (λ (k : Holder S). IsServed (session_of k) → ⊥) (sym is) (λ none. none)) served
-
 -- what holds of the stage with its holder holds with what that is
 module _ {S : Type 0} (device : S → Device) (old : Stage S) (h : Holder S) (is : old.holder ≡ h) where
   abbrev At : Holder S → Stage S
@@ -236,9 +229,6 @@ module _ {S : Type 0} (device : S → Device) (old : Stage S) (h : Holder S) (is
 
   pub between_at : IsBetweenStage device old → IsBetweenStage device (At h)
   between_at between = subst (λ (k : Holder S). IsBetweenStage device (At k)) is between
-
-  pub fits_at : IsFitting old → IsFitting (At h)
-  fits_at fits = subst (λ (k : Holder S). IsFitting (At k)) is fits
 
   pub rooms_at : (o : Option Log) → IsSomeAnd o (λ log. without_facts log ≡ without_facts (history_of h)) → IsSomeAnd o (λ log. without_facts log ≡ without_facts (history_in old))
   rooms_at o rooms = subst (λ (k : Holder S). IsSomeAnd o (λ log. without_facts log ≡ without_facts (history_of k))) (sym is) rooms

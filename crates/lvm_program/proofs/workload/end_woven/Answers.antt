@@ -1,7 +1,7 @@
 use Rattle.std.proofs.Common.{◌∙◌, sym}
 use Rattle.lvm_top.specs.passed.HolderVariants as holder
 use Rattle.lvm_program.specs.Woven.{NotMade}
-use Rattle.lvm_program.proofs.Woven.{never_empty, never_off, ok_heard, rooms_at, serving_ends, serving_on}
+use Rattle.lvm_program.proofs.Woven.{ok_heard, rooms_at, serving_ends, serving_on}
 use Rattle.lvm_program.proofs.workload.end_woven.Goals as goal
 
 pub returns-then-not-is_ok-clause-ends : goal.returns-then-not-is_ok-clause-ends
@@ -10,15 +10,9 @@ returns-then-not-is_ok-clause-ends g c = NotMade (λ ok. let yes = c.is_ok.ensur
 pub draw-requires-clause-on : goal.draw-requires-clause-on
 draw-requires-clause-on g c = serving_on g.S.Shelf.device c.args.made.stage c.in-Serving.driver c.in-Serving.is (c.requires.between (λ stuck. ok_heard (sym (c.is_ok.ensures.0 c.if-not-is_ok.false) ∙ stuck)))
 
-pub returns-in-Serving-clause-ends : goal.returns-in-Serving-clause-ends
-returns-in-Serving-clause-ends g c =
+pub returns-clause-ends : goal.returns-clause-ends
+returns-clause-ends g c =
     serving_ends g.S.Shelf.device c.args.blocks c.args.load.now c.args.made.reply _ (c.is_ok.ensures.0 c.if-not-is_ok.false) c.in-Serving.driver c.args.made.stage.holder c.in-Serving.is c.requires.fits.kind c.draw.ensures.drawn
 
-pub returns-in-Serving-clause-rooms : goal.returns-in-Serving-clause-rooms
-returns-in-Serving-clause-rooms g c = rooms_at g.S.Shelf.device c.args.made.stage (holder.Serving c.in-Serving.driver) c.in-Serving.is _ c.draw.ensures.rooms
-
-pub unreachable-in-Empty-requires : goal.unreachable-in-Empty-requires
-unreachable-in-Empty-requires g c = never_empty c.in-Empty.driver c.args.made.stage.holder c.in-Empty.is c.requires.fits.kind (c.requires.served (c.is_ok.ensures.0 c.if-not-is_ok.false))
-
-pub unreachable-in-Off-requires : goal.unreachable-in-Off-requires
-unreachable-in-Off-requires g c = never_off c.in-Off.shelf c.in-Off.history c.args.made.stage.holder c.in-Off.is (c.requires.served (c.is_ok.ensures.0 c.if-not-is_ok.false))
+pub returns-clause-rooms : goal.returns-clause-rooms
+returns-clause-rooms g c = rooms_at g.S.Shelf.device c.args.made.stage (holder.Serving c.in-Serving.driver) c.in-Serving.is _ c.draw.ensures.rooms

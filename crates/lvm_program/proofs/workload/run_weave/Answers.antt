@@ -47,15 +47,13 @@ end_woven-requires-clause-served g c =
 pub returns-clause-run : goal.returns-clause-run
 returns-clause-run g c =
     let device = g.S.Shelf.device in
-    let stage = record { holder = holder.Off c.args.shelf c.in-Ok-new.history; posts = c.in-Ok-take_rooms.posts; bytes = c.in-Ok-take_rooms.bytes } in
     let begun = g.C.Clock.last c.now-run.new.self in
     let last = g.C.Clock.last c.make_volume-made.new.clock in
     let it = c.make_volume-made.result in
-    let out = record { before = record { content = g.O.Sink.held c.args.out.now; faults = g.O.Sink.faults c.args.out.now }; after = record { content = g.O.Sink.held c.end_woven.new.out; faults = g.O.Sink.faults c.end_woven.new.out } } in
-    the_promises_woven device c.args.disks c.args.mib c.requires.sized c.args.load.now (device c.args.shelf) c.now-run.result begun last (g.C.Clock.last c.args.clock.now) c.args.room stage
+    the_promises_woven device c.args.disks c.args.mib c.requires.sized c.args.load.now (device c.args.shelf) c.now-run.result begun last (g.C.Clock.last c.args.clock.now) c.args.room (record { holder = holder.Off c.args.shelf c.in-Ok-new.history; posts = c.in-Ok-take_rooms.posts; bytes = c.in-Ok-take_rooms.bytes })
     (first_state device c.args.shelf c.in-Ok-new.history c.in-Ok-take_rooms.posts c.in-Ok-take_rooms.bytes begun c.now-run.result c.args.room c.in-Ok-new.ensures c.in-Ok-take_rooms.ensures.0 c.now-run.ensures.last)
     (ap without_facts c.in-Ok-new.ensures) it.stage it.reply
-    (made_by (without_facts c.in-Ok-new.history) c.args.room c.mkvg_line.result.now (mkvg_line c.args.disks) c.as_bytes.result.now (mklv_line c.args.disks c.args.mib) (state_in device stage begun) it.reply (state_in device it.stage last) c.mkvg_line.ensures (c.as_bytes.ensures.value ∙ c.in-Ok.ensures) c.make_volume-made.ensures.made)
-    c.make_volume-made.ensures.rooms c.requires.ready c.now-run.ensures.later c.end_woven.result out
+    (made_by (without_facts c.in-Ok-new.history) c.args.room c.mkvg_line.result.now (mkvg_line c.args.disks) c.as_bytes.result.now (mklv_line c.args.disks c.args.mib) (state_in device (record { holder = holder.Off c.args.shelf c.in-Ok-new.history; posts = c.in-Ok-take_rooms.posts; bytes = c.in-Ok-take_rooms.bytes }) begun) it.reply (state_in device it.stage last) c.mkvg_line.ensures (c.as_bytes.ensures.value ∙ c.in-Ok.ensures) c.make_volume-made.ensures.made)
+    c.make_volume-made.ensures.rooms c.requires.ready c.now-run.ensures.later c.end_woven.result (record { before = record { content = g.O.Sink.held c.args.out.now; faults = g.O.Sink.faults c.args.out.now }; after = record { content = g.O.Sink.held c.end_woven.new.out; faults = g.O.Sink.faults c.end_woven.new.out } })
     c.end_woven.ensures.rooms
-    (subst (λ n. EndsWoven n c.args.load.now it.reply (history_in it.stage).run (moment_in device it.stage) (session_in it.stage) (exit_of device c.end_woven.result out)) c.woven_blocks.ensures.is c.end_woven.ensures.ends)
+    (subst (λ n. EndsWoven n c.args.load.now it.reply (history_in it.stage).run (moment_in device it.stage) (session_in it.stage) (exit_of device c.end_woven.result (record { before = record { content = g.O.Sink.held c.args.out.now; faults = g.O.Sink.faults c.args.out.now }; after = record { content = g.O.Sink.held c.end_woven.new.out; faults = g.O.Sink.faults c.end_woven.new.out } }))) c.woven_blocks.ensures.is c.end_woven.ensures.ends)

@@ -13,7 +13,7 @@ pub weave-woven-requires-clause-some : goal.weave-woven-requires-clause-some
 weave-woven-requires-clause-some g c = (c.requires.some.0.0, c.requires.some.0.1, c.requires.some.1)
 
 pub behind-requires : goal.behind-requires
-behind-requires g c = runs_unstuck (state_of g.S.Shelf.device c.args.driver) (state_of g.S.Shelf.device c.weave-woven.new.driver) c.weave-woven.ensures.runs c.requires.on
+behind-requires g c = record { unstuck = runs_unstuck (state_of g.S.Shelf.device c.args.driver) (state_of g.S.Shelf.device c.weave-woven.new.driver) c.weave-woven.ensures.runs c.requires.on }
 
 pub returns-clause-drawn : goal.returns-clause-drawn
 returns-clause-drawn g c =
