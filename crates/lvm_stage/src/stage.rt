@@ -1,5 +1,5 @@
 //! What stands between two lines of a script.
-ghost use Rattle.std.specs.Prelude.{◌≡◌, ◌⊎◌, ◌↔◌, ℕ, [], length, IsTrue, IsFalse, IsSome, IfSome, IfOk, None};
+ghost use Rattle.std.specs.Prelude.{◌≡◌, ◌≤◌, ◌⊎◌, ◌↔◌, ℕ, [], length, vec_capacity, IsTrue, IsFalse, IsSome, IfSome, IfOk, Some, None};
 ghost use Rattle.lvm_disk.specs.Device.{Device};
 ghost use Rattle.lvm_stage.specs.Replies.{IsStuck, is_unheard};
 ghost use Rattle.lvm_stage.specs.Stages.{ComesTo, GivesBack, HaveRooms, IsCarried, IsClosed, IsEnded, IsLeftBy, IsNotOn, IsOn, IsOnIn, history_in, posts_ended, session_in, session_of, shelf_in};
@@ -66,6 +66,17 @@ fn end_session<S: Shelf>(holder: &Holder<S>, posts: &mut [Post])
             end_posts(posts, have, total);
         }
     }
+}
+
+// The posts once this session has ended.
+fn ended_posts<S: Shelf>(driver: &Driver<S>, posts: Vec<Post>) -> Vec<Post>
+    ensures items { result.items ≡ posts_ended (Some driver.now.1) posts.items }
+    ensures room { vec_capacity posts ≤ vec_capacity result }
+{
+    let (have, total) = driver.votes();
+    let mut posts = posts;
+    end_posts(posts.as_mut_slice(), have, total);
+    posts
 }
 
 // The shelf of a session that was closed: after a power cut the power is put on again.
@@ -160,9 +171,7 @@ impl<S: Shelf> Stage<S> {
         ensures rooms { (entries : ℕ) → HaveRooms entries posts bytes → HaveRooms entries result.posts result.bytes }
     {
         let power = driver.power();
-        let (have, total) = driver.votes();
-        let mut posts = posts;
-        end_posts(posts.as_mut_slice(), have, total);
+        let posts = ended_posts(&driver, posts);
         let driver::Closed { shelf, history } = driver.close();
         Stage {
             holder: Holder::Off {
