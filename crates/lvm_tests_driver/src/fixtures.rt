@@ -64,9 +64,9 @@ pub const MIRROR: Setup = Setup {
     bytes: 100_000,
 };
 
-pub const MODES: [Mode; 3] = [Mode::Active, Mode::Passive, Mode::Off];
+pub static MODES: [Mode; 3] = [Mode::Active, Mode::Passive, Mode::Off];
 
-pub const POLICIES: [Policy; 4] = [
+pub static POLICIES: [Policy; 4] = [
     Policy::Parallel,
     Policy::Sequential,
     Policy::ParallelWrite,
