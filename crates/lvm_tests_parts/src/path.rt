@@ -1,7 +1,7 @@
-use crate::fixtures::check;
 use lvm_num::{Mode, Policy, Pp};
 use lvm_path::{Ask, Facts, Next, Phase, Request, Target};
 use lvm_sched::TargetState;
+use lvm_tests_values::check;
 use lvm_vol::Outcome;
 
 // A session in which nothing keeps a write from its data, nor from its landing.

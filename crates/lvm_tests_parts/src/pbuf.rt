@@ -1,5 +1,5 @@
-use crate::fixtures::check;
 use lvm_pbuf::Pool;
+use lvm_tests_values::check;
 
 #[test]
 fn a_pool_of_two_gives_each_buffer_once_and_again_when_it_is_back(rt: HostRuntime) {

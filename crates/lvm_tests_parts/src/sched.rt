@@ -1,7 +1,7 @@
-use crate::fixtures::check;
 use lvm_num::Policy::{Parallel, ParallelWrite, RoundRobin, Sequential};
 use lvm_sched::TargetState::{Done, Failed, Flying, Waiting};
 use lvm_sched::{read_order, write_next};
+use lvm_tests_values::check;
 
 #[test]
 fn three_copies_are_read_in_the_order_of_the_policy(rt: HostRuntime) {

@@ -1,4 +1,4 @@
-//! The values that the tests build.
+//! Groups and their statuses.
 
 use lvm_num::{
     Descriptor, LvRow, Mode, Name, Policy, Pp, PvRow, Rows, Status, StatusRow, VolumeNumbers,
@@ -10,11 +10,6 @@ pub type Member = (u16, u16, bool);
 
 /// A volume by its number, its name, its copies, its logical partitions and their map.
 pub type Volume = (u16, &'static str, u8, u32, &'static [(u16, u16)]);
-
-/// Ends the test where this isn't so, and says of what.
-pub fn check(rt: &impl Abort, is: bool, what: &str) {
-    assert!(rt; is, "{what}");
-}
 
 pub fn name(rt: &impl Abort, text: &str) -> Name {
     Name::read(text.as_bytes()).expect(rt, "a name")
