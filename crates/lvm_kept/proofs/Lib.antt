@@ -5,7 +5,7 @@ pub mod Getting
 pub mod Landing
 pub mod Spans
 pub mod Chaining
-pub mod Reads
+pub mod ReadBack
 pub mod Contained
 pub mod Planned
 pub mod Records

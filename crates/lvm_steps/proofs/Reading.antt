@@ -21,7 +21,7 @@ use Rattle.lvm_kept.specs.Moments.{Moment}
 use Rattle.lvm_kept.specs.Raw.{raw_request, OnlyAdds, IsStill}
 use Rattle.lvm_kept.proofs.Keeping.{of_kept, kept_more}
 use Rattle.lvm_kept.proofs.Getting.{got_fits, got_kept}
-use Rattle.lvm_kept.proofs.Reads.{got_is, within}
+use Rattle.lvm_kept.proofs.ReadBack.{got_is, within}
 use Rattle.lvm_kept.proofs.Spans.{at_moment, from_before}
 use Rattle.lvm_steps.specs.Moments.{Begins, Keeps}
 use Rattle.lvm_steps.specs.Requests.{IsInNoGroup, answered, darkened, read_flight, ReadGotKeeps, ReadFailedKeeps, ReadDarkKeeps, ReadStuckKeeps}
