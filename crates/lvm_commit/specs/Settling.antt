@@ -137,24 +137,28 @@ IsForgotten u = u.in_flight ≡ None → (disk : ℕ) → (has u.writes.unstarte
 abbrev pub NoneIsLeft : Descriptor → Stored → Type 0
 NoneIsLeft group u = (p : Pp) → IsLeftIn (there u) u.wanted group.lvs p → IsTrue (calls_stale u.wanted p)
 
--- It is a copy of one of the group's volumes on a disk that is missing at last. Another copy of its logical partition isn't wanted stale, and was on a
--- member that wasn't missing at first.
-pub record IsPassed (group : Descriptor) (first last : Stored) (p : Pp) : Type 0 where
+-- a copy of one of the group's volumes, and a copy of its logical partition beside it
+pub record HasAnother (group : Descriptor) (p : Pp) : Type 0 where
   pub row : LvRow
   pub lp : ℕ
   pub volume : IsOneOf group.lvs row
   pub inside : lp < row.lps
   pub one : IsOneOf (copies_of row lp) p
-  pub absent : IsFalse (there last p.disk)
   pub other : Pp
   pub among : IsOneOf (copies_of row lp) other
-  pub fresh : IsFalse (calls_stale last.wanted other)
-  pub was_there : IsTrue (there first other.disk)
+
+-- It is a copy of one of the group's volumes on a disk that is missing at last. Another copy of its logical partition isn't wanted stale, and was on a
+-- member that wasn't missing at first.
+pub record IsPassedOver (group : Descriptor) (first last : Stored) (p : Pp) : Type 0 where
+  pub its : HasAnother group p
+  pub absent : IsFalse (there last p.disk)
+  pub fresh : IsFalse (calls_stale last.wanted its.other)
+  pub was_there : IsTrue (there first its.other.disk)
 
 -- No copy is left behind where none was, and no partition becomes stale for another reason.
 pub record MarksLeft (group : Descriptor) (first last : Stored) : Type 0 where
   pub none : NoneIsLeft group first → NoneIsLeft group last
-  pub only : (p : Pp) → IsTrue (calls_stale last.wanted p) → IsTrue (calls_stale first.wanted p) ⊎ IsPassed group first last p
+  pub only : (p : Pp) → IsTrue (calls_stale last.wanted p) → IsTrue (calls_stale first.wanted p) ⊎ IsPassedOver group first last p
 
 -- no transfer to a member that isn't missing has failed
 abbrev pub AreWell : Stored → Device → Device → Type 0

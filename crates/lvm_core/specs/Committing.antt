@@ -19,7 +19,7 @@ use Rattle.lvm_stamps.specs.Behind.{IsBehind}
 use Rattle.lvm_write.specs.Written.{IsDarkened, IsGivenUp}
 use Rattle.lvm_commit.specs.LawsOfData.{IsFree}
 use Rattle.lvm_commit.specs.LawsOfVolumes.{VolumeServes}
-use Rattle.lvm_commit.specs.Settling.{NoneIsLeft, IsPassed, HasLostQuorum, AreWell, SpendsNumbers, StaysCommitted, IsPlain}
+use Rattle.lvm_commit.specs.Settling.{NoneIsLeft, IsPassedOver, HasLostQuorum, AreWell, SpendsNumbers, StaysCommitted, IsPlain}
 use Rattle.lvm_core.specs.declared.fault.CommitFault.{CommitFault}
 use Rattle.lvm_core.specs.declared.fault.CommitFault.TheVariants as fault
 use Rattle.lvm_session.specs.declared.open.Power.TheVariants as power
@@ -115,7 +115,7 @@ pub record AreMarked (to_stale to_fresh : List Pp) (s : Status) : Type 0 where
 -- What is wanted of the status afterwards has these marks, and the copies are stale that members left behind which became missing.
 pub record Restates (stale fresh : List Pp) (old new : State) : Type 0 where
   pub kept : (p : Pp) → IsTrue (marks_of stale fresh old.core.status.wanted p) → IsTrue (calls_stale new.core.status.wanted p)
-  pub only : (p : Pp) → IsTrue (calls_stale new.core.status.wanted p) → IsTrue (marks_of stale fresh old.core.status.wanted p) ⊎ IsPassed old.core.descriptor old.core.status new.core.status p
+  pub only : (p : Pp) → IsTrue (calls_stale new.core.status.wanted p) → IsTrue (marks_of stale fresh old.core.status.wanted p) ⊎ IsPassedOver old.core.descriptor old.core.status new.core.status p
   pub none : NoneIsLeft old.core.descriptor old.core.status → NoneIsLeft old.core.descriptor new.core.status
 
 -- ---- the moments
