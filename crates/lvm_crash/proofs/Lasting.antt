@@ -26,7 +26,7 @@ use Rattle.lvm_invariant.specs.State.{State, Queued}
 use Rattle.lvm_invariant.specs.Found.{Votes}
 use Rattle.lvm_invariant.specs.Good.{Good}
 use Rattle.lvm_invariant.specs.Events.{Event, Submit, EnterStep, Admit, Pin, Read, StartWrite, Transfer, LandDone, LandLost, LandGot, LandReadFailed, LandNoFresh, EndStep, Take, TakeEarlier, Want, BeginUpdate, MoveStatus, CommitUpdate, EndUpdate, StartNote, EndNote, Open as OpenCopy, CopyWrite, Clear, Step}
-use Rattle.lvm_crash.specs.Session.{members_there, GroupStands, HasVolumes, Shows, Describes}
+use Rattle.lvm_crash.specs.Session.{members_showing, GroupStands, HasVolumes, Shows, Describes}
 use Rattle.lvm_crash.specs.Left.{KeepsGroup}
 use Rattle.lvm_crash.specs.Lasting.{AsksOf, DescriptionLasts}
 use Rattle.lvm_invariant.proofs.Telling.{landed_mode}
@@ -226,7 +226,7 @@ module _ (old : Contents) (status : ℕ → Option (Stamped Status)) (note : ℕ
       let went : Goes group s new = goes votes group s good event new step asks in
       record {
         stands = group_stands group describes.stands;
-        volumes = volumes_last group (members_there old group) s new went describes.volumes;
+        volumes = volumes_last group (members_showing old group) s new went describes.volumes;
         shown = shows;
         raw = λ d b low none from to. with_facts group s new (λ l. May (known (l ++ Cut ∷ []) (Disk d) b) (block d b)) went (held d b low none from to)
             (λ f of. subst (λ (k : Known). May k (block d b)) (sym (raw_stays group s.facts f of d b)) (held d b low none from to));

@@ -32,7 +32,7 @@ use Rattle.lvm_kept.proofs.Standing.{zeros-sector}
 use Rattle.lvm_invariant.specs.State.{Marks, State}
 use Rattle.lvm_invariant.specs.First.{two_disks, marks_with, on_both, at_rest}
 use Rattle.lvm_invariant.specs.Worked.{first_group}
-use Rattle.lvm_crash.specs.Session.{marks_shown, members_there, HasVolumes, HasStatuses, Shows, Describes}
+use Rattle.lvm_crash.specs.Session.{marks_shown, members_showing, HasVolumes, HasStatuses, Shows, Describes}
 use Rattle.lvm_crash.specs.Worked.{Shown, sizes, status_shown, note_shown, framed_group, framed_status, media_of}
 use Rattle.lvm_crash.proofs.Worked.{base, behind, stands, volumes, its_marks}
 use Rattle.lvm_crash.proofs.Lasting.{group_stands}
@@ -267,7 +267,7 @@ module _ (w : Shown) where
     pub names : (d lv g : ℕ) → s.media.names d lv g ≡ (w.named && (two_disks d && first_group lv g))
     pub status : (d : ℕ) → s.media.status d ≡ on_both (record { stamp = (status_shown w).stamp; value = marks_with w.stale w.dirty }) d
     pub statuses : HasStatuses s (two w.mode) in_flight (contents_of image)
-    pub volumes : (facts : List Fact) → HasVolumes (at_rest w.mode w.stale) facts (two w.mode) (members_there (base w.mode) (two w.mode)) → HasVolumes s facts (two w.mode) (members_there (base w.mode) (two w.mode))
+    pub volumes : (facts : List Fact) → HasVolumes (at_rest w.mode w.stale) facts (two w.mode) (members_showing (base w.mode) (two w.mode)) → HasVolumes s facts (two w.mode) (members_showing (base w.mode) (two w.mode))
 
   -- one that shows no written block, with no status out and the volumes at rest
   pub fits_still : (s : State) → ((lv b : ℕ) (p : Pp) → s.media.block lv b p ≡ zero_sector) → ((d lv g : ℕ) → s.media.names d lv g ≡ (w.named && (two_disks d && first_group lv g)))

@@ -46,8 +46,8 @@ pub record AreVotesOf (group : Descriptor) (votes : Votes) : Type 0 where
   pub writes : (set : Disks) → votes.writes set ≡ is_enough_to_write group (votes_in group set)
 
 -- the members by the descriptor that show a descriptor of the group and have the sectors that their partitions need
-abbrev pub members_there : Contents → Descriptor → Disks
-members_there c group = members_in c all_disks group.id group
+abbrev pub members_showing : Contents → Descriptor → Disks
+members_showing c group = members_in c all_disks group.id group
 
 -- Of the groups beside this one: two sets of disks that can read one have a common member, and by what is found of it the partitions are of one size,
 -- and as many on the members that are shared.
@@ -112,6 +112,6 @@ pub record Shows (s : State) (group : Descriptor) (in_flight : Option (Stamped S
 -- once it is over, that one with the landings of what was open.)
 pub record Describes (s : State) (facts : List Fact) (group : Descriptor) (in_flight : Option (Stamped Status)) (c : Contents) : Type 0 where
   pub stands : GroupStands c group
-  pub volumes : HasVolumes s facts group (members_there c group)
+  pub volumes : HasVolumes s facts group (members_showing c group)
   pub shown : Shows s group in_flight c
   pub raw : RawAgrees c facts

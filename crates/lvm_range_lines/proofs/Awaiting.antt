@@ -11,7 +11,7 @@ use Rattle.lvm_group_lines.specs.passed.Driver.{IsAny}
 use Rattle.lvm_group_lines.specs.passed.Running.{RunsOn}
 use Rattle.lvm_group_lines.proofs.passed.Running.{runs_both, runs_none}
 use Rattle.lvm_posts.specs.declared.posts.Post.{Post}
-use Rattle.lvm_group_lines.specs.passed.Ranges.{Stuck, KeepsTable, AwaitEnds, HaveLanded, IsUnfinished, TurnsFor}
+use Rattle.lvm_group_lines.specs.passed.Ranges.{Stuck, KeepsTable, AwaitEnds, HavePiecesLanded, IsUnfinished, TurnsFor}
 use Rattle.lvm_group_lines.proofs.passed.Ranges.{table_same, table_then}
 use Rattle.lvm_range_lines.specs.Taking.{AwaitsPost, AwaitsPosts, HasLanded, IsGone, IsInVain}
 use Rattle.lvm_range_lines.specs.Waiting.{IsAwaited, TurnsForPosts}
@@ -33,7 +33,7 @@ for_all posts post old new awaited (Then {m} before step any) = Then (for_all po
 -- so far
 pub record AwaitedSoFar (posts : List Post) (first now : Session) (patience left i : ℕ) : Type 0 where
   pub turns : Path (TurnsForPosts posts) IsAny first now
-  pub landed : (k : ℕ) (d : Post) → k < i → (get_or posts k d).ended ≡ None → HaveLanded (get_or posts k d).asked now
+  pub landed : (k : ℕ) (d : Post) → k < i → (get_or posts k d).ended ≡ None → HavePiecesLanded (get_or posts k d).asked now
   pub table : KeepsTable first.core now.core
   pub runs : RunsOn first now
   pub fewer : left ≤ patience
@@ -63,7 +63,7 @@ module _ (posts : List Post) (first old new : Session) (patience left less_left 
   waited_on : RoseBy (patience - less_left) first.device.counts.waits new.device.counts.waits
   waited_on = let a = so_far.waited in let low = so_far.fewer in record { later = omega (arith, a.later, waited.later); risen = omega (arith, a.risen, waited.risen, low, fewer) }
 
-  others_landed : (k : ℕ) (e : Post) → k < i → (get_or posts k e).ended ≡ None → HaveLanded (get_or posts k e).asked new
+  others_landed : (k : ℕ) (e : Post) → k < i → (get_or posts k e).ended ≡ None → HavePiecesLanded (get_or posts k e).asked new
   others_landed k e low own j less = table.requests.landed ((get_or posts k e).asked.first + j) (so_far.landed k e low own j less)
 
   pub one_awaited : AwaitsPost post less_left old new (Ok tt) → AwaitedSoFar posts first new patience less_left (i + 1)
@@ -81,14 +81,14 @@ module _ (posts : List Post) (first old new : Session) (patience left less_left 
       turns_then (HasLanded is turns landed ok) = turns_on is turns
       turns_then (IsInVain is turns unfinished none why fails) = absurd (cc fails)
 
-      here : AwaitsPost post less_left old new (Ok tt) → post.ended ≡ None → HaveLanded post.asked new
+      here : AwaitsPost post less_left old new (Ok tt) → post.ended ≡ None → HavePiecesLanded post.asked new
       here (IsGone votes is same ok) own = absurd (let e : Some votes ≡ None = sym is ∙ own in cc e)
       here (HasLanded is turns landed ok) own = landed
       here (IsInVain is turns unfinished none why fails) own = absurd (cc fails)
 
-      landed_then : AwaitsPost post less_left old new (Ok tt) → (k : ℕ) (e : Post) → k < i + 1 → (get_or posts k e).ended ≡ None → HaveLanded (get_or posts k e).asked new
-      landed_then its k e low own = below_more (λ m. (get_or posts m e).ended ≡ None → HaveLanded (get_or posts m e).asked new) i (λ m below. others_landed m e below)
-          (subst (λ (p : Post). p.ended ≡ None → HaveLanded p.asked new) (get_or_default posts i d e within) (here its)) k low own
+      landed_then : AwaitsPost post less_left old new (Ok tt) → (k : ℕ) (e : Post) → k < i + 1 → (get_or posts k e).ended ≡ None → HavePiecesLanded (get_or posts k e).asked new
+      landed_then its k e low own = below_more (λ m. (get_or posts m e).ended ≡ None → HavePiecesLanded (get_or posts m e).asked new) i (λ m below. others_landed m e below)
+          (subst (λ (p : Post). p.ended ≡ None → HavePiecesLanded p.asked new) (get_or_default posts i d e within) (here its)) k low own
 
   -- or it is in vain
   pub one_in_vain : (why : Stuck) → AwaitsPost post less_left old new (Err why) → AwaitsPosts posts less_left first new (Err why)
@@ -109,5 +109,5 @@ pub all_awaited : (posts : List Post) (first now : Session) (patience left i : �
 all_awaited posts first now patience left i over so_far = record {
   turns = so_far.turns;
   ends = λ post among own. let less = among.1 in
-      subst (λ (p : Post). p.ended ≡ None → HaveLanded p.asked now) among.2 (so_far.landed among.0 post (omega (arith, over, less))) own;
+      subst (λ (p : Post). p.ended ≡ None → HavePiecesLanded p.asked now) among.2 (so_far.landed among.0 post (omega (arith, over, less))) own;
 }

@@ -13,7 +13,7 @@ use Rattle.lvm_session.specs.State.{Core, State as Session, state}
 use Rattle.lvm_posts.specs.declared.asked.Asked.{Asked}
 use Rattle.lvm_posts.specs.declared.posts.Post.{Post}
 use Rattle.lvm_posts.specs.Posts.{AreAnswered, takings}
-use Rattle.lvm_group_lines.specs.passed.Ranges.{AreApart, KeepsOthers, HaveLanded}
+use Rattle.lvm_group_lines.specs.passed.Ranges.{AreApart, KeepsOthers, HavePiecesLanded}
 use Rattle.lvm_group_lines.specs.passed.Earlier.{AreGone, with_taken}
 use Rattle.lvm_group_lines.proofs.passed.Earlier.{open_with}
 use Rattle.lvm_group_lines.specs.passed.Stage.{ArePosted, IsPosted}
@@ -224,7 +224,7 @@ module _ (first old : Session) (posts : List Post) (i : ℕ) (a : Answers) (d : 
   pub posted_next : IsPosted old.core.history.facts (Some old.core) post
   posted_next = all_left.each 0 d (omega arith)
 
-  pub landed_next : post.ended ≡ None → HaveLanded post.asked old
+  pub landed_next : post.ended ≡ None → HavePiecesLanded post.asked old
   landed_next own = all_landed post (0, omega arith, refl) own
 
   pub on_more : (new : Session) (answer : Ending) (b : Answers) → TakesPost post old new answer → LeavesOthers post.asked old.core new.core → RunsOn old new → new.core.power ≡ power.On

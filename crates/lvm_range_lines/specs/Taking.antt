@@ -17,7 +17,7 @@ use Rattle.lvm_group_lines.specs.passed.Driver.{state_of, IsAny}
 use Rattle.lvm_posts.specs.declared.asked.Asked.{Asked}
 use Rattle.lvm_posts.specs.declared.posts.Post.{Post}
 use Rattle.lvm_posts.specs.Posts.{AreAnswered, AreHeld}
-use Rattle.lvm_group_lines.specs.passed.Ranges.{Stuck, AreApart, HaveLanded, IsUnfinished, TurnsFor}
+use Rattle.lvm_group_lines.specs.passed.Ranges.{Stuck, AreApart, HavePiecesLanded, IsUnfinished, TurnsFor}
 use Rattle.lvm_group_lines.specs.passed.Earlier.{AreGone}
 use Rattle.lvm_group_lines.specs.passed.Running.{RunsOn}
 use Rattle.lvm_group_lines.specs.passed.Stage.{Reply, Stage, IsEnded, history_in, session_in, shelf_in}
@@ -32,7 +32,7 @@ use Rattle.lvm_range_lines.specs.Waiting.{AllHaveLanded, IsAwaited, TakesGone, T
 -- a post of the session has landed, or hasn't and no patience is left; one of a session that is gone isn't waited for
 pub data AwaitsPost (post : Post) (left : ℕ) (old new : Session) (answer : Result (Unit {0}) Stuck) : Type 0 where
   IsGone : (votes : ℕ × ℕ) → post.ended ≡ Some votes → new ≡ old → answer ≡ Ok tt → AwaitsPost post left old new answer
-  HasLanded : post.ended ≡ None → Path (TurnsFor post.asked) IsAny old new → HaveLanded post.asked new → answer ≡ Ok tt → AwaitsPost post left old new answer
+  HasLanded : post.ended ≡ None → Path (TurnsFor post.asked) IsAny old new → HavePiecesLanded post.asked new → answer ≡ Ok tt → AwaitsPost post left old new answer
   IsInVain : post.ended ≡ None → Path (TurnsFor post.asked) IsAny old new → IsUnfinished post.asked new → left ≡ 0 → (why : Stuck) → answer ≡ Err why → AwaitsPost post left old new answer
 
 -- so it is of all

@@ -14,7 +14,7 @@ ghost use Rattle.lvm_posts.specs.Deciding.{RangeEnds};
 ghost use Rattle.lvm_posts.specs.Pieces.{IsLaidOut};
 ghost use Rattle.lvm_posts.specs.Posts.{AreAnswered};
 ghost use Rattle.lvm_group_lines.specs.passed.Earlier.{with_taken};
-ghost use Rattle.lvm_group_lines.specs.passed.Ranges.{KeepsTable, HaveLanded};
+ghost use Rattle.lvm_group_lines.specs.passed.Ranges.{KeepsTable, HavePiecesLanded};
 ghost use Rattle.lvm_group_lines.specs.passed.Running.{RunsOn};
 ghost use Rattle.lvm_group_lines.specs.passed.Stage.{EndsUnasked, OfRequests, IsBetweenStage, IsFitting, history_in, session_in, ArePosted, IsPosted};
 ghost use Rattle.lvm_vol.specs.Order.{Ordered};
@@ -172,7 +172,7 @@ fn take_at_rest<S: Shelf>(
 fn take_one<S: Shelf>(driver: Driver<S>, post: &Post) -> (Driver<S>, Result<(), RangeFault>)
     requires on { driver.1.power ≡ power.On }
     requires posted { IsPosted driver.1.history.facts (Some driver.1) post.now }
-    requires landed { post.now.ended ≡ None → HaveLanded post.now.asked (state_of S.device driver) }
+    requires landed { post.now.ended ≡ None → HavePiecesLanded post.now.asked (state_of S.device driver) }
     ensures takes { TakesPost post.now (state_of S.device driver) (state_of S.device result.0) result.1 }
     ensures left { LeavesOthers post.now.asked driver.1 result.0.1 }
     ensures runs { RunsOn (state_of S.device driver) (state_of S.device result.0) }

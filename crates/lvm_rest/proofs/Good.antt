@@ -29,7 +29,7 @@ use Rattle.lvm_invariant.specs.State.{has_notes, has_mark, Marks, Queued, OpenCo
 use Rattle.lvm_invariant.specs.Sound.{MayDiffer, Agree, Settled, Sound}
 use Rattle.lvm_invariant.specs.Found.{Votes, Found}
 use Rattle.lvm_invariant.specs.Good.{Good}
-use Rattle.lvm_crash.specs.Session.{as_marks, marks_shown, AreVotesOf, members_there, GroupStands, HasVolumes, Describes}
+use Rattle.lvm_crash.specs.Session.{as_marks, marks_shown, AreVotesOf, members_showing, GroupStands, HasVolumes, Describes}
 use Rattle.lvm_crash.proofs.Loose.{loose_is_off}
 use Rattle.lvm_crash.proofs.Lists.{left_of, right_of, both_of, not_so, so_not}
 use Rattle.lvm_rest.specs.Rest.{IsIdle, SeesThat, AreClosed, IsAtRest}
@@ -100,7 +100,7 @@ module _ (votes : Votes) (s : State) (group : Descriptor) (status : Status) (the
   stands = shows.stands
 
   abbrev members : Disks
-  members = members_there c group
+  members = members_showing c group
 
   abbrev usable : Disks → Pp → Bool
   usable set p = set p.disk && not (is_stale_by (Some stands) p)

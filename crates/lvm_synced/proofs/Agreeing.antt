@@ -27,7 +27,7 @@ use Rattle.lvm_session.specs.Judging.{is_missing, is_settled, is_stale, place_of
 use Rattle.lvm_session.specs.State.{Core, State as Session, is_there}
 use Rattle.lvm_invariant.specs.State.{Going, Live, Phase, Queued, Started, State, covers, has_mark, has_notes, is_settled_stale, stale_in, told}
 use Rattle.lvm_invariant.specs.Sound.{Agree, MayDiffer, Settled}
-use Rattle.lvm_crash.specs.Session.{as_marks, members_there}
+use Rattle.lvm_crash.specs.Session.{as_marks, members_showing}
 use Rattle.lvm_tie_shelf.proofs.Writing.{and_both}
 use Rattle.lvm_tie.specs.Seen.{IsRequestAt, IsStepAt, SeesRequest, phase_seen}
 use Rattle.lvm_tie.specs.Tied.{IsTied}

@@ -43,7 +43,7 @@ use Rattle.lvm_invariant.specs.Events.{EndNote, Want}
 use Rattle.lvm_invariant.specs.Good.{Good}
 use Rattle.lvm_invariant.specs.Want.{Wants, after_wants}
 use Rattle.lvm_invariant.proofs.Each.{each_keeps}
-use Rattle.lvm_crash.specs.Session.{Describes, as_marks, marks_of, members_there}
+use Rattle.lvm_crash.specs.Session.{Describes, as_marks, marks_of, members_showing}
 use Rattle.lvm_crash.specs.Flights.{Matches}
 use Rattle.lvm_tie_shelf.proofs.Quiet.{quiet_lasts, updates_last}
 use Rattle.lvm_tie_shelf.proofs.Writing.{and_both}
@@ -159,7 +159,7 @@ module _ (past : List Fact) (old new : Session) (at disk : ℕ) (row : Flown) (b
   was_in d there = let w = was_there d there in let member = w.member in let gone = w.there in λ t. member t && not (gone t)
 
   abbrev members : Disks
-  members = members_there (contents_of was) group
+  members = members_showing (contents_of was) group
 
   shows : (d : ℕ) → IsTrue (is_there core2 d) → IsTrue (members d)
   shows d there = let w = was_there d there in tied.recorded.members d w.member (there_first past old tied d w.there)
@@ -398,7 +398,7 @@ module _ (past : List Fact) (old new : Session) (at disk : ℕ) (row : Flown) (b
   carries g (owner.Note d) carried = tt
   carries g owner.Copy carried = carried
 
-  members_now : (d : ℕ) → members_there (contents_of is) group d ≡ members_there (contents_of was) group d
+  members_now : (d : ℕ) → members_showing (contents_of is) group d ≡ members_showing (contents_of was) group d
   members_now d = same_members tied.votes v1 group (update_of core.status) old.device new.device.flights tied.media its_end.media f false good1 matches1 its_end.removes own1 its_end.lands d
 
   abbrev committed_update : Stamped Status
@@ -459,7 +459,7 @@ module _ (past : List Fact) (old new : Session) (at disk : ℕ) (row : Flown) (b
     since = since_now;
     recorded = record {
       next = subst (λ (sizes : List ℕ). MayUpdate group status core.homes (image_of sizes its_end.media)) (sym its_end.sizes) next_now;
-      members = λ d member first. subst (λ (sizes : List ℕ). IsTrue (members_there (contents_of (image_of sizes its_end.media)) group d)) (sym its_end.sizes) (members_now d ∙ tied.recorded.members d member first);
+      members = λ d member first. subst (λ (sizes : List ℕ). IsTrue (members_showing (contents_of (image_of sizes its_end.media)) group d)) (sym its_end.sizes) (members_now d ∙ tied.recorded.members d member first);
       records = subst (λ (sizes : List ℕ). ShowsRecords group status (contents_of (image_of sizes its_end.media))) (sym its_end.sizes) records_now;
     };
     notes = notes_fit;

@@ -22,7 +22,7 @@ use Rattle.lvm_session.specs.Events.{flown}
 use Rattle.lvm_session.specs.Sound.{IsSound}
 use Rattle.lvm_invariant.specs.State.{Flying, Going, Groups, Held, Landed, Phase, Queued, Ready, Stage, State, StepWrite, Todo, WantEntry, covers, has_landed, is_past, is_usable as sees_usable}
 use Rattle.lvm_invariant.specs.Good.{Good}
-use Rattle.lvm_crash.specs.Session.{Describes, members_there}
+use Rattle.lvm_crash.specs.Session.{Describes, members_showing}
 use Rattle.lvm_tie.specs.Out.{CarriesStep, CarryTheirs, MayUpdate}
 use Rattle.lvm_tie.specs.Seen.{IsRequestAt, IsStepAt, Sees, SeesCopy, SeesRunning, SeesStep, step_write_of, update_of}
 use Rattle.lvm_tie.specs.Tied.{IsTied, ShowsRecords}
@@ -126,7 +126,7 @@ module _ (past : List Fact) (old : Session) (device : Device) (c : Bringing) (st
       since = since_start old.device device f tied.write (update_of old.core.status) starts low tied.since;
       recorded = record {
         next = subst (λ (sizes : List ℕ). MayUpdate old.core.descriptor old.core.status old.core.homes (image_of sizes tied.media)) (sym sizes_is) tied.recorded.next;
-        members = λ d member first. subst (λ (sizes : List ℕ). IsTrue (members_there (contents_of (image_of sizes tied.media)) old.core.descriptor d)) (sym sizes_is) (tied.recorded.members d member first);
+        members = λ d member first. subst (λ (sizes : List ℕ). IsTrue (members_showing (contents_of (image_of sizes tied.media)) old.core.descriptor d)) (sym sizes_is) (tied.recorded.members d member first);
         records = subst (λ (sizes : List ℕ). ShowsRecords old.core.descriptor old.core.status (contents_of (image_of sizes tied.media))) (sym sizes_is) tied.recorded.records;
       };
       notes = tied.notes;

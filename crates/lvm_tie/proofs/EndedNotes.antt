@@ -27,7 +27,7 @@ use Rattle.lvm_session.specs.Owners.{IsNoteOf, IsTransferOf}
 use Rattle.lvm_session.specs.Sound.{IsOn}
 use Rattle.lvm_keeps_events.proofs.Removal.{taken_out}
 use Rattle.lvm_invariant.specs.State.{Groups, State}
-use Rattle.lvm_crash.specs.Session.{members_there}
+use Rattle.lvm_crash.specs.Session.{members_showing}
 use Rattle.lvm_tie_shelf.proofs.Quiet.{update_goes_on}
 use Rattle.lvm_tie_shelf.proofs.Writing.{and_both}
 use Rattle.lvm_tie_shelf.specs.Owned.{IsNoteFlight, OnlyUpdateSince}
@@ -153,7 +153,7 @@ module _ (past : List Fact) (old new : Session) (at disk : ℕ) (ok : Bool) (row
   pub room : IsFalse (v.missing f.disk) → has_records was f.disk ≡ true
   room there =
       let here : is_missing core disk ≡ false = sym (missing_seen past old tied disk member) ∙ ap v.missing (sym out.disk_is) ∙ there in
-      let shown : IsTrue (members_there (contents_of was) core.descriptor disk) = tied.recorded.members disk member (there_first past old tied disk here) in
+      let shown : IsTrue (members_showing (contents_of was) core.descriptor disk) = tied.recorded.members disk member (there_first past old tied disk here) in
       ap (has_records was) out.disk_is ∙ shows_records was core.descriptor.id disk (and_both (passes (is_of core.descriptor.id) ((contents_of was).descriptor disk)) (has_room (contents_of was) disk core.descriptor) shown).0
 
   pub since_ended : (x : Option RecordWrite) (u : Option (Stamped Status)) → OnlyUpdateSince old.device x u → OnlyUpdateSince new.device x u

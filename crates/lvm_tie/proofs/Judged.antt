@@ -33,7 +33,7 @@ use Rattle.lvm_session.specs.State.{Core, State as Session, is_there}
 use Rattle.lvm_session.specs.Judging.{copies_in, copies_for, group_in, is_usable, is_stale, is_missing, is_wanted_stale, is_settled, is_running, is_caught, is_waiting, IsWithin}
 use Rattle.lvm_session.specs.Bringing.{groups_of}
 use Rattle.lvm_invariant.specs.State.{Marks, OpenCopy, State, is_usable as sees_usable, is_settled_stale, stale_in, HasPassed}
-use Rattle.lvm_crash.specs.Session.{as_marks, members_there}
+use Rattle.lvm_crash.specs.Session.{as_marks, members_showing}
 use Rattle.lvm_tie_shelf.proofs.Copies.{copy_placed, one_block}
 use Rattle.lvm_tie_shelf.proofs.Writing.{and_both, pp_same, same_pp}
 use Rattle.lvm_tie_shelf.specs.Copies.{IsCopyOf}
@@ -96,7 +96,7 @@ module _ (past : List Fact) (s : Session) (tied : IsTied past s) where
   group = core.descriptor
 
   abbrev members : Disks
-  members = members_there (contents_of (image_of s.device.sizes tied.media)) group
+  members = members_showing (contents_of (image_of s.device.sizes tied.media)) group
 
   pub stale_seen : (p : Pp) → v.committed.value.stale p ≡ is_stale core p
   stale_seen p = ap (λ (m : Marks). m.stale p) tied.sees.status.committed

@@ -38,7 +38,7 @@ use Rattle.lvm_invariant.specs.CopyWrite.{copied}
 use Rattle.lvm_invariant.specs.Events.{CopyWrite}
 use Rattle.lvm_invariant.proofs.Each.{each_keeps}
 use Rattle.lvm_crash.specs.Left.{KeepsGroup}
-use Rattle.lvm_crash.specs.Session.{Describes, members_there}
+use Rattle.lvm_crash.specs.Session.{Describes, members_showing}
 use Rattle.lvm_tie_shelf.specs.Bringing.{PassesOver}
 use Rattle.lvm_tie_shelf.specs.Owned.{IsTransfer, OnlyUpdateSince}
 use Rattle.lvm_tie_shelf.specs.Writing.{after_write}
@@ -169,7 +169,7 @@ module _ (past : List Fact) (old new : Session) (at : ℕ) (row : Flown) (ok : B
     pub block : ℕ → ℕ → Pp → Sector
     pub stands : Stands tied.votes core.descriptor (update_of core.status) now (copied v block open_copy None)
     pub next : MayUpdate core.descriptor core.status core.homes (image_of new.device.sizes ended.media)
-    pub members : (d : ℕ) → is_member core.descriptor d ≡ true → calls_missing core.origin.table d ≡ false → IsTrue (members_there now core.descriptor d)
+    pub members : (d : ℕ) → is_member core.descriptor d ≡ true → calls_missing core.origin.table d ≡ false → IsTrue (members_showing now core.descriptor d)
     pub records : ShowsRecords core.descriptor core.status now
 
   pub since : (x : Option RecordWrite) (u : Option (Stamped Status)) → OnlyUpdateSince old.device x u → OnlyUpdateSince new.device x u
@@ -202,8 +202,8 @@ module _ (past : List Fact) (old new : Session) (at : ℕ) (row : Flown) (ok : B
     pub read_next : MayUpdate core.descriptor core.status core.homes (image_of new.device.sizes ended.media)
     read_next = subst (λ (i : Image). MayUpdate core.descriptor core.status core.homes i) (sym same_image) tied.recorded.next
 
-    pub read_members : (d : ℕ) → is_member core.descriptor d ≡ true → calls_missing core.origin.table d ≡ false → IsTrue (members_there now core.descriptor d)
-    read_members d member first = subst (λ (i : Image). IsTrue (members_there (contents_of i) core.descriptor d)) (sym same_image) (tied.recorded.members d member first)
+    pub read_members : (d : ℕ) → is_member core.descriptor d ≡ true → calls_missing core.origin.table d ≡ false → IsTrue (members_showing now core.descriptor d)
+    read_members d member first = subst (λ (i : Image). IsTrue (members_showing (contents_of i) core.descriptor d)) (sym same_image) (tied.recorded.members d member first)
 
     pub read_records : ShowsRecords core.descriptor core.status now
     read_records = subst (λ (i : Image). ShowsRecords core.descriptor core.status (contents_of i)) (sym same_image) tied.recorded.records
@@ -256,8 +256,8 @@ module _ (past : List Fact) (old new : Session) (at : ℕ) (row : Flown) (ok : B
           };
           next = next_below core.descriptor core.status core.homes (image_of old.device.sizes tied.media) (image_of new.device.sizes ended.media)
               (subst (λ (sizes : List ℕ). SameRecords (image_of old.device.sizes tied.media) (image_of sizes ended.media)) (sym ended.sizes) same_below) whole tied.recorded.next;
-          members = λ d member first. subst (λ (sizes : List ℕ). IsTrue (members_there (contents_of (image_of sizes ended.media)) core.descriptor d)) (sym ended.sizes)
-              (ap (λ (x : Contents). members_there x core.descriptor d) kept.rest ∙ tied.recorded.members d member first);
+          members = λ d member first. subst (λ (sizes : List ℕ). IsTrue (members_showing (contents_of (image_of sizes ended.media)) core.descriptor d)) (sym ended.sizes)
+              (ap (λ (x : Contents). members_showing x core.descriptor d) kept.rest ∙ tied.recorded.members d member first);
           records = subst (λ (sizes : List ℕ). ShowsRecords core.descriptor core.status (contents_of (image_of sizes ended.media))) (sym ended.sizes)
               (records_kept core.descriptor core.status (image_of old.device.sizes tied.media) (image_of old.device.sizes ended.media) same_below tied.recorded.records);
         }

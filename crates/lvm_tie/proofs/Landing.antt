@@ -29,7 +29,7 @@ use Rattle.lvm_invariant.specs.Found.{Votes}
 use Rattle.lvm_invariant.specs.Good.{Good}
 use Rattle.lvm_invariant.specs.Events.{EndNote}
 use Rattle.lvm_invariant.specs.EndNote.{EndsNote, after_note}
-use Rattle.lvm_crash.specs.Session.{Describes, marks_shown, members_there}
+use Rattle.lvm_crash.specs.Session.{Describes, marks_shown, members_showing}
 use Rattle.lvm_crash.specs.Left.{MayRemain}
 use Rattle.lvm_crash.specs.Flights.{Matches}
 use Rattle.lvm_crash.proofs.Images.{images_remain}
@@ -173,8 +173,8 @@ module _ (votes : Votes) (s : State) (group : Descriptor) (in_flight : Option (S
 
   -- ---- what else stands
 
-  pub same_members : (d : ℕ) → members_there now group d ≡ members_there before group d
-  same_members d = ap (λ (c : Contents). members_there c group d) remain.kept.rest
+  pub same_members : (d : ℕ) → members_showing now group d ≡ members_showing before group d
+  same_members d = ap (λ (c : Contents). members_showing c group d) remain.kept.rest
 
   pub same_descriptors : (d : ℕ) → now.descriptor d ≡ before.descriptor d
   same_descriptors d = ap (λ (c : Contents). c.descriptor d) remain.kept.rest

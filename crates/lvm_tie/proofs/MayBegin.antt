@@ -27,7 +27,7 @@ use Rattle.lvm_kept.specs.Torn.{MayWriteAll, RecordWrite, on_disk}
 use Rattle.lvm_stamps.specs.Laws.{ShowsBefore}
 use Rattle.lvm_stamps.proofs.Records.{later_may_go, shown_is_before}
 use Rattle.lvm_status.specs.Update.{Updates, no_disks, seen}
-use Rattle.lvm_status.specs.Update.{members_there as there_by}
+use Rattle.lvm_status.specs.Update.{members_showing as there_by}
 use Rattle.lvm_status.specs.Calls.{with_start, with_update}
 use Rattle.lvm_homes.specs.Homes.{next_slot, second_slots}
 use Rattle.lvm_session.specs.declared.open.Power.TheVariants as power
@@ -36,7 +36,7 @@ use Rattle.lvm_session.specs.Events.{StartsStatus}
 use Rattle.lvm_session.specs.Sound.{IsSound}
 use Rattle.lvm_invariant.specs.State.{Marks, State}
 use Rattle.lvm_invariant.specs.Found.{Found}
-use Rattle.lvm_crash.specs.Session.{as_marks, marks_shown, members_there}
+use Rattle.lvm_crash.specs.Session.{as_marks, marks_shown, members_showing}
 use Rattle.lvm_tie.specs.Out.{IsUpdateWrite, is_owed_on}
 use Rattle.lvm_tie.specs.Seen.{update_of}
 use Rattle.lvm_tie.specs.Tied.{IsTied}
@@ -129,7 +129,7 @@ module _ (past : List Fact) (old new : Session) (tied : IsTied past old) (sound 
   reads : status_of (status_bytes starts.status) ≡ Ok starts.status
   reads = subst (λ (x : Status). status_of (status_bytes x) ≡ Ok x) (sym value_is) (is_read_again core.status.wanted valid)
 
-  shows : (d : ℕ) → IsTrue (is_there core d) → IsTrue (members_there c core.descriptor d)
+  shows : (d : ℕ) → IsTrue (is_there core d) → IsTrue (members_showing c core.descriptor d)
   shows d there =
       let parts = and_parts (is_member core.descriptor d) (not (calls_missing core.status.wanted d)) there in
       tied.recorded.members d parts.0 (there_first past old tied d (not_true_is (calls_missing core.status.wanted d) parts.1))

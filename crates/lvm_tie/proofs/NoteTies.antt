@@ -41,7 +41,7 @@ use Rattle.lvm_invariant.specs.State.{Groups, State}
 use Rattle.lvm_invariant.specs.StartNote.{StartsNote as NoteStarts}
 use Rattle.lvm_invariant.specs.Events.{StartNote}
 use Rattle.lvm_invariant.proofs.Each.{each_keeps}
-use Rattle.lvm_crash.specs.Session.{members_there, Describes}
+use Rattle.lvm_crash.specs.Session.{members_showing, Describes}
 use Rattle.lvm_tie_shelf.proofs.Flying.{writes_at}
 use Rattle.lvm_tie_shelf.proofs.Quiet.{quiet_lasts, update_goes_on}
 use Rattle.lvm_tie_shelf.proofs.Writing.{and_both}
@@ -273,7 +273,7 @@ module _ (past : List Fact) (old new : Session) (place disk : ℕ) (starts : Sta
     since = since_note old.device new.device f tied.write (update_of core.status) starts.launches.starts starts.writes.first starts.writes.count tied.since;
     recorded = record {
       next = subst (λ (sizes : List ℕ). MayUpdate core.descriptor core.status core.homes (image_of sizes tied.media)) (sym sizes_is) tied.recorded.next;
-      members = λ d member first. subst (λ (sizes : List ℕ). IsTrue (members_there (contents_of (image_of sizes tied.media)) core.descriptor d)) (sym sizes_is) (tied.recorded.members d member first);
+      members = λ d member first. subst (λ (sizes : List ℕ). IsTrue (members_showing (contents_of (image_of sizes tied.media)) core.descriptor d)) (sym sizes_is) (tied.recorded.members d member first);
       records = subst (λ (sizes : List ℕ). ShowsRecords core.descriptor core.status (contents_of (image_of sizes tied.media))) (sym sizes_is) tied.recorded.records;
     };
     orderly = subst (λ (x : Session). IsOrderly x tied.write) starts.is orderly_now;

@@ -40,7 +40,7 @@ use Rattle.lvm_invariant.specs.State.{Stage, Going, Queued}
 use Rattle.lvm_invariant.specs.Updates.{is_pp}
 use Rattle.lvm_invariant.specs.Events.{Read}
 use Rattle.lvm_invariant.proofs.Each.{each_keeps}
-use Rattle.lvm_crash.specs.Session.{members_there, Describes}
+use Rattle.lvm_crash.specs.Session.{members_showing, Describes}
 use Rattle.lvm_tie_shelf.proofs.Bringing.{read_leaves, read_gets}
 use Rattle.lvm_tie_shelf.proofs.Quiet.{quiet_lasts, update_goes_on}
 use Rattle.lvm_tie_shelf.specs.Bringing.{IsReading, in_buffer}
@@ -308,7 +308,7 @@ module _ (past : List Fact) (old new : Session) (index : ℕ) (ends : Ends old n
         since = since_ended tied.write (update_of old.core.status) tied.since;
         recorded = record {
           next = subst (λ (sizes : List ℕ). MayUpdate old.core.descriptor old.core.status old.core.homes (image_of sizes tied.media)) (sym ended.sizes) tied.recorded.next;
-          members = λ d member first. subst (λ (sizes : List ℕ). IsTrue (members_there (contents_of (image_of sizes tied.media)) old.core.descriptor d)) (sym ended.sizes) (tied.recorded.members d member first);
+          members = λ d member first. subst (λ (sizes : List ℕ). IsTrue (members_showing (contents_of (image_of sizes tied.media)) old.core.descriptor d)) (sym ended.sizes) (tied.recorded.members d member first);
           records = subst (λ (sizes : List ℕ). ShowsRecords old.core.descriptor old.core.status (contents_of (image_of sizes tied.media))) (sym ended.sizes) tied.recorded.records;
         };
         notes = tied.notes;

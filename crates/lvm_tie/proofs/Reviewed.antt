@@ -14,7 +14,7 @@ use Rattle.lvm_vol.specs.Facts.{Fact}
 use Rattle.lvm_disk.specs.Device.{image_of}
 use Rattle.lvm_kept.specs.Contents.{Contents, contents_of}
 use Rattle.lvm_stale.specs.Table.{is_pp}
-use Rattle.lvm_status.specs.Update.{Stored, Updates, is_held, members_there as there_by, seen, with_disk}
+use Rattle.lvm_status.specs.Update.{Stored, Updates, is_held, members_showing as there_by, seen, with_disk}
 use Rattle.lvm_status.specs.Calls.{WantsAtEnd, comes_held, with_end as with_write_end}
 use Rattle.lvm_session.specs.declared.bringing.OpenCopy.{OpenCopy as Bringing}
 use Rattle.lvm_session.specs.declared.bringing.CopyEnd.{CopyEnd}
@@ -34,7 +34,7 @@ use Rattle.lvm_invariant.specs.Commit.{Commit, Commits}
 use Rattle.lvm_invariant.specs.MoveStatus.{moved}
 use Rattle.lvm_invariant.specs.Events.{CommitUpdate, Want}
 use Rattle.lvm_invariant.proofs.Each.{each_keeps}
-use Rattle.lvm_crash.specs.Session.{Describes, HasVolumes, as_marks, marks_of, members_there}
+use Rattle.lvm_crash.specs.Session.{Describes, HasVolumes, as_marks, marks_of, members_showing}
 use Rattle.lvm_tie_shelf.proofs.Quiet.{quiet_lasts}
 use Rattle.lvm_tie_shelf.proofs.Writing.{and_both}
 use Rattle.lvm_tie_shelf.specs.Records.{StatusEnded, statuses_of}
@@ -141,7 +141,7 @@ module _ (past : List Fact) (old new : Session) (index disk : ℕ) (ok : Bool) (
   wanted_seen = tied.sees.status.wanted ∙ sym (marks_then disk ok core.status.wanted stored.wanted learns.wants)
 
   abbrev members : Disks
-  members = members_there now group
+  members = members_showing now group
 
   not_true_is : (b : Bool) → not b ≡ true → b ≡ false
   not_true_is true h = absurd (cc h)
@@ -158,7 +158,7 @@ module _ (past : List Fact) (old new : Session) (index disk : ℕ) (ok : Bool) (
   shows : (d : ℕ) → IsTrue (is_there core1 d) → IsTrue (members d)
   shows d there =
       let parts = and_both (is_member group d) (not (is_missing core d)) (was_there d there) in
-      ap (λ (c : Contents). members_there c group d) (kept past old new index disk ok row buf its_owner returns tied).rest ∙ tied.recorded.members d parts.0 (there_first past old tied d (not_true_is (is_missing core d) parts.1))
+      ap (λ (c : Contents). members_showing c group d) (kept past old new index disk ok row buf its_owner returns tied).rest ∙ tied.recorded.members d parts.0 (there_first past old tied d (not_true_is (is_missing core d) parts.1))
 
   owners : HasOwners v
   owners = tied.good.sound.tied.owner

@@ -39,7 +39,7 @@ use Rattle.lvm_invariant.specs.Good.{Good}
 use Rattle.lvm_invariant.specs.MoveStatus.{moved}
 use Rattle.lvm_invariant.specs.Events.{MoveStatus}
 use Rattle.lvm_invariant.proofs.Each.{each_keeps}
-use Rattle.lvm_crash.specs.Session.{marks_of, as_marks, members_there, Describes}
+use Rattle.lvm_crash.specs.Session.{marks_of, as_marks, members_showing, Describes}
 use Rattle.lvm_tie_shelf.proofs.Flying.{of_one}
 use Rattle.lvm_tie_shelf.proofs.Owned.{What, what, Data, OfStep, OfNote, OfUpdate, in_slots}
 use Rattle.lvm_tie_shelf.proofs.Quiet.{quiet_lasts, updates_last, update_goes_on}
@@ -304,7 +304,7 @@ module _ (past : List Fact) (old new : Session) (starts : StartsStatus old new) 
     since = subst (λ (o : Option (Stamped Status)). OnlyUpdateSince new.device (Some write) o) (sym update_now) (update_goes_on write u old.device new.device (Started f starts.launches.starts) planned begun.since);
     recorded = record {
       next = subst (λ (sizes : List ℕ). MayUpdate group status old.core.homes (image_of sizes tied.media)) (sym sizes_are) next2;
-      members = λ d member first. subst (λ (sizes : List ℕ). IsTrue (members_there (contents_of (image_of sizes tied.media)) group d)) (sym sizes_are) (tied.recorded.members d member first);
+      members = λ d member first. subst (λ (sizes : List ℕ). IsTrue (members_showing (contents_of (image_of sizes tied.media)) group d)) (sym sizes_are) (tied.recorded.members d member first);
       records = subst (λ (sizes : List ℕ). ShowsRecords group status (contents_of (image_of sizes tied.media))) (sym sizes_are)
           (records_last group old.core.status status (contents_of (image_of old.device.sizes tied.media)) (contents_of (image_of old.device.sizes tied.media)) tied.recorded.records (λ d there. sym (missing_new d) ∙ there) (λ d. refl)
           (λ none. absurd (let e : None ≡ Some starts.status = sym none ∙ starts.flies in cc)));

@@ -29,7 +29,7 @@ use Rattle.lvm_session.specs.Ends.{Returns, StatusLearns}
 use Rattle.lvm_session.specs.Sound.{IsGoing, IsSound}
 use Rattle.lvm_invariant.specs.State.{Marks, State}
 use Rattle.lvm_invariant.specs.Good.{Good}
-use Rattle.lvm_crash.specs.Session.{Describes, as_marks, marks_of, members_there}
+use Rattle.lvm_crash.specs.Session.{Describes, as_marks, marks_of, members_showing}
 use Rattle.lvm_tie_shelf.proofs.Quiet.{update_goes_on, updates_last}
 use Rattle.lvm_tie_shelf.proofs.Writing.{and_both}
 use Rattle.lvm_tie_shelf.specs.Owned.{OnlyUpdateSince}
@@ -237,8 +237,8 @@ module _ (past : List Fact) (old new : Session) (index disk : ℕ) (ok : Bool) (
       since = since;
       recorded = record {
         next = subst (λ (sizes : List ℕ). MayUpdate group status learns.homes (image_of sizes back.media)) (sym back.sizes) next;
-        members = λ d member first. subst (λ (sizes : List ℕ). IsTrue (members_there (contents_of (image_of sizes back.media)) group d)) (sym back.sizes)
-            (ap (λ (c : Contents). members_there c group d) (kept past old new index disk ok row buf its_owner returns tied).rest ∙ tied.recorded.members d member first);
+        members = λ d member first. subst (λ (sizes : List ℕ). IsTrue (members_showing (contents_of (image_of sizes back.media)) group d)) (sym back.sizes)
+            (ap (λ (c : Contents). members_showing c group d) (kept past old new index disk ok row buf its_owner returns tied).rest ∙ tied.recorded.members d member first);
         records = subst (λ (sizes : List ℕ). ShowsRecords group status (contents_of (image_of sizes back.media))) (sym back.sizes) (recorded settled);
       };
       notes = notes;

@@ -33,7 +33,7 @@ use Rattle.lvm_invariant.specs.State.{Queued, State}
 use Rattle.lvm_invariant.specs.Updates.{put}
 use Rattle.lvm_invariant.specs.Events.{Event, Step as GoodStep}
 use Rattle.lvm_invariant.proofs.Each.{each_keeps}
-use Rattle.lvm_crash.specs.Session.{members_there, Describes}
+use Rattle.lvm_crash.specs.Session.{members_showing, Describes}
 use Rattle.lvm_crash.specs.Lasting.{AsksOf}
 use Rattle.lvm_tie_shelf.proofs.Flying.{writes_at}
 use Rattle.lvm_tie_shelf.proofs.Quiet.{quiet_lasts, update_goes_on}
@@ -138,7 +138,7 @@ module _ (past : List Fact) (old : Session) (device : Device) (place number : �
     since = since_start old.device device f tied.write (update_of old.core.status) starts low tied.since;
     recorded = record {
       next = subst (λ (sizes : List ℕ). MayUpdate old.core.descriptor old.core.status old.core.homes (image_of sizes tied.media)) (sym sizes_is) tied.recorded.next;
-      members = λ d member first. subst (λ (sizes : List ℕ). IsTrue (members_there (contents_of (image_of sizes tied.media)) old.core.descriptor d)) (sym sizes_is) (tied.recorded.members d member first);
+      members = λ d member first. subst (λ (sizes : List ℕ). IsTrue (members_showing (contents_of (image_of sizes tied.media)) old.core.descriptor d)) (sym sizes_is) (tied.recorded.members d member first);
       records = subst (λ (sizes : List ℕ). ShowsRecords old.core.descriptor old.core.status (contents_of (image_of sizes tied.media))) (sym sizes_is) tied.recorded.records;
     };
     orderly = orderly;

@@ -24,7 +24,7 @@ use Rattle.lvm_invariant.specs.State.{Groups, State}
 use Rattle.lvm_invariant.specs.EndNote.{after_note}
 use Rattle.lvm_invariant.specs.Events.{EndNote}
 use Rattle.lvm_invariant.proofs.Each.{each_keeps}
-use Rattle.lvm_crash.specs.Session.{members_there, Describes}
+use Rattle.lvm_crash.specs.Session.{members_showing, Describes}
 use Rattle.lvm_tie_shelf.specs.Owned.{IsNoteFlight}
 use Rattle.lvm_tie_shelf.specs.Records.{flying_after}
 use Rattle.lvm_tie.proofs.Orderly.{IsNoteOut, orderly_same}
@@ -135,7 +135,7 @@ module _ (past : List Fact) (old new : Session) (at disk : ℕ) (row : Flown) (b
   whole : new ≡ state new.device next
   whole = λ k. record { device = new.device; core = learned k }
 
-  members_now : (d : ℕ) → members_there (contents_of is) core.descriptor d ≡ members_there (contents_of was) core.descriptor d
+  members_now : (d : ℕ) → members_showing (contents_of is) core.descriptor d ≡ members_showing (contents_of was) core.descriptor d
   members_now d = same_members tied.votes v core.descriptor (update_of core.status) old.device new.device.flights tied.media its_end.media f true tied.good (tied_matches past old tied) its_end.removes its_own its_end.lands d
 
   next_now : MayUpdate core.descriptor core.status core.homes is
@@ -165,7 +165,7 @@ module _ (past : List Fact) (old new : Session) (at disk : ℕ) (row : Flown) (b
     since = since_ended past old new at disk true row buf its_owner returns tied tied.write (update_of core.status) tied.since;
     recorded = record {
       next = subst (λ (sizes : List ℕ). MayUpdate core.descriptor core.status core.homes (image_of sizes its_end.media)) (sym its_end.sizes) next_now;
-      members = λ d member first. subst (λ (sizes : List ℕ). IsTrue (members_there (contents_of (image_of sizes its_end.media)) core.descriptor d)) (sym its_end.sizes) (members_now d ∙ tied.recorded.members d member first);
+      members = λ d member first. subst (λ (sizes : List ℕ). IsTrue (members_showing (contents_of (image_of sizes its_end.media)) core.descriptor d)) (sym its_end.sizes) (members_now d ∙ tied.recorded.members d member first);
       records = subst (λ (sizes : List ℕ). ShowsRecords core.descriptor core.status (contents_of (image_of sizes its_end.media))) (sym its_end.sizes) records_now;
     };
     notes = notes_fit;

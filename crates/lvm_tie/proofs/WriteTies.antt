@@ -53,7 +53,7 @@ use Rattle.lvm_invariant.specs.Want.{Replaced, Wants, after_wants}
 use Rattle.lvm_invariant.proofs.Each.{each_keeps}
 use Rattle.lvm_invariant.proofs.Rules.{each_has}
 use Rattle.lvm_crash.specs.Left.{KeepsGroup}
-use Rattle.lvm_crash.specs.Session.{Describes, marks_of, members_there}
+use Rattle.lvm_crash.specs.Session.{Describes, marks_of, members_showing}
 use Rattle.lvm_tie_shelf.proofs.Owned.{covers_its}
 use Rattle.lvm_tie_shelf.proofs.Quiet.{quiet_lasts, update_goes_on}
 use Rattle.lvm_tie_shelf.proofs.Writing.{and_both, group_kept, pp_same, records_same, same_pp, write_ends}
@@ -530,8 +530,8 @@ module _ (past : List Fact) (old new : Session) (index : ℕ) (ends : Ends old n
       recorded = record {
         next = subst (λ (sizes : List ℕ). MayUpdate old.core.descriptor status old.core.homes (image_of sizes ended.media)) (sym ended.sizes)
             (next_same core2.status status wants.rest wants.missing old.core.descriptor old.core.homes (image_of old.device.sizes ended.media) next_w);
-        members = λ d member first. subst (λ (sizes : List ℕ). IsTrue (members_there (contents_of (image_of sizes ended.media)) old.core.descriptor d)) (sym ended.sizes)
-            (ap (λ (c : Contents). members_there c old.core.descriptor d) group_same.rest ∙ tied.recorded.members d member first);
+        members = λ d member first. subst (λ (sizes : List ℕ). IsTrue (members_showing (contents_of (image_of sizes ended.media)) old.core.descriptor d)) (sym ended.sizes)
+            (ap (λ (c : Contents). members_showing c old.core.descriptor d) group_same.rest ∙ tied.recorded.members d member first);
         records = subst (λ (sizes : List ℕ). ShowsRecords old.core.descriptor status (contents_of (image_of sizes ended.media))) (sym ended.sizes)
             (records_wanted core2.status status wants.rest wants.missing old.core.descriptor now
             (records_kept old.core.descriptor old.core.status (image_of old.device.sizes tied.media) (image_of old.device.sizes ended.media) same_records tied.recorded.records));

@@ -13,7 +13,7 @@ use Rattle.lvm_disk.specs.Paths.{DeviceStep}
 use Rattle.lvm_kept.specs.Contents.{Contents, contents_of}
 use Rattle.lvm_kept.specs.Moments.{Moment}
 use Rattle.lvm_kept.specs.Torn.{RecordWrite}
-use Rattle.lvm_status.specs.Update.{Stored, members_there as there_by}
+use Rattle.lvm_status.specs.Update.{Stored, members_showing as there_by}
 use Rattle.lvm_steps.specs.Moments.{Begins, Upholds, Keeps}
 use Rattle.lvm_steps.specs.Requests.{at}
 use Rattle.lvm_session.specs.declared.bringing.OpenCopy.{OpenCopy as Bringing}
@@ -26,7 +26,7 @@ use Rattle.lvm_session.specs.Sound.{IsSound}
 use Rattle.lvm_invariant.specs.State.{State}
 use Rattle.lvm_invariant.specs.Found.{Votes}
 use Rattle.lvm_invariant.specs.Good.{Good}
-use Rattle.lvm_crash.specs.Session.{AreVotesOf, members_there, Describes}
+use Rattle.lvm_crash.specs.Session.{AreVotesOf, members_showing, Describes}
 use Rattle.lvm_tie_shelf.specs.Owned.{OnlyUpdateSince, AllOwned}
 use Rattle.lvm_tie.specs.Out.{AreNotes, CarryTheirs, IsWriteOf, MayUpdate}
 use Rattle.lvm_tie.specs.Seen.{update_of, Sees}
@@ -63,7 +63,7 @@ pub record IsSetting (past : List Fact) (run : ℕ) (group : Descriptor) (shown 
 -- the members that aren't missing show what is committed.
 pub record HoldsRecords (group : Descriptor) (first : Status) (status : Stored) (homes : Homes) (image : Image) : Type 0 where
   pub next : MayUpdate group status homes image
-  pub members : (d : ℕ) → is_member group d ≡ true → calls_missing first d ≡ false → IsTrue (members_there (contents_of image) group d)
+  pub members : (d : ℕ) → is_member group d ≡ true → calls_missing first d ≡ false → IsTrue (members_showing (contents_of image) group d)
   pub records : ShowsRecords group status (contents_of image)
 
 -- What is asked of the driver's session alone: it is on and sound, and its update in flight is written so.

@@ -28,7 +28,7 @@ use Rattle.lvm_session.specs.Sound.{IsOn, IsSound}
 use Rattle.lvm_invariant.specs.State.{Groups, Marks, State}
 use Rattle.lvm_invariant.specs.Found.{Votes}
 use Rattle.lvm_invariant.specs.Good.{Good}
-use Rattle.lvm_crash.specs.Session.{AreVotesOf, Describes, as_marks, marks_of, members_there}
+use Rattle.lvm_crash.specs.Session.{AreVotesOf, Describes, as_marks, marks_of, members_showing}
 use Rattle.lvm_crash.proofs.Worked.{groups_have_votes}
 use Rattle.lvm_rest.specs.Rest.{AreClosed, HasCopies, IsAtRest, IsIdle, SeesThat}
 use Rattle.lvm_rest.proofs.Closed.{calm_is_closed}
@@ -102,7 +102,7 @@ module _ (past : List Fact) (s : Session) (media : Media) (sound : IsSound s) (p
   idle : IsIdle v
   idle = record { queue = idle_first.queue; in_flight = idle_first.in_flight; wanted = idle_first.wanted; no_status = idle_first.no_status; no_note = idle_first.no_note; no_copy = idle_first.no_copy; no_step = idle_first.no_step }
 
-  copies : HasCopies v core.descriptor (members_there c core.descriptor)
+  copies : HasCopies v core.descriptor (members_showing c core.descriptor)
   copies = record { copies = seen_first.copies.copies; inside = seen_first.copies.inside; notes = seen_first.copies.notes; mark = seen_first.copies.mark }
 
   sees_that : SeesThat v core.descriptor stated (is_there core) c

@@ -21,7 +21,7 @@ use Rattle.lvm_session.specs.State.{Core, State as Session, state, is_there}
 use Rattle.lvm_session.specs.Sound.{IsSound}
 use Rattle.lvm_session_start.specs.declared.parts.Parts.{Parts}
 use Rattle.lvm_session_start.specs.Beginning.{MayBegin, first_core}
-use Rattle.lvm_crash.specs.Session.{members_there}
+use Rattle.lvm_crash.specs.Session.{members_showing}
 use Rattle.lvm_rest.specs.Rest.{IsAtRest, IsEven, NoneIsBehind}
 use Rattle.lvm_tie.specs.Spares.{SparesDescriptors}
 use Rattle.lvm_tie.specs.Tied.{IsGood, IsTied, moment_of}
@@ -68,7 +68,7 @@ pub record FollowsOn (past : List Fact) (s : Session) : Type 0 where
 -- each member that wasn't missing when it began shows the group and has room for its records
 abbrev pub MembersShow : Session → Media → Type 0
 MembersShow s media = (d : ℕ) → is_member s.core.descriptor d ≡ true → calls_missing s.core.origin.table d ≡ false
-    → IsTrue (members_there (shown_to s media) s.core.descriptor d)
+    → IsTrue (members_showing (shown_to s media) s.core.descriptor d)
 
 -- Then a sound session that is on is tied.
 abbrev pub RestTies : Type 0

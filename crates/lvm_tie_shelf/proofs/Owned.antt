@@ -21,7 +21,7 @@ use Rattle.lvm_kept.specs.Torn.{RecordWrite, IsOfRecord, IsOutside}
 use Rattle.lvm_invariant.specs.State.{Groups, Queued, State, covers}
 use Rattle.lvm_invariant.specs.Crash.{Brings, CopyBrings}
 use Rattle.lvm_invariant.specs.Sound.{Tied}
-use Rattle.lvm_crash.specs.Session.{members_there, HasVolumes}
+use Rattle.lvm_crash.specs.Session.{members_showing, HasVolumes}
 use Rattle.lvm_crash.specs.Flights.{OnlyUpdateIsOut}
 use Rattle.lvm_tie_shelf.specs.Copies.{IsCopyOf}
 use Rattle.lvm_tie_shelf.specs.Owned.{IsTransfer, IsDataFlight, IsStepFlight, IsNoteFlight, IsStatusFlight, IsOfUpdate, IsOwned, UpdateSince, OnlyUpdateSince, OwnersHaveOut}
@@ -194,7 +194,7 @@ none_there : (test : Bool) (x y : Bool) → x ≡ false → IsTrue (test && x &&
 none_there true x y is h = let e : IsTrue (false && y) = sym (ap (λ t. t && y) is) ∙ h in absurd cc
 none_there false x y is h = absurd cc
 
-pub not_member : (contents : Contents) (group : Descriptor) (d : ℕ) → contents.descriptor d ≡ None → IsTrue (members_there contents group d) → ⊥
+pub not_member : (contents : Contents) (group : Descriptor) (d : ℕ) → contents.descriptor d ≡ None → IsTrue (members_showing contents group d) → ⊥
 not_member contents group d none is = none_there true (passes (is_of group.id) (contents.descriptor d)) (has_room contents d group) (ap (passes (is_of group.id)) none) is
 
 -- a part of the update isn't in the data
@@ -219,10 +219,10 @@ owners_have_out s facts group w in_flight device media valid tied volumes all si
   where
     block : (lv b : ℕ) (p : Pp) (x : Sector) → IsTrue (s.is_copy lv b p) → (f : Flight) → written f p.disk (sector_of group.mib p.pp b) ≡ Some x → What s group w f p.disk (sector_of group.mib p.pp b) x → Brings s lv b p x ⊎ CopyBrings s lv b p x
     block lv b p x copy f brings (Data own high) =
-        let h = hits group valid s facts (members_there (contents_of (image_of device.sizes media)) group) tied volumes own.place own.req own.req.value own.copy f lv b p x own.started.there own.aimed own.transfer copy brings in
+        let h = hits group valid s facts (members_showing (contents_of (image_of device.sizes media)) group) tied volumes own.place own.req own.req.value own.copy f lv b p x own.started.there own.aimed own.transfer copy brings in
         inl (record { id = own.place; req = own.req; started = own.started; over = h.over; flies = ap own.req.targets h.copy ∙ own.flies; is = h.is })
     block lv b p x copy f brings (OfStep own high) =
-        let h = hits group valid s facts (members_there (contents_of (image_of device.sizes media)) group) tied volumes own.step.place own.req own.value own.step.target f lv b p x own.there own.aimed own.transfer copy brings in
+        let h = hits group valid s facts (members_showing (contents_of (image_of device.sizes media)) group) tied volumes own.step.place own.req own.value own.step.target f lv b p x own.there own.aimed own.transfer copy brings in
         inr (record { step = own.step; flies = own.flies; target = sym h.copy; id = own.step.place; place = refl; req = own.req; values = own.value; there = own.there; read = own.read; past = own.past; got = own.got; over = h.over; is = h.is })
     block lv b p x copy f brings (OfNote note) = let e : sector_of group.mib p.pp b ≡ 8 = note.place in absurd (omega arith)
     block lv b p x copy f brings (OfUpdate write is own slots) = let e : sector_of group.mib p.pp b < 192 = slots.high in absurd (omega arith)
@@ -270,12 +270,12 @@ owners_have_out s facts group w in_flight device media valid tied volumes all si
 
     raw : (d at : ℕ) (x : Sector) → (contents_of (image_of device.sizes media)).descriptor d ≡ None → data_start ≤ at → (f : Flight) → written f d at ≡ Some x → What s group w f d at x → ⊥
     raw d at x none low f brings (Data own high) =
-        let c = (copy_of group valid s facts (members_there (contents_of (image_of device.sizes media)) group) tied volumes own.req.lv own.req.first own.copy own.aimed).1 in
+        let c = (copy_of group valid s facts (members_showing (contents_of (image_of device.sizes media)) group) tied volumes own.req.lv own.req.first own.copy own.aimed).1 in
         let same : own.copy.disk ≡ d = sym own.transfer.disk ∙ (writes_at f d at x brings).disk in
-        not_member (contents_of (image_of device.sizes media)) group d none (subst (λ n. IsTrue (members_there (contents_of (image_of device.sizes media)) group n)) same c)
+        not_member (contents_of (image_of device.sizes media)) group d none (subst (λ n. IsTrue (members_showing (contents_of (image_of device.sizes media)) group n)) same c)
     raw d at x none low f brings (OfStep own high) =
-        let c = (copy_of group valid s facts (members_there (contents_of (image_of device.sizes media)) group) tied volumes own.req.lv own.req.first own.step.target own.aimed).1 in
+        let c = (copy_of group valid s facts (members_showing (contents_of (image_of device.sizes media)) group) tied volumes own.req.lv own.req.first own.step.target own.aimed).1 in
         let same : own.step.target.disk ≡ d = sym own.transfer.disk ∙ (writes_at f d at x brings).disk in
-        not_member (contents_of (image_of device.sizes media)) group d none (subst (λ n. IsTrue (members_there (contents_of (image_of device.sizes media)) group n)) same c)
+        not_member (contents_of (image_of device.sizes media)) group d none (subst (λ n. IsTrue (members_showing (contents_of (image_of device.sizes media)) group n)) same c)
     raw d at x none low f brings (OfNote its) = let e : at ≡ 8 = its.place in absurd (omega arith)
     raw d at x none low f brings (OfUpdate write is own slots) = let e : at < 192 = slots.high in absurd (omega arith)

@@ -22,7 +22,7 @@ use Rattle.lvm_invariant.specs.Found.{Votes}
 use Rattle.lvm_invariant.specs.Good.{Good}
 use Rattle.lvm_invariant.specs.Events.{Transfer}
 use Rattle.lvm_invariant.specs.Transfer.{Restages, restaged}
-use Rattle.lvm_crash.specs.Session.{marks_shown, Shows, members_there, Describes}
+use Rattle.lvm_crash.specs.Session.{marks_shown, Shows, members_showing, Describes}
 use Rattle.lvm_crash.specs.Left.{KeepsGroup}
 use Rattle.lvm_crash.proofs.Lasting.{description_lasts}
 use Rattle.lvm_crash.proofs.Statuses.{statuses_last}
@@ -130,7 +130,7 @@ module _ (votes : Votes) (s : State) (i : ℕ) (r : Queued) (c : Pp) (value : �
   after = contents_of (image_of sizes n)
 
   abbrev members : Disks
-  members = members_there before group
+  members = members_showing before group
 
   -- it writes data, on a disk that shows a descriptor
   in_data : (d at : ℕ) (x : Sector) → written f d at ≡ Some x → (data_start ≤ at) × (d ≡ c.disk)

@@ -19,7 +19,7 @@ use Rattle.lvm_kept.specs.Plans.{IsUnderWay}
 use Rattle.lvm_kept.specs.Torn.{RecordWrite, IsOtherOrRecord, MayWriteAll}
 use Rattle.lvm_invariant.specs.State.{Groups, Flying, Queued, StepWrite, State, is_past, Started}
 use Rattle.lvm_invariant.specs.Sound.{Tied}
-use Rattle.lvm_crash.specs.Session.{members_there, HasVolumes}
+use Rattle.lvm_crash.specs.Session.{members_showing, HasVolumes}
 use Rattle.lvm_crash.specs.Flights.{HasOut}
 
 -- It writes these blocks of a request to a copy.
@@ -101,5 +101,5 @@ OnlyUpdateSince device None (Some u) = ⊥
 abbrev pub OwnersHaveOut : Type 0
 OwnersHaveOut =
     (s : State) (facts : List Fact) (group : Descriptor) (w : Option RecordWrite) (in_flight : Option (Stamped Status)) (device : Device) (media : Media)
-    → IsValid group → Tied s → HasVolumes s facts group (members_there (contents_of (image_of device.sizes media)) group)
+    → IsValid group → Tied s → HasVolumes s facts group (members_showing (contents_of (image_of device.sizes media)) group)
     → AllOwned s group.mib w device.flights → OnlyUpdateSince device w in_flight → HasOut s group in_flight device media

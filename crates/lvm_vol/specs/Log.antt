@@ -82,6 +82,10 @@ takes_id id (On moment) = false
 abbrev pub is_open : List Fact → ℕ → Bool
 is_open facts id = is_some (asked facts id) && not (list_any (lands_id id) facts)
 
+-- each request that has begun has landed
+abbrev pub HaveAllLanded : List Fact → Type 0
+HaveAllLanded facts = (id : ℕ) → is_open facts id ≡ false
+
 -- how many blocks an open read waits for
 abbrev pub awaited : List Fact → ℕ → Option ℕ
 awaited facts id = if is_open facts id && not (request_of facts id).write then Some (request_of facts id).count else None
