@@ -19,7 +19,7 @@ use Rattle.lvm_vol.specs.May.{known, IsValue, cut, is_off}
 use Rattle.lvm_kept.specs.Contents.{Contents}
 use Rattle.lvm_kept.specs.Group.{passes, is_of, has_room, members_in, is_stale_by, fresh_on, block_at, IsBlockOf, is_named, IsOneOf, IsSome}
 use Rattle.lvm_kept.specs.Kept.{MayDiffer, IsBlockKept}
-use Rattle.lvm_invariant.specs.State.{State}
+use Rattle.lvm_invariant.specs.State.{ModelState}
 use Rattle.lvm_invariant.specs.Crash.{Fresh, MayDifferAfter, BlockKept}
 use Rattle.lvm_crash.specs.Session.{marks_of, view_of, members_showing, has_notes, has_mark, HasVolumes}
 use Rattle.lvm_crash.proofs.Lists.{left_of, right_of, both_of, not_so, so_not, of_passing, one_passes}
@@ -35,7 +35,7 @@ both_so : (b : Bool) → IsTrue b → IsFalse b → ⊥
 both_so true h k = absurd cc
 both_so false h k = absurd cc
 
-module _ (s : State) (facts : List Fact) (group : Descriptor) (c : Contents) (volumes : HasVolumes s facts group (members_showing c group)) (r : Stamped Status) (row : LvRow) (lp b : ℕ)
+module _ (s : ModelState) (facts : List Fact) (group : Descriptor) (c : Contents) (volumes : HasVolumes s facts group (members_showing c group)) (r : Stamped Status) (row : LvRow) (lp b : ℕ)
     (one : IsOneOf group.lvs row) (inside : IsBlockOf group.mib row lp b) (kept : BlockKept s (view_of group c) (marks_of r.value) (cut b (known facts (Lv row.number) b)) row.number b) where
   module _ (disks : Disks) where
     abbrev test : Pp → Bool

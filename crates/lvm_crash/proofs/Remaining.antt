@@ -25,7 +25,7 @@ use Rattle.lvm_kept.specs.Kept.{HasStatus, IsBlockKept, BlocksKept, RawAgrees, I
 use Rattle.lvm_kept.specs.Committed.{IsWithinDisks}
 use Rattle.lvm_kept.proofs.Finding.{some_same, finding_reads}
 use Rattle.lvm_kept.proofs.Entries.{volume_is_row}
-use Rattle.lvm_invariant.specs.State.{State}
+use Rattle.lvm_invariant.specs.State.{ModelState}
 use Rattle.lvm_invariant.specs.Found.{Votes, Found}
 use Rattle.lvm_invariant.specs.Crash.{IsCrash, BlockKept}
 use Rattle.lvm_crash.specs.Session.{marks_of, as_marks, marks_shown, view_of, AreVotesOf, members_showing, OthersStand, HasStatuses, Describes}
@@ -94,7 +94,7 @@ module _ (old : Contents) (status : ℕ → Option (Stamped Status)) (note : ℕ
     partitions = λ other g h apart is also. others.partitions other g h apart (found_before other g is) (found_before other h also);
   }
 
-  module _ (votes : Votes) (s : State) (facts : List Fact) (group : Descriptor) (in_flight : Option (Stamped Status)) (are : AreVotesOf group votes) (stood : Found votes s)
+  module _ (votes : Votes) (s : ModelState) (facts : List Fact) (group : Descriptor) (in_flight : Option (Stamped Status)) (are : AreVotesOf group votes) (stood : Found votes s)
       (agrees : EachViewAgrees s facts) (describes : Describes s facts group in_flight old)
       (remain : MayRemain s group in_flight old new) (within : IsWithinDisks new) where
     -- the session's view of what remains is one that it may leave

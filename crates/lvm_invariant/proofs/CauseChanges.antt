@@ -8,7 +8,7 @@ use Rattle.lvm_disk.specs.Counts.{Rose}
 use Rattle.lvm_vol.specs.declared.entry.Outcome.{Outcome}
 use Rattle.lvm_vol.specs.declared.entry.Outcome.TheVariants as outcome
 use Rattle.lvm_vol.specs.Facts.{Request, Fact, Making, Made, Split, Removing, Removed, Begun, Landed, Taken, Cut, On}
-use Rattle.lvm_invariant.specs.State.{Marks, Badly, Queued, OpenCopy, State}
+use Rattle.lvm_invariant.specs.State.{Marks, Badly, Queued, OpenCopy, ModelState}
 use Rattle.lvm_invariant.specs.Faults.{Faults, HasFailed, SomeFailed, NoneFailed, HasCause}
 use Rattle.lvm_invariant.specs.Caused.{LandingIsCaused, FactIsCaused, Since, Caused}
 use Rattle.lvm_invariant.specs.Why.{asked_at}
@@ -43,7 +43,7 @@ module _ (w : Faults) (now : ℕ → ℕ) (place : Option ℕ) (rises : (d : ℕ
   none_before none d h = none d (fails_still d h)
 
   -- what an event changes
-  pub record Change (s new : State) : Type 0 where
+  pub record Change (s new : ModelState) : Type 0 where
     pub copies : new.is_copy ≡ s.is_copy
     pub missing : (d : ℕ) → IsTrue (new.missing d) → IsTrue (s.missing d) ⊎ HasFailed after d
     pub still_missing : (d : ℕ) → IsTrue (s.missing d) → IsTrue (new.missing d)
@@ -55,7 +55,7 @@ module _ (w : Faults) (now : ℕ → ℕ) (place : Option ℕ) (rises : (d : ℕ
         → ((e : Queued) × (s.queue i ≡ Some e) × (e.targets c ≡ Some Badly) × (asked_at place w i ≡ w.asked i)) ⊎ Rose (asked_at place w i c.disk) (now c.disk)
     pub landed : (new.facts ≡ s.facts) ⊎ ((f : Fact) × (new.facts ≡ s.facts ++ f ∷ []) × FactIsCaused after new f)
 
-  module _ (s new : State) (change : Change s new) (caused : Caused w s) where
+  module _ (s new : ModelState) (change : Change s new) (caused : Caused w s) where
     landing_stays : (q : Request) (how : Outcome) → LandingIsCaused w s q how → LandingIsCaused after new q how
     landing_stays q outcome.Lost h = some_still h
     landing_stays q outcome.ReadFailed h = some_still h

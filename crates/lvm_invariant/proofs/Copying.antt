@@ -4,7 +4,7 @@ use Rattle.std.specs.Prelude.{IsTrue, IsFalse}
 use Rattle.lvm_num.specs.declared.place.Pp.{Pp}
 use Rattle.lvm_num.specs.Geometry.{track_group_of}
 use Rattle.lvm_invariant.proofs.Small.{IsIn, never, false_by, and_left_false}
-use Rattle.lvm_invariant.specs.State.{Marks, OpenCopy, StepWrite, Going, Queued, State, covers, stale_in, is_settled_stale, HasPassed, Live, Started, told}
+use Rattle.lvm_invariant.specs.State.{Marks, OpenCopy, StepWrite, Going, Queued, ModelState, covers, stale_in, is_settled_stale, HasPassed, Live, Started, told}
 use Rattle.lvm_invariant.specs.Sound.{Complete, Statuses, MayDiffer, Agree, Settled, Blocks, Holds, Sound}
 use Rattle.lvm_invariant.proofs.SoundLemmas.{complete_same, live_same, equal_same, recorded_same, each_same}
 use Rattle.lvm_invariant.proofs.Claims.{Quiet, CopyWriteKeepsCore, OpenKeepsCore, ClearKeepsCore}
@@ -18,8 +18,8 @@ use Rattle.lvm_invariant.specs.Clear.{Clears}
 the_copy : (a b : OpenCopy) → Some a ≡ Some b → a ≡ b
 the_copy a b e = cc
 
-module _ (s : State) (i : ℕ) (r : Queued) (value : ℕ → List ℕ) (target : Pp) (open_copy : Option OpenCopy) (step_write : Option StepWrite) (block : ℕ → ℕ → Pp → List ℕ) (step : CopyWrites s i r value target open_copy block) (sound : Sound s) where
-  abbrev new : State
+module _ (s : ModelState) (i : ℕ) (r : Queued) (value : ℕ → List ℕ) (target : Pp) (open_copy : Option OpenCopy) (step_write : Option StepWrite) (block : ℕ → ℕ → Pp → List ℕ) (step : CopyWrites s i r value target open_copy block) (sound : Sound s) where
+  abbrev new : ModelState
   new = record s { media = with_block s.media block; open_copy = open_copy; step_write = step_write }
 
   elsewhere : (j lv b : ℕ) (e : Queued) → Started s j e → IsTrue (covers e lv b) → IsTrue (covers r lv b) → ⊥
@@ -210,8 +210,8 @@ copy_write_keeps s i r value target open_copy step_write block step sound = copy
 
 -- ---- a copy is opened
 
-module _ (s : State) (o : OpenCopy) (step : Opens s o) (sound : Sound s) where
-  abbrev opened : State
+module _ (s : ModelState) (o : OpenCopy) (step : Opens s o) (sound : Sound s) where
+  abbrev opened : ModelState
   opened = record s { open_copy = Some o }
 
   none_open : {X : Type 0} (k : OpenCopy) → s.open_copy ≡ Some k → X
@@ -247,8 +247,8 @@ open_keeps s o step sound = open_core s o step sound
 
 -- ---- its staleness is no longer wanted
 
-module _ (s : State) (wanted : Marks) (c : Pp) (step : Clears s wanted c) (sound : Sound s) where
-  abbrev cleared : State
+module _ (s : ModelState) (wanted : Marks) (c : Pp) (step : Clears s wanted c) (sound : Sound s) where
+  abbrev cleared : ModelState
   cleared = record s { wanted = wanted }
 
   complete_if : (e : Pp) → IsTrue (s.wanted.stale e) → IsFalse (wanted.stale e) → Complete cleared e

@@ -36,7 +36,7 @@ use Rattle.lvm_invariant.specs.Open.{OpenKeeps}
 use Rattle.lvm_invariant.specs.LandGot.{LandGotKeeps}
 use Rattle.lvm_invariant.specs.LandLost.{LandLostKeeps}
 use Rattle.lvm_invariant.specs.Submit.{SubmitKeeps}
-use Rattle.lvm_invariant.specs.State.{Phase, Held, WantEntry, Ready, Going, Landed, Queued, State, covers, is_past, has_landed, is_pinning}
+use Rattle.lvm_invariant.specs.State.{Phase, Held, WantEntry, Ready, Going, Landed, Queued, ModelState, covers, is_past, has_landed, is_pinning}
 use Rattle.lvm_invariant.specs.Pin.{PinKeeps}
 use Rattle.lvm_invariant.specs.Good.{Good}
 use Rattle.lvm_invariant.specs.MoveStatus.{MoveStatusKeeps}
@@ -53,18 +53,18 @@ use Rattle.lvm_invariant.proofs.Finding.{status_end_keeps_found, begin_keeps_fou
 use Rattle.lvm_invariant.proofs.CrashLemmas.{core_kept}
 use Rattle.lvm_invariant.specs.Sound.{Sound}
 
-newest_place : (s : State) (i : ℕ) → ((j : ℕ) (e : Queued) → s.queue j ≡ Some e → j < i) → (j : ℕ) (e : Queued) → s.queue j ≡ Some e → IsFalse (j == i)
+newest_place : (s : ModelState) (i : ℕ) → ((j : ℕ) (e : Queued) → s.queue j ≡ Some e → j < i) → (j : ℕ) (e : Queued) → s.queue j ≡ Some e → IsFalse (j == i)
 newest_place s i newest j e at = ⊎_elim (λ (same : IsTrue (j == i)). absurd (not_itself (subst (λ (k : ℕ). k < i) (eqb-true _ _ same) (newest j e at)))) (λ (f : IsFalse (j == i)). f) (decided (j == i))
   where
     not_itself : {k : ℕ} → k < k → ⊥
     not_itself h = omega (arith, h)
 
 -- an event that changes neither what quorums find nor what is told
-good_of : {votes : Votes} (old new : State) → record (keeping_found old new) { queue = old.queue; name = old.name; facts = old.facts } ≡ new → Sound new → Good votes old → Good votes new
+good_of : {votes : Votes} (old new : ModelState) → record (keeping_found old new) { queue = old.queue; name = old.name; facts = old.facts } ≡ new → Sound new → Good votes old → Good votes new
 good_of {votes} old new same sound good = record {
   sound = sound;
-  found = found_same old new (subst (λ (s : State). keeping_found old s ≡ s) same refl) good.found;
-  told = subst (λ (s : State). Told s.queue s.name s.facts) same good.told;
+  found = found_same old new (subst (λ (s : ModelState). keeping_found old s ≡ s) same refl) good.found;
+  told = subst (λ (s : ModelState). Told s.queue s.name s.facts) same good.told;
 }
 
 pub submit_keeps : SubmitKeeps

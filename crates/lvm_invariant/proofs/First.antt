@@ -11,7 +11,7 @@ use Rattle.lvm_invariant.specs.Good.{Good}
 use Rattle.lvm_invariant.specs.Sound.{Sound}
 use Rattle.lvm_invariant.specs.Updates.{is_pp}
 use Rattle.lvm_num.specs.Record.{Stamped}
-use Rattle.lvm_invariant.specs.State.{has_notes, has_mark, Marks, OpenCopy, State}
+use Rattle.lvm_invariant.specs.State.{has_notes, has_mark, Marks, OpenCopy, ModelState}
 use Rattle.lvm_invariant.proofs.Small.{never}
 pub use Rattle.lvm_invariant.proofs.Small.{left_of as left, right_of as right, both_of as both}
 use Rattle.lvm_invariant.proofs.Asking.{told_of_none}
@@ -45,7 +45,7 @@ its_mode Passive true h notes mark = absurd cc
 its_mode mode false h notes mark = not_so h
 
 module _ (mode : Mode) (stale : Bool) (open_copy : Option OpenCopy) (brought : (o : OpenCopy) → open_copy ≡ Some o → IsTrue (stale && is_pp o.target second_copy)) where
-  abbrev s : State
+  abbrev s : ModelState
   s = record (at_rest mode stale) { open_copy = open_copy }
 
   rest_is_sound : Sound s

@@ -2,11 +2,11 @@
 use Rattle.std.specs.Prelude.{◌≡◌, ◌⊎◌, ℕ, Bool, ◌&&◌, not, Option, Some, None, IsTrue, IsFalse}
 use Rattle.lvm_num.specs.declared.place.Pp.{Pp}
 use Rattle.lvm_invariant.specs.Found.{Votes}
-use Rattle.lvm_invariant.specs.State.{Marks, OpenCopy, State}
+use Rattle.lvm_invariant.specs.State.{Marks, OpenCopy, ModelState}
 use Rattle.lvm_invariant.specs.Good.{Good}
 
 -- another copy of the same logical partition is fresh, and its staleness isn't wanted
-pub record Replaced (s : State) (wanted : Marks) (c : Pp) : Type 0 where
+pub record Replaced (s : ModelState) (wanted : Marks) (c : Pp) : Type 0 where
   pub lv : ℕ
   pub block : ℕ
   pub other : Pp
@@ -16,7 +16,7 @@ pub record Replaced (s : State) (wanted : Marks) (c : Pp) : Type 0 where
   pub kept : IsFalse (wanted.stale other)
 
 -- More staleness is wanted, disks become missing, the open copy may end.
-pub record Wants (s : State) (wanted : Marks) (missing : ℕ → Bool) (open_copy : Option OpenCopy) : Type 0 where
+pub record Wants (s : ModelState) (wanted : Marks) (missing : ℕ → Bool) (open_copy : Option OpenCopy) : Type 0 where
   pub missing_still : (d : ℕ) → IsTrue (s.missing d) → IsTrue (missing d)
   pub still : (c : Pp) → IsTrue (s.wanted.stale c) → IsTrue (wanted.stale c)
   pub still_dirty : (lv : ℕ) → IsTrue (s.wanted.dirty lv) → IsTrue (wanted.dirty lv)
@@ -29,9 +29,9 @@ pub record Wants (s : State) (wanted : Marks) (missing : ℕ → Bool) (open_cop
   pub behind : (lv b : ℕ) (c e : Pp) → IsTrue (s.is_copy lv b c) → IsFalse (s.committed.value.stale c) → IsTrue (missing c.disk)
       → IsTrue (s.is_copy lv b e) → IsTrue (not (s.committed.value.stale e) && not (missing e.disk)) → IsFalse (wanted.stale e) → IsTrue (wanted.stale c)
 
-abbrev pub after_wants : State → Marks → (ℕ → Bool) → Option OpenCopy → State
+abbrev pub after_wants : ModelState → Marks → (ℕ → Bool) → Option OpenCopy → ModelState
 after_wants s wanted missing open_copy = record s { wanted = wanted; missing = missing; open_copy = open_copy }
 
 abbrev pub WantKeeps : Type 0
-WantKeeps = (votes : Votes) (s : State) (wanted : Marks) (missing : ℕ → Bool) (open_copy : Option OpenCopy)
+WantKeeps = (votes : Votes) (s : ModelState) (wanted : Marks) (missing : ℕ → Bool) (open_copy : Option OpenCopy)
     → Wants s wanted missing open_copy → Good votes s → Good votes (after_wants s wanted missing open_copy)

@@ -6,7 +6,7 @@ use Rattle.lvm_disk.specs.Counts.{RoseBy}
 use Rattle.lvm_disk.specs.Paths.{Path, Here, Then}
 use Rattle.lvm_disk.proofs.Paths.{append-path}
 use Rattle.lvm_disk.proofs.Rising.{rose_by_none}
-use Rattle.lvm_session.specs.State.{State as Session}
+use Rattle.lvm_session.specs.State.{State}
 use Rattle.lvm_group_lines.specs.passed.Driver.{IsAny}
 use Rattle.lvm_group_lines.specs.passed.Running.{RunsOn}
 use Rattle.lvm_group_lines.proofs.passed.Running.{runs_both, runs_none}
@@ -19,19 +19,19 @@ use Rattle.lvm_range_lines.specs.Waiting.{IsAwaited, TurnsForPosts}
 pub no_wait : (left waits : ℕ) → RoseBy (left - left) waits waits
 no_wait left waits = let none : 0 ≡ left - left = omega arith in subst (λ n. RoseBy n waits waits) none (rose_by_none waits)
 
-pub awaits_range : (post : Post) (left : ℕ) (old new : Session) (answer : Result (Unit {0}) Stuck) → post.ended ≡ None → Path (TurnsFor post.asked) IsAny old new → AwaitEnds post.asked left new answer → AwaitsPost post left old new answer
+pub awaits_range : (post : Post) (left : ℕ) (old new : State) (answer : Result (Unit {0}) Stuck) → post.ended ≡ None → Path (TurnsFor post.asked) IsAny old new → AwaitEnds post.asked left new answer → AwaitsPost post left old new answer
 awaits_range post left old new (Ok done) is turns ends = HasLanded is turns ends refl
 awaits_range post left old new (Err stuck) is turns ends = IsInVain is turns ends.0 ends.1 stuck refl
 
 -- ---- all
 
 -- the turns for one of the posts are turns for all
-for_all : (posts : List Post) (post : Post) (old new : Session) → ((s : Session) → IsUnfinished post.asked s → IsAwaited posts s) → Path (TurnsFor post.asked) IsAny old new → Path (TurnsForPosts posts) IsAny old new
+for_all : (posts : List Post) (post : Post) (old new : State) → ((s : State) → IsUnfinished post.asked s → IsAwaited posts s) → Path (TurnsFor post.asked) IsAny old new → Path (TurnsForPosts posts) IsAny old new
 for_all posts post old _ awaited (Here any) = Here any
 for_all posts post old new awaited (Then {m} before step any) = Then (for_all posts post old m awaited before) (awaited m step.0, step.1) any
 
 -- so far
-pub record AwaitedSoFar (posts : List Post) (first now : Session) (patience left i : ℕ) : Type 0 where
+pub record AwaitedSoFar (posts : List Post) (first now : State) (patience left i : ℕ) : Type 0 where
   pub turns : Path (TurnsForPosts posts) IsAny first now
   pub landed : (k : ℕ) (d : Post) → k < i → (get_or posts k d).ended ≡ None → HavePiecesLanded (get_or posts k d).asked now
   pub table : KeepsTable first.core now.core
@@ -39,7 +39,7 @@ pub record AwaitedSoFar (posts : List Post) (first now : Session) (patience left
   pub fewer : left ≤ patience
   pub waited : RoseBy (patience - left) first.device.counts.waits now.device.counts.waits
 
-pub none_awaited : (posts : List Post) (first : Session) (patience : ℕ) → AwaitedSoFar posts first first patience patience 0
+pub none_awaited : (posts : List Post) (first : State) (patience : ℕ) → AwaitedSoFar posts first first patience patience 0
 none_awaited posts first patience = record {
   turns = Here tt;
   landed = λ k d less. absurd (omega (arith, less));
@@ -49,12 +49,12 @@ none_awaited posts first patience = record {
   waited = no_wait patience first.device.counts.waits;
 }
 
-module _ (posts : List Post) (first old new : Session) (patience left less_left i : ℕ) (d : Post) (within : i < length posts) (so_far : AwaitedSoFar posts first old patience left i)
+module _ (posts : List Post) (first old new : State) (patience left less_left i : ℕ) (d : Post) (within : i < length posts) (so_far : AwaitedSoFar posts first old patience left i)
     (table : KeepsTable old.core new.core) (runs : RunsOn old new) (fewer : less_left ≤ left) (waited : RoseBy (left - less_left) old.device.counts.waits new.device.counts.waits) where
   abbrev post : Post
   post = get_or posts i d
 
-  awaited : post.ended ≡ None → (s : Session) → IsUnfinished post.asked s → IsAwaited posts s
+  awaited : post.ended ≡ None → (s : State) → IsUnfinished post.asked s → IsAwaited posts s
   awaited own s unfinished = record { post = post; among = (i, within, get_or_default posts i post d within); own = own; unfinished = unfinished }
 
   turns_on : post.ended ≡ None → Path (TurnsFor post.asked) IsAny old new → Path (TurnsForPosts posts) IsAny first new
@@ -105,7 +105,7 @@ module _ (posts : List Post) (first old new : Session) (patience left less_left 
   pub waited_now : RoseBy (patience - less_left) first.device.counts.waits new.device.counts.waits
   waited_now = waited_on
 
-pub all_awaited : (posts : List Post) (first now : Session) (patience left i : ℕ) → length posts ≤ i → AwaitedSoFar posts first now patience left i → AwaitsPosts posts left first now (Ok tt)
+pub all_awaited : (posts : List Post) (first now : State) (patience left i : ℕ) → length posts ≤ i → AwaitedSoFar posts first now patience left i → AwaitsPosts posts left first now (Ok tt)
 all_awaited posts first now patience left i over so_far = record {
   turns = so_far.turns;
   ends = λ post among own. let less = among.1 in

@@ -25,7 +25,7 @@ use Rattle.lvm_kept.specs.Committed.{IsWithinDisks}
 use Rattle.lvm_kept.proofs.Finding.{some_same, finding_reads, images_within}
 use Rattle.lvm_commit.specs.Committed.{ShowsCommitted}
 use Rattle.lvm_commit.proofs.Found.{only_found, status_read}
-use Rattle.lvm_invariant.specs.State.{has_notes, has_mark, Marks, Queued, OpenCopy, State, Live, stale_in, told}
+use Rattle.lvm_invariant.specs.State.{has_notes, has_mark, Marks, Queued, OpenCopy, ModelState, Live, stale_in, told}
 use Rattle.lvm_invariant.specs.Sound.{MayDiffer, Agree, Settled, Sound}
 use Rattle.lvm_invariant.specs.Found.{Votes, Found}
 use Rattle.lvm_invariant.specs.Good.{Good}
@@ -93,7 +93,7 @@ its_shape mib IsMade shape row stands = stands
 its_shape mib Open shape row stands = stands
 its_shape mib Absent shape row stands = absurd stands
 
-module _ (votes : Votes) (s : State) (group : Descriptor) (status : Status) (there : Disks) (c : Contents) (are : AreVotesOf group votes) (valid : IsValid group) (within : IsWithinDisks c)
+module _ (votes : Votes) (s : ModelState) (group : Descriptor) (status : Status) (there : Disks) (c : Contents) (are : AreVotesOf group votes) (valid : IsValid group) (within : IsWithinDisks c)
     (enough : CanWrite group there) (shows : ShowsCommitted c group status there) (idle : IsIdle s) (sees : SeesThat s group shows.stands there c) (closed : AreClosed s.facts group)
     (rest : IsAtRest c s.facts group (Some shows.stands) there) where
   abbrev stands : Stamped Status

@@ -19,7 +19,7 @@ use Rattle.lvm_kept.specs.Committed.{IsWithinDisks}
 use Rattle.lvm_commit.specs.Committed.{ShowsCommitted}
 use Rattle.lvm_commit.proofs.Found.{shows_group}
 use Rattle.lvm_steps.proofs.Members.{member_of_parts}
-use Rattle.lvm_invariant.specs.State.{has_notes, has_mark, Marks, State, Live, stale_in, told}
+use Rattle.lvm_invariant.specs.State.{has_notes, has_mark, Marks, ModelState, Live, stale_in, told}
 use Rattle.lvm_invariant.specs.Sound.{MayDiffer, Agree}
 use Rattle.lvm_invariant.specs.Found.{Votes}
 use Rattle.lvm_invariant.specs.Good.{Good}
@@ -37,7 +37,7 @@ not_both : (a b : Bool) → IsFalse a → IsFalse (a && b)
 not_both true b h = absurd cc
 not_both false b h = refl
 
-module _ (votes : Votes) (s : State) (group : Descriptor) (status : Status) (there : Disks) (c : Contents) (are : AreVotesOf group votes) (valid : IsValid group) (within : IsWithinDisks c)
+module _ (votes : Votes) (s : ModelState) (group : Descriptor) (status : Status) (there : Disks) (c : Contents) (are : AreVotesOf group votes) (valid : IsValid group) (within : IsWithinDisks c)
     (shows : ShowsCommitted c group status there) (idle : IsIdle s) (sees : SeesThat s group shows.stands there c) (good : Good votes s) (describes : Describes s s.facts group None c) where
   abbrev stands : Stamped Status
   stands = shows.stands

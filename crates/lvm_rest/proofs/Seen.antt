@@ -17,7 +17,7 @@ use Rattle.lvm_vol.specs.Facts.{Fact}
 use Rattle.lvm_kept.specs.Contents.{Contents}
 use Rattle.lvm_kept.specs.Group.{is_named, IsBlockOf, IsOneOf}
 use Rattle.lvm_kept.proofs.Finding.{some_same}
-use Rattle.lvm_invariant.specs.State.{has_notes, has_mark, State}
+use Rattle.lvm_invariant.specs.State.{has_notes, has_mark, ModelState}
 use Rattle.lvm_crash.specs.Session.{as_marks, marks_of, view_of, members_showing, IsBlockIn}
 use Rattle.lvm_crash.proofs.Lists.{left_of, right_of, both_of}
 use Rattle.lvm_rest.specs.Good.{RestIsSeen}
@@ -85,7 +85,7 @@ row_of (r ∷ rs) lv row is = by (r.number == lv) refl (λ rest. row_of rs lv ro
 
 module _ (facts : List Fact) (group : Descriptor) (stands : Stamped Status) (there : Disks) (c : Contents) (valid : IsValid group) where
   -- the state, of which nothing is under way
-  abbrev seen : State
+  abbrev seen : ModelState
   seen = record {
     media = view_of group c;
     queue = λ i. None;

@@ -45,14 +45,14 @@ use Rattle.lvm_session.specs.declared.bringing.Step.{Step}
 use Rattle.lvm_session.specs.declared.bringing.Step.TheVariants as step
 use Rattle.lvm_session.specs.declared.flown.Owner.{Owner}
 use Rattle.lvm_session.specs.declared.flown.Owner.TheVariants as owner
-use Rattle.lvm_session.specs.State.{Core, State as Session, state}
+use Rattle.lvm_session.specs.State.{Core, State, state}
 use Rattle.lvm_session.specs.Judging.{is_waiting, is_running, is_usable, is_missing, is_caught, is_held_back, copies_for, group_in, mode_of, policy_of, place_of, held_of, facts_of, next_for, aims, IsWithin}
 use Rattle.lvm_session.specs.Bringing.{is_out, is_whole, step_row, groups_of}
 use Rattle.lvm_session.specs.Events.{Admits, Chooses, ChoosesBy, copy_of, last_after, loads_of, makes_dirty, target_at, usable_from, without_pin}
 use Rattle.lvm_session.specs.Marks.{WantsDirty, WantsDirtyIf}
 use Rattle.lvm_session.specs.Requests.{IsPhase, IsRequest}
 use Rattle.lvm_session.specs.Sound.{IsSound}
-use Rattle.lvm_invariant.specs.State.{Marks, Stage, Phase, Held, WantEntry, Ready, Going, Landed, OpenCopy, Queued, State, covers, is_past, has_landed}
+use Rattle.lvm_invariant.specs.State.{Marks, Stage, Phase, Held, WantEntry, Ready, Going, Landed, OpenCopy, Queued, ModelState, covers, is_past, has_landed}
 use Rattle.lvm_invariant.specs.Updates.{is_pp, put}
 use Rattle.lvm_invariant.specs.Sound.{Conflict}
 use Rattle.lvm_invariant.specs.Admit.{Admits as Admitting, admitted}
@@ -143,7 +143,7 @@ phase_well mode.Passive true true = inr (refl, λ w a s. absurd cc)
 phase_well mode.Passive true false = inr (refl, λ w a s. absurd cc)
 phase_well mode.Off true several = inr (refl, λ w a s. absurd cc)
 
-module _ (past : List Fact) (old new : Session) (place : ℕ) (admits : Admits old new place) (tied : IsTied past old) (sound : IsSound new) (rows : HaveRows old.core)
+module _ (past : List Fact) (old new : State) (place : ℕ) (admits : Admits old new place) (tied : IsTied past old) (sound : IsSound new) (rows : HaveRows old.core)
     (waits : is_waiting admits.request ≡ true) (empty : admits.request.got ≡ None) (chosen : AreChosen old.core admits.request admits.targets) where
   abbrev core : Core
   core = old.core
@@ -163,7 +163,7 @@ module _ (past : List Fact) (old new : Session) (place : ℕ) (admits : Admits o
   abbrev ask : Ask
   ask = o.request.ask
 
-  abbrev v : State
+  abbrev v : ModelState
   v = tied.view
 
   abbrev i : ℕ
@@ -326,7 +326,7 @@ module _ (past : List Fact) (old new : Session) (place : ℕ) (admits : Admits o
   abbrev core2 : Core
   core2 = record core { requests = slice_set core.requests place o2; last = last_after core.last (lv_of ask) admits.order; cache = record core.cache { entries = (without_pin core.cache o.request).entries } }
 
-  abbrev w : State
+  abbrev w : ModelState
   w = record v { queue = put v.queue i q2 }
 
   whole : new ≡ state old.device (record core2 { status = new.core.status })
@@ -385,7 +385,7 @@ module _ (past : List Fact) (old new : Session) (place : ℕ) (admits : Admits o
     abbrev stored : Stored
     stored = new.core.status
 
-    abbrev w2 : State
+    abbrev w2 : ModelState
     w2 = after_wants w (marks_of stored.wanted) w.missing w.open_copy
 
     wanted_rest : seen stored ≡ record (seen core.status) { wanted = stored.wanted }
@@ -494,7 +494,7 @@ index_at [] k p d there = absurd (cc there)
 index_at (x ∷ ps) zero p d there = let e : x ≡ p = cc there in e
 index_at (x ∷ ps) (suc k) p d there = index_at ps k p d there
 
-chosen_by : (s : Session) (o : Open) (targets : List Target) (order : List ℕ) → Chooses s o.request.ask targets order → AreChosen s.core o targets
+chosen_by : (s : State) (o : Open) (targets : List Target) (order : List ℕ) → Chooses s o.request.ask targets order → AreChosen s.core o targets
 chosen_by s o targets order chooses = by (is_write ask) refl chooses
   where
     ask : Ask

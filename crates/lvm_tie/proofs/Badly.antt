@@ -30,14 +30,14 @@ use Rattle.lvm_session.specs.declared.bringing.CopyEnd.{CopyEnd}
 use Rattle.lvm_session.specs.declared.flown.Flown.{Flown}
 use Rattle.lvm_session.specs.declared.flown.Owner.{Owner}
 use Rattle.lvm_session.specs.declared.flown.Owner.TheVariants as owner
-use Rattle.lvm_session.specs.State.{Core, State as Session, state, is_there}
+use Rattle.lvm_session.specs.State.{Core, State, state, is_there}
 use Rattle.lvm_session.specs.Judging.{is_missing, is_running}
 use Rattle.lvm_session.specs.Bringing.{copy_ends, with_end}
 use Rattle.lvm_session.specs.Ends.{LosesDisk, NoteLearns, Returns, with_return}
 use Rattle.lvm_session.specs.Marks.{Reviews}
 use Rattle.lvm_session.specs.Sound.{IsGoing, IsSound}
 use Rattle.lvm_keeps_events.proofs.NoteEnd.{beside, none_here, flight_beside}
-use Rattle.lvm_invariant.specs.State.{Groups, Marks, State}
+use Rattle.lvm_invariant.specs.State.{Groups, Marks, ModelState}
 use Rattle.lvm_invariant.specs.EndNote.{after_note}
 use Rattle.lvm_invariant.specs.Events.{EndNote, Want}
 use Rattle.lvm_invariant.specs.Good.{Good}
@@ -76,11 +76,11 @@ end_leaves core (Some how) = by core.copy
     by None = (refl, refl)
     by (Some c) = (refl, refl)
 
-module _ (past : List Fact) (old new : Session) (at disk : ℕ) (row : Flown) (buf : Buffer) (its_owner : row.owner ≡ owner.Note disk) (returns : Returns old new at row false buf) (learned : NoteLearns old.core at disk false buf new.core) (tied : IsTied past old) (sound : IsSound new) where
+module _ (past : List Fact) (old new : State) (at disk : ℕ) (row : Flown) (buf : Buffer) (its_owner : row.owner ≡ owner.Note disk) (returns : Returns old new at row false buf) (learned : NoteLearns old.core at disk false buf new.core) (tied : IsTied past old) (sound : IsSound new) where
   abbrev core : Core
   core = old.core
 
-  abbrev v : State
+  abbrev v : ModelState
   v = tied.view
 
   abbrev group : Descriptor
@@ -199,7 +199,7 @@ module _ (past : List Fact) (old new : Session) (at disk : ℕ) (row : Flown) (b
   wants : Wants v (marks_of status.wanted) missing (open_after how v.open_copy)
   wants = review_is_wanted core2 new.core v missing v.facts members (valid_of old tied.write tied.orderly) tied.describes.volumes shows sees_marks keeps owners brought (none_opened past old tied) review
 
-  abbrev v1 : State
+  abbrev v1 : ModelState
   v1 = after_wants v (marks_of status.wanted) missing (open_after how v.open_copy)
 
   good1 : Good tied.votes v1
@@ -230,7 +230,7 @@ module _ (past : List Fact) (old new : Session) (at disk : ℕ) (row : Flown) (b
   landed : HasLanded v1 group (update_of core.status) f.disk own1.note false (contents_of is)
   landed = has_landed tied.votes v1 group (update_of core.status) old.device new.device.flights tied.media its_end.media f false good1 matches1 its_end.removes own1 its_end.lands (λ there. clash (v1.missing f.disk) gone_now there) (inr gone_now)
 
-  abbrev v2 : State
+  abbrev v2 : ModelState
   v2 = after_note v1 landed.names landed.home (flying_after v1 f.disk)
 
   good2 : Good tied.votes v2
@@ -244,7 +244,7 @@ module _ (past : List Fact) (old new : Session) (at disk : ℕ) (row : Flown) (b
   abbrev over : Bool
   over = losing.over core.status lost status disk group going.fitting.group going.status loses rest
 
-  abbrev v3 : State
+  abbrev v3 : ModelState
   v3 = record v2 { in_flight = option_map as_marks (update_of status) }
 
   update_is : update_of status ≡ (if over then None else update_of core.status)
@@ -485,4 +485,4 @@ module _ (past : List Fact) (old new : Session) (at disk : ℕ) (row : Flown) (b
 
   pub loss_tied : IsTied past new
   unfolding near
-  loss_tied = subst (IsTied past) (sym whole) (near_ties past new.device core3 how near runs (subst (λ (x : Session). IsOrderly x (write_by over)) whole orderly_now))
+  loss_tied = subst (IsTied past) (sym whole) (near_ties past new.device core3 how near runs (subst (λ (x : State). IsOrderly x (write_by over)) whole orderly_now))

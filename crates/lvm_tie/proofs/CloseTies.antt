@@ -11,12 +11,12 @@ use Rattle.lvm_session.specs.declared.flown.Flown.{Flown}
 use Rattle.lvm_session.specs.declared.flown.Owner.{Owner}
 use Rattle.lvm_session.specs.declared.flown.Owner.TheVariants as owner
 use Rattle.lvm_session.specs.declared.answers.CopyState.TheVariants as copy
-use Rattle.lvm_session.specs.State.{Core, State as Session, state}
+use Rattle.lvm_session.specs.State.{Core, State, state}
 use Rattle.lvm_session.specs.Judging.{is_running}
 use Rattle.lvm_session.specs.Bringing.{groups_of, has_row, is_out, is_whole}
 use Rattle.lvm_session.specs.Calls.{Closes, closed, copy_state, state_at_end}
 use Rattle.lvm_session.specs.Sound.{IsSound}
-use Rattle.lvm_invariant.specs.State.{State}
+use Rattle.lvm_invariant.specs.State.{ModelState}
 use Rattle.lvm_tie.specs.Out.{CarriesStep, CarryTheirs}
 use Rattle.lvm_tie.specs.Seen.{IsRequestAt, IsStepAt, Sees, SeesCopy, SeesRunning, step_write_in, step_write_of}
 use Rattle.lvm_tie.specs.Tied.{IsTied}
@@ -48,11 +48,11 @@ step_none c (step.Reading source) h = absurd (cc h)
 step_none c (step.Read buf) h = refl
 step_none c step.Writing h = absurd (cc h)
 
-module _ (past : List Fact) (s : Session) (tied : IsTied past s) (ended : (cursor : ℕ) → copy_state s.core ≡ copy.Running cursor → ⊥) (sound : IsSound (state s.device (closed s.core))) where
+module _ (past : List Fact) (s : State) (tied : IsTied past s) (ended : (cursor : ℕ) → copy_state s.core ≡ copy.Running cursor → ⊥) (sound : IsSound (state s.device (closed s.core))) where
   abbrev core : Core
   core = s.core
 
-  abbrev v : State
+  abbrev v : ModelState
   v = tied.view
 
   not_open : v.open_copy ≡ None

@@ -22,7 +22,7 @@ use Rattle.lvm_session.specs.Judging.{is_running, place_of}
 use Rattle.lvm_session.specs.Bringing.{after_copy_end, block_at, copy_ends, end_by_sources, end_of, ends_if, groups_of, hand_of, has_row, is_cleared, is_out, is_whole, with_back, with_end}
 use Rattle.lvm_session.specs.Judging.{is_missing}
 use Rattle.lvm_session.specs.declared.bringing.CopyEnd.TheVariants as ending
-use Rattle.lvm_invariant.specs.State.{OpenCopy, Queued, State, has_landed}
+use Rattle.lvm_invariant.specs.State.{OpenCopy, Queued, ModelState, has_landed}
 use Rattle.lvm_invariant.specs.Good.{Good}
 use Rattle.lvm_invariant.specs.EndStep.{StepEnds}
 use Rattle.lvm_invariant.specs.Take.{Takes, taken}
@@ -90,7 +90,7 @@ module _ (past : List Fact) (device : Device) (core : Core) (how : CopyEnd) (nea
   abbrev c : Bringing
   c = its.copy
 
-  abbrev v : State
+  abbrev v : ModelState
   v = near.view
 
   none : v.open_copy ≡ None
@@ -186,14 +186,14 @@ module _ (past : List Fact) (device : Device) (core : Core) (how : CopyEnd) (nea
   write_in : is_out c.step ≡ false → v.step_write ≡ None
   write_in out = near.sees.step_write ∙ ap step_write_in its.is_open ∙ no_write c c.step out
 
-  carries_in : (w : State) (g : Flight) (o : Owner) → CarriesStep core v g o → CarriesStep core_in w g o
+  carries_in : (w : ModelState) (g : Flight) (o : Owner) → CarriesStep core v g o → CarriesStep core_in w g o
   carries_in w g (owner.Data id number) carried = carried
   carries_in w g (owner.Status disk) carried = carried
   carries_in w g (owner.Note disk) carried = carried
   carries_in w g owner.Copy carried = λ d q is writing at. absurd (let e : step.Idle ≡ step.Writing = ap (λ (x : Bringing). x.step) (some_of c_in d is) ∙ writing in cc)
 
   -- so it is tied, if the state sees it so
-  tied_in : (w : State) → Sees past core_in w → Good near.votes w → Describes w w.facts core.descriptor (update_of core.status) (contents_of (image_of device.sizes near.media)) → IsOrderly (state device core_in) near.write → IsTied past (state device core_in)
+  tied_in : (w : ModelState) → Sees past core_in w → Good near.votes w → Describes w w.facts core.descriptor (update_of core.status) (contents_of (image_of device.sizes near.media)) → IsOrderly (state device core_in) near.write → IsTied past (state device core_in)
   tied_in w sees good describes orderly = record {
     votes = near.votes;
     media = near.media;
@@ -244,10 +244,10 @@ module _ (past : List Fact) (device : Device) (core : Core) (how : CopyEnd) (nea
     sees_q : SeesStep core c q
     sees_q = (near.sees.queue.a_step c its.is_open row).2
 
-    abbrev landed : State
+    abbrev landed : ModelState
     landed = with_req v i (land q)
 
-    abbrev w : State
+    abbrev w : ModelState
     w = taken landed i (land q)
 
     itself : (i == i) ≡ true

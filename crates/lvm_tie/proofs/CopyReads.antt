@@ -20,13 +20,13 @@ use Rattle.lvm_session.specs.declared.bringing.OpenCopy.{OpenCopy as Bringing}
 use Rattle.lvm_session.specs.declared.bringing.Step.{Step}
 use Rattle.lvm_session.specs.declared.bringing.Step.TheVariants as step
 use Rattle.lvm_session.specs.declared.flown.Owner.TheVariants as owner
-use Rattle.lvm_session.specs.State.{Core, State as Session}
+use Rattle.lvm_session.specs.State.{Core, State}
 use Rattle.lvm_session.specs.Judging.{copies_in, held_of, is_missing, is_running, is_stale, is_usable, is_waiting, place_of}
 use Rattle.lvm_session.specs.Bringing.{block_at, groups_of, has_row, is_idle, is_out, is_whole, step_of}
 use Rattle.lvm_session.specs.Enabled.{is_free_step}
 use Rattle.lvm_session.specs.Events.{ReadsCopy, flown}
 use Rattle.lvm_session.specs.Sound.{IsSound}
-use Rattle.lvm_invariant.specs.State.{Badly, Flying, Going, Held, Landed, Phase, Queued, Ready, Stage, State, Todo, WantEntry, has_landed, is_past, is_usable as sees_usable}
+use Rattle.lvm_invariant.specs.State.{Badly, Flying, Going, Held, Landed, Phase, Queued, Ready, Stage, ModelState, Todo, WantEntry, has_landed, is_past, is_usable as sees_usable}
 use Rattle.lvm_invariant.specs.Updates.{is_pp, put, with_req}
 use Rattle.lvm_invariant.specs.Sound.{Conflict}
 use Rattle.lvm_invariant.specs.Admit.{admitted}
@@ -60,11 +60,11 @@ found_source t u (x ∷ ps) p is = by (u x) refl is (found_source t u ps p)
     by true passes h rest = here (t x) passes h rest
     by false passes h rest = let r = rest h in (inr r.0, r.1)
 
-module _ (past : List Fact) (old new : Session) (tied : IsTied past old) (sound : IsSound new) (reads : ReadsCopy old new) where
+module _ (past : List Fact) (old new : State) (tied : IsTied past old) (sound : IsSound new) (reads : ReadsCopy old new) where
   abbrev core : Core
   core = old.core
 
-  abbrev v : State
+  abbrev v : ModelState
   v = tied.view
 
   abbrev c : Bringing
@@ -151,10 +151,10 @@ module _ (past : List Fact) (old new : Session) (tied : IsTied past old) (sound 
   abbrev q2 : Queued
   q2 = reading q1 source Flying None
 
-  abbrev v1 : State
+  abbrev v1 : ModelState
   v1 = with_req v i q1
 
-  abbrev w : State
+  abbrev w : ModelState
   w = with_req v1 i q2
 
   -- nothing earlier is in its way
@@ -284,7 +284,7 @@ module _ (past : List Fact) (old new : Session) (tied : IsTied past old) (sound 
       by false bad = absurd (cc bad)
 
   sees_w : Sees past (record core { pool = new.core.pool; flying = core.flying ++ flown reads.flight.ticket reads.flight.disk owner.Copy ∷ []; copy = Some (record c { step = step.Reading source }) }) w
-  sees_w = subst (λ (x : State). Sees past (record core { pool = new.core.pool; flying = core.flying ++ flown reads.flight.ticket reads.flight.disk owner.Copy ∷ []; copy = Some (record c { step = step.Reading source }) }) x) (sym w_is)
+  sees_w = subst (λ (x : ModelState). Sees past (record core { pool = new.core.pool; flying = core.flying ++ flown reads.flight.ticket reads.flight.disk owner.Copy ∷ []; copy = Some (record c { step = step.Reading source }) }) x) (sym w_is)
       (sees_step_on past core v c (step.Reading source) new.core.pool (core.flying ++ flown reads.flight.ticket reads.flight.disk owner.Copy ∷ []) w.queue q2 tied.sees reads.is_open row refl
       (put_here v1.queue q2) (λ j ne. put_there v1.queue q2 j ne ∙ put_there v.queue q1 j ne)
       (record { lv = sees.lv; first = sees.first; count = sees.count; write = sees.write; step = sees.step; hand = (refl, ap (λ b. if b then Some Flying else targets source) own_source); failed = none_failed }))

@@ -15,12 +15,12 @@ use Rattle.lvm_session.specs.declared.bringing.Step.TheVariants as step
 use Rattle.lvm_session.specs.declared.flown.Flown.{Flown}
 use Rattle.lvm_session.specs.declared.flown.Owner.{Owner}
 use Rattle.lvm_session.specs.declared.flown.Owner.TheVariants as owner
-use Rattle.lvm_session.specs.State.{Core, State as Session, state}
+use Rattle.lvm_session.specs.State.{Core, State, state}
 use Rattle.lvm_session.specs.Judging.{is_running, place_of}
 use Rattle.lvm_session.specs.Bringing.{block_at, groups_of, has_row, is_out}
 use Rattle.lvm_session.specs.Events.{flown}
 use Rattle.lvm_session.specs.Sound.{IsSound}
-use Rattle.lvm_invariant.specs.State.{Flying, Going, Groups, Held, Landed, Phase, Queued, Ready, Stage, State, StepWrite, Todo, WantEntry, covers, has_landed, is_past, is_usable as sees_usable}
+use Rattle.lvm_invariant.specs.State.{Flying, Going, Groups, Held, Landed, Phase, Queued, Ready, Stage, ModelState, StepWrite, Todo, WantEntry, covers, has_landed, is_past, is_usable as sees_usable}
 use Rattle.lvm_invariant.specs.Good.{Good}
 use Rattle.lvm_crash.specs.Session.{Describes, members_showing}
 use Rattle.lvm_tie.specs.Out.{CarriesStep, CarryTheirs, MayUpdate}
@@ -35,7 +35,7 @@ running_on : (b : Bool) (groups : ℕ) (c : Bringing) (st : Step) (open_copy : O
 running_on true groups c st open_copy sees = record { copy = sees.copy; is_open = sees.is_open; target = sees.target; passed = sees.passed }
 running_on false groups c st open_copy sees = sees
 
-module _ (past : List Fact) (core : Core) (v : State) (c : Bringing) (st : Step) (pool : List Bool) (flying : List Flown) (queue : ℕ → Option Queued) (q2 : Queued) (sees : Sees past core v) (is : core.copy ≡ Some c)
+module _ (past : List Fact) (core : Core) (v : ModelState) (c : Bringing) (st : Step) (pool : List Bool) (flying : List Flown) (queue : ℕ → Option Queued) (q2 : Queued) (sees : Sees past core v) (is : core.copy ≡ Some c)
     (row : has_row core c ≡ true) (row_now : has_row core (record c { step = st }) ≡ true) (here : queue c.place ≡ Some q2) (elsewhere : (j : ℕ) → (j ≡ c.place → ⊥) → queue j ≡ v.queue j) (its : SeesStep core (record c { step = st }) q2) where
   abbrev c2 : Bringing
   c2 = record c { step = st }
@@ -43,7 +43,7 @@ module _ (past : List Fact) (core : Core) (v : State) (c : Bringing) (st : Step)
   abbrev core2 : Core
   core2 = record core { pool = pool; flying = flying; copy = Some c2 }
 
-  abbrev w : State
+  abbrev w : ModelState
   w = record v { queue = queue; step_write = step_write_of c2 st }
 
   apart : (k : ℕ) (p : Open) → slice_get core.requests k ≡ Some p → place_of p.request.id ≡ c.place → ⊥
@@ -77,7 +77,7 @@ module _ (past : List Fact) (core : Core) (v : State) (c : Bringing) (st : Step)
   }
 
 -- what a start of the copy's changes of the shelf and of what is out
-module _ (past : List Fact) (old : Session) (device : Device) (c : Bringing) (st : Step) (pool : List Bool) (f : Flight) (tied : IsTied past old) (is : old.core.copy ≡ Some c) (starts : Starts old.device device f) (low : data_start ≤ f.first)
+module _ (past : List Fact) (old : State) (device : Device) (c : Bringing) (st : Step) (pool : List Bool) (f : Flight) (tied : IsTied past old) (is : old.core.copy ≡ Some c) (starts : Starts old.device device f) (low : data_start ≤ f.first)
     (row : has_row old.core c ≡ true) (not_out : is_out c.step ≡ false) where
   abbrev flown_row : Flown
   flown_row = flown f.ticket f.disk owner.Copy
@@ -94,7 +94,7 @@ module _ (past : List Fact) (old : Session) (device : Device) (c : Bringing) (st
   sizes_is : device.sizes ≡ old.device.sizes
   sizes_is = ap (λ (d : Device). d.sizes) starts.new_is
 
-  module _ (w : State) (carries : CarriesStep new w f owner.Copy) where
+  module _ (w : ModelState) (carries : CarriesStep new w f owner.Copy) where
     carry_on : (fs : List Flight) (rows : List Flown) → AreOut old.core tied.write fs rows → CarryTheirs new w (fs ++ f ∷ []) (rows ++ flown_row ∷ [])
     carry_on [] [] out = (carries, tt)
     carry_on [] (r ∷ rows) out = absurd out

@@ -10,12 +10,12 @@ use Rattle.lvm_session.specs.declared.bringing.OpenCopy.{OpenCopy as Bringing}
 use Rattle.lvm_session.specs.declared.bringing.Step.{Step}
 use Rattle.lvm_session.specs.declared.bringing.Step.TheVariants as step
 use Rattle.lvm_session.specs.declared.flown.Owner.TheVariants as owner
-use Rattle.lvm_session.specs.State.{Core, State as Session}
+use Rattle.lvm_session.specs.State.{Core, State}
 use Rattle.lvm_session.specs.Judging.{is_running}
 use Rattle.lvm_session.specs.Bringing.{block_at, hand_of, has_row, is_idle, is_out, is_whole}
 use Rattle.lvm_session.specs.Events.{WritesCopy, flown}
 use Rattle.lvm_session.specs.Sound.{IsCopy, IsSound}
-use Rattle.lvm_invariant.specs.State.{Queued, State, StepWrite, is_past}
+use Rattle.lvm_invariant.specs.State.{Queued, ModelState, StepWrite, is_past}
 use Rattle.lvm_invariant.specs.CopyWrite.{copied}
 use Rattle.lvm_invariant.specs.Events.{CopyWrite, Step as GoodStep}
 use Rattle.lvm_invariant.proofs.Each.{each_keeps}
@@ -29,11 +29,11 @@ use Rattle.lvm_tie.proofs.Words.{or_true}
 use Rattle.lvm_tie.specs.Starts.{CopyWriteTies}
 use Rattle.lvm_tie.proofs.CopySteps.{copy_started, sees_step_on}
 
-module _ (past : List Fact) (old new : Session) (tied : IsTied past old) (sound : IsSound new) (writes : WritesCopy old new) where
+module _ (past : List Fact) (old new : State) (tied : IsTied past old) (sound : IsSound new) (writes : WritesCopy old new) where
   abbrev core : Core
   core = old.core
 
-  abbrev v : State
+  abbrev v : ModelState
   v = tied.view
 
   abbrev c : Bringing
@@ -69,7 +69,7 @@ module _ (past : List Fact) (old new : Session) (tied : IsTied past old) (sound 
   abbrev step_write : Option StepWrite
   step_write = Some (record { target = c.pp; place = c.place })
 
-  abbrev w : State
+  abbrev w : ModelState
   w = copied v v.media.block v.open_copy step_write
 
   write_step : GoodStep tied.votes (CopyWrite c.place q value c.pp v.open_copy step_write v.media.block) v w

@@ -8,12 +8,12 @@ use Rattle.lvm_status.specs.Update.{Stored}
 use Rattle.lvm_session.specs.declared.bringing.OpenCopy.{OpenCopy as Bringing}
 use Rattle.lvm_session.specs.declared.bringing.CopyEnd.TheVariants as ending
 use Rattle.lvm_session.specs.declared.bringing.Step.TheVariants as step
-use Rattle.lvm_session.specs.State.{Core, State as Session, state}
+use Rattle.lvm_session.specs.State.{Core, State, state}
 use Rattle.lvm_session.specs.Bringing.{is_idle, is_whole, marked_by_end, with_end}
 use Rattle.lvm_session.specs.Ends.{with_copy, with_return}
 use Rattle.lvm_session.specs.Sound.{IsSound}
 use Rattle.lvm_keeps_events.specs.Ends.{EndsWrite}
-use Rattle.lvm_invariant.specs.State.{State}
+use Rattle.lvm_invariant.specs.State.{ModelState}
 use Rattle.lvm_tie.specs.Tied.{IsTied}
 use Rattle.lvm_tie.proofs.Judged.{copy_is}
 use Rattle.lvm_tie.proofs.Words.{clash}
@@ -21,8 +21,8 @@ use Rattle.lvm_tie.proofs.Landed.{landed_write}
 use Rattle.lvm_tie.proofs.Stepped.{ended_ties, wanted_stale}
 use Rattle.lvm_tie.specs.Steps.{CopyWriteFailTies}
 
-module _ (past : List Fact) (old new : Session) (at : ℕ) (tied : IsTied past old) (sound : IsSound new) (sectors : HasSectors new.device) (event : EndsWrite old new at) where
-  abbrev v : State
+module _ (past : List Fact) (old new : State) (at : ℕ) (tied : IsTied past old) (sound : IsSound new) (sectors : HasSectors new.device) (event : EndsWrite old new at) where
+  abbrev v : ModelState
   v = tied.view
 
   abbrev c : Bringing

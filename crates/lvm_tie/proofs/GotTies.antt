@@ -21,10 +21,10 @@ use Rattle.lvm_path.specs.Asks.{at_of, count_of, is_write}
 use Rattle.lvm_path.specs.Targets.{is_begun, is_done}
 use Rattle.lvm_path.specs.Next.{next_in, next_data, next_read}
 use Rattle.lvm_session.specs.declared.open.Open.{Open}
-use Rattle.lvm_session.specs.State.{Core, State as Session}
+use Rattle.lvm_session.specs.State.{Core, State}
 use Rattle.lvm_session.specs.Judging.{is_waiting, place_of, facts_of}
 use Rattle.lvm_session.specs.Events.{Lands, got_blocks}
-use Rattle.lvm_invariant.specs.State.{Badly, Queued, State, is_past}
+use Rattle.lvm_invariant.specs.State.{Badly, Queued, ModelState, is_past}
 use Rattle.lvm_invariant.specs.Updates.{landed}
 use Rattle.lvm_invariant.specs.LandGot.{LandsGot}
 use Rattle.lvm_invariant.specs.LandReadFailed.{ReadFails}
@@ -93,7 +93,7 @@ failed_by target.Flying d f w = absurd cc
 failed_by target.Done d f w = absurd cc
 failed_by target.Failed d f w = refl
 
-module _ (past : List Fact) (old new : Session) (place : ℕ) (result : Outcome) (lands : Lands old new place result) (tied : IsTied past old) (waits : is_waiting lands.request ≡ true)
+module _ (past : List Fact) (old new : State) (place : ℕ) (result : Outcome) (lands : Lands old new place result) (tied : IsTied past old) (waits : is_waiting lands.request ≡ true)
     (moving : lands.request.request.phase ≡ phase.Data) (reads : is_write lands.request.request.ask ≡ false) (begun : is_begun lands.request.request.targets.items ≡ true) where
   abbrev o : Open
   o = lands.request
@@ -101,7 +101,7 @@ module _ (past : List Fact) (old new : Session) (place : ℕ) (result : Outcome)
   abbrev ts : List Target
   ts = o.request.targets.items
 
-  abbrev v : State
+  abbrev v : ModelState
   v = tied.view
 
   abbrev i : ℕ

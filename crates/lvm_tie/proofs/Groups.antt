@@ -12,7 +12,7 @@ use Rattle.lvm_status.specs.Update.{Stored}
 use Rattle.lvm_session.specs.declared.open.Open.{Open}
 use Rattle.lvm_session.specs.declared.bringing.OpenCopy.{OpenCopy as Bringing}
 use Rattle.lvm_session.specs.declared.bringing.CopyEnd.{CopyEnd}
-use Rattle.lvm_session.specs.State.{Core, State as Session, state}
+use Rattle.lvm_session.specs.State.{Core, State, state}
 use Rattle.lvm_session.specs.Judging.{place_of}
 use Rattle.lvm_session.specs.Bringing.{block_at, copy_ends, groups_of, has_row, is_done_end, is_whole, marked_by_end, step_place, with_copy_end, with_end}
 use Rattle.lvm_session.specs.Ends.{with_step}
@@ -20,7 +20,7 @@ use Rattle.lvm_session.specs.Marks.{Reviews, is_entailed}
 use Rattle.lvm_session.specs.Sound.{IsSound}
 use Rattle.lvm_submit.proofs.Numbered.{below_next}
 use Rattle.lvm_keeps_events.specs.EndsGroup.{EndsGroup}
-use Rattle.lvm_invariant.specs.State.{Held, Queued, State}
+use Rattle.lvm_invariant.specs.State.{Held, Queued, ModelState}
 use Rattle.lvm_invariant.specs.EnterStep.{StepEnters, entered}
 use Rattle.lvm_invariant.specs.Updates.{put, with_name}
 use Rattle.lvm_tie.specs.Seen.{IsRequestAt, IsStepAt, SeesRunning, update_of}
@@ -34,12 +34,12 @@ use Rattle.lvm_tie.proofs.Landed.{landed_write, now, q}
 use Rattle.lvm_tie.proofs.Stepped.{IsStepped, apart, ended_ties, stepped_ties, wanted_stale}
 use Rattle.lvm_tie.proofs.Passing.{d, goes, its, landed, left, member, mid, o2, part, stands_left, there}
 
-module _ (past : List Fact) (old new : Session) (at : ℕ) (tied : IsTied past old) (sound : IsSound new) (sectors : HasSectors new.device) (event : EndsGroup old new at)
+module _ (past : List Fact) (old new : State) (at : ℕ) (tied : IsTied past old) (sound : IsSound new) (sectors : HasSectors new.device) (event : EndsGroup old new at)
     (short : is_whole old.core (d past old new at tied sectors event) ≡ false) where
   abbrev core : Core
   core = old.core
 
-  abbrev v : State
+  abbrev v : ModelState
   v = tied.view
 
   abbrev c : Bringing
@@ -97,7 +97,7 @@ module _ (past : List Fact) (old new : Session) (at : ℕ) (tied : IsTied past o
   abbrev next : Queued
   next = record { lv = c.lv; first = block_at core e; count = 256; write = false; step = true; value = λ b. []; phase = Held; several = false; targets = λ p. None; got = None }
 
-  abbrev was : State
+  abbrev was : ModelState
   was = left past old new at tied sectors event
 
   low : (k : ℕ) (p : Open) → slice_get core.requests k ≡ Some p → place_of p.request.id < i

@@ -29,10 +29,10 @@ use Rattle.lvm_path.specs.declared.target.Target.{Target}
 use Rattle.lvm_path.specs.Asks.{lv_of, at_of, count_of}
 use Rattle.lvm_session.specs.declared.open.Open.{Open}
 use Rattle.lvm_session.specs.declared.bringing.OpenCopy.{OpenCopy as Bringing}
-use Rattle.lvm_session.specs.State.{Core, State as Session, is_there}
+use Rattle.lvm_session.specs.State.{Core, State, is_there}
 use Rattle.lvm_session.specs.Judging.{copies_in, copies_for, group_in, is_usable, is_stale, is_missing, is_wanted_stale, is_settled, is_running, is_caught, is_waiting, IsWithin}
 use Rattle.lvm_session.specs.Bringing.{groups_of}
-use Rattle.lvm_invariant.specs.State.{Marks, OpenCopy, State, is_usable as sees_usable, is_settled_stale, stale_in, HasPassed}
+use Rattle.lvm_invariant.specs.State.{Marks, OpenCopy, ModelState, is_usable as sees_usable, is_settled_stale, stale_in, HasPassed}
 use Rattle.lvm_crash.specs.Session.{as_marks, members_showing}
 use Rattle.lvm_tie_shelf.proofs.Copies.{copy_placed, one_block}
 use Rattle.lvm_tie_shelf.proofs.Writing.{and_both, pp_same, same_pp}
@@ -85,8 +85,8 @@ its_partition core c its = record { row = its.row; volume = its.volume; lp = its
     by true there = absurd (cc there)
     by false there = one_at (copies_of its.row c.lp) (c.copy - 1) c.pp (sym (ap (λ (o : Option LvRow). slice_get (option_map_or (λ (row : LvRow). copies_of row c.lp) o []) (c.copy - 1)) its.volume) ∙ there)
 
-module _ (past : List Fact) (s : Session) (tied : IsTied past s) where
-  abbrev v : State
+module _ (past : List Fact) (s : State) (tied : IsTied past s) where
+  abbrev v : ModelState
   v = tied.view
 
   abbrev core : Core

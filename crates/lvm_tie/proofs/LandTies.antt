@@ -29,11 +29,11 @@ use Rattle.lvm_session.specs.declared.bringing.Step.{Step}
 use Rattle.lvm_session.specs.declared.bringing.Step.TheVariants as step
 use Rattle.lvm_session.specs.declared.flown.Owner.{Owner}
 use Rattle.lvm_session.specs.declared.flown.Owner.TheVariants as owner
-use Rattle.lvm_session.specs.State.{Core, State as Session, state}
+use Rattle.lvm_session.specs.State.{Core, State, state}
 use Rattle.lvm_session.specs.Judging.{is_running, place_of, IsWithin}
 use Rattle.lvm_session.specs.Bringing.{is_out, is_whole}
 use Rattle.lvm_session.specs.Events.{Lands, after_landing, got_blocks, landed_as, without_pin}
-use Rattle.lvm_invariant.specs.State.{Queued, State}
+use Rattle.lvm_invariant.specs.State.{Queued, ModelState}
 use Rattle.lvm_invariant.specs.Updates.{put, land, landed}
 use Rattle.lvm_invariant.specs.Events.{Event, Step as GoodStep}
 use Rattle.lvm_invariant.proofs.Each.{each_keeps}
@@ -59,12 +59,12 @@ use Rattle.lvm_invariant.specs.Events.{LandNoFresh}
 some_of : {X : Type 0} (a b : X) → Some a ≡ Some b → a ≡ b
 some_of a b e = cc
 
-module _ (past : List Fact) (old new : Session) (place : ℕ) (how : Outcome) (lands : Lands old new place how) (tied : IsTied past old) (q : Queued) (event : Event) (numbers : HaveNumbers old.core)
+module _ (past : List Fact) (old new : State) (place : ℕ) (how : Outcome) (lands : Lands old new place how) (tied : IsTied past old) (q : Queued) (event : Event) (numbers : HaveNumbers old.core)
     (at : tied.view.queue (place_of lands.request.request.id) ≡ Some q) (sees : SeesRequest lands.request q) where
   abbrev core : Core
   core = old.core
 
-  abbrev v : State
+  abbrev v : ModelState
   v = tied.view
 
   abbrev o : Open
@@ -97,7 +97,7 @@ module _ (past : List Fact) (old new : Session) (place : ℕ) (how : Outcome) (l
   abbrev core2 : Core
   core2 = record core1 { history = with_fact core.history fact }
 
-  abbrev w : State
+  abbrev w : ModelState
   w = landed v i q (v.facts ++ told ∷ [])
 
   sees2 : SeesRequest o2 q2
@@ -136,7 +136,7 @@ module _ (past : List Fact) (old new : Session) (place : ℕ) (how : Outcome) (l
     write = tied.write;
     since = tied.since;
     recorded = tied.recorded;
-    orderly = subst (λ (x : Session). IsOrderly x tied.write) whole orderly;
+    orderly = subst (λ (x : State). IsOrderly x tied.write) whole orderly;
     copy_aimed = tied.copy_aimed;
     carry = carry_on core core2 v w old.device.flights core.flying carries tied.carry;
     notes = tied.notes;
@@ -210,7 +210,7 @@ none_found k r phase.WantStatus writes h = by k.marked k.kept h
     by false c h = absurd cc
 none_found k r phase.Landed writes h = absurd cc
 
-module _ (past : List Fact) (old new : Session) (place : ℕ) (how : Outcome) (lands : Lands old new place how) (tied : IsTied past old) (inside : IsWithin old.core.descriptor lands.request.request.ask) (is : how ≡ outcome.NoFresh)
+module _ (past : List Fact) (old new : State) (place : ℕ) (how : Outcome) (lands : Lands old new place how) (tied : IsTied past old) (inside : IsWithin old.core.descriptor lands.request.request.ask) (is : how ≡ outcome.NoFresh)
     (writes : (lands.request.request.phase ≡ phase.WantEntry) ⊎ (lands.request.request.phase ≡ phase.WantRecord) → is_write lands.request.request.ask ≡ true) where
   finds_none : (q : Queued) → tied.view.queue (place_of lands.request.request.id) ≡ Some q → SeesRequest lands.request q → FindsNoFresh tied.view (place_of lands.request.request.id) q
   finds_none q at sees = by (none_found (facts_of old.core lands.request.request) lands.request.request lands.request.request.phase writes (lands.lands ∙ ap next.Land is))
@@ -227,7 +227,7 @@ module _ (past : List Fact) (old new : Session) (place : ℕ) (how : Outcome) (l
   pub no_fresh_ties : lands.request.got ≡ None → is_begun lands.request.request.targets.items ≡ false → IsOrderly new tied.write → IsTied past new
   no_fresh_ties empty early orderly =
       let o : Open = lands.request in
-      let v : State = tied.view in
+      let v : ModelState = tied.view in
       let seen = tied.sees.queue.requests place o lands.there in
       let q : Queued = seen.0 in
       let i : ℕ = place_of o.request.id in

@@ -28,12 +28,12 @@ use Rattle.lvm_session.specs.declared.bringing.Step.{Step}
 use Rattle.lvm_session.specs.declared.bringing.Step.TheVariants as step
 use Rattle.lvm_session.specs.declared.flown.Flown.{Flown}
 use Rattle.lvm_session.specs.declared.flown.Owner.TheVariants as owner
-use Rattle.lvm_session.specs.State.{Core, State as Session}
+use Rattle.lvm_session.specs.State.{Core, State}
 use Rattle.lvm_session.specs.Judging.{is_running}
 use Rattle.lvm_session.specs.Bringing.{has_row, is_out, is_whole}
 use Rattle.lvm_session.specs.Ends.{Returns}
 use Rattle.lvm_session.specs.Events.{IsCopyTransfer}
-use Rattle.lvm_invariant.specs.State.{OpenCopy, Queued, State, is_past}
+use Rattle.lvm_invariant.specs.State.{OpenCopy, Queued, ModelState, is_past}
 use Rattle.lvm_invariant.specs.CopyWrite.{copied}
 use Rattle.lvm_invariant.specs.Events.{CopyWrite}
 use Rattle.lvm_invariant.proofs.Each.{each_keeps}
@@ -65,7 +65,7 @@ row_of core w (g ∷ gs) after f [] out = absurd out
 row_of core w (g ∷ gs) after f (r ∷ rs) out = let x = row_of core w gs after f rs out.2 in (suc x.0, x.1, x.2, x.3)
 
 -- what it carries, if it is a step's
-carried : (core : Core) (w : Option RecordWrite) (v : State) (before after : List Flight) (f : Flight) (rows : List Flown) (index : ℕ) (row : Flown)
+carried : (core : Core) (w : Option RecordWrite) (v : ModelState) (before after : List Flight) (f : Flight) (rows : List Flown) (index : ℕ) (row : Flown)
     → AreOut core w (before ++ f ∷ after) rows → HaveTickets rows → slice_get rows index ≡ Some row → f.ticket ≡ row.ticket → CarryTheirs core v (before ++ f ∷ after) rows → CarriesStep core v f row.owner
 carried core w v [] after f [] index row out tickets there same carry = absurd out
 carried core w v [] after f (r ∷ rs) zero row out tickets there same carry = subst (λ (x : Flown). CarriesStep core v f x.owner) (some_of r row there) carry.0
@@ -101,12 +101,12 @@ busy core c step.Writing f out = refl
 
 -- ---- the transfer
 
-module _ (past : List Fact) (old new : Session) (at : ℕ) (row : Flown) (ok : Bool) (buf : Buffer) (tied : IsTied past old) (returns : Returns old new at row ok buf) (own : row.owner ≡ owner.Copy)
+module _ (past : List Fact) (old new : State) (at : ℕ) (row : Flown) (ok : Bool) (buf : Buffer) (tied : IsTied past old) (returns : Returns old new at row ok buf) (own : row.owner ≡ owner.Copy)
     (c : Bringing) (is_open : old.core.copy ≡ Some c) where
   abbrev core : Core
   core = old.core
 
-  abbrev pub v : State
+  abbrev pub v : ModelState
   v = tied.view
 
   pub ended : HasEnded old.device new.device row.ticket ok buf tied.media

@@ -18,10 +18,10 @@ use Rattle.lvm_path.specs.Asks.{lv_of, at_of, count_of, is_write}
 use Rattle.lvm_path.specs.Targets.{is_begun, is_over, is_failed, are_over}
 use Rattle.lvm_path.specs.Next.{next_in}
 use Rattle.lvm_session.specs.declared.open.Open.{Open}
-use Rattle.lvm_session.specs.State.{Core, State as Session}
+use Rattle.lvm_session.specs.State.{Core, State}
 use Rattle.lvm_session.specs.Judging.{place_of, is_sure, is_settled, is_kept, is_marked, counts_failed, all_but_sure, facts_of}
 use Rattle.lvm_session.specs.Events.{Lands, got_blocks}
-use Rattle.lvm_invariant.specs.State.{Stage, Well, Badly, Queued, State, HasPassed, Started}
+use Rattle.lvm_invariant.specs.State.{Stage, Well, Badly, Queued, ModelState, HasPassed, Started}
 use Rattle.lvm_invariant.specs.Updates.{is_pp, landed}
 use Rattle.lvm_invariant.specs.LandDone.{IsDropped, LandsDone}
 use Rattle.lvm_invariant.specs.LandLost.{LandsLost}
@@ -80,7 +80,7 @@ settled_or : (failed wanted settled : Bool) → failed ≡ true → (not (failed
 settled_or true wanted settled h is = is
 settled_or false wanted settled h is = absurd cc
 
-module _ (past : List Fact) (old new : Session) (place : ℕ) (result : Outcome) (lands : Lands old new place result) (tied : IsTied past old) (waits : lands.request.request.phase ≡ phase.WantStatus) (writes : is_write lands.request.request.ask ≡ true)
+module _ (past : List Fact) (old new : State) (place : ℕ) (result : Outcome) (lands : Lands old new place result) (tied : IsTied past old) (waits : lands.request.request.phase ≡ phase.WantStatus) (writes : is_write lands.request.request.ask ≡ true)
     (begun : is_begun lands.request.request.targets.items ≡ true) (over : are_over lands.request.request.targets.items ≡ true)
     (uncaught : (t : Target) → IsOneOf lands.request.request.targets.items t → (is_failed t.state ≡ true) ⊎ (is_kept old.core lands.request.request ≡ false)
     → HasPassed tied.view (lv_of lands.request.request.ask) (track_group_of (at_of lands.request.request.ask)) t.pp → ⊥)
@@ -94,7 +94,7 @@ module _ (past : List Fact) (old new : Session) (place : ℕ) (result : Outcome)
   abbrev ts : List Target
   ts = o.request.targets.items
 
-  abbrev v : State
+  abbrev v : ModelState
   v = tied.view
 
   abbrev i : ℕ

@@ -33,11 +33,11 @@ use Rattle.lvm_session.specs.declared.open.Open.{Open}
 use Rattle.lvm_session.specs.declared.flown.Flown.{Flown}
 use Rattle.lvm_session.specs.declared.flown.Owner.{Owner}
 use Rattle.lvm_session.specs.declared.flown.Owner.TheVariants as owner
-use Rattle.lvm_session.specs.State.{Core, State as Session, state, is_there}
+use Rattle.lvm_session.specs.State.{Core, State, state, is_there}
 use Rattle.lvm_session.specs.Judging.{is_missing, group_of, is_waiting, IsWithin}
 use Rattle.lvm_session.specs.Enabled.{wants_record, is_unnamed, note_due}
 use Rattle.lvm_session.specs.Events.{with_flight, flown, StartsNote}
-use Rattle.lvm_invariant.specs.State.{Groups, State}
+use Rattle.lvm_invariant.specs.State.{Groups, ModelState}
 use Rattle.lvm_invariant.specs.StartNote.{StartsNote as NoteStarts}
 use Rattle.lvm_invariant.specs.Events.{StartNote}
 use Rattle.lvm_invariant.proofs.Each.{each_keeps}
@@ -122,8 +122,8 @@ flight_none : (o : Option (ArrayVec NoteEntry)) → is_none o ≡ true → o ≡
 flight_none None h = refl
 flight_none (Some x) h = absurd cc
 
-module _ (past : List Fact) (old new : Session) (place disk : ℕ) (starts : StartsNote old new place disk) (tied : IsTied past old) (sound : IsSound new) where
-  abbrev v : State
+module _ (past : List Fact) (old new : State) (place disk : ℕ) (starts : StartsNote old new place disk) (tied : IsTied past old) (sound : IsSound new) where
+  abbrev v : ModelState
   v = tied.view
 
   abbrev core : Core
@@ -141,7 +141,7 @@ module _ (past : List Fact) (old new : Session) (place disk : ℕ) (starts : Sta
   abbrev flying : ℕ → Option Groups
   flying d = if d == disk then Some v.cache else v.flying_note d
 
-  abbrev w : State
+  abbrev w : ModelState
   w = record v { flying_note = flying }
 
   inside : IsWithin core.descriptor starts.request.request.ask
@@ -250,7 +250,7 @@ module _ (past : List Fact) (old new : Session) (place disk : ℕ) (starts : Sta
   ]
 
   orderly_now : IsOrderly new tied.write
-  orderly_now = orderly_same old new tied.write tied.orderly sound (ap (λ (s : Session). s.core.power) starts.is) (ap (λ (s : Session). s.core.status) starts.is) (ap (λ (s : Session). s.core.homes) starts.is)
+  orderly_now = orderly_same old new tied.write tied.orderly sound (ap (λ (s : State). s.core.power) starts.is) (ap (λ (s : State). s.core.status) starts.is) (ap (λ (s : State). s.core.homes) starts.is)
 
   sizes_is : new.device.sizes ≡ old.device.sizes
   sizes_is = ap (λ (d : Device). d.sizes) starts.launches.starts.new_is
@@ -276,7 +276,7 @@ module _ (past : List Fact) (old new : Session) (place disk : ℕ) (starts : Sta
       members = λ d member first. subst (λ (sizes : List ℕ). IsTrue (members_showing (contents_of (image_of sizes tied.media)) core.descriptor d)) (sym sizes_is) (tied.recorded.members d member first);
       records = subst (λ (sizes : List ℕ). ShowsRecords core.descriptor core.status (contents_of (image_of sizes tied.media))) (sym sizes_is) tied.recorded.records;
     };
-    orderly = subst (λ (x : Session). IsOrderly x tied.write) starts.is orderly_now;
+    orderly = subst (λ (x : State). IsOrderly x tied.write) starts.is orderly_now;
     copy_aimed = tied.copy_aimed;
     carry = subst (λ (fs : List Flight). CarryTheirs next w fs (core.flying ++ row ∷ [])) (sym (ap (λ (d : Device). d.flights) starts.launches.starts.new_is))
         (carry_more core next v w old.device.flights core.flying tied.write f row (out_of old tied.write tied.orderly tied.notes) carries tt tied.carry);

@@ -23,7 +23,7 @@ use Rattle.lvm_session.specs.declared.bringing.Step.TheVariants as step
 use Rattle.lvm_session.specs.declared.flown.Flown.{Flown}
 use Rattle.lvm_session.specs.declared.flown.Owner.{Owner}
 use Rattle.lvm_session.specs.declared.flown.Owner.TheVariants as owner
-use Rattle.lvm_session.specs.State.{Core, State as Session, state}
+use Rattle.lvm_session.specs.State.{Core, State, state}
 use Rattle.lvm_session.specs.Judging.{is_missing, is_settled, is_stale, is_usable, place_of}
 use Rattle.lvm_session.specs.Bringing.{block_at, groups_of, has_row, step_place}
 use Rattle.lvm_session.specs.declared.answers.CopyFault.{CopyFault}
@@ -32,7 +32,7 @@ use Rattle.lvm_session.specs.Calls.{Opens, aged, copy_at, copy_fault, faults_of,
 use Rattle.lvm_session.specs.Ends.{with_step}
 use Rattle.lvm_session.specs.Sound.{IsSound}
 use Rattle.lvm_submit.proofs.Numbered.{below_next}
-use Rattle.lvm_invariant.specs.State.{Held, OpenCopy, Queued, State}
+use Rattle.lvm_invariant.specs.State.{Held, OpenCopy, Queued, ModelState}
 use Rattle.lvm_invariant.specs.EnterStep.{entered}
 use Rattle.lvm_invariant.specs.Events.{EnterStep, Open as Opening, Step as GoodStep}
 use Rattle.lvm_invariant.specs.Good.{Good}
@@ -100,12 +100,12 @@ is_opened core lv lp number row pp on none volume its = by (is_some core.copy) r
 
 -- ---- the opening
 
-module _ (past : List Fact) (s : Session) (new : Core) (counts : Counts) (lv lp number : ℕ) (tied : IsTied past s) (sound : IsSound (state s.device new)) (opens : Opens counts s.core new lv lp number)
+module _ (past : List Fact) (s : State) (new : Core) (counts : Counts) (lv lp number : ℕ) (tied : IsTied past s) (sound : IsSound (state s.device new)) (opens : Opens counts s.core new lv lp number)
     (may : IsOpened s.core lv lp number opens.pp) where
   abbrev core : Core
   core = s.core
 
-  abbrev v : State
+  abbrev v : ModelState
   v = tied.view
 
   abbrev i : ℕ
@@ -126,10 +126,10 @@ module _ (past : List Fact) (s : Session) (new : Core) (counts : Counts) (lv lp 
   abbrev q : Queued
   q = record { lv = lv; first = block_at core c; count = 256; write = false; step = true; value = λ b. []; phase = Held; several = false; targets = λ p. None; got = None }
 
-  abbrev v1 : State
+  abbrev v1 : ModelState
   v1 = record v { open_copy = Some o }
 
-  abbrev w : State
+  abbrev w : ModelState
   w = entered v1 i no_request q
 
   sound2 : IsSound (state s.device core2)

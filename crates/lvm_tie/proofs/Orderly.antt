@@ -44,7 +44,7 @@ use Rattle.lvm_session.specs.declared.bringing.Step.TheVariants as step
 use Rattle.lvm_session.specs.declared.flown.Flown.{Flown}
 use Rattle.lvm_session.specs.declared.flown.Owner.{Owner}
 use Rattle.lvm_session.specs.declared.flown.Owner.TheVariants as owner
-use Rattle.lvm_session.specs.State.{Core, State as Session}
+use Rattle.lvm_session.specs.State.{Core, State}
 use Rattle.lvm_session.specs.Judging.{is_waiting}
 use Rattle.lvm_session.specs.Dark.{IsAscending}
 use Rattle.lvm_session.specs.Events.{IsDataTransfer, IsCopyTransfer}
@@ -219,7 +219,7 @@ same_self (owner.Status disk) = eq-eqb disk disk refl
 same_self (owner.Note disk) = eq-eqb disk disk refl
 same_self owner.Copy = refl
 
-module _ (s : Session) (w : Option RecordWrite) (orderly : IsOrderly s w) where
+module _ (s : State) (w : Option RecordWrite) (orderly : IsOrderly s w) where
   abbrev core : Core
   core = s.core
 
@@ -376,7 +376,7 @@ module _ (s : Session) (w : Option RecordWrite) (orderly : IsOrderly s w) where
   out_of notes = all_out notes s.device.flights core.flying flies_at on.rows
 
 -- where neither power nor status nor slots change
-pub orderly_same : (old new : Session) (w : Option RecordWrite) → IsOrderly old w → IsSound new → new.core.power ≡ old.core.power → new.core.status ≡ old.core.status → new.core.homes ≡ old.core.homes → IsOrderly new w
+pub orderly_same : (old new : State) (w : Option RecordWrite) → IsOrderly old w → IsSound new → new.core.power ≡ old.core.power → new.core.status ≡ old.core.status → new.core.homes ≡ old.core.homes → IsOrderly new w
 orderly_same old new w orderly sound power status homes = record {
   sound = sound;
   on = power ∙ orderly.on;

@@ -9,13 +9,13 @@ use Rattle.lvm_vol.specs.Facts.{Fact}
 use Rattle.lvm_disk.specs.Device.{HasSectors}
 use Rattle.lvm_session.specs.declared.bringing.OpenCopy.{OpenCopy as Bringing}
 use Rattle.lvm_session.specs.declared.bringing.Step.TheVariants as step
-use Rattle.lvm_session.specs.State.{Core, State as Session}
+use Rattle.lvm_session.specs.State.{Core, State}
 use Rattle.lvm_session.specs.Judging.{is_missing, is_stale}
 use Rattle.lvm_session.specs.Bringing.{block_at, groups_of, is_idle, is_whole, step_place}
 use Rattle.lvm_session.specs.Ends.{GoesOn, with_return, without_step}
 use Rattle.lvm_session.specs.Sound.{IsCopy}
 use Rattle.lvm_keeps_events.specs.EndsGroup.{EndsGroup}
-use Rattle.lvm_invariant.specs.State.{OpenCopy, Queued, State, covers}
+use Rattle.lvm_invariant.specs.State.{OpenCopy, Queued, ModelState, covers}
 use Rattle.lvm_invariant.specs.CopyWrite.{copied}
 use Rattle.lvm_tie_shelf.specs.Bringing.{PassesOver}
 use Rattle.lvm_tie_shelf.proofs.Writing.{and_both}
@@ -45,11 +45,11 @@ so_within base n g a is low high =
     let lt : nat_lt g (base + n) ≡ true = grind (arith, nat_tests) in
     λ t. is t && le t && lt t
 
-module _ (past : List Fact) (old new : Session) (at : ℕ) (tied : IsTied past old) (sectors : HasSectors new.device) (event : EndsGroup old new at) where
+module _ (past : List Fact) (old new : State) (at : ℕ) (tied : IsTied past old) (sectors : HasSectors new.device) (event : EndsGroup old new at) where
   abbrev core : Core
   core = old.core
 
-  abbrev v : State
+  abbrev v : ModelState
   v = tied.view
 
   abbrev c : Bringing
@@ -149,7 +149,7 @@ module _ (past : List Fact) (old new : Session) (at : ℕ) (tied : IsTied past o
   landed = landed_write past old new at event.row true event.buf tied event.returns event.own c event.is_open event.writes sectors (Some o2) (inr (refl, passes_over))
 
   -- the state once its step has left the queue
-  abbrev pub left : State
+  abbrev pub left : ModelState
   left = record (copied tied.view landed.block (Some o2) None) { queue = gone tied.view.queue event.copy.place (q past old new at event.row true event.buf tied event.returns event.own event.copy event.is_open) }
 
   pub stands_left : Stands tied.votes old.core.descriptor (update_of old.core.status) (now past old new at event.row true event.buf tied event.returns event.own event.copy event.is_open) left

@@ -28,7 +28,7 @@ use Rattle.lvm_session.specs.declared.bringing.Step.{Step}
 use Rattle.lvm_session.specs.declared.bringing.Step.TheVariants as step
 use Rattle.lvm_session.specs.declared.flown.Owner.{Owner}
 use Rattle.lvm_session.specs.declared.flown.Owner.TheVariants as owner
-use Rattle.lvm_session.specs.State.{Core, State as Session, state}
+use Rattle.lvm_session.specs.State.{Core, State, state}
 use Rattle.lvm_session.specs.Judging.{facts_of, group_of, is_running, is_waiting, mode_of, next_for, place_of}
 use Rattle.lvm_session.specs.Bringing.{is_out, is_whole}
 use Rattle.lvm_session.specs.Enabled.{can_pin, is_pin}
@@ -36,7 +36,7 @@ use Rattle.lvm_session.specs.Events.{Pins}
 use Rattle.lvm_session.specs.Requests.{IsPinned, IsRecorded, IsReady}
 use Rattle.lvm_session.specs.Sound.{IsSound, pins}
 use Rattle.lvm_keeps.proofs.Nexts.{pins_entry}
-use Rattle.lvm_invariant.specs.State.{Queued, Ready, State, is_pinning}
+use Rattle.lvm_invariant.specs.State.{Queued, Ready, ModelState, is_pinning}
 use Rattle.lvm_invariant.specs.Updates.{put}
 use Rattle.lvm_invariant.specs.Pin.{Pins as MayPin, pinned}
 use Rattle.lvm_invariant.specs.Events.{Pin, Step as GoodStep}
@@ -61,7 +61,7 @@ after_pin_is c lv g = by (are_all_pinned c.entries lv g)
     by true = refl
     by false = refl
 
-sees_cache : (past : List Fact) (core : Core) (v : State) (entries : List CacheEntry) → Sees past core v → Sees past (record core { cache = record core.cache { entries = entries } }) (record v { cache = has_entry entries })
+sees_cache : (past : List Fact) (core : Core) (v : ModelState) (entries : List CacheEntry) → Sees past core v → Sees past (record core { cache = record core.cache { entries = entries } }) (record v { cache = has_entry entries })
 sees_cache past core v entries sees = record {
   queue = sees.queue;
   facts = sees.facts;
@@ -88,7 +88,7 @@ counted (x ∷ os) (suc k) o t there is =
     omega (arith, more, rest)
 
 -- in a sound session what a request has pinned stands in the cache
-pinned_there : (s : Session) (write : Option RecordWrite) (orderly : IsOrderly s write) (k : ℕ) (o : Open) → slice_get s.core.requests k ≡ Some o → o.request.pinned ≡ true → has_entry s.core.cache.entries (lv_of o.request.ask) (group_of o.request.ask) ≡ true
+pinned_there : (s : State) (write : Option RecordWrite) (orderly : IsOrderly s write) (k : ℕ) (o : Open) → slice_get s.core.requests k ≡ Some o → o.request.pinned ≡ true → has_entry s.core.cache.entries (lv_of o.request.ask) (group_of o.request.ask) ≡ true
 pinned_there s write orderly k o there is =
     let lv = lv_of o.request.ask in
     let g = group_of o.request.ask in
@@ -97,14 +97,14 @@ pinned_there s write orderly k o there is =
     let count = (orderly.sound.on orderly.on).going.pinned lv g in
     pinned_is_there s.core.cache.entries lv g (omega (arith, some, count))
 
-module _ (past : List Fact) (old new : Session) (place : ℕ) (event : Pins old new place) (tied : IsTied past old) (sound : IsSound new) where
+module _ (past : List Fact) (old new : State) (place : ℕ) (event : Pins old new place) (tied : IsTied past old) (sound : IsSound new) where
   abbrev core : Core
   core = old.core
 
   abbrev o : Open
   o = event.request
 
-  abbrev v : State
+  abbrev v : ModelState
   v = tied.view
 
   abbrev i : ℕ
@@ -149,10 +149,10 @@ module _ (past : List Fact) (old new : Session) (place : ℕ) (event : Pins old 
   sees2 : SeesRequest o2 q2
   sees2 = record { lv = sees.lv; first = sees.first; count = sees.count; write = sees.write; step = sees.step; phase = refl; several = sees.several; targets = sees.targets; got = sees.got }
 
-  abbrev w1 : State
+  abbrev w1 : ModelState
   w1 = record v { queue = put v.queue i q2 }
 
-  abbrev w : State
+  abbrev w : ModelState
   w = pinned v i q (has_entry entries)
 
   sees_all : Sees past core2 w

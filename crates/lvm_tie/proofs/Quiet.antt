@@ -20,12 +20,12 @@ use Rattle.lvm_session.specs.declared.bringing.Step.TheVariants as step
 use Rattle.lvm_session.specs.declared.flown.Flown.{Flown}
 use Rattle.lvm_session.specs.declared.flown.Owner.{Owner}
 use Rattle.lvm_session.specs.declared.flown.Owner.TheVariants as owner
-use Rattle.lvm_session.specs.State.{Core, State as Session}
+use Rattle.lvm_session.specs.State.{Core, State}
 use Rattle.lvm_session.specs.Judging.{place_of}
 use Rattle.lvm_session.specs.Bringing.{has_row}
 use Rattle.lvm_session.specs.Owners.{AreRows, flies, same_owner, target_flies}
 use Rattle.lvm_session.specs.Sound.{IsOn}
-use Rattle.lvm_invariant.specs.State.{Flying, Queued, State, has_landed}
+use Rattle.lvm_invariant.specs.State.{Flying, Queued, ModelState, has_landed}
 use Rattle.lvm_invariant.specs.Updates.{is_pp, put, without, with_req, land}
 use Rattle.lvm_invariant.specs.Take.{taken}
 use Rattle.lvm_invariant.specs.Events.{EndStep, Take}
@@ -66,8 +66,8 @@ unlanded_hand (step.Reading source) q hand = ap has_landed hand.0
 unlanded_hand (step.Read buf) q hand = ap has_landed hand.0
 unlanded_hand step.Writing q hand = ap has_landed hand.0
 
-module _ (past : List Fact) (s : Session) (tied : IsTied past s) where
-  abbrev v : State
+module _ (past : List Fact) (s : State) (tied : IsTied past s) where
+  abbrev v : ModelState
   v = tied.view
 
   abbrev core : Core
@@ -166,7 +166,7 @@ module _ (past : List Fact) (s : Session) (tied : IsTied past s) where
   -- ---- it describes what stands
 
   module _ (queue : ℕ → Option Queued) where
-    abbrev w : State
+    abbrev w : ModelState
     w = record v { queue = queue }
 
     same_describes : (facts : List Fact) (group : Descriptor) (in_flight : Option (Stamped Status)) (c : Contents) → Describes v facts group in_flight c → Describes w facts group in_flight c

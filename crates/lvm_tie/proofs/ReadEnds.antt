@@ -8,12 +8,12 @@ use Rattle.lvm_num.specs.Geometry.{sector_of}
 use Rattle.lvm_vol.specs.Facts.{Fact}
 use Rattle.lvm_session.specs.declared.bringing.OpenCopy.{OpenCopy as Bringing}
 use Rattle.lvm_session.specs.declared.bringing.Step.TheVariants as step
-use Rattle.lvm_session.specs.State.{Core, State as Session, state}
+use Rattle.lvm_session.specs.State.{Core, State, state}
 use Rattle.lvm_session.specs.Bringing.{is_idle, is_whole}
 use Rattle.lvm_session.specs.Ends.{after_read}
 use Rattle.lvm_session.specs.Sound.{IsCopy, IsSound}
 use Rattle.lvm_keeps_events.specs.Ends.{EndsRead}
-use Rattle.lvm_invariant.specs.State.{Badly, Flying, Queued, State, Well, covers, is_past}
+use Rattle.lvm_invariant.specs.State.{Badly, Flying, Queued, ModelState, Well, covers, is_past}
 use Rattle.lvm_invariant.specs.CopyWrite.{copied}
 use Rattle.lvm_invariant.specs.Events.{Read}
 use Rattle.lvm_invariant.specs.Read.{reading}
@@ -29,11 +29,11 @@ use Rattle.lvm_tie.proofs.Landed.{at_q, ended, hand, its_read, landed_read, now,
 use Rattle.lvm_tie.proofs.Stepped.{going_ties}
 use Rattle.lvm_tie.specs.Steps.{CopyReadEndTies}
 
-module _ (past : List Fact) (old new : Session) (at : ℕ) (tied : IsTied past old) (sound : IsSound new) (event : EndsRead old new at) where
+module _ (past : List Fact) (old new : State) (at : ℕ) (tied : IsTied past old) (sound : IsSound new) (event : EndsRead old new at) where
   abbrev core : Core
   core = old.core
 
-  abbrev v : State
+  abbrev v : ModelState
   v = tied.view
 
   abbrev c : Bringing
@@ -81,7 +81,7 @@ module _ (past : List Fact) (old new : Session) (at : ℕ) (tied : IsTied past o
   abbrev next : Queued
   next = reading step_q source Well (Some value)
 
-  abbrev was : State
+  abbrev was : ModelState
   was = copied v v.media.block v.open_copy None
 
   stands : Stands tied.votes core.descriptor (update_of core.status) (now past old new at event.row true event.buf tied event.returns event.own c event.is_open) (record was { queue = put v.queue c.place next })

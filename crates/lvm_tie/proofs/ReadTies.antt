@@ -26,9 +26,9 @@ use Rattle.lvm_session.specs.declared.bringing.Step.{Step}
 use Rattle.lvm_session.specs.declared.bringing.Step.TheVariants as step
 use Rattle.lvm_session.specs.declared.flown.Owner.{Owner}
 use Rattle.lvm_session.specs.declared.flown.Owner.TheVariants as owner
-use Rattle.lvm_session.specs.State.{Core, State as Session, state}
+use Rattle.lvm_session.specs.State.{Core, State, state}
 use Rattle.lvm_session.specs.Judging.{is_waiting, place_of}
-use Rattle.lvm_invariant.specs.State.{State}
+use Rattle.lvm_invariant.specs.State.{ModelState}
 use Rattle.lvm_path.specs.declared.request.Phase.TheVariants as phase
 use Rattle.lvm_path.specs.Next.{with_end}
 use Rattle.lvm_session.specs.Judging.{is_running}
@@ -79,7 +79,7 @@ state_there (u ∷ us) (suc number) t state there = state_there us number t stat
 going_by : (w : Bool) (over : Bool) → w ≡ false → (if w && over then phase.WantStatus else phase.Data) ≡ phase.Data
 going_by w over is = ap (λ b. if b && over then phase.WantStatus else phase.Data) is
 
-module _ (past : List Fact) (old new : Session) (index : ℕ) (ends : Ends old new index) (id number : ℕ) (its_owner : ends.row.owner ≡ owner.Data id number) (learns : DataLearns old.core index id number ends.ok ends.buf new.core) (tied : IsTied past old) (sound : IsSound new)
+module _ (past : List Fact) (old new : State) (index : ℕ) (ends : Ends old new index) (id number : ℕ) (its_owner : ends.row.owner ≡ owner.Data id number) (learns : DataLearns old.core index id number ends.ok ends.buf new.core) (tied : IsTied past old) (sound : IsSound new)
     (reads : is_write learns.its.request.request.ask ≡ false) where
   abbrev o : Open
   o = learns.its.request
@@ -90,7 +90,7 @@ module _ (past : List Fact) (old new : Session) (index : ℕ) (ends : Ends old n
   abbrev ts : List Target
   ts = o.request.targets.items
 
-  abbrev v : State
+  abbrev v : ModelState
   v = tied.view
 
   abbrev i : ℕ
@@ -146,7 +146,7 @@ module _ (past : List Fact) (old new : Session) (index : ℕ) (ends : Ends old n
   sees : SeesRequest o q
   sees = (tied.sees.queue.requests learns.place o learns.its.there).2
 
-  its_row : (u : State) → IsRow old.core core2 tied.write v u ended.removes.before ended.removes.after f old.core.flying index ends.row
+  its_row : (u : ModelState) → IsRow old.core core2 tied.write v u ended.removes.before ended.removes.after f old.core.flying index ends.row
   its_row u = is_row old.core core2 tied.write v u ended.removes.before ended.removes.after f old.core.flying index ends.row
       (subst (λ (fs : List Flight). AreOut old.core tied.write fs old.core.flying) ended.removes.was (out_of old tied.write tied.orderly tied.notes)) tickets ends.returns.there ended.its
 
@@ -217,7 +217,7 @@ module _ (past : List Fact) (old new : Session) (index : ℕ) (ends : Ends old n
   abbrev q2 : Queued
   q2 = reading q t.pp (stage_of ends.ok) (got2 ends.ok)
 
-  abbrev w : State
+  abbrev w : ModelState
   w = record v { queue = put v.queue i q2 }
 
   abbrev ts2 : List Target

@@ -14,20 +14,20 @@ use Rattle.lvm_vol.specs.Facts.{Fact}
 use Rattle.lvm_disk.specs.Device.{image_of}
 use Rattle.lvm_kept.specs.Contents.{Contents, contents_of}
 use Rattle.lvm_stale.specs.Table.{is_pp}
-use Rattle.lvm_status.specs.Update.{Stored, Updates, is_held, members_showing as there_by, seen, with_disk}
+use Rattle.lvm_status.specs.Update.{Stored, Updates, is_held, members_there, seen, with_disk}
 use Rattle.lvm_status.specs.Calls.{WantsAtEnd, comes_held, with_end as with_write_end}
 use Rattle.lvm_session.specs.declared.bringing.OpenCopy.{OpenCopy as Bringing}
 use Rattle.lvm_session.specs.declared.bringing.CopyEnd.{CopyEnd}
 use Rattle.lvm_session.specs.declared.bringing.CopyEnd.TheVariants as ending
 use Rattle.lvm_session.specs.declared.flown.Flown.{Flown}
 use Rattle.lvm_session.specs.declared.flown.Owner.TheVariants as owner
-use Rattle.lvm_session.specs.State.{Core, State as Session, is_there}
+use Rattle.lvm_session.specs.State.{Core, State, is_there}
 use Rattle.lvm_session.specs.Judging.{is_missing, is_running, is_stale, is_wanted_stale}
 use Rattle.lvm_session.specs.Bringing.{copy_ends, end_of, is_cleared, is_done_end, is_whole, marked_by_end}
 use Rattle.lvm_session.specs.Marks.{Reviews, is_entailed}
 use Rattle.lvm_session.specs.Ends.{Returns, StatusLearns, with_return}
 use Rattle.lvm_session.specs.Sound.{IsGoing}
-use Rattle.lvm_invariant.specs.State.{Marks, OpenCopy, State}
+use Rattle.lvm_invariant.specs.State.{Marks, OpenCopy, ModelState}
 use Rattle.lvm_invariant.specs.Good.{Good}
 use Rattle.lvm_invariant.specs.Want.{Wants}
 use Rattle.lvm_invariant.specs.Commit.{Commit, Commits}
@@ -58,12 +58,12 @@ abbrev done_after : Option CopyEnd → Option OpenCopy → Option OpenCopy
 done_after None o = o
 done_after (Some how) o = if is_done_end how then None else o
 
-module _ (past : List Fact) (old new : Session) (index disk : ℕ) (ok : Bool) (row : Flown) (buf : Buffer) (its_owner : row.owner ≡ owner.Status disk) (returns : Returns old new index row ok buf) (tied : IsTied past old)
+module _ (past : List Fact) (old new : State) (index disk : ℕ) (ok : Bool) (row : Flown) (buf : Buffer) (its_owner : row.owner ≡ owner.Status disk) (returns : Returns old new index row ok buf) (tied : IsTied past old)
     (learns : StatusLearns old.core index disk ok buf new.core) where
   abbrev core : Core
   core = old.core
 
-  abbrev v : State
+  abbrev v : ModelState
   v = tied.view
 
   abbrev group : Descriptor
@@ -107,7 +107,7 @@ module _ (past : List Fact) (old new : Session) (index disk : ℕ) (ok : Bool) (
   left = moves past old new index disk ok row buf its_owner returns tied flying
 
   -- the status of each disk as it stands, and which writes are out
-  abbrev pub v1 : State
+  abbrev pub v1 : ModelState
   v1 = moved v (statuses_of group.id now) flying
 
   good1 : Good tied.votes v1
@@ -120,7 +120,7 @@ module _ (past : List Fact) (old new : Session) (index disk : ℕ) (ok : Bool) (
   mid = learned (seen core.status) disk ok stored.wanted commits
 
   -- The state after it, with these marks and this copy.
-  abbrev pub after : Stamped Marks → (ℕ → Bool) → State
+  abbrev pub after : Stamped Marks → (ℕ → Bool) → ModelState
   after committed missing = record v1 { committed = committed; wanted = marks_of status.wanted; missing = missing; open_copy = open_after how v.open_copy }
 
   pub record IsReviewed : Type 0 where
@@ -228,12 +228,12 @@ module _ (past : List Fact) (old new : Session) (index disk : ℕ) (ok : Bool) (
     missing_same d = ap (λ (s : Status). calls_missing s d) wanted_same
 
     there_same : (d : ℕ) → is_there core1 d ≡ is_there core d
-    there_same d = ap (λ (s : Status). there_by group s d) wanted_same
+    there_same d = ap (λ (s : Status). members_there group s d) wanted_same
 
     abbrev done : Option OpenCopy
     done = done_after how v.open_copy
 
-    abbrev cleared : State
+    abbrev cleared : ModelState
     cleared = record v1 { committed = as_marks u; open_copy = done }
 
     flies : v.in_flight ≡ Some (as_marks u)

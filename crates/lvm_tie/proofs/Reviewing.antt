@@ -12,11 +12,11 @@ use Rattle.lvm_kept.proofs.Entries.{volume_is_row}
 use Rattle.lvm_session.specs.declared.bringing.OpenCopy.{OpenCopy as Bringing}
 use Rattle.lvm_session.specs.declared.bringing.CopyEnd.{CopyEnd}
 use Rattle.lvm_session.specs.declared.bringing.CopyEnd.TheVariants as ending
-use Rattle.lvm_session.specs.State.{Core, State as Session, is_there}
+use Rattle.lvm_session.specs.State.{Core, State, is_there}
 use Rattle.lvm_session.specs.Judging.{is_missing, is_running, is_stale, is_wanted_stale}
 use Rattle.lvm_session.specs.Bringing.{copy_ends, end_by_sources, end_of, ends_if, groups_of, is_cleared, is_done_end, is_idle, is_whole, marked_by_end, next_source, sources_of}
 use Rattle.lvm_session.specs.Marks.{Reviews, is_entailed}
-use Rattle.lvm_invariant.specs.State.{OpenCopy, State}
+use Rattle.lvm_invariant.specs.State.{OpenCopy, ModelState}
 use Rattle.lvm_invariant.specs.Want.{Wants}
 use Rattle.lvm_crash.specs.Session.{HasVolumes, marks_of}
 use Rattle.lvm_tie_shelf.proofs.Writing.{and_both, pp_same, same_pp}
@@ -79,10 +79,10 @@ module _ (core : Core) (c : Bringing) (runs : is_running c ≡ true) where
 -- ---- the copy that is open
 
 -- so it is of a tied session
-pub opened : (past : List Fact) (s : Session) (tied : IsTied past s) (c : Bringing) → s.core.copy ≡ Some c → is_running c ≡ true → IsBrought s.core tied.view c × (is_missing s.core c.pp.disk ≡ false)
+pub opened : (past : List Fact) (s : State) (tied : IsTied past s) (c : Bringing) → s.core.copy ≡ Some c → is_running c ≡ true → IsBrought s.core tied.view c × (is_missing s.core c.pp.disk ≡ false)
 opened past s tied c is runs =
     let core : Core = s.core in
-    let v : State = tied.view in
+    let v : ModelState = tied.view in
     let sees = subst (λ (b : Bool). SeesRunning b (groups_of core) c v.open_copy) runs (subst (λ (x : Option Bringing). SeesCopy (groups_of core) x v.open_copy) is tied.sees.open_copy) in
     let its = of_its past s tied c is in
     let own = copy_is past s tied c is in
@@ -104,7 +104,7 @@ opened past s tied c is runs =
     )
 
 -- and where none runs, none is open
-pub none_opened : (past : List Fact) (s : Session) (tied : IsTied past s) → ((c : Bringing) → s.core.copy ≡ Some c → is_running c ≡ true → ⊥) → tied.view.open_copy ≡ None
+pub none_opened : (past : List Fact) (s : State) (tied : IsTied past s) → ((c : Bringing) → s.core.copy ≡ Some c → is_running c ≡ true → ⊥) → tied.view.open_copy ≡ None
 none_opened past s tied none = by s.core.copy refl tied.sees.open_copy
   where
     of : (c : Bringing) → s.core.copy ≡ Some c → (b : Bool) → is_running c ≡ b → SeesRunning b (groups_of s.core) c tied.view.open_copy → tied.view.open_copy ≡ None
@@ -117,7 +117,7 @@ none_opened past s tied none = by s.core.copy refl tied.sees.open_copy
 
 -- ---- what a review wants
 
-module _ (core new : Core) (v : State) (missing : ℕ → Bool) (facts : List Fact) (members : Disks) (valid : IsValid core.descriptor) (volumes : HasVolumes v facts core.descriptor members)
+module _ (core new : Core) (v : ModelState) (missing : ℕ → Bool) (facts : List Fact) (members : Disks) (valid : IsValid core.descriptor) (volumes : HasVolumes v facts core.descriptor members)
     (shows : (d : ℕ) → IsTrue (is_there core d) → IsTrue (members d)) (sees : SeesMarks core v missing) (keeps : KeepsFresh v) (owners : HasOwners v)
     (brought : (c : Bringing) → core.copy ≡ Some c → is_running c ≡ true → IsBrought core v c) (none : ((c : Bringing) → core.copy ≡ Some c → is_running c ≡ true → ⊥) → v.open_copy ≡ None) (review : Reviews core new) where
   abbrev how : Option CopyEnd

@@ -8,7 +8,7 @@ use Rattle.lvm_hold.specs.declared.queue.Row.{Row}
 use Rattle.lvm_path.specs.declared.request.Phase.TheVariants as phase
 use Rattle.lvm_session.specs.declared.open.Open.{Open}
 use Rattle.lvm_session.specs.declared.bringing.OpenCopy.{OpenCopy as Bringing}
-use Rattle.lvm_session.specs.State.{Core, State as Session}
+use Rattle.lvm_session.specs.State.{Core, State}
 use Rattle.lvm_session.specs.Judging.{held_of, is_waiting, place_of}
 use Rattle.lvm_session.specs.Bringing.{has_row, step_row}
 use Rattle.lvm_session.specs.Sound.{rows_of, waiting_rows, with_row}
@@ -55,7 +55,7 @@ with_row_keeps own row (r ∷ rows) one = by (nat_lt own.id r.id) one (with_row_
     by false (inl here) others = inl here
     by false (inr there) others = inr (others there)
 
-module _ (s : Session) (write : Option RecordWrite) (orderly : IsOrderly s write) where
+module _ (s : State) (write : Option RecordWrite) (orderly : IsOrderly s write) where
   queue_is : s.core.queue.rows ≡ rows_of s.core
   queue_is = (orderly.sound.on orderly.on).going.queue
 

@@ -29,13 +29,13 @@ use Rattle.lvm_session.specs.declared.open.Open.{Open}
 use Rattle.lvm_session.specs.Bringing.{groups_of, is_whole}
 use Rattle.lvm_session.specs.Calls.{copy_at}
 use Rattle.lvm_session.specs.Judging.{copies_in, is_missing, is_running, is_stale, is_waiting, is_wanted_stale, place_of}
-use Rattle.lvm_session.specs.State.{Core, State as Session}
+use Rattle.lvm_session.specs.State.{Core, State}
 use Rattle.lvm_session.specs.Marks.{is_among}
 use Rattle.lvm_session.specs.Causes.{AreCaused, AreCounted, FailedSince, HasFailed as HasFailedSince, IsCaused, IsCopyCaused, IsCounted, faults_at_first, faults_at_opening, is_blamed, is_held_stale, was_usable}
 use Rattle.lvm_session.specs.Sound.{IsSound}
 use Rattle.lvm_invariant.specs.Caused.{FactIsCaused, HadNoCopy, LandingIsCaused, Since}
 use Rattle.lvm_invariant.specs.Faults.{Faults, HasCause, HasFailed}
-use Rattle.lvm_invariant.specs.State.{Badly, Marks, OpenCopy, Queued, State}
+use Rattle.lvm_invariant.specs.State.{Badly, Marks, OpenCopy, Queued, ModelState}
 use Rattle.lvm_crash.specs.Session.{as_marks}
 use Rattle.lvm_keeps_events.proofs.Counts.{rose_since}
 use Rattle.lvm_tie_shelf.proofs.Copies.{number_finds}
@@ -110,11 +110,11 @@ numbered test ps is = let at = any_there test ps is in (at.0 + 1, at.1, place_of
         let less : k + 1 - 1 ≡ k = omega arith in
         ap (λ b. if b then None else slice_get ps (k + 1 - 1)) some ∙ ap (slice_get ps) less
 
-module _ (past first : List Fact) (s : Session) (w : Faults) (tied : IsTied past s) (causes : HasCausesSince first s) (faults : AreFaultsOf past first s w) where
+module _ (past first : List Fact) (s : State) (w : Faults) (tied : IsTied past s) (causes : HasCausesSince first s) (faults : AreFaultsOf past first s w) where
   abbrev core : Core
   core = s.core
 
-  abbrev v : State
+  abbrev v : ModelState
   v = tied.view
 
   sound : IsSound s

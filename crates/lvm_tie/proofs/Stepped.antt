@@ -15,12 +15,12 @@ use Rattle.lvm_session.specs.declared.bringing.Step.TheVariants as step
 use Rattle.lvm_session.specs.declared.flown.Flown.{Flown}
 use Rattle.lvm_session.specs.declared.flown.Owner.{Owner}
 use Rattle.lvm_session.specs.declared.flown.Owner.TheVariants as owner
-use Rattle.lvm_session.specs.State.{Core, State as Session, state}
+use Rattle.lvm_session.specs.State.{Core, State, state}
 use Rattle.lvm_session.specs.Judging.{is_running, place_of}
 use Rattle.lvm_session.specs.Bringing.{block_at, groups_of, has_row, is_out, is_whole}
 use Rattle.lvm_session.specs.Ends.{Returns}
 use Rattle.lvm_session.specs.Sound.{IsCopy, IsSound}
-use Rattle.lvm_invariant.specs.State.{OpenCopy, Queued, State, has_landed}
+use Rattle.lvm_invariant.specs.State.{OpenCopy, Queued, ModelState, has_landed}
 use Rattle.lvm_invariant.specs.CopyWrite.{copied}
 use Rattle.lvm_invariant.specs.Updates.{put, with_block}
 use Rattle.lvm_tie.specs.Out.{CarriesStep, CarryTheirs}
@@ -41,7 +41,7 @@ step_none c step.Writing h = absurd (cc h)
 -- ---- what is seen
 
 -- where requests stay, this is the step that is left, if one is
-pub record IsStepped (core : Core) (v : State) (c d : Bringing) (queue : ℕ → Option Queued) (name : ℕ → Asked) (open_copy : Option OpenCopy) : Type 0 where
+pub record IsStepped (core : Core) (v : ModelState) (c d : Bringing) (queue : ℕ → Option Queued) (name : ℕ → Asked) (open_copy : Option OpenCopy) : Type 0 where
   pub rests : is_out d.step ≡ false
   pub queue_still : (k : ℕ) (p : Open) → slice_get core.requests k ≡ Some p → queue (place_of p.request.id) ≡ v.queue (place_of p.request.id)
   pub name_still : (k : ℕ) (p : Open) → slice_get core.requests k ≡ Some p → name (place_of p.request.id) ≡ v.name (place_of p.request.id)
@@ -49,12 +49,12 @@ pub record IsStepped (core : Core) (v : State) (c d : Bringing) (queue : ℕ →
   pub only : (j : ℕ) (q : Queued) → queue j ≡ Some q → ((j ≡ c.place → ⊥) × (v.queue j ≡ Some q)) ⊎ ((has_row core d ≡ true) × (d.place ≡ j))
   pub open_seen : SeesRunning (is_running d) (groups_of core) d open_copy
 
-module _ (past : List Fact) (core : Core) (v : State) (c d : Bringing) (pool : List Bool) (flying : List Flown) (waiting : Waiting) (queue : ℕ → Option Queued) (name : ℕ → Asked) (block : ℕ → ℕ → Pp → Sector) (open_copy : Option OpenCopy)
+module _ (past : List Fact) (core : Core) (v : ModelState) (c d : Bringing) (pool : List Bool) (flying : List Flown) (waiting : Waiting) (queue : ℕ → Option Queued) (name : ℕ → Asked) (block : ℕ → ℕ → Pp → Sector) (open_copy : Option OpenCopy)
     (sees_v : Sees past core v) (is : core.copy ≡ Some c) (its : IsStepped core v c d queue name open_copy) where
   abbrev core2 : Core
   core2 = record core { pool = pool; flying = flying; queue = waiting; copy = Some d }
 
-  abbrev w : State
+  abbrev w : ModelState
   w = record v { queue = queue; name = name; media = with_block v.media block; open_copy = open_copy; step_write = None }
 
   step_of_it : (r : has_row core d ≡ true) → (x : Queued) × (queue d.place ≡ Some x) × SeesStep core2 d x
@@ -90,7 +90,7 @@ running_on true groups c st tried open_copy sees = record { copy = sees.copy; is
 running_on false groups c st tried open_copy sees = sees
 
 -- what its transfer carried is carried no more
-pub carry_none : (core : Core) (v : State) (d : Bringing) (fs : List Flight) (rows : List Flown) → core.copy ≡ Some d → is_out d.step ≡ false → CarryTheirs core v fs rows
+pub carry_none : (core : Core) (v : ModelState) (d : Bringing) (fs : List Flight) (rows : List Flown) → core.copy ≡ Some d → is_out d.step ≡ false → CarryTheirs core v fs rows
 carry_none core v d [] rows is rests = tt
 carry_none core v d (f ∷ fs) [] is rests = tt
 carry_none core v d (f ∷ fs) (row ∷ rows) is rests = (by row.owner, carry_none core v d fs rows is rests)
@@ -103,12 +103,12 @@ carry_none core v d (f ∷ fs) (row ∷ rows) is rests = (by row.owner, carry_no
 
 -- ---- the tie
 
-module _ (past : List Fact) (old new : Session) (at : ℕ) (row : Flown) (ok : Bool) (buf : Buffer) (tied : IsTied past old) (returns : Returns old new at row ok buf) (own : row.owner ≡ owner.Copy)
+module _ (past : List Fact) (old new : State) (at : ℕ) (row : Flown) (ok : Bool) (buf : Buffer) (tied : IsTied past old) (returns : Returns old new at row ok buf) (own : row.owner ≡ owner.Copy)
     (c : Bringing) (is_open : old.core.copy ≡ Some c) where
   abbrev core : Core
   core = old.core
 
-  abbrev v : State
+  abbrev v : ModelState
   v = tied.view
 
   abbrev i : ℕ

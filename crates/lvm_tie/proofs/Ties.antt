@@ -25,11 +25,11 @@ use Rattle.lvm_session.specs.declared.bringing.Step.TheVariants as step
 use Rattle.lvm_session.specs.declared.flown.Flown.{Flown}
 use Rattle.lvm_session.specs.declared.flown.Owner.{Owner}
 use Rattle.lvm_session.specs.declared.flown.Owner.TheVariants as owner
-use Rattle.lvm_session.specs.State.{Core, State as Session, state}
+use Rattle.lvm_session.specs.State.{Core, State, state}
 use Rattle.lvm_session.specs.Judging.{is_running, place_of}
 use Rattle.lvm_session.specs.Bringing.{is_out, is_whole}
 use Rattle.lvm_session.specs.Events.{with_open, with_flight, flown}
-use Rattle.lvm_invariant.specs.State.{Queued, State}
+use Rattle.lvm_invariant.specs.State.{Queued, ModelState}
 use Rattle.lvm_invariant.specs.Updates.{put}
 use Rattle.lvm_invariant.specs.Events.{Event, Step as GoodStep}
 use Rattle.lvm_invariant.proofs.Each.{each_keeps}
@@ -68,24 +68,24 @@ since_start old new f (Some w) None starts low since = absurd since
 since_start old new f None (Some u) starts low since = absurd since
 
 -- what steps carry goes on where the rows do
-pub carry_on : (core next : Core) (v w : State) (fs : List Flight) (rows : List Flown) → ((g : Flight) (o : Owner) → CarriesStep core v g o → CarriesStep next w g o) → CarryTheirs core v fs rows → CarryTheirs next w fs rows
+pub carry_on : (core next : Core) (v w : ModelState) (fs : List Flight) (rows : List Flown) → ((g : Flight) (o : Owner) → CarriesStep core v g o → CarriesStep next w g o) → CarryTheirs core v fs rows → CarryTheirs next w fs rows
 carry_on core next v w [] rows each carry = tt
 carry_on core next v w (f ∷ fs) [] each carry = tt
 carry_on core next v w (f ∷ fs) (row ∷ rows) each carry = (each f row.owner carry.0, carry_on core next v w fs rows each carry.1)
 
 -- what steps carry goes on, with one transfer more that isn't a step's
-pub carry_more : (core new : Core) (v w : State) (fs : List Flight) (rows : List Flown) (write : Option RecordWrite) (f : Flight) (row : Flown) → AreOut core write fs rows
+pub carry_more : (core new : Core) (v w : ModelState) (fs : List Flight) (rows : List Flown) (write : Option RecordWrite) (f : Flight) (row : Flown) → AreOut core write fs rows
     → ((g : Flight) (o : Owner) → CarriesStep core v g o → CarriesStep new w g o) → CarriesStep new w f row.owner → CarryTheirs core v fs rows → CarryTheirs new w (fs ++ f ∷ []) (rows ++ row ∷ [])
 carry_more core new v w [] [] write f row out each its carry = (its, tt)
 carry_more core new v w [] (r ∷ rs) write f row out each its carry = absurd out
 carry_more core new v w (g ∷ gs) [] write f row out each its carry = absurd out
 carry_more core new v w (g ∷ gs) (r ∷ rs) write f row out each its carry = (each g r.owner carry.0, carry_more core new v w gs rs write f row out.2 each its carry.1)
 
-module _ (past : List Fact) (old : Session) (device : Device) (place number : ℕ) (o : Open) (t : Target) (q q2 : Queued) (f : Flight) (pool : List Bool) (tied : IsTied past old)
+module _ (past : List Fact) (old : State) (device : Device) (place number : ℕ) (o : Open) (t : Target) (q q2 : Queued) (f : Flight) (pool : List Bool) (tied : IsTied past old)
     (numbers : HaveNumbers old.core) (there : slice_get old.core.requests place ≡ Some o) (aim_is : slice_get o.request.targets.items number ≡ Some t)
     (at : tied.view.queue (place_of o.request.id) ≡ Some q) (starts : Starts old.device device f) (low : data_start ≤ f.first)
     (sees2 : SeesRequest (record o { request = with_start o.request number }) q2) where
-  abbrev v : State
+  abbrev v : ModelState
   v = tied.view
 
   abbrev i : ℕ
@@ -100,7 +100,7 @@ module _ (past : List Fact) (old : Session) (device : Device) (place number : �
   abbrev new : Core
   new = record (with_flight (with_open old.core place o2) f (owner.Data o.request.id number)) { pool = pool }
 
-  abbrev w : State
+  abbrev w : ModelState
   w = record v { queue = put v.queue i q2 }
 
   carries : (g : Flight) (who : Owner) → CarriesStep old.core v g who → CarriesStep new w g who

@@ -18,7 +18,7 @@ use Rattle.lvm_session.specs.State.{Core}
 use Rattle.lvm_session.specs.Judging.{is_waiting, place_of}
 use Rattle.lvm_session.specs.Dark.{IsAscending, landings as all_landings}
 use Rattle.lvm_session.specs.Requests.{IsPhase, IsShaped}
-use Rattle.lvm_invariant.specs.State.{Queued, State, has_landed}
+use Rattle.lvm_invariant.specs.State.{Queued, ModelState, has_landed}
 use Rattle.lvm_invariant.specs.Over.{IsDistinct, AreOpen, is_going, landings}
 use Rattle.lvm_tie.specs.Seen.{phase_seen, SeesRequest, IsRequestAt}
 use Rattle.lvm_tie.proofs.Orderly.{all_at}
@@ -159,7 +159,7 @@ going_seen phase.WantStatus core o is shape its = sym (some_started o.request.ta
 going_seen phase.Landed core o is shape its = absurd its
 
 -- a state whose requests are those of the table
-module _ (core : Core) (w : State) (rises : IsAscending core.requests)
+module _ (core : Core) (w : ModelState) (rises : IsAscending core.requests)
     (sees : (k : ℕ) (o : Open) → slice_get core.requests k ≡ Some o → (q : Queued) × (w.queue (place_of o.request.id) ≡ Some q) × SeesRequest o q)
     (only : (i : ℕ) (q : Queued) → w.queue i ≡ Some q → IsFalse q.step → IsRequestAt core i)
     (shaped : (k : ℕ) (o : Open) → slice_get core.requests k ≡ Some o → is_waiting o ≡ true → IsShaped core o)

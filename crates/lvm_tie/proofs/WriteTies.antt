@@ -36,14 +36,14 @@ use Rattle.lvm_session.specs.declared.flown.Owner.{Owner}
 use Rattle.lvm_session.specs.declared.flown.Owner.TheVariants as owner
 use Rattle.lvm_session.specs.declared.open.Open.{Open}
 use Rattle.lvm_session.specs.declared.open.Power.TheVariants as power
-use Rattle.lvm_session.specs.State.{Core, State as Session, state}
+use Rattle.lvm_session.specs.State.{Core, State, state}
 use Rattle.lvm_session.specs.Bringing.{after_copy_end, ends_if, is_done_end, is_out, is_whole, marked_by_end, with_back, with_end as with_copy_end}
 use Rattle.lvm_session.specs.Judging.{all_but_sure, is_kept, is_running, is_sure, is_waiting, place_of, pps_of}
 use Rattle.lvm_session.specs.Ends.{DataLearns, Ends, Learns, after_data, keeps_buffer, learned}
 use Rattle.lvm_session.specs.Events.{IsDataTransfer}
 use Rattle.lvm_session.specs.Marks.{Entails, WantsStale, due_of, due_targets, end_by_write, hits_copy, is_among}
 use Rattle.lvm_session.specs.Sound.{IsSound}
-use Rattle.lvm_invariant.specs.State.{Going, Marks, OpenCopy, Queued, Stage, State, covers}
+use Rattle.lvm_invariant.specs.State.{Going, Marks, OpenCopy, Queued, Stage, ModelState, covers}
 use Rattle.lvm_invariant.specs.Good.{Good}
 use Rattle.lvm_invariant.specs.Sound.{StaysFresh}
 use Rattle.lvm_invariant.specs.Events.{Event, Transfer, Want}
@@ -104,7 +104,7 @@ sure_at : (core : Core) (x : Target) (p : Pp) → x.pp ≡ p → is_sure core p 
 sure_at core x p same sure = ap (is_sure core) same ∙ sure
 
 -- what is put in the queue is there
-put_there : (v : State) (i : ℕ) (q : Queued) → put v.queue i q i ≡ Some q
+put_there : (v : ModelState) (i : ℕ) (q : Queued) → put v.queue i q i ≡ Some q
 put_there v i q = let test : (i == i) ≡ true = grind (arith, nat_tests) in ap (λ b. if b then Some q else v.queue i) test
 
 going_either : (b : Bool) → phase_seen (if b then phase.WantStatus else phase.Data) true ≡ Going
@@ -130,7 +130,7 @@ ended_orderly device core (Some how) write sound on update = by core.copy sound
     by None sound_then = record { sound = sound_then; on = on; update = update }
     by (Some c) sound_then = record { sound = sound_then; on = on; update = update }
 
-module _ (past : List Fact) (old new : Session) (index : ℕ) (ends : Ends old new index) (id number : ℕ) (its_owner : ends.row.owner ≡ owner.Data id number) (learns : DataLearns old.core index id number ends.ok ends.buf new.core) (tied : IsTied past old)
+module _ (past : List Fact) (old new : State) (index : ℕ) (ends : Ends old new index) (id number : ℕ) (its_owner : ends.row.owner ≡ owner.Data id number) (learns : DataLearns old.core index id number ends.ok ends.buf new.core) (tied : IsTied past old)
     (writes : is_write learns.its.request.request.ask ≡ true) (sectors : HasSectors new.device) where
   abbrev o : Open
   o = learns.its.request
@@ -141,7 +141,7 @@ module _ (past : List Fact) (old new : Session) (index : ℕ) (ends : Ends old n
   abbrev ts : List Target
   ts = o.request.targets.items
 
-  abbrev v : State
+  abbrev v : ModelState
   v = tied.view
 
   abbrev i : ℕ
@@ -187,7 +187,7 @@ module _ (past : List Fact) (old new : Session) (index : ℕ) (ends : Ends old n
   sees : SeesRequest o q
   sees = (tied.sees.queue.requests learns.place o learns.its.there).2
 
-  its_row : (next : Core) (u : State) → IsRow old.core next tied.write v u ended.removes.before ended.removes.after f old.core.flying index ends.row
+  its_row : (next : Core) (u : ModelState) → IsRow old.core next tied.write v u ended.removes.before ended.removes.after f old.core.flying index ends.row
   its_row next u = is_row old.core next tied.write v u ended.removes.before ended.removes.after f old.core.flying index ends.row
       (subst (λ (fs : List Flight). AreOut old.core tied.write fs old.core.flying) ended.removes.was (out_of old tied.write tied.orderly tied.notes)) tickets ends.returns.there ended.its
 
@@ -247,7 +247,7 @@ module _ (past : List Fact) (old new : Session) (index : ℕ) (ends : Ends old n
   abbrev q2 : Queued
   q2 = record q { targets = staged q.targets t.pp (stage_of ends.ok) }
 
-  abbrev w : State
+  abbrev w : ModelState
   w = restaged v i q t.pp (stage_of ends.ok) block
 
   abbrev ts2 : List Target
@@ -280,7 +280,7 @@ module _ (past : List Fact) (old new : Session) (index : ℕ) (ends : Ends old n
     got = sees.got;
   }
 
-  carries : (status : Stored) (u : State) → u.queue ≡ w.queue → (g : Flight) (who : Owner) → CarriesStep old.core v g who → CarriesStep (record core2 { status = status }) u g who
+  carries : (status : Stored) (u : ModelState) → u.queue ≡ w.queue → (g : Flight) (who : Owner) → CarriesStep old.core v g who → CarriesStep (record core2 { status = status }) u g who
   carries status u same g (owner.Data n m) c = tt
   carries status u same g (owner.Status disk) c = tt
   carries status u same g (owner.Note disk) c = tt
@@ -500,7 +500,7 @@ module _ (past : List Fact) (old new : Session) (index : ℕ) (ends : Ends old n
     abbrev event : Event
     event = Want (marks_of status.wanted) w.missing (open_after how v.open_copy)
 
-    abbrev w1 : State
+    abbrev w1 : ModelState
     w1 = after_wants w (marks_of status.wanted) w.missing (open_after how v.open_copy)
 
     abbrev core3 : Core

@@ -9,7 +9,7 @@ use Rattle.lvm_session.specs.declared.bringing.CopyEnd.{CopyEnd}
 use Rattle.lvm_session.specs.State.{Core, state}
 use Rattle.lvm_session.specs.Judging.{is_running}
 use Rattle.lvm_session.specs.Bringing.{with_end}
-use Rattle.lvm_invariant.specs.State.{OpenCopy, State}
+use Rattle.lvm_invariant.specs.State.{OpenCopy, ModelState}
 use Rattle.lvm_invariant.specs.Found.{Votes}
 use Rattle.lvm_invariant.specs.Good.{Good}
 use Rattle.lvm_crash.specs.Session.{Describes}
@@ -34,7 +34,7 @@ pub record IsNear (past : List Fact) (device : Device) (core : Core) (how : Opti
   pub votes : Votes
   pub media : Media
   pub setting : IsSetting past core.history.run core.descriptor device.media votes media
-  pub view : State
+  pub view : ModelState
   pub open_copy : Option OpenCopy
   pub sees : Sees past core (record view { open_copy = open_copy })
   pub ended : view.open_copy ≡ open_after how open_copy

@@ -25,12 +25,12 @@ use Rattle.lvm_session.specs.declared.flown.Flown.{Flown}
 use Rattle.lvm_session.specs.declared.flown.Owner.{Owner}
 use Rattle.lvm_session.specs.declared.flown.Owner.TheVariants as owner
 use Rattle.lvm_session.specs.State.{Core}
-use Rattle.lvm_invariant.specs.State.{Queued, State}
+use Rattle.lvm_invariant.specs.State.{Queued, ModelState}
 
 -- ---- the step of a copy
 
 -- a write to the copy that is being brought up carries what its step has got
-abbrev pub CarriesStep : Core → State → Flight → Owner → Type 0
+abbrev pub CarriesStep : Core → ModelState → Flight → Owner → Type 0
 CarriesStep core v f (owner.Data id number) = Unit {0}
 CarriesStep core v f (owner.Status disk) = Unit {0}
 CarriesStep core v f (owner.Note disk) = Unit {0}
@@ -38,7 +38,7 @@ CarriesStep core v f owner.Copy = (c : Bringing) (q : Queued) → core.copy ≡ 
     → (value : ℕ → Sector) × (q.got ≡ Some value) × ((k : ℕ) → k < 256 → slice_get f.buf.sectors k ≡ Some (value (q.first + k)))
 
 -- so does each of those that are out
-abbrev pub CarryTheirs : Core → State → List Flight → List Flown → Type 0
+abbrev pub CarryTheirs : Core → ModelState → List Flight → List Flown → Type 0
 CarryTheirs core v [] rows = Unit {0}
 CarryTheirs core v (f ∷ fs) [] = Unit {0}
 CarryTheirs core v (f ∷ fs) (row ∷ rows) = CarriesStep core v f row.owner × CarryTheirs core v fs rows

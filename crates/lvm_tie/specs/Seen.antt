@@ -29,7 +29,7 @@ use Rattle.lvm_session.specs.declared.bringing.Step.TheVariants as step
 use Rattle.lvm_session.specs.State.{Core, is_there}
 use Rattle.lvm_session.specs.Judging.{is_running, place_of}
 use Rattle.lvm_session.specs.Bringing.{groups_of, has_row, block_at}
-use Rattle.lvm_invariant.specs.State.{Stage, Todo, Flying, Well, Badly, Phase, Held, WantEntry, Ready, Going, Landed, Groups, Queued, OpenCopy, StepWrite, State, Marks, has_landed}
+use Rattle.lvm_invariant.specs.State.{Stage, Todo, Flying, Well, Badly, Phase, Held, WantEntry, Ready, Going, Landed, Groups, Queued, OpenCopy, StepWrite, ModelState, Marks, has_landed}
 use Rattle.lvm_invariant.specs.Updates.{is_pp}
 use Rattle.lvm_crash.specs.Session.{marks_of, as_marks}
 
@@ -191,7 +191,7 @@ pub record SeesNotes (kept : Cached) (there : Disks) (groups : Groups) (at_home 
 -- ---- all of it
 
 -- After this earlier history, which its own follows, the session is this state, but for what the disks show.
-pub record Sees (past : List Fact) (core : Core) (v : State) : Type 0 where
+pub record Sees (past : List Fact) (core : Core) (v : ModelState) : Type 0 where
   pub queue : SeesQueue core.requests core.copy (λ (c : Bringing). has_row core c) (λ (c : Bringing). block_at core c) core.history.facts v.queue v.name
   pub facts : v.facts ≡ past ++ core.history.facts
   pub status : SeesStatus core.status (is_there core) v.committed v.in_flight v.wanted v.status_flying v.media.status v.missing

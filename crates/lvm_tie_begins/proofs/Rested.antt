@@ -20,10 +20,10 @@ use Rattle.lvm_mwc.specs.declared.notes.DiskNotes.{DiskNotes}
 use Rattle.lvm_mwc.specs.Cache.{notes_on, is_named as is_named_by}
 use Rattle.lvm_mwc.specs.Notes.{both_name}
 use Rattle.lvm_session.specs.declared.bringing.OpenCopy.{OpenCopy as Bringing}
-use Rattle.lvm_session.specs.State.{Core, State as Session, is_there}
+use Rattle.lvm_session.specs.State.{Core, State, is_there}
 use Rattle.lvm_session.specs.Bringing.{groups_of}
 use Rattle.lvm_session.specs.Sound.{IsOn}
-use Rattle.lvm_invariant.specs.State.{Groups, Marks, Queued, State}
+use Rattle.lvm_invariant.specs.State.{Groups, Marks, Queued, ModelState}
 use Rattle.lvm_invariant.specs.Found.{Found}
 use Rattle.lvm_crash.specs.Session.{as_marks, marks_of, marks_shown, Describes}
 use Rattle.lvm_rest.specs.Rest.{IsAtRest, IsIdle, SeesThat}
@@ -47,11 +47,11 @@ note_none (Some n) sees = absurd sees
 not_both : (a b : Stamp) {X : Type 0} → stamp_lt a b ≡ true → stamp_lt b a ≡ true → X
 not_both a b before after = absurd (let no : stamp_lt b a ≡ false = grind (arith, nat_tests) in let e : true ≡ false = sym after ∙ no in cc)
 
-module _ (past : List Fact) (s : Session) (tied : IsTied past s) (rests : IsResting s.core) (enough : CanWrite s.core.descriptor (is_there s.core)) where
+module _ (past : List Fact) (s : State) (tied : IsTied past s) (rests : IsResting s.core) (enough : CanWrite s.core.descriptor (is_there s.core)) where
   abbrev core : Core
   core = s.core
 
-  abbrev v : State
+  abbrev v : ModelState
   v = tied.view
 
   abbrev group : Descriptor

@@ -22,10 +22,10 @@ use Rattle.lvm_mwc.specs.Cache.{flight_on, notes_on}
 use Rattle.lvm_session.specs.declared.bringing.OpenCopy.{OpenCopy as Bringing}
 use Rattle.lvm_session.specs.declared.flown.Flown.{Flown}
 use Rattle.lvm_session.specs.declared.open.Power.TheVariants as power
-use Rattle.lvm_session.specs.State.{Core, State as Session, is_there}
+use Rattle.lvm_session.specs.State.{Core, State, is_there}
 use Rattle.lvm_session.specs.Bringing.{groups_of}
 use Rattle.lvm_session.specs.Sound.{IsOn, IsSound}
-use Rattle.lvm_invariant.specs.State.{Groups, Marks, State}
+use Rattle.lvm_invariant.specs.State.{Groups, Marks, ModelState}
 use Rattle.lvm_invariant.specs.Found.{Votes}
 use Rattle.lvm_invariant.specs.Good.{Good}
 use Rattle.lvm_crash.specs.Session.{AreVotesOf, Describes, as_marks, marks_of, members_showing}
@@ -62,7 +62,7 @@ names_written lv g n none = ap (λ (o : Option (ArrayVec NoteEntry)). names_grou
     and_true true = refl
     and_true false = refl
 
-module _ (past : List Fact) (s : Session) (media : Media) (sound : IsSound s) (power_is : s.core.power ≡ power.On) (rests : IsResting s.core) (stands : StandsAtRest s media) (follows : FollowsOn past s) where
+module _ (past : List Fact) (s : State) (media : Media) (sound : IsSound s) (power_is : s.core.power ≡ power.On) (rests : IsResting s.core) (stands : StandsAtRest s media) (follows : FollowsOn past s) where
   abbrev core : Core
   core = s.core
 
@@ -83,10 +83,10 @@ module _ (past : List Fact) (s : Session) (media : Media) (sound : IsSound s) (p
 
   -- ---- what it is seen as
 
-  found : (v : State) × (v.facts ≡ facts) × IsIdle v × SeesThat v core.descriptor stated (is_there core) c
+  found : (v : ModelState) × (v.facts ≡ facts) × IsIdle v × SeesThat v core.descriptor stated (is_there core) c
   found = rest_is_seen facts core.descriptor stated (is_there core) c sound.fitting.valid
 
-  abbrev first : State
+  abbrev first : ModelState
   first = found.0
 
   idle_first : IsIdle first
@@ -96,7 +96,7 @@ module _ (past : List Fact) (s : Session) (media : Media) (sound : IsSound s) (p
   seen_first = found.3
 
   -- with the session's cache
-  abbrev v : State
+  abbrev v : ModelState
   v = record first { cache = λ lv g. has_entry core.cache.entries lv g }
 
   idle : IsIdle v

@@ -15,7 +15,7 @@ use Rattle.lvm_kept.specs.Contents.{Contents, contents_of, has_records, status_o
 use Rattle.lvm_kept.specs.Group.{names_if, is_named}
 use Rattle.lvm_kept.proofs.Contained.{note-same, blocks_are_sectors}
 use Rattle.lvm_kept.proofs.Records.{newest_stays}
-use Rattle.lvm_invariant.specs.State.{Groups, State}
+use Rattle.lvm_invariant.specs.State.{Groups, ModelState}
 use Rattle.lvm_invariant.specs.Found.{Votes}
 use Rattle.lvm_invariant.specs.Good.{Good}
 use Rattle.lvm_invariant.specs.Events.{EndNote}
@@ -38,7 +38,7 @@ some_is a b e = cc
 
 -- ---- notes
 
-module _ (votes : Votes) (s : State) (group : Descriptor) (in_flight : Option (Stamped Status)) (device : Device) (rest : List Flight) (m n : Media) (f : Flight) (well : Bool)
+module _ (votes : Votes) (s : ModelState) (group : Descriptor) (in_flight : Option (Stamped Status)) (device : Device) (rest : List Flight) (m n : Media) (f : Flight) (well : Bool)
     (good : Good votes s) (matches : Matches s s.facts group in_flight device m) (removes : Removes f device.flights rest) (own : IsNoteFlight s f) (lands : Lands f well m n)
     (room : has_records (image_of device.sizes m) f.disk ≡ true) (how : IsTrue well ⊎ IsTrue (s.missing f.disk)) where
   abbrev was : Image

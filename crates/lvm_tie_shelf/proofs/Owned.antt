@@ -18,7 +18,7 @@ use Rattle.lvm_disk.specs.Device.{Flight, Device, image_of, written}
 use Rattle.lvm_kept.specs.Contents.{note_sector, Contents, contents_of}
 use Rattle.lvm_kept.specs.Group.{names_if, is_of, passes, has_room}
 use Rattle.lvm_kept.specs.Torn.{RecordWrite, IsOfRecord, IsOutside}
-use Rattle.lvm_invariant.specs.State.{Groups, Queued, State, covers}
+use Rattle.lvm_invariant.specs.State.{Groups, Queued, ModelState, covers}
 use Rattle.lvm_invariant.specs.Crash.{Brings, CopyBrings}
 use Rattle.lvm_invariant.specs.Sound.{Tied}
 use Rattle.lvm_crash.specs.Session.{members_showing, HasVolumes}
@@ -48,7 +48,7 @@ covers_its r k lt =
     let high : nat_lt (r.first + k) (r.first + r.count) ≡ true = grind (arith, nat_tests) in
     λ t. own t && low t && high t
 
-module _ (group : Descriptor) (valid : IsValid group) (s : State) (facts : List Fact) (members : Disks) (tied : Tied s) (volumes : HasVolumes s facts group members) where
+module _ (group : Descriptor) (valid : IsValid group) (s : ModelState) (facts : List Fact) (members : Disks) (tied : Tied s) (volumes : HasVolumes s facts group members) where
   -- a copy of the state is one of the group, on a member that is there
   pub copy_of : (lv b : ℕ) (p : Pp) → IsTrue (s.is_copy lv b p) → IsCopyOf group lv b p × IsTrue (members p.disk)
   copy_of lv b p copy =
@@ -108,7 +108,7 @@ pub record InSlots (w : RecordWrite) (d at : ℕ) (x : Sector) : Type 0 where
   pub high : at < 192
   pub its : IsOfRecord w d at x
 
-pub in_slots : (s : State) (device : Device) (w : RecordWrite) (u : Stamped Status) (f : Flight) (d at : ℕ) (x : Sector) → UpdateSince device w u → IsStatusFlight s w f → written f d at ≡ Some x → InSlots w d at x
+pub in_slots : (s : ModelState) (device : Device) (w : RecordWrite) (u : Stamped Status) (f : Flight) (d at : ℕ) (x : Sector) → UpdateSince device w u → IsStatusFlight s w f → written f d at ≡ Some x → InSlots w d at x
 in_slots s device w u f d at x since own brings =
     let is = writes_at f d at x brings in
     let low : f.first ≤ at = is.low in
@@ -134,13 +134,13 @@ in_slots s device w u f d at x since own brings =
     }
 
 -- a note's transfer writes its sector alone
-pub record IsItsNote (s : State) (d at : ℕ) (x : Sector) : Type 0 where
+pub record IsItsNote (s : ModelState) (d at : ℕ) (x : Sector) : Type 0 where
   pub place : at ≡ note_sector
   pub note : Groups
   pub flies : s.flying_note d ≡ Some note
   pub names : (lv track_group : ℕ) → names_if (note_in x) lv track_group ≡ note lv track_group
 
-pub its_note : (s : State) (f : Flight) (d at : ℕ) (x : Sector) → IsNoteFlight s f → written f d at ≡ Some x → IsItsNote s d at x
+pub its_note : (s : ModelState) (f : Flight) (d at : ℕ) (x : Sector) → IsNoteFlight s f → written f d at ≡ Some x → IsItsNote s d at x
 its_note s f d at x own brings =
     let is = writes_at f d at x brings in
     let low : f.first ≤ at = is.low in
@@ -160,13 +160,13 @@ pub reads_none : (f : Flight) (d at : ℕ) (x : Sector) → f.write ≡ false �
 reads_none f d at x read brings = let is = writes_at f d at x brings in let e : ◌≡◌ {A = Bool} false true = sym read ∙ is.write in absurd cc
 
 -- What a transfer that is out writes at a sector: data of a copy, a note, or a part of the update.
-pub data What (s : State) (group : Descriptor) (w : Option RecordWrite) (f : Flight) (d at : ℕ) (x : Sector) : Type 0 where
+pub data What (s : ModelState) (group : Descriptor) (w : Option RecordWrite) (f : Flight) (d at : ℕ) (x : Sector) : Type 0 where
   Data : IsDataFlight s group.mib f → data_start ≤ at → What s group w f d at x
   OfStep : IsStepFlight s group.mib f → data_start ≤ at → What s group w f d at x
   OfNote : IsItsNote s d at x → What s group w f d at x
   OfUpdate : (write : RecordWrite) → w ≡ Some write → IsStatusFlight s write f → InSlots write d at x → What s group w f d at x
 
-module _ (s : State) (group : Descriptor) (w : Option RecordWrite) (in_flight : Option (Stamped Status)) (device : Device) (since : OnlyUpdateSince device w in_flight) where
+module _ (s : ModelState) (group : Descriptor) (w : Option RecordWrite) (in_flight : Option (Stamped Status)) (device : Device) (since : OnlyUpdateSince device w in_flight) where
   pub what : (f : Flight) (d at : ℕ) (x : Sector) → IsOwned s group.mib w f → written f d at ≡ Some x → What s group w f d at x
   what f d at x (inl read) brings = absurd (reads_none f d at x read brings)
   what f d at x (inr (inl own)) brings = Data own (high own.copy.pp own.req.first own.transfer.first)

@@ -5,7 +5,7 @@ use Rattle.lvm_disk.specs.Device.{Device}
 use Rattle.lvm_disk.specs.Paths.{Path, Here}
 use Rattle.lvm_disk.proofs.Rising.{rose_by_none}
 use Rattle.lvm_session.specs.declared.open.Power.TheVariants as power
-use Rattle.lvm_session.specs.State.{Core, State as Session}
+use Rattle.lvm_session.specs.State.{Core, State}
 use Rattle.lvm_core.specs.Settled.{IsSettled}
 use Rattle.lvm_core.specs.Sound.{IsSound as IsSoundBetween}
 use Rattle.lvm_core.specs.State.{state_of}
@@ -23,7 +23,7 @@ no_open [] none = refl
 no_open (x ∷ xs) none = absurd (cc (none))
 
 -- a session that was drained may be settled
-pub may_settle : (old new : Session) → IsOnBetween old.device old.core → length old.core.requests ≡ 0 → Path IsTurn IsAny old new → RunsOn old new → IsDrained new → MaySettle new
+pub may_settle : (old new : State) → IsOnBetween old.device old.core → length old.core.requests ≡ 0 → Path IsTurn IsAny old new → RunsOn old new → IsDrained new → MaySettle new
 may_settle old new on none path runs drained = record {
   drained = drained;
   none = record {
