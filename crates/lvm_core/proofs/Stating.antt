@@ -23,7 +23,7 @@ use Rattle.lvm_commit.proofs.Chaining.{keeps_wider}
 use Rattle.lvm_commit.proofs.Leaving.{passed_before}
 use Rattle.lvm_core.specs.declared.fault.CommitFault.{CommitFault}
 use Rattle.lvm_session.specs.State.{State, is_there}
-use Rattle.lvm_core.specs.Sound.{IsSound}
+use Rattle.lvm_core.specs.Sound.{IsSoundBetween}
 use Rattle.lvm_core.specs.Held.{IsHeld}
 use Rattle.lvm_core.specs.Settled.{IsSettled}
 use Rattle.lvm_core.specs.Committing.{MarkEnds, HasStated, FailsCommitted, is_among, AreUnused, AreMarked, Restates, moment_of, SpanGoesOn, StaysBehind}
@@ -53,7 +53,7 @@ was_marked false false c is = absurd (false≢true is)
 
 -- ---- the call
 
-module _ (stale fresh : List Pp) (before after : ℕ) (old new : State) (answer : Result (Unit {0}) CommitFault) (w : CommitsMarks stale fresh before after old new answer) (settled_is : IsSettled old.core) (sound : IsSound old) where
+module _ (stale fresh : List Pp) (before after : ℕ) (old new : State) (answer : Result (Unit {0}) CommitFault) (w : CommitsMarks stale fresh before after old new answer) (settled_is : IsSettled old.core) (sound : IsSoundBetween old) where
   abbrev plan : Plan
   plan = IsOfStatus w.first new.core.status
 
@@ -79,7 +79,7 @@ module _ (stale fresh : List Pp) (before after : ℕ) (old new : State) (answer 
   wants unused = if_told old.device.media (λ media. MayMark (contents_of (image_of old.device.sizes media)) old.core.descriptor w.first.committed w.first.wanted)
       (λ media told. wants_marks old.core stale fresh w.first w.marked settled_is sound.fitting.group sound.fitting.valid unused (contents_of (image_of old.device.sizes media)))
 
-  pub status_sound : IsSound new
+  pub status_sound : IsSoundBetween new
   status_sound = settles_sound Held Plain old.core.descriptor plan w.first before after old new w.how answer w.settles begins settled_is sound sound.fitting.valid same
 
   pub status_sizes : SameSizes old.core new.core

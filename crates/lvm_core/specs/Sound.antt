@@ -41,7 +41,7 @@ pub record IsQuiet (core : Core) : Type 0 where
   pub notes : (disk : ℕ) → flight_on core.cache disk ≡ None
   pub buffers : core.pool ≡ replicate (length core.pool) false
 
-pub record IsSound (s : State) : Type 0 where
+pub record IsSoundBetween (s : State) : Type 0 where
   pub fitting : IsFitting s.core
   pub none : HasNoneOpen s.core
   pub landed : HaveAllLanded s.core.history.facts

@@ -25,7 +25,7 @@ use Rattle.lvm_kept.specs.Kept.{StandsAs, RawAgrees}
 use Rattle.lvm_invariant.specs.State.{ModelState, Queued}
 use Rattle.lvm_invariant.specs.Found.{Votes}
 use Rattle.lvm_invariant.specs.Good.{Good}
-use Rattle.lvm_invariant.specs.Events.{Event, Submit, EnterStep, Admit, Pin, Read, StartWrite, Transfer, LandDone, LandLost, LandGot, LandReadFailed, LandNoFresh, EndStep, Take, TakeEarlier, Want, BeginUpdate, MoveStatus, CommitUpdate, EndUpdate, StartNote, EndNote, Open as OpenCopy, CopyWrite, Clear, Step}
+use Rattle.lvm_invariant.specs.Events.{Event, Submit, EnterStep, Admit, Pin, Read, StartWrite, Transfer, LandDone, LandLost, LandGot, LandReadFailed, LandNoFresh, EndStep, Take, TakeEarlier, Want, BeginUpdate, MoveStatus, CommitUpdate, EndUpdate, StartNote, EndNote, Open as OpenCopy, CopyWrite, Clear, ModelStep}
 use Rattle.lvm_crash.specs.Session.{members_showing, GroupStands, HasVolumes, Shows, Describes}
 use Rattle.lvm_crash.specs.Left.{KeepsGroup}
 use Rattle.lvm_crash.specs.Lasting.{AsksOf, DescriptionLasts}
@@ -151,7 +151,7 @@ module _ (votes : Votes) (group : Descriptor) (s : ModelState) (good : Good vote
   went : (new : ModelState) → record new { is_copy = s.is_copy; is_active = s.is_active; is_passive = s.is_passive } ≡ new → (new.facts ≡ s.facts) ⊎ ((f : Fact) × (new.facts ≡ s.facts ++ f ∷ []) × IsOfSession group f) → Went new
   went new same facts = record { copies = ap (λ (x : ModelState). x.is_copy) (sym same); active = ap (λ (x : ModelState). x.is_active) (sym same); passive = ap (λ (x : ModelState). x.is_passive) (sym same); facts = facts }
 
-  goes : (event : Event) (new : ModelState) → Step votes event s new → AsksOf group event → Went new
+  goes : (event : Event) (new : ModelState) → ModelStep votes event s new → AsksOf group event → Went new
   goes (Submit i q r) new step asks = subst Went (sym step.1) (went _ refl (inr (Begun q, refl, (r.lv, step.0.same.vol, asks))))
   goes (EnterStep i q r) new step asks = subst Went (sym step.1) (went _ refl (inl refl))
   goes (Admit i r phase several targets) new step asks = subst Went (sym step.1) (went _ refl (inl refl))
@@ -221,7 +221,7 @@ module _ (old : Contents) (status : ℕ → Option (Stamped Status)) (note : ℕ
   }
 
   description_lasts_here : (votes : Votes) (event : Event) (s new : ModelState) (group : Descriptor) (in_flight next : Option (Stamped Status))
-      → Step votes event s new → Good votes s → AsksOf group event → Describes s s.facts group in_flight old → KeepsGroup old now → Shows new group next now → Describes new new.facts group next now
+      → ModelStep votes event s new → Good votes s → AsksOf group event → Describes s s.facts group in_flight old → KeepsGroup old now → Shows new group next now → Describes new new.facts group next now
   description_lasts_here votes event s new group in_flight next step good asks describes keeps shows =
       let went : Goes group s new = goes votes group s good event new step asks in
       record {

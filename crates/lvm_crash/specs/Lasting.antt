@@ -8,7 +8,7 @@ use Rattle.lvm_kept.specs.Contents.{Contents}
 use Rattle.lvm_invariant.specs.State.{ModelState}
 use Rattle.lvm_invariant.specs.Found.{Votes}
 use Rattle.lvm_invariant.specs.Good.{Good}
-use Rattle.lvm_invariant.specs.Events.{Event, Submit, Step}
+use Rattle.lvm_invariant.specs.Events.{Event, Submit, ModelStep}
 use Rattle.lvm_crash.specs.Session.{as_marks, HasStatuses, Shows, Describes}
 use Rattle.lvm_crash.specs.Left.{KeepsGroup}
 
@@ -21,7 +21,7 @@ AsksOf group _ = Unit {0}
 abbrev pub DescriptionLasts : Type 0
 DescriptionLasts =
     (votes : Votes) (event : Event) (s new : ModelState) (group : Descriptor) (in_flight next : Option (Stamped Status)) (old now : Contents)
-    → Step votes event s new → Good votes s → AsksOf group event → Describes s s.facts group in_flight old → KeepsGroup old now → Shows new group next now → Describes new new.facts group next now
+    → ModelStep votes event s new → Good votes s → AsksOf group event → Describes s s.facts group in_flight old → KeepsGroup old now → Shows new group next now → Describes new new.facts group next now
 
 -- ---- statuses
 

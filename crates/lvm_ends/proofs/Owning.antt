@@ -13,7 +13,7 @@ use Rattle.lvm_mwc.specs.Cache.{flight_on, notes_on}
 use Rattle.lvm_status.specs.declared.change.Change.TheVariants as change
 use Rattle.lvm_status.specs.Calls.{WantsAtEnd, after_end}
 use Rattle.lvm_status.specs.Members.{HasItsRows}
-use Rattle.lvm_status.specs.Runs.{Ended, IsSound as IsSoundStatus, Want}
+use Rattle.lvm_status.specs.Runs.{Ended, IsSoundStatus, Want}
 use Rattle.lvm_status.specs.Update.{Stored, seen}
 use Rattle.lvm_status.proofs.Disks.{member-below}
 use Rattle.lvm_status.proofs.Sound.{steps_stay_sound}

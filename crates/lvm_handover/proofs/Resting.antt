@@ -23,7 +23,7 @@ use Rattle.lvm_session.specs.Enabled.{first_of, has_buffer, is_status_due, landi
 use Rattle.lvm_session.specs.Owners.{flies, same_owner}
 use Rattle.lvm_session.specs.Sound.{IsGoing, IsOn, IsSound, count_if}
 use Rattle.lvm_core.specs.Settled.{IsSettled}
-use Rattle.lvm_core.specs.Sound.{HasNoneOpen, IsSound as IsSoundBetween}
+use Rattle.lvm_core.specs.Sound.{HasNoneOpen, IsSoundBetween}
 use Rattle.lvm_earlier.specs.passed.Driver.{IsDrained}
 use Rattle.lvm_tie_begins.specs.Begins.{IsResting}
 use Rattle.lvm_handover.specs.Settling.{DrainedRests, MaySettle}

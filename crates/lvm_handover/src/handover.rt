@@ -5,7 +5,7 @@ ghost use Rattle.lvm_status.specs.Members.{HasItsRows};
 ghost use Rattle.lvm_session.specs.State.{state};
 ghost use Rattle.lvm_session.specs.Sound.{IsSound};
 ghost use Rattle.lvm_core.specs.Settled.{IsSettled};
-ghost use Rattle.lvm_core.specs.Sound.{IsSound as IsSoundBetween};
+ghost use Rattle.lvm_core.specs.Sound.{IsSoundBetween};
 ghost use Rattle.lvm_handover.specs.Settling.{MaySettle};
 ghost use Rattle.lvm_handover.specs.Serving.{IsServed, MarksAdded, MarksMissing, MayServe};
 

@@ -5,7 +5,7 @@ use Rattle.lvm_num.specs.declared.place.Pp.{Pp}
 use Rattle.lvm_num.specs.Geometry.{track_group_of}
 use Rattle.lvm_num.specs.Record.{Stamped, stamp_lt}
 use Rattle.lvm_vol.specs.May.{IsValue}
-use Rattle.lvm_invariant.specs.State.{write_of, Marks, Groups, OpenCopy, StepWrite, Phase, Stage, Queued, ModelState, covers, request_of, is_past, has_landed, is_pinning, Live, Named, Started, told}
+use Rattle.lvm_invariant.specs.State.{write_of, Marks, Groups, ModelCopy, StepWrite, ModelPhase, Stage, Queued, ModelState, covers, request_of, is_past, has_landed, is_pinning, Live, Named, Started, told}
 use Rattle.lvm_invariant.specs.Sound.{StaysFresh, Tied, Statuses, Holds, Sound, Nearly}
 use Rattle.lvm_invariant.proofs.Effects.{DoneEffect, LostEffect, ChangeEffect, GotEffect, JoinEffect}
 use Rattle.lvm_vol.specs.Facts.{Fact, Request}
@@ -108,13 +108,13 @@ pub record Rest (s : ModelState) : Type 0 where
   pub home : (d lv g : ℕ) → IsFalse (s.missing d) → s.media.names d lv g ≡ s.home_note d lv g
 
 abbrev pub WantsKeep : Type 0
-WantsKeep = (s : ModelState) (wanted : Marks) (missing : ℕ → Bool) (open_copy : Option OpenCopy) → Wants s wanted missing open_copy → Nearly s → Sound (after_wants s wanted missing open_copy)
+WantsKeep = (s : ModelState) (wanted : Marks) (missing : ℕ → Bool) (open_copy : Option ModelCopy) → Wants s wanted missing open_copy → Nearly s → Sound (after_wants s wanted missing open_copy)
 
 abbrev pub BeginKeeps : Type 0
 BeginKeeps = (s : ModelState) (u : Stamped Marks) → s.in_flight ≡ None → u.value ≡ s.wanted → Sound s → Sound (record s { in_flight = Some u })
 
 abbrev pub CommitKeepsCore : Type 0
-CommitKeepsCore = (s : ModelState) (u : Stamped Marks) (open_copy : Option OpenCopy) → Commits s u open_copy → Sound s → Nearly (record s { committed = u; open_copy = open_copy })
+CommitKeepsCore = (s : ModelState) (u : Stamped Marks) (open_copy : Option ModelCopy) → Commits s u open_copy → Sound s → Nearly (record s { committed = u; open_copy = open_copy })
 
 abbrev pub UpdateEndKeeps : Type 0
 UpdateEndKeeps = (s : ModelState) → s.in_flight ≡ Some s.committed → Sound s → Sound (record s { in_flight = None })
@@ -142,7 +142,7 @@ abbrev pub PlainKeeps : Type 0
 PlainKeeps = (s : ModelState) (i : ℕ) (r n : Queued) (facts : List Fact) (cache : Groups) → ChangeEffect s i r n facts cache → Alike r n → Sound s → Sound (record s { queue = put s.queue i n; facts = facts; cache = cache })
 
 abbrev pub AdmitKeepsCore : Type 0
-AdmitKeepsCore = (s : ModelState) (i : ℕ) (r : Queued) (phase : Phase) (several : Bool) (targets : Pp → Option Stage) → Admits s i r phase several targets → Sound s → Sound (with_req s i (admitted r phase several targets))
+AdmitKeepsCore = (s : ModelState) (i : ℕ) (r : Queued) (phase : ModelPhase) (several : Bool) (targets : Pp → Option Stage) → Admits s i r phase several targets → Sound s → Sound (with_req s i (admitted r phase several targets))
 
 abbrev pub GotKeeps : Type 0
 GotKeeps = (s : ModelState) (i : ℕ) (r : Queued) (value : ℕ → List ℕ) (facts : List Fact) → GotEffect s i r value facts → Sound s → Sound (landed s i r facts)
@@ -155,11 +155,11 @@ abbrev pub SubmitKeepsCore : Type 0
 SubmitKeepsCore = (s : ModelState) (i : ℕ) (q : Request) (r : Queued) (facts : List Fact) → JoinEffect s i q r facts → Sound s → Sound (record s { queue = put s.queue i r; facts = facts; name = with_name s.name i q })
 
 abbrev pub CopyWriteKeepsCore : Type 0
-CopyWriteKeepsCore = (s : ModelState) (i : ℕ) (r : Queued) (value : ℕ → List ℕ) (target : Pp) (open_copy : Option OpenCopy) (step_write : Option StepWrite) (block : ℕ → ℕ → Pp → List ℕ)
+CopyWriteKeepsCore = (s : ModelState) (i : ℕ) (r : Queued) (value : ℕ → List ℕ) (target : Pp) (open_copy : Option ModelCopy) (step_write : Option StepWrite) (block : ℕ → ℕ → Pp → List ℕ)
     → CopyWrites s i r value target open_copy block → Sound s → Sound (record s { media = with_block s.media block; open_copy = open_copy; step_write = step_write })
 
 abbrev pub OpenKeepsCore : Type 0
-OpenKeepsCore = (s : ModelState) (o : OpenCopy) → Opens s o → Sound s → Sound (record s { open_copy = Some o })
+OpenKeepsCore = (s : ModelState) (o : ModelCopy) → Opens s o → Sound s → Sound (record s { open_copy = Some o })
 
 abbrev pub ClearKeepsCore : Type 0
 ClearKeepsCore = (s : ModelState) (wanted : Marks) (c : Pp) → Clears s wanted c → Sound s → Sound (record s { wanted = wanted })

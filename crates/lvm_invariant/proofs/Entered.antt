@@ -19,7 +19,7 @@ use Rattle.lvm_invariant.specs.Read.{reading}
 use Rattle.lvm_invariant.specs.LandGot.{LandsGot}
 use Rattle.lvm_invariant.specs.LandLost.{LandsLost}
 use Rattle.lvm_invariant.specs.Submit.{Submits}
-use Rattle.lvm_invariant.specs.State.{Groups, Stage, Well, Badly, Phase, Held, WantEntry, Ready, Going, Landed, Queued, ModelState, covers, told, has_landed, is_past, is_pinning}
+use Rattle.lvm_invariant.specs.State.{Groups, Stage, Well, Badly, ModelPhase, Held, WantEntry, Ready, Going, Landed, Queued, ModelState, covers, told, has_landed, is_past, is_pinning}
 use Rattle.lvm_invariant.specs.Sound.{Sound}
 use Rattle.lvm_invariant.proofs.Small.{IsIn, never, in_more, in_added}
 use Rattle.lvm_invariant.proofs.Telling.{apart_back, is_open_if, is_calm, after_landing, landing_mode, landing_tight, landing_others, landing_outside, landing_ended, landing_read, beginning_values, beginning_loose, beginning_mode, beginning_others, beginning_own, beginning_outside, later_apart, not_open}
@@ -38,7 +38,7 @@ and_both false b h k = absurd cc
 pub write_asks : (s : ModelState) → Told s.queue s.name s.facts → (j : ℕ) (e : Queued) → s.queue j ≡ Some e → IsTrue e.write → IsFalse e.step
 write_asks s t j e at write = ⊎_elim (λ (step : IsTrue e.step). never e.write write (t.steps_read j e at step)) (λ (f : IsFalse e.step). f) (decided e.step)
 
-pub past_unlanded : (p : Phase) → IsTrue (is_past p) → IsFalse (has_landed p)
+pub past_unlanded : (p : ModelPhase) → IsTrue (is_past p) → IsFalse (has_landed p)
 past_unlanded Held past = absurd cc
 past_unlanded WantEntry past = refl
 past_unlanded Ready past = refl
@@ -159,7 +159,7 @@ got_may s i r got sound t step =
 
 -- ---- NoFresh and ReadFailed
 
-not_going : {X : Type 0} (p : Phase) → IsTrue (has_landed p) → p ≡ Going → X
+not_going : {X : Type 0} (p : ModelPhase) → IsTrue (has_landed p) → p ≡ Going → X
 not_going p h e = never (has_landed p) h (ap has_landed e)
 
 -- nothing changes of what each block may have

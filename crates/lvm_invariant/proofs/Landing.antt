@@ -5,7 +5,7 @@ use Rattle.lvm_num.specs.declared.place.Pp.{Pp}
 use Rattle.lvm_num.specs.Geometry.{track_group_of}
 use Rattle.lvm_vol.specs.May.{Known, known}
 use Rattle.lvm_invariant.proofs.Small.{IsIn, never}
-use Rattle.lvm_invariant.specs.State.{Stage, Well, Going, Landed, Phase, Queued, ModelState, covers, is_settled_stale, HasPassed, Live, Started, told}
+use Rattle.lvm_invariant.specs.State.{Stage, Well, Going, Landed, ModelPhase, Queued, ModelState, covers, is_settled_stale, HasPassed, Live, Started, told}
 use Rattle.lvm_invariant.specs.Sound.{Agree, Settled, Blocks, Sound}
 use Rattle.lvm_invariant.proofs.Effects.{ClosesOnly, DoneEffect, LostEffect}
 use Rattle.lvm_invariant.proofs.Requests.{decided, put_cases, put_other, one_write, one_req}
@@ -16,7 +16,7 @@ use Rattle.lvm_invariant.specs.LandDone.{IsDropped}
 use Rattle.lvm_invariant.specs.Updates.{land, landed}
 use Rattle.lvm_invariant.proofs.SoundLemmas.{live_same, equal_same, recorded_same}
 
-not_going : {X : Type 0} (p : Phase) → Landed ≡ p → p ≡ Going → X
+not_going : {X : Type 0} (p : ModelPhase) → Landed ≡ p → p ≡ Going → X
 not_going p a b = absurd cc
 
 module _ (s : ModelState) (sound : Sound s) (i : ℕ) (r : Queued) (facts : List Fact) (started_r : Started s i r) (closes : ClosesOnly s i r facts) where

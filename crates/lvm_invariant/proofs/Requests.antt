@@ -3,7 +3,7 @@ use Rattle.std.proofs.Common.{◌≡◌, ◌⊎◌, inl, inr, ⊎_elim, ℕ, ◌
 use Rattle.std.specs.Prelude.{IsTrue, IsFalse, ◌==◌, if◌then◌else◌}
 use Rattle.std.proofs.lemmas.Bool.{cases_lt}
 use Rattle.lvm_num.specs.declared.place.Pp.{Pp}
-use Rattle.lvm_invariant.specs.State.{Stage, Phase, Held, WantEntry, Ready, Going, Landed, Queued, ModelState, covers, is_past, has_landed, Started}
+use Rattle.lvm_invariant.specs.State.{Stage, ModelPhase, Held, WantEntry, Ready, Going, Landed, Queued, ModelState, covers, is_past, has_landed, Started}
 use Rattle.lvm_invariant.specs.Sound.{Conflict, Sound}
 use Rattle.lvm_invariant.specs.Updates.{put, is_pp, staged}
 
@@ -93,14 +93,14 @@ staged_is targets c e stage x h = by_test (is_pp e c)
     by_test true = (stage, refl)
     by_test false = (x, h)
 
-pub past_not_landed : (p : Phase) → IsTrue (is_past p) → IsTrue (has_landed p) → ⊥
+pub past_not_landed : (p : ModelPhase) → IsTrue (is_past p) → IsTrue (has_landed p) → ⊥
 past_not_landed Held past l = absurd cc
 past_not_landed WantEntry past l = absurd cc
 past_not_landed Ready past l = absurd cc
 past_not_landed Going past l = absurd cc
 past_not_landed Landed past l = absurd cc
 
-pub past_of : (p q : Phase) → p ≡ q → IsTrue (is_past q) → IsTrue (is_past p)
+pub past_of : (p q : ModelPhase) → p ≡ q → IsTrue (is_past q) → IsTrue (is_past p)
 past_of p q e h = ap is_past e ∙ h
 
 module _ (s : ModelState) (sound : Sound s) where

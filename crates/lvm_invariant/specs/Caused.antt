@@ -8,7 +8,7 @@ use Rattle.lvm_vol.specs.declared.entry.Vol.TheVariants.{Lv}
 use Rattle.lvm_vol.specs.declared.entry.Outcome.{Outcome}
 use Rattle.lvm_vol.specs.declared.entry.Outcome.TheVariants as outcome
 use Rattle.lvm_vol.specs.Facts.{Request, Fact, Making, Made, Split, Removing, Removed, Begun, Landed, Taken, Cut, On, is_over}
-use Rattle.lvm_invariant.specs.State.{Marks, Badly, Queued, OpenCopy, ModelState}
+use Rattle.lvm_invariant.specs.State.{Marks, Badly, Queued, ModelCopy, ModelState}
 use Rattle.lvm_invariant.specs.Faults.{Faults, HasFailed, SomeFailed, NoneFailed, HasCause}
 
 -- each copy of what the request goes over was stale, or on a missing disk, when the session began
@@ -56,7 +56,7 @@ pub record Caused (w : Faults) (s : ModelState) : Type 0 where
   pub committed : (c : Pp) → IsTrue (s.committed.value.stale c) → HasCause w c
   pub in_flight : (c : Pp) (u : Stamped Marks) → s.in_flight ≡ Some u → IsTrue (u.value.stale c) → HasCause w c
   pub wanted : (c : Pp) → IsTrue (s.wanted.stale c) → HasCause w c
-  pub brought_up : (o : OpenCopy) → s.open_copy ≡ Some o → HasCause w o.target
+  pub brought_up : (o : ModelCopy) → s.open_copy ≡ Some o → HasCause w o.target
   -- a transfer that failed is on a disk that has failed since its request or step entered the queue
   pub failed : (i : ℕ) (r : Queued) (c : Pp) → s.queue i ≡ Some r → r.targets c ≡ Some Badly → Rose (w.asked i c.disk) (w.now c.disk)
   pub landed : Since w s s.facts

@@ -4,7 +4,7 @@ use Rattle.lvm_num.specs.declared.place.Pp.{Pp}
 use Rattle.lvm_num.specs.Geometry.{track_group_of}
 use Rattle.lvm_num.specs.Record.{Stamped}
 use Rattle.lvm_vol.specs.May.{is_off, IsValue}
-use Rattle.lvm_invariant.specs.State.{write_of, Marks, Stage, Well, Queued, OpenCopy, ModelState, covers, request_of, has_landed, is_past, is_pinning, is_usable, Live, Named, Started, told}
+use Rattle.lvm_invariant.specs.State.{write_of, Marks, Stage, Well, Queued, ModelCopy, ModelState, covers, request_of, has_landed, is_past, is_pinning, is_usable, Live, Named, Started, told}
 
 -- in mode passive: the disk of each is missing, and the committed status calls the volume dirty
 pub record DifferDirty (s : ModelState) (lv b : ℕ) : Type 0 where
@@ -66,7 +66,7 @@ pub record Tied (s : ModelState) : Type 0 where
 
 -- the copy that is being brought up is this one, and it has passed all its track groups
 pub record Complete (s : ModelState) (c : Pp) : Type 0 where
-  pub copy : OpenCopy
+  pub copy : ModelCopy
   pub is_open : s.open_copy ≡ Some copy
   pub target : copy.target ≡ c
   pub passed : (lv b : ℕ) → IsTrue (s.is_copy lv b c) → IsTrue (copy.passed lv (track_group_of b))
@@ -85,8 +85,8 @@ pub record Statuses (s : ModelState) : Type 0 where
   -- each logical partition has a copy that all three call fresh
   pub kept : (lv b : ℕ) (c : Pp) → IsTrue (s.is_copy lv b c) → (e : Pp) × IsTrue (s.is_copy lv b e) × StaysFresh s e
   -- the copy that is brought up is on a disk that isn't missing, and is stale by what is committed or wanted
-  pub open_there : (o : OpenCopy) → s.open_copy ≡ Some o → IsFalse (s.missing o.target.disk)
-  pub open_stale : (o : OpenCopy) → s.open_copy ≡ Some o → IsTrue (s.committed.value.stale o.target) ⊎ IsTrue (s.wanted.stale o.target)
+  pub open_there : (o : ModelCopy) → s.open_copy ≡ Some o → IsFalse (s.missing o.target.disk)
+  pub open_stale : (o : ModelCopy) → s.open_copy ≡ Some o → IsTrue (s.committed.value.stale o.target) ⊎ IsTrue (s.wanted.stale o.target)
   -- a volume that is dirty stays so
   pub dirty_flies : (lv : ℕ) (u : Stamped Marks) → s.in_flight ≡ Some u → IsTrue (s.committed.value.dirty lv) → IsTrue (u.value.dirty lv)
   pub dirty_is_wanted : (lv : ℕ) → IsTrue (s.committed.value.dirty lv) → IsTrue (s.wanted.dirty lv)

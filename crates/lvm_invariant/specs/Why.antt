@@ -2,9 +2,9 @@
 use Rattle.std.specs.Prelude.{◌≡◌, ◌⊎◌, ℕ, ◌≤◌, Bool, ◌==◌, if◌then◌else◌, Option, Some, None, IsTrue}
 use Rattle.lvm_num.specs.declared.place.Pp.{Pp}
 use Rattle.lvm_disk.specs.Counts.{Rose}
-use Rattle.lvm_invariant.specs.State.{Marks, Stage, Todo, Badly, Queued, OpenCopy, ModelState}
+use Rattle.lvm_invariant.specs.State.{Marks, Stage, Todo, Badly, Queued, ModelCopy, ModelState}
 use Rattle.lvm_invariant.specs.Found.{Votes}
-use Rattle.lvm_invariant.specs.Events.{Event, Submit, EnterStep, Admit, Pin, Read, StartWrite, Transfer, LandDone, LandLost, LandGot, LandReadFailed, LandNoFresh, EndStep, Take, TakeEarlier, Want, BeginUpdate, MoveStatus, CommitUpdate, EndUpdate, StartNote, EndNote, Open, CopyWrite, Clear, Step}
+use Rattle.lvm_invariant.specs.Events.{Event, Submit, EnterStep, Admit, Pin, Read, StartWrite, Transfer, LandDone, LandLost, LandGot, LandReadFailed, LandNoFresh, EndStep, Take, TakeEarlier, Want, BeginUpdate, MoveStatus, CommitUpdate, EndUpdate, StartNote, EndNote, Open, CopyWrite, Clear, ModelStep}
 use Rattle.lvm_invariant.specs.Faults.{Faults}
 
 -- a write of the queue has failed on the copy
@@ -17,7 +17,7 @@ pub record WriteFailedOn (s : ModelState) (c : Pp) : Type 0 where
 
 -- the copy is the one that is being brought up
 pub record IsBroughtUp (s : ModelState) (c : Pp) : Type 0 where
-  pub copy : OpenCopy
+  pub copy : ModelCopy
   pub is_open : s.open_copy ≡ Some copy
   pub target : copy.target ≡ c
 
@@ -82,6 +82,6 @@ pub record Counted (event : Event) (before after : Faults) : Type 0 where
 
 -- an event, with its causes
 pub record CausedStep (votes : Votes) (event : Event) (old new : ModelState) (before after : Faults) : Type 0 where
-  pub step : Step votes event old new
+  pub step : ModelStep votes event old new
   pub counts : Counted event before after
   pub why : Why event old before.now after.now

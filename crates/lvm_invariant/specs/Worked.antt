@@ -8,7 +8,7 @@ use Rattle.lvm_num.specs.Record.{Stamped}
 use Rattle.lvm_vol.specs.declared.entry.Vol.TheVariants.{Lv}
 use Rattle.lvm_vol.specs.declared.entry.Outcome.TheVariants as outcome
 use Rattle.lvm_vol.specs.Facts.{Request, Making, Made, Begun, Landed as HasLanded, block_of}
-use Rattle.lvm_invariant.specs.State.{Marks, Groups, Stage, Todo, Flying, Well, Badly, Phase, Held, WantEntry, Ready, Going, Queued, OpenCopy, ModelState, covers}
+use Rattle.lvm_invariant.specs.State.{Marks, Groups, Stage, Todo, Flying, Well, Badly, ModelPhase, Held, WantEntry, Ready, Going, Queued, ModelCopy, ModelState, covers}
 use Rattle.lvm_invariant.specs.Updates.{is_pp, staged, land}
 use Rattle.lvm_invariant.specs.Found.{Votes}
 use Rattle.lvm_invariant.specs.Good.{Good}
@@ -42,7 +42,7 @@ abbrev pub both_at : Stage → Pp → Option Stage
 both_at stage c = if is_either c then Some stage else None
 
 -- in mode active it waits for its entry in the cache
-abbrev pub phase_in : Mode → Phase
+abbrev pub phase_in : Mode → ModelPhase
 phase_in Active = WantEntry
 phase_in Passive = Ready
 phase_in Off = Ready
@@ -203,7 +203,7 @@ read_fails = read_out ++ Read 1 reading_first first_copy Badly None ∷ LandRead
 abbrev pub none_passed : Groups
 none_passed lv g = false
 
-abbrev pub passed_by : Groups → OpenCopy
+abbrev pub passed_by : Groups → ModelCopy
 passed_by passed = record { target = second_copy; passed = passed }
 
 -- a step over the first track group

@@ -25,7 +25,7 @@ use Rattle.lvm_kept.specs.Committed.{IsWithinDisks}
 use Rattle.lvm_kept.proofs.Finding.{some_same, finding_reads, images_within}
 use Rattle.lvm_commit.specs.Committed.{ShowsCommitted}
 use Rattle.lvm_commit.proofs.Found.{only_found, status_read}
-use Rattle.lvm_invariant.specs.State.{has_notes, has_mark, Marks, Queued, OpenCopy, ModelState, Live, stale_in, told}
+use Rattle.lvm_invariant.specs.State.{has_notes, has_mark, Marks, Queued, ModelCopy, ModelState, Live, stale_in, told}
 use Rattle.lvm_invariant.specs.Sound.{MayDiffer, Agree, Settled, Sound}
 use Rattle.lvm_invariant.specs.Found.{Votes, Found}
 use Rattle.lvm_invariant.specs.Good.{Good}
@@ -164,7 +164,7 @@ module _ (votes : Votes) (s : ModelState) (group : Descriptor) (status : Status)
   no_request : {X : Type 0} (i : ℕ) (r : Queued) → s.queue i ≡ Some r → X
   no_request i r is = nothing r (sym (idle.queue i) ∙ is)
 
-  no_open : {X : Type 0} (o : OpenCopy) → s.open_copy ≡ Some o → X
+  no_open : {X : Type 0} (o : ModelCopy) → s.open_copy ≡ Some o → X
   no_open o is = nothing o (sym idle.no_copy ∙ is)
 
   -- ---- live copies

@@ -25,7 +25,7 @@ use Rattle.lvm_status.specs.Update.{Stored, is_held, seen}
 use Rattle.lvm_stamps.specs.Behind.{StampsBefore}
 use Rattle.lvm_commit.specs.Committed.{next_stamp}
 use Rattle.lvm_homes.specs.declared.homes.Homes.{Homes}
-use Rattle.lvm_session.specs.declared.bringing.OpenCopy.{OpenCopy as Bringing}
+use Rattle.lvm_session.specs.declared.bringing.OpenCopy.{OpenCopy}
 use Rattle.lvm_session.specs.declared.bringing.CopyEnd.{CopyEnd}
 use Rattle.lvm_session.specs.declared.flown.Flown.{Flown}
 use Rattle.lvm_session.specs.declared.flown.Owner.{Owner}
@@ -71,8 +71,8 @@ end_leaves : (core : Core) (how : Option CopyEnd) → ((with_end core how).power
 end_leaves core None = (refl, refl)
 end_leaves core (Some how) = by core.copy
   where
-    by : (m : Option Bringing) → ((option_map_or (λ (c : Bringing). Rattle.lvm_session.specs.Bringing.after_copy_end core c how) m core).power ≡ core.power)
-        × ((option_map_or (λ (c : Bringing). Rattle.lvm_session.specs.Bringing.after_copy_end core c how) m core).homes ≡ core.homes)
+    by : (m : Option OpenCopy) → ((option_map_or (λ (c : OpenCopy). Rattle.lvm_session.specs.Bringing.after_copy_end core c how) m core).power ≡ core.power)
+        × ((option_map_or (λ (c : OpenCopy). Rattle.lvm_session.specs.Bringing.after_copy_end core c how) m core).homes ≡ core.homes)
     by None = (refl, refl)
     by (Some c) = (refl, refl)
 
@@ -187,7 +187,7 @@ module _ (past : List Fact) (old new : State) (at disk : ℕ) (row : Flown) (buf
   owners : HasOwners v
   owners = tied.good.sound.tied.owner
 
-  brought : (c : Bringing) → core2.copy ≡ Some c → is_running c ≡ true → IsBrought core2 v c
+  brought : (c : OpenCopy) → core2.copy ≡ Some c → is_running c ≡ true → IsBrought core2 v c
   brought c is runs = let b = (opened past old tied c is runs).0 in record {
     target = b.target;
     member = b.member;

@@ -14,7 +14,7 @@ use Rattle.lvm_sched.specs.declared.writes.TargetState.{TargetState}
 use Rattle.lvm_path.specs.declared.target.Target.{Target}
 use Rattle.lvm_path.specs.Targets.{with_state}
 use Rattle.lvm_session.specs.declared.open.Open.{Open}
-use Rattle.lvm_session.specs.declared.bringing.OpenCopy.{OpenCopy as Bringing}
+use Rattle.lvm_session.specs.declared.bringing.OpenCopy.{OpenCopy}
 use Rattle.lvm_session.specs.declared.flown.Flown.{Flown}
 use Rattle.lvm_session.specs.State.{Core}
 use Rattle.lvm_session.specs.Judging.{place_of}
@@ -108,7 +108,7 @@ module _ (past : List Fact) (core : Core) (v : ModelState) (place : ℕ) (o o2 :
   other_place k p ne at e = ne (numbers k place p o at there (omega arith))
 
   -- and so has a step
-  pub step_apart : (c : Bringing) → core.copy ≡ Some c → has_row core c ≡ true → c.place ≡ i → ⊥
+  pub step_apart : (c : OpenCopy) → core.copy ≡ Some c → has_row core c ≡ true → c.place ≡ i → ⊥
   step_apart c is row e =
       let a = sees.queue.a_step c is row in
       let b = sees.queue.requests place o there in

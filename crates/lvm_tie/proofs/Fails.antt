@@ -5,7 +5,7 @@ use Rattle.lvm_num.specs.declared.place.Pp.{Pp}
 use Rattle.lvm_vol.specs.Facts.{Fact}
 use Rattle.lvm_disk.specs.Device.{HasSectors}
 use Rattle.lvm_status.specs.Update.{Stored}
-use Rattle.lvm_session.specs.declared.bringing.OpenCopy.{OpenCopy as Bringing}
+use Rattle.lvm_session.specs.declared.bringing.OpenCopy.{OpenCopy}
 use Rattle.lvm_session.specs.declared.bringing.CopyEnd.TheVariants as ending
 use Rattle.lvm_session.specs.declared.bringing.Step.TheVariants as step
 use Rattle.lvm_session.specs.State.{Core, State, state}
@@ -25,7 +25,7 @@ module _ (past : List Fact) (old new : State) (at : ℕ) (tied : IsTied past old
   abbrev v : ModelState
   v = tied.view
 
-  abbrev c : Bringing
+  abbrev c : OpenCopy
   c = event.copy
 
   -- it isn't whole yet
@@ -34,7 +34,7 @@ module _ (past : List Fact) (old new : State) (at : ℕ) (tied : IsTied past old
 
   -- so nothing more is wanted stale
   none_due : (p : Pp) → marked_by_end old.core (Some ending.SyncFailed) p ≡ false
-  none_due p = ap (λ (m : Option Bringing). Rattle.std.specs.Option.option_map_or (λ (x : Bringing). is_whole old.core x && Rattle.lvm_stale.specs.Table.is_pp p x.pp) m false) event.is_open ∙ ap (λ b. b && Rattle.lvm_stale.specs.Table.is_pp p c.pp) part
+  none_due p = ap (λ (m : Option OpenCopy). Rattle.std.specs.Option.option_map_or (λ (x : OpenCopy). is_whole old.core x && Rattle.lvm_stale.specs.Table.is_pp p x.pp) m false) event.is_open ∙ ap (λ b. b && Rattle.lvm_stale.specs.Table.is_pp p c.pp) part
 
   same : new.core.status ≡ old.core.status
   same = event.fails.marks.same (λ p due. clash (marked_by_end old.core (Some ending.SyncFailed) p) due (none_due p))

@@ -28,7 +28,7 @@ use Rattle.lvm_invariant.specs.State.{Badly, Queued, ModelState, is_past}
 use Rattle.lvm_invariant.specs.Updates.{landed}
 use Rattle.lvm_invariant.specs.LandGot.{LandsGot}
 use Rattle.lvm_invariant.specs.LandReadFailed.{ReadFails}
-use Rattle.lvm_invariant.specs.Events.{LandGot, LandReadFailed, Step as GoodStep}
+use Rattle.lvm_invariant.specs.Events.{LandGot, LandReadFailed, ModelStep}
 use Rattle.lvm_tie_shelf.proofs.Owned.{covered}
 use Rattle.lvm_tie.proofs.Words.{any_none}
 use Rattle.lvm_tie.specs.Seen.{stage_seen, phase_seen, SeesRequest}
@@ -169,10 +169,10 @@ module _ (past : List Fact) (old new : State) (place : ℕ) (result : Outcome) (
       by : How result (list_any (λ (t : Target). is_done t.state) ts) ts → IsTied past new
       by (Got got done) =
           let has : HasGot old.core o = subst (GotsAre old.core o) done gots in
-          let step : GoodStep tied.votes (LandGot i q (got_blocks (count_of o.request.ask) o.got)) v (landed v i q (v.facts ++ Landed (v.name i) result (is_begun ts) (got_blocks (count_of o.request.ask) o.got) ∷ [])) = (lands_got has, λ k. landed v i q (v.facts ++ Landed (v.name i) (got k) (begun k) (got_blocks (count_of o.request.ask) o.got) ∷ [])) in
+          let step : ModelStep tied.votes (LandGot i q (got_blocks (count_of o.request.ask) o.got)) v (landed v i q (v.facts ++ Landed (v.name i) result (is_begun ts) (got_blocks (count_of o.request.ask) o.got) ∷ [])) = (lands_got has, λ k. landed v i q (v.facts ++ Landed (v.name i) (got k) (begun k) (got_blocks (count_of o.request.ask) o.got) ∷ [])) in
           lands_tied past old new place result lands tied q (LandGot i q (got_blocks (count_of o.request.ask) o.got)) (numbers_of old tied.write tied.orderly) at sees step tt orderly
       by (Failed failed done flies waits) =
           let empty : o.got ≡ None = subst (GotsAre old.core o) done gots in
           let none : got_blocks (count_of o.request.ask) o.got ≡ [] = ap (got_blocks (count_of o.request.ask)) empty in
-          let step : GoodStep tied.votes (LandReadFailed i q) v (landed v i q (v.facts ++ Landed (v.name i) result (is_begun ts) (got_blocks (count_of o.request.ask) o.got) ∷ [])) = (read_fails done flies waits, λ k. landed v i q (v.facts ++ Landed (v.name i) (failed k) (begun k) (none k) ∷ [])) in
+          let step : ModelStep tied.votes (LandReadFailed i q) v (landed v i q (v.facts ++ Landed (v.name i) result (is_begun ts) (got_blocks (count_of o.request.ask) o.got) ∷ [])) = (read_fails done flies waits, λ k. landed v i q (v.facts ++ Landed (v.name i) (failed k) (begun k) (none k) ∷ [])) in
           lands_tied past old new place result lands tied q (LandReadFailed i q) (numbers_of old tied.write tied.orderly) at sees step tt orderly

@@ -10,7 +10,7 @@ use Rattle.lvm_disk.specs.Device.{HasSectors}
 use Rattle.lvm_stale.specs.Table.{is_pp as same_pp}
 use Rattle.lvm_status.specs.Update.{Stored}
 use Rattle.lvm_session.specs.declared.open.Open.{Open}
-use Rattle.lvm_session.specs.declared.bringing.OpenCopy.{OpenCopy as Bringing}
+use Rattle.lvm_session.specs.declared.bringing.OpenCopy.{OpenCopy}
 use Rattle.lvm_session.specs.declared.bringing.CopyEnd.{CopyEnd}
 use Rattle.lvm_session.specs.State.{Core, State, state}
 use Rattle.lvm_session.specs.Judging.{place_of}
@@ -42,11 +42,11 @@ module _ (past : List Fact) (old new : State) (at : ℕ) (tied : IsTied past old
   abbrev v : ModelState
   v = tied.view
 
-  abbrev c : Bringing
+  abbrev c : OpenCopy
   c = event.copy
 
   -- the copy at its next track group
-  abbrev e : Bringing
+  abbrev e : OpenCopy
   e = d past old new at tied sectors event
 
   abbrev on : Core
@@ -113,7 +113,7 @@ module _ (past : List Fact) (old new : State) (at : ℕ) (tied : IsTied past old
     | inl is ↦ absurd (let k : Some x ≡ None = sym at_j ∙ ap (gone v.queue c.place step_q) is ∙ gone_here v.queue c.place step_q in cc)
     | inr ne ↦ ⊎_elim
         (λ (r : IsRequestAt core j). let lt = low r.place r.request r.there in let k = r.its in omega (arith, lt, k))
-        (λ (r : IsStepAt core j). absurd (let own : r.copy ≡ c = (let k : Some r.copy ≡ Some c = sym r.is_open ∙ event.is_open in cc) in ne (sym r.its ∙ ap (λ (y : Bringing). y.place) own)))
+        (λ (r : IsStepAt core j). absurd (let own : r.copy ≡ c = (let k : Some r.copy ≡ Some c = sym r.is_open ∙ event.is_open in cc) in ne (sym r.its ∙ ap (λ (y : OpenCopy). y.place) own)))
         (tied.sees.queue.only j x (sym (gone_there v.queue c.place step_q j ne) ∙ at_j))
   ]
 

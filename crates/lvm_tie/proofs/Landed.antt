@@ -23,7 +23,7 @@ use Rattle.lvm_commit.specs.Committed.{next_stamp}
 use Rattle.lvm_commit.proofs.Slots.{slot_for_same}
 use Rattle.lvm_status.specs.Update.{Stored}
 use Rattle.lvm_homes.specs.declared.homes.Homes.{Homes}
-use Rattle.lvm_session.specs.declared.bringing.OpenCopy.{OpenCopy as Bringing}
+use Rattle.lvm_session.specs.declared.bringing.OpenCopy.{OpenCopy}
 use Rattle.lvm_session.specs.declared.bringing.Step.{Step}
 use Rattle.lvm_session.specs.declared.bringing.Step.TheVariants as step
 use Rattle.lvm_session.specs.declared.flown.Flown.{Flown}
@@ -33,7 +33,7 @@ use Rattle.lvm_session.specs.Judging.{is_running}
 use Rattle.lvm_session.specs.Bringing.{has_row, is_out, is_whole}
 use Rattle.lvm_session.specs.Ends.{Returns}
 use Rattle.lvm_session.specs.Events.{IsCopyTransfer}
-use Rattle.lvm_invariant.specs.State.{OpenCopy, Queued, ModelState, is_past}
+use Rattle.lvm_invariant.specs.State.{ModelCopy, Queued, ModelState, is_past}
 use Rattle.lvm_invariant.specs.CopyWrite.{copied}
 use Rattle.lvm_invariant.specs.Events.{CopyWrite}
 use Rattle.lvm_invariant.proofs.Each.{each_keeps}
@@ -93,7 +93,7 @@ next_below group status homes was is same whole may = record {
   spare = λ d there owed. may.spare d there owed ∙ sym (slot_for_same status_of kind.Status (was.sector d) (is.sector d) (λ slot s two from to. same.sectors d s (slot_low kind.Status slot s two to)));
 }
 
-busy : (core : Core) (c : Bringing) (st : Step) (f : Flight) → StepIsOut core c st f → is_out st ≡ true
+busy : (core : Core) (c : OpenCopy) (st : Step) (f : Flight) → StepIsOut core c st f → is_out st ≡ true
 busy core c step.Idle f out = absurd out
 busy core c (step.Reading source) f out = refl
 busy core c (step.Read buf) f out = absurd out
@@ -102,7 +102,7 @@ busy core c step.Writing f out = refl
 -- ---- the transfer
 
 module _ (past : List Fact) (old new : State) (at : ℕ) (row : Flown) (ok : Bool) (buf : Buffer) (tied : IsTied past old) (returns : Returns old new at row ok buf) (own : row.owner ≡ owner.Copy)
-    (c : Bringing) (is_open : old.core.copy ≡ Some c) where
+    (c : OpenCopy) (is_open : old.core.copy ≡ Some c) where
   abbrev core : Core
   core = old.core
 
@@ -128,7 +128,7 @@ module _ (past : List Fact) (old new : State) (at : ℕ) (row : Flown) (ok : Boo
   found = subst (IsOut core tied.write f) own its_row.out
 
   pub out : StepIsOut core c c.step f
-  out = subst (λ (x : Bringing). StepIsOut core x x.step f) (some_of found.copy c (sym found.is_open ∙ is_open)) found.out
+  out = subst (λ (x : OpenCopy). StepIsOut core x x.step f) (some_of found.copy c (sym found.is_open ∙ is_open)) found.out
 
   carries : CarriesStep core v f owner.Copy
   carries = subst (CarriesStep core v f) own
@@ -165,7 +165,7 @@ module _ (past : List Fact) (old new : State) (at : ℕ) (row : Flown) (ok : Boo
   now = contents_of (image_of new.device.sizes ended.media)
 
   -- A good state describes what stands then, and the members and the next update go on.
-  pub record HasLanded (open_copy : Option OpenCopy) : Type 0 where
+  pub record HasLanded (open_copy : Option ModelCopy) : Type 0 where
     pub block : ℕ → ℕ → Pp → Sector
     pub stands : Stands tied.votes core.descriptor (update_of core.status) now (copied v block open_copy None)
     pub next : MayUpdate core.descriptor core.status core.homes (image_of new.device.sizes ended.media)
@@ -244,7 +244,7 @@ module _ (past : List Fact) (old new : State) (at : ℕ) (row : Flown) (ok : Boo
     whole : AreSectors new.device.sizes ended.media
     whole = subst (λ (m : Option Media). IfSome m (AreSectors new.device.sizes)) ended.told sectors
 
-    pub landed_write : (open_copy : Option OpenCopy) → (open_copy ≡ v.open_copy) ⊎ (IsTrue ok × PassesOver v q c.pp open_copy) → HasLanded open_copy
+    pub landed_write : (open_copy : Option ModelCopy) → (open_copy ≡ v.open_copy) ⊎ (IsTrue ok × PassesOver v q c.pp open_copy) → HasLanded open_copy
     landed_write open_copy opened =
         let its = step_ends tied.votes v c.place q value c.pp open_copy None core.descriptor (update_of core.status) old.device.sizes tied.media ended.media f ok (valid_of old tied.write tied.orderly) tied.good tied.describes at_q sees.write past_now theirs.1 aimed transfer ended.lands opened in
         let block : ℕ → ℕ → Pp → Sector = after_write v core.descriptor.mib q c.pp (contents_of (image_of old.device.sizes ended.media)) in

@@ -4,7 +4,7 @@ use Rattle.std.specs.Prelude.{IsTrue, if◌then◌else◌, nat_le}
 use Rattle.lvm_num.specs.Geometry.{sector_of, data_start}
 use Rattle.lvm_vol.specs.Facts.{Fact}
 use Rattle.lvm_sched.specs.declared.writes.TargetState.TheVariants as target
-use Rattle.lvm_path.specs.declared.request.Phase.{Phase as RequestPhase}
+use Rattle.lvm_path.specs.declared.request.Phase.{Phase}
 use Rattle.lvm_path.specs.declared.request.Phase.TheVariants as phase
 use Rattle.lvm_path.specs.declared.target.Target.{Target}
 use Rattle.lvm_path.specs.Asks.{at_of, is_write}
@@ -88,7 +88,7 @@ later_start_ties past old new place number starts tied waits writes moving begun
     let q : Queued = seen.0 in
     let sees : SeesRequest o q = seen.2 in
     let v : ModelState = tied.view in
-    let going : q.phase ≡ Going = sees.phase ∙ ap (λ (p : RequestPhase). phase_seen p (is_begun o.request.targets.items)) moving ∙ ap (phase_seen phase.Data) begun in
+    let going : q.phase ≡ Going = sees.phase ∙ ap (λ (p : Phase). phase_seen p (is_begun o.request.targets.items)) moving ∙ ap (phase_seen phase.Data) begun in
     let same : (record q { targets = staged q.targets c Flying }) ≡ (record q { phase = Going; targets = staged q.targets c Flying }) = λ k. record q { phase = going k; targets = staged q.targets c Flying } in
     let may : Restages v i q c Flying v.media.block = record { started = record { there = seen.1; write = sees.write ∙ writes; going = going }; was = (stage_seen starts.its.aim.state, found past old new place number starts tied waits q sees); media = λ lv b e. inl refl; well = λ is. absurd (let e : Flying ≡ Well = is in cc) } in
     subst (IsTied past) (sym starts.is)
@@ -111,7 +111,7 @@ read_start_ties past old new place number starts tied waits reads moving orderly
     let q : Queued = seen.0 in
     let sees : SeesRequest o q = seen.2 in
     let v : ModelState = tied.view in
-    let on : IsTrue (is_past q.phase) = ap is_past (sees.phase ∙ ap (λ (p : RequestPhase). phase_seen p (is_begun o.request.targets.items)) moving) ∙ past_either (is_begun o.request.targets.items) in
+    let on : IsTrue (is_past q.phase) = ap is_past (sees.phase ∙ ap (λ (p : Phase). phase_seen p (is_begun o.request.targets.items)) moving) ∙ past_either (is_begun o.request.targets.items) in
     let may : Reads v i q c q.got = record { there = seen.1; read = sees.write ∙ reads; past = on; was = (stage_seen starts.its.aim.state, found past old new place number starts tied waits q sees); gets = λ value is. inl is } in
     subst (IsTied past) (sym starts.is)
     (started_ties past old new.device place number o starts.its.aim q (record q { phase = Going; targets = staged q.targets c Flying }) starts.flight new.core.pool tied (numbers_of old tied.write tied.orderly) starts.its.there starts.its.aim_is seen.1 starts.launches.starts

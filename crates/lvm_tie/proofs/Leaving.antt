@@ -8,10 +8,10 @@ use Rattle.lvm_num.specs.Record.{Stamped}
 use Rattle.lvm_vol.specs.Facts.{Taken}
 use Rattle.lvm_vol.specs.Log.{no_request}
 use Rattle.lvm_kept.specs.Contents.{Contents}
-use Rattle.lvm_invariant.specs.State.{OpenCopy, Queued, ModelState, has_landed}
+use Rattle.lvm_invariant.specs.State.{ModelCopy, Queued, ModelState, has_landed}
 use Rattle.lvm_invariant.specs.Updates.{land, put, with_req, without}
 use Rattle.lvm_invariant.specs.EnterStep.{StepEnters, entered}
-use Rattle.lvm_invariant.specs.Events.{EndStep, EnterStep, Event, Step, Take, Want}
+use Rattle.lvm_invariant.specs.Events.{EndStep, EnterStep, Event, ModelStep, Take, Want}
 use Rattle.lvm_invariant.specs.Found.{Votes}
 use Rattle.lvm_invariant.specs.Good.{Good}
 use Rattle.lvm_invariant.specs.Take.{taken}
@@ -47,7 +47,7 @@ pub record Stands (votes : Votes) (group : Descriptor) (update : Option (Stamped
 
 module _ (votes : Votes) (group : Descriptor) (update : Option (Stamped Status)) (c : Contents) where
   -- an event by which nothing changes on the media leaves one
-  pub quiet : (event : Event) (s new : ModelState) → Step votes event s new → AsksOf group event → new.media ≡ s.media → new.is_copy ≡ s.is_copy → new.in_flight ≡ s.in_flight
+  pub quiet : (event : Event) (s new : ModelState) → ModelStep votes event s new → AsksOf group event → new.media ≡ s.media → new.is_copy ≡ s.is_copy → new.in_flight ≡ s.in_flight
       → Stands votes group update c s → Stands votes group update c new
   quiet event s new makes asks media copies flies stands = record {
     good = each_keeps votes event s new makes stands.good;
@@ -65,7 +65,7 @@ module _ (votes : Votes) (group : Descriptor) (update : Option (Stamped Status))
       subst (Stands votes group update c) same second
 
   -- the copy ends that is open, and stale by what is wanted
-  pub copy_over : (s : ModelState) → ((o : OpenCopy) → s.open_copy ≡ Some o → IsTrue (s.wanted.stale o.target)) → Stands votes group update c s → Stands votes group update c (record s { open_copy = None })
+  pub copy_over : (s : ModelState) → ((o : ModelCopy) → s.open_copy ≡ Some o → IsTrue (s.wanted.stale o.target)) → Stands votes group update c s → Stands votes group update c (record s { open_copy = None })
   copy_over s stale stands = quiet (Want s.wanted s.missing None) s (record s { open_copy = None }) (may, refl) tt refl refl refl stands
     where
       may : Wants s s.wanted s.missing None

@@ -7,7 +7,7 @@ use Rattle.lvm_num.specs.Disks.{has}
 use Rattle.lvm_vol.specs.Facts.{Fact}
 use Rattle.lvm_stale.specs.Table.{is_pp as same_pp}
 use Rattle.lvm_status.specs.Update.{Stored}
-use Rattle.lvm_session.specs.declared.bringing.OpenCopy.{OpenCopy as Bringing}
+use Rattle.lvm_session.specs.declared.bringing.OpenCopy.{OpenCopy}
 use Rattle.lvm_session.specs.declared.bringing.CopyEnd.{CopyEnd}
 use Rattle.lvm_session.specs.declared.bringing.Step.TheVariants as step
 use Rattle.lvm_session.specs.State.{Core, State, state}
@@ -38,10 +38,10 @@ module _ (past : List Fact) (old new : State) (at : ℕ) (tied : IsTied past old
   abbrev v : ModelState
   v = tied.view
 
-  abbrev c : Bringing
+  abbrev c : OpenCopy
   c = event.copy
 
-  abbrev d : Bringing
+  abbrev d : OpenCopy
   d = record c { step = step.Idle; tried = event.misses.tried }
 
   abbrev mid : Core

@@ -26,7 +26,7 @@ use Rattle.lvm_mwc.specs.Entries.{note_of}
 use Rattle.lvm_mwc.specs.Notes.{is_on, names_group}
 use Rattle.lvm_mwc.specs.Cache.{notes_on, flight_on, is_named, started, after_start}
 use Rattle.lvm_mwc.proofs.PinsLemmas.{note-names}
-use Rattle.lvm_path.specs.declared.request.Phase.{Phase as RequestPhase}
+use Rattle.lvm_path.specs.declared.request.Phase.{Phase}
 use Rattle.lvm_path.specs.declared.target.Target.{Target}
 use Rattle.lvm_path.specs.Asks.{lv_of}
 use Rattle.lvm_session.specs.declared.open.Open.{Open}
@@ -154,7 +154,7 @@ module _ (past : List Fact) (old new : State) (place disk : ℕ) (starts : Start
       by true is = is
       by false is =
           let at = ((open_one old tied.write tied.orderly place starts.request starts.there).over is).phase_is in
-          absurd (let e : None ≡ Some disk = sym (ap (λ (p : RequestPhase). if wants_record p && starts.request.request.pinned then option_map (λ (t : Target). t.pp.disk) (find (is_unnamed core starts.request.request.ask) starts.request.request.targets.items) else None) at) ∙ starts.due in cc)
+          absurd (let e : None ≡ Some disk = sym (ap (λ (p : Phase). if wants_record p && starts.request.request.pinned then option_map (λ (t : Target). t.pp.disk) (find (is_unnamed core starts.request.request.ask) starts.request.request.targets.items) else None) at) ∙ starts.due in cc)
 
   -- the disk is a member, isn't missing, and no note is out there
   pub record IsDue : Type 0 where

@@ -16,7 +16,7 @@ use Rattle.lvm_steps.specs.Requests.{at}
 use Rattle.lvm_mwc.specs.Cache.{flight_on}
 use Rattle.lvm_path.specs.declared.request.Phase.TheVariants as phase
 use Rattle.lvm_session.specs.declared.open.Open.{Open}
-use Rattle.lvm_session.specs.declared.bringing.OpenCopy.{OpenCopy as Bringing}
+use Rattle.lvm_session.specs.declared.bringing.OpenCopy.{OpenCopy}
 use Rattle.lvm_session.specs.declared.bringing.Step.{Step}
 use Rattle.lvm_session.specs.declared.bringing.Step.TheVariants as step
 use Rattle.lvm_session.specs.declared.flown.Owner.TheVariants as owner
@@ -92,13 +92,13 @@ module _ (past : List Fact) (s : State) (tied : IsTied past s) (lost : is_lost s
   no_copy : w.step_write ≡ None
   no_copy = tied.sees.step_write ∙ by core.copy (flies_none past s tied idle owner.Copy)
     where
-      of : (c : Bringing) (st : Step) → is_out st ≡ false → step_write_of c st ≡ None
+      of : (c : OpenCopy) (st : Step) → is_out st ≡ false → step_write_of c st ≡ None
       of c step.Idle none = refl
       of c (step.Reading source) none = refl
       of c (step.Read buf) none = refl
       of c step.Writing none = absurd (cc none)
 
-      by : (m : Option Bringing) → option_map_or (λ (c : Bringing). is_out c.step) m false ≡ false → step_write_in m ≡ None
+      by : (m : Option OpenCopy) → option_map_or (λ (c : OpenCopy). is_out c.step) m false ≡ false → step_write_in m ≡ None
       by None none = refl
       by (Some c) none = of c c.step none
 

@@ -38,7 +38,7 @@ use Rattle.lvm_path.specs.Targets.{is_begun, is_over}
 use Rattle.lvm_status.specs.Update.{Stored}
 use Rattle.lvm_homes.specs.declared.homes.Homes.{Homes}
 use Rattle.lvm_session.specs.declared.open.Open.{Open}
-use Rattle.lvm_session.specs.declared.bringing.OpenCopy.{OpenCopy as Bringing}
+use Rattle.lvm_session.specs.declared.bringing.OpenCopy.{OpenCopy}
 use Rattle.lvm_session.specs.declared.bringing.Step.{Step}
 use Rattle.lvm_session.specs.declared.bringing.Step.TheVariants as step
 use Rattle.lvm_session.specs.declared.flown.Flown.{Flown}
@@ -189,14 +189,14 @@ pub record IsNoteOut (core : Core) (f : Flight) (disk : ℕ) : Type 0 where
   pub carries : slice_get f.buf.sectors 0 ≡ Some sector
   pub names : (lv g : ℕ) → names_if (note_in sector) lv g ≡ names_group items.items lv g
 
-abbrev pub StepIsOut : Core → Bringing → Step → Flight → Type 0
+abbrev pub StepIsOut : Core → OpenCopy → Step → Flight → Type 0
 StepIsOut core c step.Idle f = ⊥
 StepIsOut core c (step.Reading source) f = IsCopyTransfer core c source false f
 StepIsOut core c (step.Read buf) f = ⊥
 StepIsOut core c step.Writing f = IsCopyTransfer core c c.pp true f
 
 pub record IsCopyOut (core : Core) (f : Flight) : Type 0 where
-  pub copy : Bringing
+  pub copy : OpenCopy
   pub is_open : core.copy ≡ Some copy
   pub out : StepIsOut core copy copy.step f
 
@@ -354,7 +354,7 @@ module _ (s : State) (w : Option RecordWrite) (orderly : IsOrderly s w) where
         names = λ lv g. ap (λ (m : Option Noted). names_if m lv g) (written_is_read note (notes disk its.note its.flies));
       }
 
-  step_out : (st : Step) (c : Bringing) (f : Flight) → IsStepOf st core c f → StepIsOut core c st f
+  step_out : (st : Step) (c : OpenCopy) (f : Flight) → IsStepOf st core c f → StepIsOut core c st f
   step_out step.Idle c f its = its
   step_out (step.Reading source) c f its = its
   step_out (step.Read buf) c f its = its

@@ -14,7 +14,7 @@ use Rattle.lvm_sched.specs.declared.writes.TargetState.TheVariants as target
 use Rattle.lvm_sched.specs.Writes.{is_flying}
 use Rattle.lvm_path.specs.declared.target.Target.{Target}
 use Rattle.lvm_session.specs.declared.open.Open.{Open}
-use Rattle.lvm_session.specs.declared.bringing.OpenCopy.{OpenCopy as Bringing}
+use Rattle.lvm_session.specs.declared.bringing.OpenCopy.{OpenCopy}
 use Rattle.lvm_session.specs.declared.bringing.Step.{Step}
 use Rattle.lvm_session.specs.declared.bringing.Step.TheVariants as step
 use Rattle.lvm_session.specs.declared.flown.Flown.{Flown}
@@ -100,7 +100,7 @@ module _ (past : List Fact) (s : State) (tied : IsTied past s) where
     only = λ i q at. ⊎_elim (λ (r : IsRequestAt core i). r) (λ (st : IsStepAt core i). absurd (none i st)) (tied.sees.queue.only i q at);
   }
 
-  module _ (c : Bringing) (is_open : core.copy ≡ Some c) (row : has_row core c ≡ true) where
+  module _ (c : OpenCopy) (is_open : core.copy ≡ Some c) (row : has_row core c ≡ true) where
     abbrev q : Queued
     q = (tied.sees.queue.a_step c is_open row).0
 
@@ -149,17 +149,17 @@ module _ (past : List Fact) (s : State) (tied : IsTied past s) where
             (λ (r : IsRequestAt core i). r)
             (λ (st : IsStepAt core i).
             let same : st.copy ≡ c = same_row st.copy c (sym st.is_open ∙ is_open) in
-            no_one (sym (eq-eqb i c.place (sym st.its ∙ ap (λ (x : Bringing). x.place) same)) ∙ is))
+            no_one (sym (eq-eqb i c.place (sym st.its ∙ ap (λ (x : OpenCopy). x.place) same)) ∙ is))
             (tied.sees.queue.only i x (sym (elsewhere i is) ∙ at))
 
   pub quieted : Quieted
   quieted = by core.copy refl
     where
-      of : (c : Bringing) → core.copy ≡ Some c → (b : Bool) → has_row core c ≡ b → Quieted
+      of : (c : OpenCopy) → core.copy ≡ Some c → (b : Bool) → has_row core c ≡ b → Quieted
       of c is true row = without_step c is row
       of c is false none = as_it_is (λ i st. let same : st.copy ≡ c = same_row st.copy c (sym st.is_open ∙ is) in no_one (sym st.row ∙ ap (has_row core) same ∙ none))
 
-      by : (m : Option Bringing) → core.copy ≡ m → Quieted
+      by : (m : Option OpenCopy) → core.copy ≡ m → Quieted
       by None is = as_it_is (λ i st. let e : None ≡ Some st.copy = sym is ∙ st.is_open in absurd (cc e))
       by (Some c) is = of c is (has_row core c) refl
 

@@ -3,7 +3,7 @@ use Rattle.std.proofs.Common.{◌≡◌, inl, ℕ, Bool, false, List, Option, So
 use Rattle.std.specs.Prelude.{slice_set}
 use Rattle.lvm_vol.specs.Facts.{Fact}
 use Rattle.lvm_disk.specs.Device.{HasSectors}
-use Rattle.lvm_session.specs.declared.bringing.OpenCopy.{OpenCopy as Bringing}
+use Rattle.lvm_session.specs.declared.bringing.OpenCopy.{OpenCopy}
 use Rattle.lvm_session.specs.declared.bringing.Step.{Step}
 use Rattle.lvm_session.specs.declared.bringing.Step.TheVariants as step
 use Rattle.lvm_session.specs.State.{Core, State, state}
@@ -23,14 +23,14 @@ module _ (past : List Fact) (old new : State) (at : ℕ) (ok : Bool) (tied : IsT
   abbrev v : ModelState
   v = tied.view
 
-  abbrev c : Bringing
+  abbrev c : OpenCopy
   c = event.copy
 
-  abbrev d : Bringing
+  abbrev d : OpenCopy
   d = record c { step = step.Idle }
 
   none_open : v.open_copy ≡ None
-  none_open = subst (λ (b : Bool). SeesRunning b (groups_of old.core) c v.open_copy) event.over (subst (λ (m : Option Bringing). SeesCopy (groups_of old.core) m v.open_copy) event.is_open tied.sees.open_copy)
+  none_open = subst (λ (b : Bool). SeesRunning b (groups_of old.core) c v.open_copy) event.over (subst (λ (m : Option OpenCopy). SeesCopy (groups_of old.core) m v.open_copy) event.is_open tied.sees.open_copy)
 
   landed : HasLanded past old new at event.row ok event.buf tied event.returns event.own c event.is_open v.open_copy
   landed = by c.step refl (out past old new at event.row ok event.buf tied event.returns event.own c event.is_open)

@@ -6,7 +6,7 @@ use Rattle.lvm_num.specs.Buffer.{Sector}
 use Rattle.lvm_num.specs.Disks.{has}
 use Rattle.lvm_num.specs.Geometry.{sector_of}
 use Rattle.lvm_vol.specs.Facts.{Fact}
-use Rattle.lvm_session.specs.declared.bringing.OpenCopy.{OpenCopy as Bringing}
+use Rattle.lvm_session.specs.declared.bringing.OpenCopy.{OpenCopy}
 use Rattle.lvm_session.specs.declared.bringing.Step.TheVariants as step
 use Rattle.lvm_session.specs.State.{Core, State, state}
 use Rattle.lvm_session.specs.Bringing.{is_idle, is_whole}
@@ -36,7 +36,7 @@ module _ (past : List Fact) (old new : State) (at : ℕ) (tied : IsTied past old
   abbrev v : ModelState
   v = tied.view
 
-  abbrev c : Bringing
+  abbrev c : OpenCopy
   c = event.copy
 
   abbrev source : Pp
@@ -96,7 +96,7 @@ module _ (past : List Fact) (old new : State) (at : ℕ) (tied : IsTied past old
     refl,
   ) tt refl refl refl (read_stands past old new at event.row true event.buf tied event.returns event.own c event.is_open source event.reads)
 
-  abbrev d : Bringing
+  abbrev d : OpenCopy
   d = record c { step = step.Read event.buf }
 
   -- the source has done well

@@ -20,7 +20,7 @@ use Rattle.lvm_path.specs.declared.target.Target.{Target}
 use Rattle.lvm_path.specs.Asks.{is_write}
 use Rattle.lvm_path.specs.Targets.{is_begun, are_over, with_state, end_state}
 use Rattle.lvm_session.specs.declared.open.Open.{Open}
-use Rattle.lvm_session.specs.declared.bringing.OpenCopy.{OpenCopy as Bringing}
+use Rattle.lvm_session.specs.declared.bringing.OpenCopy.{OpenCopy}
 use Rattle.lvm_session.specs.declared.bringing.CopyEnd.{CopyEnd}
 use Rattle.lvm_session.specs.declared.bringing.Step.{Step}
 use Rattle.lvm_session.specs.declared.bringing.Step.TheVariants as step
@@ -60,7 +60,7 @@ use Rattle.lvm_session.specs.Marks.{WantsStale, Entails, is_among, due_targets, 
 use Rattle.lvm_invariant.specs.State.{Marks, covers}
 use Rattle.lvm_invariant.specs.Updates.{put}
 use Rattle.std.specs.Prelude.{slice_index_or}
-use Rattle.lvm_invariant.specs.State.{Phase}
+use Rattle.lvm_invariant.specs.State.{ModelPhase}
 use Rattle.lvm_invariant.specs.Read.{Reads as Reading, reading}
 use Rattle.lvm_session.specs.Ends.{DataLearns, Ends}
 use Rattle.lvm_session.specs.Sound.{IsSound}
@@ -259,7 +259,7 @@ module _ (past : List Fact) (old new : State) (index : ℕ) (ends : Ends old new
   carries g (owner.Note disk) c = tt
   carries g owner.Copy carried = λ c p is writing here. carried c p is writing (sym (elsewhere c is writing) ∙ here)
     where
-      elsewhere : (c : Bringing) → old.core.copy ≡ Some c → c.step ≡ step.Writing → w.queue c.place ≡ v.queue c.place
+      elsewhere : (c : OpenCopy) → old.core.copy ≡ Some c → c.step ≡ step.Writing → w.queue c.place ≡ v.queue c.place
       elsewhere c is writing = elim (cases_eq c.place i) [
         | inl e ↦ absurd (step_apart past old.core v learns.place o o2 q2 core2.pool core2.flying old.core.last old.core.queue old.core.cache.entries v.media.block tied.sees numbers learns.its.there refl sees2 (λ lv g2. refl) c is
             (ap (λ (st : Step). is_out st || (is_running c && not (is_whole old.core c))) writing) e)
@@ -278,7 +278,7 @@ module _ (past : List Fact) (old new : State) (index : ℕ) (ends : Ends old new
   no_end : end_by_write core2 o2 ends.ok t.pp ≡ None
   no_end = by old.core.copy
     where
-      by : (c : Option Bringing) → Rattle.lvm_session.specs.Bringing.ends_if (Rattle.std.specs.Option.option_map_or (Rattle.lvm_session.specs.Marks.hits_copy core2 o2 ends.ok t.pp) c false) Rattle.lvm_session.specs.declared.bringing.CopyEnd.TheVariants.SyncFailed ≡ None
+      by : (c : Option OpenCopy) → Rattle.lvm_session.specs.Bringing.ends_if (Rattle.std.specs.Option.option_map_or (Rattle.lvm_session.specs.Marks.hits_copy core2 o2 ends.ok t.pp) c false) Rattle.lvm_session.specs.declared.bringing.CopyEnd.TheVariants.SyncFailed ≡ None
       by None = refl
       by (Some c) = ap (λ w2. Rattle.lvm_session.specs.Bringing.ends_if (w2 && is_running c && (not ends.ok && Rattle.lvm_stale.specs.Table.is_pp t.pp c.pp || (are_over ts2 && not (is_kept core2 o2.request) && not o2.older && is_among (due_of core2 o2.request) c.pp))) Rattle.lvm_session.specs.declared.bringing.CopyEnd.TheVariants.SyncFailed) reads
 

@@ -18,7 +18,7 @@ use Rattle.lvm_kept.specs.Torn.{RecordWrite}
 use Rattle.lvm_status.specs.Update.{Stored, Updates, is_held, is_owed, seen}
 use Rattle.lvm_status.specs.Calls.{comes_held, with_end as with_write_end}
 use Rattle.lvm_homes.specs.declared.homes.Homes.{Homes}
-use Rattle.lvm_session.specs.declared.bringing.OpenCopy.{OpenCopy as Bringing}
+use Rattle.lvm_session.specs.declared.bringing.OpenCopy.{OpenCopy}
 use Rattle.lvm_session.specs.declared.bringing.CopyEnd.{CopyEnd}
 use Rattle.lvm_session.specs.declared.flown.Flown.{Flown}
 use Rattle.lvm_session.specs.declared.flown.Owner.{Owner}
@@ -55,7 +55,7 @@ same_power : (core : Core) (e : Option CopyEnd) → (with_end core e).power ≡ 
 same_power core None = refl
 same_power core (Some e) = by core.copy
   where
-    by : (m : Option Bringing) → (option_map_or (λ (c : Bringing). after_copy_end core c e) m core).power ≡ core.power
+    by : (m : Option OpenCopy) → (option_map_or (λ (c : OpenCopy). after_copy_end core c e) m core).power ≡ core.power
     by None = refl
     by (Some c) = refl
 
@@ -63,7 +63,7 @@ same_homes : (core : Core) (e : Option CopyEnd) → (with_end core e).homes ≡ 
 same_homes core None = refl
 same_homes core (Some e) = by core.copy
   where
-    by : (m : Option Bringing) → (option_map_or (λ (c : Bringing). after_copy_end core c e) m core).homes ≡ core.homes
+    by : (m : Option OpenCopy) → (option_map_or (λ (c : OpenCopy). after_copy_end core c e) m core).homes ≡ core.homes
     by None = refl
     by (Some c) = refl
 

@@ -26,7 +26,7 @@ use Rattle.lvm_map.proofs.PlaceLemmas.{mib_positive, volume_at, lp_below}
 use Rattle.lvm_path.specs.declared.ask.Ask.{Ask}
 use Rattle.lvm_path.specs.Asks.{lv_of, at_of, count_of, is_write}
 use Rattle.lvm_session.specs.declared.open.Open.{Open}
-use Rattle.lvm_session.specs.declared.bringing.OpenCopy.{OpenCopy as Bringing}
+use Rattle.lvm_session.specs.declared.bringing.OpenCopy.{OpenCopy}
 use Rattle.lvm_session.specs.declared.flown.Owner.{Owner}
 use Rattle.lvm_session.specs.declared.flown.Owner.TheVariants as owner
 use Rattle.lvm_session.specs.State.{Core, State, state}
@@ -62,7 +62,7 @@ pub record MaySubmit (past : List Fact) (core : Core) (ask : Ask) (bytes : Optio
   -- the numbers of the table are the history's, and the next one isn't there yet
   pub next : asked core.history.facts (next_id core.history) ≡ None
   pub table : (place : ℕ) (o : Open) → slice_get core.requests place ≡ Some o → (o.request.id < next_id core.history) × (is_some (asked core.history.facts o.request.id) ≡ true)
-  pub step : (c : Bringing) → core.copy ≡ Some c → has_row core c ≡ true → c.place < place_of (next_id core.history)
+  pub step : (c : OpenCopy) → core.copy ≡ Some c → has_row core c ≡ true → c.place < place_of (next_id core.history)
 
 some_of : {X : Type 0} (a b : X) → Some a ≡ Some b → a ≡ b
 some_of a b e = cc

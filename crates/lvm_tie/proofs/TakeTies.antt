@@ -10,11 +10,11 @@ use Rattle.lvm_vol.specs.declared.entry.Outcome.{Outcome}
 use Rattle.lvm_disk.specs.Device.{Flight, image_of}
 use Rattle.lvm_kept.specs.Contents.{contents_of}
 use Rattle.lvm_kept.specs.Torn.{RecordWrite}
-use Rattle.lvm_path.specs.declared.request.Phase.{Phase as RequestPhase}
+use Rattle.lvm_path.specs.declared.request.Phase.{Phase}
 use Rattle.lvm_path.specs.declared.request.Phase.TheVariants as phase
 use Rattle.lvm_path.specs.Targets.{is_begun}
 use Rattle.lvm_session.specs.declared.open.Open.{Open}
-use Rattle.lvm_session.specs.declared.bringing.OpenCopy.{OpenCopy as Bringing}
+use Rattle.lvm_session.specs.declared.bringing.OpenCopy.{OpenCopy}
 use Rattle.lvm_session.specs.declared.bringing.Step.{Step}
 use Rattle.lvm_session.specs.declared.flown.Owner.{Owner}
 use Rattle.lvm_session.specs.declared.flown.Owner.TheVariants as owner
@@ -105,7 +105,7 @@ module _ (past : List Fact) (old : State) (place : ℕ) (o : Open) (tied : IsTie
   apart : (k : ℕ) (p : Open) → slice_get core.requests k ≡ Some p → (k ≡ place → ⊥) → place_of p.request.id ≡ i → ⊥
   apart k p is ne e = ne (numbers k place p o is there (omega arith))
 
-  step_apart : (c : Bringing) → core.copy ≡ Some c → has_row core c ≡ true → c.place ≡ i → ⊥
+  step_apart : (c : OpenCopy) → core.copy ≡ Some c → has_row core c ≡ true → c.place ≡ i → ⊥
   step_apart c is row e =
       let a = tied.sees.queue.a_step c is row in
       let same : a.0 ≡ q = some_of a.0 q (sym a.1 ∙ ap v.queue e ∙ at) in
@@ -134,7 +134,7 @@ module _ (past : List Fact) (old : State) (place : ℕ) (o : Open) (tied : IsTie
   }
 
   takes : Takes v i q
-  takes = record { there = at; landed = ap has_landed (sees.phase ∙ ap (λ (p : RequestPhase). phase_seen p (is_begun o.request.targets.items)) over) }
+  takes = record { there = at; landed = ap has_landed (sees.phase ∙ ap (λ (p : Phase). phase_seen p (is_begun o.request.targets.items)) over) }
 
   abbrev w : ModelState
   w = record v { queue = left; facts = v.facts ++ Taken (v.name i) ∷ [] }

@@ -19,7 +19,7 @@ use Rattle.lvm_steps.specs.Moments.{Holds, Keeps}
 use Rattle.lvm_mwc.specs.Notes.{names_group}
 use Rattle.lvm_sched.specs.Writes.{is_waiting}
 use Rattle.lvm_sched.specs.declared.writes.TargetState.{TargetState}
-use Rattle.lvm_path.specs.declared.request.Phase.{Phase as RequestPhase}
+use Rattle.lvm_path.specs.declared.request.Phase.{Phase}
 use Rattle.lvm_path.specs.declared.request.Phase.TheVariants as phase
 use Rattle.lvm_path.specs.declared.target.Target.{Target}
 use Rattle.lvm_path.specs.Asks.{at_of, count_of, is_write}
@@ -31,7 +31,7 @@ use Rattle.lvm_session.specs.declared.flown.Owner.TheVariants as owner
 use Rattle.lvm_session.specs.State.{Core, State}
 use Rattle.lvm_session.specs.Judging.{place_of, is_running}
 use Rattle.lvm_session.specs.Bringing.{has_row, is_out, is_whole}
-use Rattle.lvm_session.specs.declared.bringing.OpenCopy.{OpenCopy as Bringing}
+use Rattle.lvm_session.specs.declared.bringing.OpenCopy.{OpenCopy}
 use Rattle.lvm_session.specs.declared.bringing.Step.{Step}
 use Rattle.lvm_session.specs.declared.bringing.Step.TheVariants as step
 use Rattle.lvm_invariant.specs.State.{Flying, Going, Groups, Queued, ModelState, is_past, Started}
@@ -83,7 +83,7 @@ module _ (past : List Fact) (s : State) (tied : IsTied past s) where
       let i : ℕ = place_of o.request.id in
       let orderly : HasTargets core o = targets_of s tied.write tied.orderly out.place o out.there out.waiting in
       let begun : is_begun o.request.targets.items ≡ true = begun_by o.request.targets.items number out.aim out.aim_is (ap is_waiting out.flies) in
-      let going : q.phase ≡ Going = its.phase ∙ ap (λ (p : RequestPhase). phase_seen p (is_begun o.request.targets.items)) out.moving ∙ ap (λ b. phase_seen phase.Data b) begun in
+      let going : q.phase ≡ Going = its.phase ∙ ap (λ (p : Phase). phase_seen p (is_begun o.request.targets.items)) out.moving ∙ ap (λ b. phase_seen phase.Data b) begun in
       let asked : Asked = request_of core.history.facts o.request.id in
       let name : v.name i ≡ asked = tied.sees.queue.names out.place o out.there in
       let count : f.count ≡ count_of o.request.ask = out.moves.count in
@@ -171,7 +171,7 @@ module _ (past : List Fact) (s : State) (tied : IsTied past s) where
           let past : IsTrue (is_past q.phase) = ap is_past hand.0 in
           inr (inr (inl (record {
             step = record { target = out.copy.pp; place = out.copy.place };
-            flies = tied.sees.step_write ∙ ap (λ (c : Option Bringing). step_write_in c) out.is_open ∙ ap (step_write_of out.copy) is;
+            flies = tied.sees.step_write ∙ ap (λ (c : Option OpenCopy). step_write_in c) out.is_open ∙ ap (step_write_of out.copy) is;
             req = q;
             there = seen.1;
             read = seen.2.write;

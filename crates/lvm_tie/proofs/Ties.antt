@@ -19,7 +19,7 @@ use Rattle.lvm_path.specs.declared.target.Target.{Target}
 use Rattle.lvm_path.specs.Targets.{with_state}
 use Rattle.lvm_path.specs.Next.{with_start}
 use Rattle.lvm_session.specs.declared.open.Open.{Open}
-use Rattle.lvm_session.specs.declared.bringing.OpenCopy.{OpenCopy as Bringing}
+use Rattle.lvm_session.specs.declared.bringing.OpenCopy.{OpenCopy}
 use Rattle.lvm_session.specs.declared.bringing.Step.{Step}
 use Rattle.lvm_session.specs.declared.bringing.Step.TheVariants as step
 use Rattle.lvm_session.specs.declared.flown.Flown.{Flown}
@@ -31,7 +31,7 @@ use Rattle.lvm_session.specs.Bringing.{is_out, is_whole}
 use Rattle.lvm_session.specs.Events.{with_open, with_flight, flown}
 use Rattle.lvm_invariant.specs.State.{Queued, ModelState}
 use Rattle.lvm_invariant.specs.Updates.{put}
-use Rattle.lvm_invariant.specs.Events.{Event, Step as GoodStep}
+use Rattle.lvm_invariant.specs.Events.{Event, ModelStep}
 use Rattle.lvm_invariant.proofs.Each.{each_keeps}
 use Rattle.lvm_crash.specs.Session.{members_showing, Describes}
 use Rattle.lvm_crash.specs.Lasting.{AsksOf}
@@ -109,7 +109,7 @@ module _ (past : List Fact) (old : State) (device : Device) (place number : ℕ)
   carries g (owner.Note disk) its = tt
   carries g owner.Copy its = λ c p is writing here. its c p is writing (sym (elsewhere c is writing) ∙ here)
     where
-      elsewhere : (c : Bringing) → old.core.copy ≡ Some c → c.step ≡ step.Writing → w.queue c.place ≡ v.queue c.place
+      elsewhere : (c : OpenCopy) → old.core.copy ≡ Some c → c.step ≡ step.Writing → w.queue c.place ≡ v.queue c.place
       elsewhere c is writing = elim (cases_eq c.place i) [
         | inl e ↦ absurd (step_apart past old.core v place o o2 q2 pool (old.core.flying ++ row ∷ []) old.core.last old.core.queue old.core.cache.entries v.media.block tied.sees numbers there refl sees2 (λ lv g2. refl) c is
             (ap (λ (st : Step). is_out st || (is_running c && not (is_whole old.core c))) writing) e)
@@ -120,7 +120,7 @@ module _ (past : List Fact) (old : State) (device : Device) (place number : ℕ)
   sizes_is = ap (λ (d : Device). d.sizes) starts.new_is
 
   -- Where the state makes an event that changes this request so, and nothing else, it is tied again.
-  pub started_ties : (event : Event) → GoodStep tied.votes event v w → AsksOf old.core.descriptor event → IsOrderly (state device new) tied.write → IsTied past (state device new)
+  pub started_ties : (event : Event) → ModelStep tied.votes event v w → AsksOf old.core.descriptor event → IsOrderly (state device new) tied.write → IsTied past (state device new)
   started_ties event step asks orderly = record {
     votes = tied.votes;
     media = tied.media;

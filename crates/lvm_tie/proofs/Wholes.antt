@@ -19,9 +19,9 @@ use Rattle.lvm_map.proofs.Parts.{parts}
 use Rattle.lvm_map.proofs.PlaceLemmas.{mib_positive, volume_at}
 use Rattle.lvm_stale.specs.Table.{SameMissing, is_pp as same_pp}
 use Rattle.lvm_status.specs.Calls.{BecomesFresh}
-use Rattle.lvm_status.specs.Runs.{IsSound as IsSoundStatus}
+use Rattle.lvm_status.specs.Runs.{IsSoundStatus}
 use Rattle.lvm_status.specs.Update.{Stored, Updates, no_disks, seen}
-use Rattle.lvm_session.specs.declared.bringing.OpenCopy.{OpenCopy as Bringing}
+use Rattle.lvm_session.specs.declared.bringing.OpenCopy.{OpenCopy}
 use Rattle.lvm_session.specs.declared.bringing.CopyEnd.{CopyEnd}
 use Rattle.lvm_session.specs.declared.bringing.CopyEnd.TheVariants as ending
 use Rattle.lvm_session.specs.State.{Core, State, state}
@@ -82,11 +82,11 @@ module _ (past : List Fact) (old new : State) (at : ℕ) (tied : IsTied past old
   abbrev v : ModelState
   v = tied.view
 
-  abbrev c : Bringing
+  abbrev c : OpenCopy
   c = event.copy
 
   -- the copy, with all behind it
-  abbrev e : Bringing
+  abbrev e : OpenCopy
   e = d past old new at tied sectors event
 
   abbrev status : Stored

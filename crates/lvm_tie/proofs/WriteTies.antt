@@ -29,7 +29,7 @@ use Rattle.lvm_path.specs.Next.{with_end}
 use Rattle.lvm_path.specs.Targets.{are_over, end_state, is_begun, is_done, is_failed, with_state}
 use Rattle.lvm_session.specs.declared.bringing.CopyEnd.{CopyEnd}
 use Rattle.lvm_session.specs.declared.bringing.CopyEnd.TheVariants as ending
-use Rattle.lvm_session.specs.declared.bringing.OpenCopy.{OpenCopy as Bringing}
+use Rattle.lvm_session.specs.declared.bringing.OpenCopy.{OpenCopy}
 use Rattle.lvm_session.specs.declared.bringing.Step.{Step}
 use Rattle.lvm_session.specs.declared.bringing.Step.TheVariants as step
 use Rattle.lvm_session.specs.declared.flown.Owner.{Owner}
@@ -43,7 +43,7 @@ use Rattle.lvm_session.specs.Ends.{DataLearns, Ends, Learns, after_data, keeps_b
 use Rattle.lvm_session.specs.Events.{IsDataTransfer}
 use Rattle.lvm_session.specs.Marks.{Entails, WantsStale, due_of, due_targets, end_by_write, hits_copy, is_among}
 use Rattle.lvm_session.specs.Sound.{IsSound}
-use Rattle.lvm_invariant.specs.State.{Going, Marks, OpenCopy, Queued, Stage, ModelState, covers}
+use Rattle.lvm_invariant.specs.State.{Going, Marks, ModelCopy, Queued, Stage, ModelState, covers}
 use Rattle.lvm_invariant.specs.Good.{Good}
 use Rattle.lvm_invariant.specs.Sound.{StaysFresh}
 use Rattle.lvm_invariant.specs.Events.{Event, Transfer, Want}
@@ -126,7 +126,7 @@ ended_orderly : (device : Device) (core : Core) (e : Option CopyEnd) (write : Op
 ended_orderly device core None write sound on update = record { sound = sound; on = on; update = update }
 ended_orderly device core (Some how) write sound on update = by core.copy sound
   where
-    by : (m : Option Bringing) → IsSound (state device (option_map_or (λ (c : Bringing). after_copy_end core c how) m core)) → IsOrderly (state device (option_map_or (λ (c : Bringing). after_copy_end core c how) m core)) write
+    by : (m : Option OpenCopy) → IsSound (state device (option_map_or (λ (c : OpenCopy). after_copy_end core c how) m core)) → IsOrderly (state device (option_map_or (λ (c : OpenCopy). after_copy_end core c how) m core)) write
     by None sound_then = record { sound = sound_then; on = on; update = update }
     by (Some c) sound_then = record { sound = sound_then; on = on; update = update }
 
@@ -286,7 +286,7 @@ module _ (past : List Fact) (old new : State) (index : ℕ) (ends : Ends old new
   carries status u same g (owner.Note disk) c = tt
   carries status u same g owner.Copy carried = λ c p is writing here. carried c p is writing (sym (elsewhere c is writing) ∙ ap (λ (queue : ℕ → Option Queued). queue c.place) (sym same) ∙ here)
     where
-      elsewhere : (c : Bringing) → old.core.copy ≡ Some c → c.step ≡ step.Writing → w.queue c.place ≡ v.queue c.place
+      elsewhere : (c : OpenCopy) → old.core.copy ≡ Some c → c.step ≡ step.Writing → w.queue c.place ≡ v.queue c.place
       elsewhere c is writing = elim (cases_eq c.place i) [
         | inl e ↦ absurd (step_apart past old.core v learns.place o o2 q2 core2.pool core2.flying old.core.last old.core.queue old.core.cache.entries block tied.sees numbers learns.its.there refl sees2 (λ lv g2. refl) c is
             (ap (λ (st : Step). is_out st || (is_running c && not (is_whole old.core c))) writing) e)
@@ -381,7 +381,7 @@ module _ (past : List Fact) (old new : State) (index : ℕ) (ends : Ends old new
 
   -- it runs, and one of the targets is on it, where it ends so
   record IsHit (h : CopyEnd) : Type 0 where
-    copy : Bringing
+    copy : OpenCopy
     is_open : old.core.copy ≡ Some copy
     running : is_running copy ≡ true
     target : IsTargets copy.pp
@@ -390,7 +390,7 @@ module _ (past : List Fact) (old new : State) (index : ℕ) (ends : Ends old new
   hit : (h : CopyEnd) → how ≡ Some h → IsHit h
   hit h is = by (option_map_or (hits_copy core2 o2 ends.ok t.pp) old.core.copy false) refl is
     where
-      which : (c : Bringing) → (not ends.ok && is_its t.pp c.pp || (are_over ts2 && not (is_kept core2 o2.request) && not o.older && is_among (due_of core2 o2.request) c.pp)) ≡ true → IsTargets c.pp
+      which : (c : OpenCopy) → (not ends.ok && is_its t.pp c.pp || (are_over ts2 && not (is_kept core2 o2.request) && not o.older && is_among (due_of core2 o2.request) c.pp)) ≡ true → IsTargets c.pp
       which c test = ⊎_elim
           (λ bad. record {
             one = record t { state = end_state ends.ok };
@@ -400,7 +400,7 @@ module _ (past : List Fact) (old new : State) (index : ℕ) (ends : Ends old new
           (λ lost. due_one c.pp (and_both (are_over ts2 && not (is_kept core2 o2.request) && not o.older) (is_among (due_of core2 o2.request) c.pp) lost).1)
           (or_either (not ends.ok && is_its t.pp c.pp) (are_over ts2 && not (is_kept core2 o2.request) && not o.older && is_among (due_of core2 o2.request) c.pp) test)
 
-      of : ending.SyncFailed ≡ h → (m : Option Bringing) → old.core.copy ≡ m → option_map_or (hits_copy core2 o2 ends.ok t.pp) m false ≡ true → IsHit h
+      of : ending.SyncFailed ≡ h → (m : Option OpenCopy) → old.core.copy ≡ m → option_map_or (hits_copy core2 o2 ends.ok t.pp) m false ≡ true → IsHit h
       of so None none test = absurd (cc test)
       of so (Some c) open_is test =
           let outer = and_both (is_write o.request.ask && is_running c) (not ends.ok && is_its t.pp c.pp || (are_over ts2 && not (is_kept core2 o2.request) && not o.older && is_among (due_of core2 o2.request) c.pp)) test in
@@ -424,8 +424,8 @@ module _ (past : List Fact) (old new : State) (index : ℕ) (ends : Ends old new
       by None none test = absurd (cc test)
       by (Some h) some test =
           let x : IsHit h = hit h some in
-          let both = and_both (not (is_done_end h)) (option_map_or (λ (c : Bringing). is_whole core2 c && is_its p c.pp) old.core.copy false) test in
-          let here : (is_whole old.core x.copy && is_its p x.copy.pp) ≡ true = sym (ap (λ (m : Option Bringing). option_map_or (λ (c : Bringing). is_whole old.core c && is_its p c.pp) m false) x.is_open) ∙ both.1 in
+          let both = and_both (not (is_done_end h)) (option_map_or (λ (c : OpenCopy). is_whole core2 c && is_its p c.pp) old.core.copy false) test in
+          let here : (is_whole old.core x.copy && is_its p x.copy.pp) ≡ true = sym (ap (λ (m : Option OpenCopy). option_map_or (λ (c : OpenCopy). is_whole old.core c && is_its p c.pp) m false) x.is_open) ∙ both.1 in
           let parts_of = and_both (is_whole old.core x.copy) (is_its p x.copy.pp) here in
           record { kind = h; its_hit = x; all = parts_of.0; same = pp_same p x.copy.pp parts_of.1 }
 
@@ -458,31 +458,31 @@ module _ (past : List Fact) (old new : State) (index : ℕ) (ends : Ends old new
         (or_either (is_among (due_of core2 o2.request) p) (marked_by_end core2 how p) is)
 
     -- one that ends is wanted stale
-    ends_stale : (h : CopyEnd) → how ≡ Some h → (x : OpenCopy) → v.open_copy ≡ Some x → calls_stale status.wanted x.target ≡ true
+    ends_stale : (h : CopyEnd) → how ≡ Some h → (x : ModelCopy) → v.open_copy ≡ Some x → calls_stale status.wanted x.target ≡ true
     ends_stale h is x open_is =
         let its_hit = hit h is in
-        let c : Bringing = its_hit.copy in
+        let c : OpenCopy = its_hit.copy in
         let brought = (opened past old tied c its_hit.is_open its_hit.running).0 in
         ap (calls_stale status.wanted) (brought.target x open_is) ∙ wants.stale c.pp
         ∙ or_true (calls_stale old.core.status.wanted c.pp) (due c.pp) (by c its_hit.is_open brought.part (ap (λ (e : Option CopyEnd). marked_by_end core2 e c.pp) (is ∙ ap (λ (e : CopyEnd). Some e) its_hit.fails)) (is_whole old.core c) refl)
       where
-        by : (c : Bringing) → old.core.copy ≡ Some c → (is_whole old.core c ≡ false → calls_stale old.core.status.wanted c.pp ≡ true) → marked_by_end core2 how c.pp ≡ option_map_or (λ (y : Bringing). is_whole old.core y && is_its c.pp y.pp) old.core.copy false
+        by : (c : OpenCopy) → old.core.copy ≡ Some c → (is_whole old.core c ≡ false → calls_stale old.core.status.wanted c.pp ≡ true) → marked_by_end core2 how c.pp ≡ option_map_or (λ (y : OpenCopy). is_whole old.core y && is_its c.pp y.pp) old.core.copy false
             → (b : Bool) → is_whole old.core c ≡ b → (calls_stale old.core.status.wanted c.pp ≡ true) ⊎ (due c.pp ≡ true)
         by c here stale mark false part = inl (stale part)
         by c here stale mark true all = inr (or_true (is_among (due_of core2 o2.request) c.pp) (marked_by_end core2 how c.pp)
-            (inr (mark ∙ ap (λ (m : Option Bringing). option_map_or (λ (y : Bringing). is_whole old.core y && is_its c.pp y.pp) m false) here ∙ (λ k. all k && same_pp c.pp c.pp refl k))))
+            (inr (mark ∙ ap (λ (m : Option OpenCopy). option_map_or (λ (y : OpenCopy). is_whole old.core y && is_its c.pp y.pp) m false) here ∙ (λ k. all k && same_pp c.pp c.pp refl k))))
 
     -- ---- what the state wants
 
     still : (p : Pp) → IsTrue (w.wanted.stale p) → IsTrue (calls_stale status.wanted p)
     still p is = wants.stale p ∙ or_true (calls_stale old.core.status.wanted p) (due p) (inl (sym (ap (λ (m : Marks). m.stale p) tied.sees.status.wanted) ∙ is))
 
-    open_same : (e : Option CopyEnd) → ((h : CopyEnd) → e ≡ Some h → (x : OpenCopy) → v.open_copy ≡ Some x → calls_stale status.wanted x.target ≡ true)
-        → (open_after e v.open_copy ≡ v.open_copy) ⊎ ((open_after e v.open_copy ≡ None) × ((x : OpenCopy) → v.open_copy ≡ Some x → IsTrue (calls_stale status.wanted x.target)))
+    open_same : (e : Option CopyEnd) → ((h : CopyEnd) → e ≡ Some h → (x : ModelCopy) → v.open_copy ≡ Some x → calls_stale status.wanted x.target ≡ true)
+        → (open_after e v.open_copy ≡ v.open_copy) ⊎ ((open_after e v.open_copy ≡ None) × ((x : ModelCopy) → v.open_copy ≡ Some x → IsTrue (calls_stale status.wanted x.target)))
     open_same None each = inl refl
     open_same (Some h) each = inr (refl, each h refl)
 
-    open_there : (e : Option CopyEnd) (x : OpenCopy) → open_after e v.open_copy ≡ Some x → IsFalse (v.missing x.target.disk)
+    open_there : (e : Option CopyEnd) (x : ModelCopy) → open_after e v.open_copy ≡ Some x → IsFalse (v.missing x.target.disk)
     open_there None x is = good_w.sound.statuses.open_there x is
     open_there (Some h) x is = absurd (cc is)
 

@@ -6,7 +6,7 @@ use Rattle.lvm_vol.specs.Facts.{Fact}
 use Rattle.lvm_status.specs.Update.{members_there}
 use Rattle.lvm_path.specs.declared.target.Target.{Target}
 use Rattle.lvm_session.specs.declared.open.Open.{Open}
-use Rattle.lvm_session.specs.declared.bringing.OpenCopy.{OpenCopy as Bringing}
+use Rattle.lvm_session.specs.declared.bringing.OpenCopy.{OpenCopy}
 use Rattle.lvm_session.specs.Calls.{copy_at}
 use Rattle.lvm_session.specs.Judging.{copies_in, place_of}
 use Rattle.lvm_session.specs.State.{State}
@@ -27,7 +27,7 @@ pub record AreFaultsOf (past first : List Fact) (s : State) (w : Faults) : Type 
   pub asked_before : (i d : ℕ) → w.asked i d ≤ w.now d
   pub asked : (place : ℕ) (o : Open) (number : ℕ) (t : Target) → slice_get s.core.requests place ≡ Some o → slice_get o.request.targets.items number ≡ Some t
       → w.asked (place_of o.request.id) t.pp.disk ≤ t.faults
-  pub opened : (c : Bringing) (number : ℕ) (p : Pp) → s.core.copy ≡ Some c → copy_at (copies_in s.core.descriptor c.lv c.lp) number ≡ Some p
+  pub opened : (c : OpenCopy) (number : ℕ) (p : Pp) → s.core.copy ≡ Some c → copy_at (copies_in s.core.descriptor c.lv c.lp) number ≡ Some p
       → w.asked c.place p.disk ≤ faults_at_opening c number
   pub missing : (d : ℕ) → w.missing d ≡ not (members_there s.core.descriptor s.core.origin.table d)
   pub stale : (p : Pp) → w.stale p ≡ calls_stale s.core.origin.table p

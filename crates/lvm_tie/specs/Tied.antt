@@ -16,7 +16,7 @@ use Rattle.lvm_kept.specs.Torn.{RecordWrite}
 use Rattle.lvm_status.specs.Update.{Stored, members_there}
 use Rattle.lvm_steps.specs.Moments.{Begins, Upholds, Keeps}
 use Rattle.lvm_steps.specs.Requests.{at}
-use Rattle.lvm_session.specs.declared.bringing.OpenCopy.{OpenCopy as Bringing}
+use Rattle.lvm_session.specs.declared.bringing.OpenCopy.{OpenCopy}
 use Rattle.lvm_session.specs.declared.bringing.Step.TheVariants as step
 use Rattle.lvm_session.specs.declared.open.Power.TheVariants as power
 use Rattle.lvm_homes.specs.declared.homes.Homes.{Homes}
@@ -35,7 +35,7 @@ use Rattle.lvm_tie.specs.Seen.{update_of, Sees}
 
 -- each block of the step of the copy that is open is one of its copy's, and of the copy's from which it is read
 abbrev pub IsCopyAimed : Core → ModelState → Type 0
-IsCopyAimed core v = (c : Bringing) → core.copy ≡ Some c → has_row core c ≡ true
+IsCopyAimed core v = (c : OpenCopy) → core.copy ≡ Some c → has_row core c ≡ true
     → IsTrue (v.is_copy c.lv (block_at core c) c.pp) × ((source : Pp) → c.step ≡ step.Reading source → IsTrue (v.is_copy c.lv (block_at core c) source))
 
 -- Each member that isn't missing shows this status, which is the committed one, and no disk a later one of the group.

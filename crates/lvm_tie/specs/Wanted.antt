@@ -4,12 +4,12 @@ use Rattle.lvm_num.specs.declared.place.Pp.{Pp}
 use Rattle.lvm_num.specs.Disks.{Disks}
 use Rattle.lvm_num.specs.Descriptor.{IsValid, is_member}
 use Rattle.lvm_vol.specs.Facts.{Fact}
-use Rattle.lvm_session.specs.declared.bringing.OpenCopy.{OpenCopy as Bringing}
+use Rattle.lvm_session.specs.declared.bringing.OpenCopy.{OpenCopy}
 use Rattle.lvm_session.specs.State.{Core, is_there}
 use Rattle.lvm_session.specs.Judging.{is_running, is_stale, is_wanted_stale}
 use Rattle.lvm_session.specs.Bringing.{copy_ends, is_whole}
 use Rattle.lvm_session.specs.Marks.{Reviews}
-use Rattle.lvm_invariant.specs.State.{OpenCopy, ModelState}
+use Rattle.lvm_invariant.specs.State.{ModelCopy, ModelState}
 use Rattle.lvm_invariant.specs.Want.{Wants}
 use Rattle.lvm_crash.specs.Session.{HasVolumes, marks_of}
 use Rattle.lvm_tie.specs.Near.{open_after}
@@ -32,8 +32,8 @@ abbrev pub HasOwners : ModelState → Type 0
 HasOwners v = (lv b l d : ℕ) (c e : Pp) → IsTrue (v.is_copy lv b c) → IsTrue (v.is_copy l d c) → IsTrue (v.is_copy l d e) → IsTrue (v.is_copy lv b e)
 
 -- The copy that runs is the one that the state sees open, on a member; it is wanted stale until it is whole, and then stale by what is committed.
-pub record IsBrought (core : Core) (v : ModelState) (c : Bringing) : Type 0 where
-  pub target : (o : OpenCopy) → v.open_copy ≡ Some o → o.target ≡ c.pp
+pub record IsBrought (core : Core) (v : ModelState) (c : OpenCopy) : Type 0 where
+  pub target : (o : ModelCopy) → v.open_copy ≡ Some o → o.target ≡ c.pp
   pub member : is_member core.descriptor c.pp.disk ≡ true
   pub there : (lv : ℕ) × (b : ℕ) × IsTrue (v.is_copy lv b c.pp)
   pub part : is_whole core c ≡ false → is_wanted_stale core c.pp ≡ true
@@ -46,5 +46,5 @@ abbrev pub ReviewIsWanted : Type 0
 ReviewIsWanted =
     (core new : Core) (v : ModelState) (missing : ℕ → Bool) (facts : List Fact) (members : Disks) → IsValid core.descriptor → HasVolumes v facts core.descriptor members
     → ((d : ℕ) → IsTrue (is_there core d) → IsTrue (members d)) → SeesMarks core v missing → KeepsFresh v → HasOwners v
-    → ((c : Bringing) → core.copy ≡ Some c → is_running c ≡ true → IsBrought core v c) → (((c : Bringing) → core.copy ≡ Some c → is_running c ≡ true → ⊥) → v.open_copy ≡ None)
+    → ((c : OpenCopy) → core.copy ≡ Some c → is_running c ≡ true → IsBrought core v c) → (((c : OpenCopy) → core.copy ≡ Some c → is_running c ≡ true → ⊥) → v.open_copy ≡ None)
     → Reviews core new → Wants v (marks_of new.status.wanted) missing (open_after (copy_ends core) v.open_copy)

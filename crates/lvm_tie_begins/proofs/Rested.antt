@@ -19,7 +19,7 @@ use Rattle.lvm_kept.proofs.Finding.{finding_reads, images_within}
 use Rattle.lvm_mwc.specs.declared.notes.DiskNotes.{DiskNotes}
 use Rattle.lvm_mwc.specs.Cache.{notes_on, is_named as is_named_by}
 use Rattle.lvm_mwc.specs.Notes.{both_name}
-use Rattle.lvm_session.specs.declared.bringing.OpenCopy.{OpenCopy as Bringing}
+use Rattle.lvm_session.specs.declared.bringing.OpenCopy.{OpenCopy}
 use Rattle.lvm_session.specs.State.{Core, State, is_there}
 use Rattle.lvm_session.specs.Bringing.{groups_of}
 use Rattle.lvm_session.specs.Sound.{IsOn}
@@ -79,7 +79,7 @@ module _ (past : List Fact) (s : State) (tied : IsTied past s) (rests : IsRestin
     wanted = tied.sees.status.wanted ∙ ap marks_of (sym rests.committed) ∙ sym tied.sees.status.committed;
     no_status = λ d. tied.sees.status.started d ∙ (on.going.status.idle rests.in_flight d).1;
     no_note = λ d. note_none (v.flying_note d) (subst (SeesNote (v.flying_note d)) (rests.notes d) (tied.sees.notes.flying d));
-    no_copy = subst (λ (o : Option Bringing). SeesCopy (groups_of core) o v.open_copy) rests.copy tied.sees.open_copy;
+    no_copy = subst (λ (o : Option OpenCopy). SeesCopy (groups_of core) o v.open_copy) rests.copy tied.sees.open_copy;
     no_step = tied.sees.step_write ∙ ap step_write_in rests.copy;
   }
     where

@@ -19,7 +19,7 @@ use Rattle.lvm_mwc.specs.declared.notes.DiskNotes.{DiskNotes}
 use Rattle.lvm_mwc.specs.Entries.{has_entry}
 use Rattle.lvm_mwc.specs.Notes.{both_name, names_group}
 use Rattle.lvm_mwc.specs.Cache.{flight_on, notes_on}
-use Rattle.lvm_session.specs.declared.bringing.OpenCopy.{OpenCopy as Bringing}
+use Rattle.lvm_session.specs.declared.bringing.OpenCopy.{OpenCopy}
 use Rattle.lvm_session.specs.declared.flown.Flown.{Flown}
 use Rattle.lvm_session.specs.declared.open.Power.TheVariants as power
 use Rattle.lvm_session.specs.State.{Core, State, is_there}
@@ -182,8 +182,8 @@ module _ (past : List Fact) (s : State) (media : Media) (sound : IsSound s) (pow
       home = home;
       flying = λ d. subst (λ (x : Option Groups). SeesNote x (flight_on core.cache d)) (sym (idle_first.no_note d)) (subst (SeesNote None) (sym (rests.notes d)) tt);
     };
-    open_copy = subst (λ (o : Option Bringing). SeesCopy (groups_of core) o v.open_copy) (sym rests.copy) idle_first.no_copy;
-    step_write = idle_first.no_step ∙ sym (ap (λ (o : Option Bringing). step_write_in o) rests.copy);
+    open_copy = subst (λ (o : Option OpenCopy). SeesCopy (groups_of core) o v.open_copy) (sym rests.copy) idle_first.no_copy;
+    step_write = idle_first.no_step ∙ sym (ap (λ (o : Option OpenCopy). step_write_in o) rests.copy);
   }
 
   none_carried : (rows : List Flown) (fs : List Flight) → rows ≡ [] → CarryTheirs core v fs rows

@@ -15,7 +15,7 @@ use Rattle.lvm_stale.specs.Table.{is_pp}
 use Rattle.lvm_kept.specs.Moments.{Calm}
 use Rattle.lvm_steps.proofs.Members.{member_of_parts}
 use Rattle.lvm_commit.proofs.Found.{shows_group}
-use Rattle.lvm_status.specs.Runs.{IsSound as IsSoundStatus}
+use Rattle.lvm_status.specs.Runs.{IsSoundStatus}
 use Rattle.lvm_status.specs.Update.{seen}
 use Rattle.lvm_session.specs.State.{Core, State, is_there}
 use Rattle.lvm_session.specs.Marks.{is_entailed}

@@ -12,7 +12,7 @@ use Rattle.lvm_kept.specs.Torn.{RecordWrite, IsOtherOrRecord}
 use Rattle.lvm_invariant.specs.State.{Marks, Groups, ModelState}
 use Rattle.lvm_invariant.specs.Found.{Votes}
 use Rattle.lvm_invariant.specs.Good.{Good}
-use Rattle.lvm_invariant.specs.Events.{Event, Step}
+use Rattle.lvm_invariant.specs.Events.{Event, ModelStep}
 use Rattle.lvm_invariant.specs.MoveStatus.{Moves, moved}
 use Rattle.lvm_invariant.specs.EndNote.{EndsNote, after_note}
 use Rattle.lvm_crash.specs.Session.{as_marks, marks_shown, Describes}
@@ -67,7 +67,7 @@ NoteEnds =
 abbrev pub QuietLasts : Type 0
 QuietLasts =
     (votes : Votes) (event : Event) (s new : ModelState) (group : Descriptor) (in_flight : Option (Stamped Status)) (c : Contents)
-    → Step votes event s new → Good votes s → AsksOf group event → Describes s s.facts group in_flight c
+    → ModelStep votes event s new → Good votes s → AsksOf group event → Describes s s.facts group in_flight c
     → new.media ≡ s.media → new.is_copy ≡ s.is_copy → new.in_flight ≡ s.in_flight → Describes new new.facts group in_flight c
 
 -- An update begins under a stamp that is later than each of its group that stands, and ends.

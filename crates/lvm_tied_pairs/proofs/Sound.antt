@@ -11,7 +11,7 @@ use Rattle.lvm_num.specs.Votes.{votes_by}
 use Rattle.lvm_num.proofs.DisksLemmas.{has-zero}
 use Rattle.lvm_stale.specs.Table.{is_pp}
 use Rattle.lvm_status.specs.Update.{seen}
-use Rattle.lvm_status.specs.Runs.{IsSound as IsSoundStatus}
+use Rattle.lvm_status.specs.Runs.{IsSoundStatus}
 use Rattle.lvm_session.specs.State.{Core, State, state}
 use Rattle.lvm_session.specs.Judging.{is_missing, is_stale}
 use Rattle.lvm_session.specs.Marks.{can_replace, is_among}
