@@ -1,7 +1,5 @@
 -- Faults of ranges, as refusals and replies.
 use Rattle.std.specs.Prelude.{ℕ, ◌+◌, Bool, true, false, List, [], ◌∷◌, ◌++◌, codes, Result, Ok, Err}
-use Rattle.lvm_num.specs.Buffer.{Sector}
-use Rattle.lvm_replies.specs.Blocks.{block_text}
 use Rattle.lvm_posts.specs.declared.fault.RangeFault.{RangeFault}
 use Rattle.lvm_posts.specs.declared.fault.RangeFault.TheVariants as fault
 use Rattle.lvm_group_lines.specs.passed.Ranges.{AskRangeFault}
@@ -36,11 +34,6 @@ is_stuck fault.ReadFailed = false
 is_stuck (fault.NoFresh lp) = false
 
 -- ---- texts
-
--- a line for each block, the first of this number
-abbrev pub blocks_text : ℕ → List Sector → List ℕ
-blocks_text at [] = []
-blocks_text at (block ∷ blocks) = block_text at block ++ blocks_text (at + 1) blocks
 
 -- how a range ended: whether all is well, or the fault that decides
 abbrev pub Ending : Type 0

@@ -13,7 +13,8 @@ use Rattle.lvm_group_lines.specs.passed.Stage.{State, IsRefused, Shows, Refusal,
 use Rattle.lvm_group_lines.specs.passed.RefusalVariants as refusal
 use Rattle.lvm_group_lines.specs.passed.ReplyVariants as reply
 use Rattle.lvm_range_lines.specs.Leaving.{EndsBy, GoesOnWith, Waited, session_over}
-use Rattle.lvm_range_lines.specs.Refusals.{ask_refusal, blocks_text, range_refusal}
+use Rattle.lvm_replies.specs.Blocks.{blocks_text}
+use Rattle.lvm_range_lines.specs.Refusals.{ask_refusal, range_refusal}
 
 -- The line is refused where no group is on, or has no volume of this name; else this happens to the session and the volume of that number.
 pub data OnVolume (name : List ℕ) (Happens : Core → ℕ → Type 0) (old new : State) (answer : Reply) : Type 0 where

@@ -10,7 +10,8 @@ ghost use Rattle.lvm_group_lines.specs.passed.Running.{RunsOn};
 ghost use Rattle.lvm_group_lines.specs.passed.Stage.{Shows, IsBetweenStage, IsFitting};
 ghost use Rattle.lvm_range_lines.specs.Leaving.{EndsInPlace, EndsInSession, KeepsPosts, Waited, serving};
 ghost use Rattle.lvm_range_lines.specs.Requests.{AsksByName, PostDoes, RdDoes, ShowsBlocks, WrDoes};
-ghost use Rattle.lvm_range_lines.specs.Refusals.{blocks_text, ending_of, reply_of};
+ghost use Rattle.lvm_replies.specs.Blocks.{blocks_text};
+ghost use Rattle.lvm_range_lines.specs.Refusals.{ending_of, reply_of};
 
 use crate::refusal::{ask_refusal, range_refusal};
 use lvm_disk::Shelf;
@@ -19,7 +20,7 @@ use lvm_group_lines::below::ranges::{ask_range, finish_range, read_blocks};
 use lvm_group_lines::below::stage::{Holder, Refusal, Reply, Stage, number_of};
 use lvm_num::{Memory, Name, Text};
 use lvm_posts::{Asked, Post, RangeFault};
-use lvm_replies::show_block;
+use lvm_replies::show_blocks;
 use lvm_transfer::Patience;
 use std::alloc::Global;
 
@@ -199,26 +200,12 @@ pub fn do_wr<S: Shelf>(stage: &mut Stage<S>, name: Name, at: u64, count: u32, wo
     }
 }
 
-// A line for each block, the first of this number.
-fn blocks_text(alloc: Global, at: u64, blocks: &[[u8; 512]]) -> Result<Text, Memory>
-    requires { at + length blocks.now < 2 ^ 64 }
-    ensures { IfOk result (λ text. text ≡ blocks_text at blocks.now) }
-{
-    let mut text = String::new(alloc);
-    let mut number = at;
-    for block in blocks {
-        text.push_str(show_block(alloc, number, block)?.as_str())?;
-        number += 1;
-    }
-    Ok(Text::new(text))
-}
-
 // The lines of blocks, if there is memory for them.
 fn lines_reply(alloc: Global, at: u64, blocks: &[[u8; 512]]) -> Reply
     requires { at + length blocks.now < 2 ^ 64 }
     ensures { Shows (blocks_text at blocks.now) result }
 {
-    match blocks_text(alloc, at, blocks) {
+    match show_blocks(alloc, at, blocks) {
         Ok(text) => Reply::Lines(text),
         Err(Memory) => Reply::Refused(Refusal::Memory),
     }

@@ -1,7 +1,7 @@
 use Rattle.std.proofs.Common.{◌≡◌, ◌+◌, ◌++◌, drop}
 use Rattle.std.specs.String.{string_bytes}
-use Rattle.lvm_range_lines.specs.Refusals.{blocks_text}
-use Rattle.lvm_range_lines.proofs.requests.blocks_text.Given as goal
+use Rattle.lvm_replies.specs.Blocks.{blocks_text}
+use Rattle.lvm_replies.proofs.block.show_blocks.Given as goal
 
 abbrev pub invariant-loop-block : goal.invariant-loop-block
 invariant-loop-block l = record {
