@@ -1,5 +1,5 @@
 -- What a line does that reads or writes a range of a disk.
-use Rattle.std.specs.Prelude.{◌≡◌, ◌+◌, ℕ, List, None, IsSome, Result, Ok, Err}
+use Rattle.std.specs.Prelude.{◌≡◌, ℕ, List, None, IsSome, Result, Ok, Err}
 use Rattle.lvm_num.specs.Buffer.{Sector}
 use Rattle.lvm_kept.specs.Moments.{Moment}
 use Rattle.lvm_stage.specs.passed.Quiesce.{ReadOnceQuiet, WriteOnceQuiet}
