@@ -6,6 +6,7 @@ mod drain;
 mod driver;
 pub mod laws;
 mod shown;
+mod sound;
 
 pub use closed::Closed;
 pub use drain::DrainFault;

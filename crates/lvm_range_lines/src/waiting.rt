@@ -178,7 +178,7 @@ fn take_one<S: Shelf>(driver: Driver<S>, post: &Post) -> (Driver<S>, Result<(), 
     ensures runs { RunsOn (state_of S.device driver) (state_of S.device result.0) }
     ensures on { result.0.1.power ≡ power.On }
 {
-    is_sound(&driver);
+    driver.is_sound();
     match post.ended {
         Some((have, total)) => take_earlier(driver, &post.asked, have, total),
         None => {
@@ -207,15 +207,8 @@ fn take_on<S: Shelf>(alloc: Global, driver: Driver<S>, posts: &[Post]) -> (Drive
         driver = next;
         answers = answers.with(answer);
     }
-    is_sound(&driver);
+    driver.is_sound();
     (driver, answers)
-}
-
-// The session is sound at every moment.
-fn is_sound<S: Shelf>(driver: &Driver<S>)
-    ensures { IsSound (state_of S.device driver.now) }
-{
-    let _ = driver.power();
 }
 
 // ---- the line
@@ -256,7 +249,7 @@ fn wait_landed<S: Shelf>(
     ensures fits { IsFitting result.stage }
     ensures sound { IsSound (state_of S.device driver) }
 {
-    is_sound(&driver);
+    driver.is_sound();
     match driver.power() {
         Power::On => {
             let (driver, answers) = take_on(alloc, driver, &posts);
@@ -292,7 +285,7 @@ fn wait_on<S: Shelf>(
     match await_posts(&mut driver, &posts, &mut patience) {
         Ok(()) => wait_landed(alloc, driver, posts, bytes),
         Err(Stuck) => {
-            is_sound(&driver);
+            driver.is_sound();
             Stage::ended(driver, posts, bytes).refused(Refusal::Stuck)
         }
     }

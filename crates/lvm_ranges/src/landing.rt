@@ -10,7 +10,6 @@ ghost use Rattle.lvm_posts.specs.Pieces.{IsLaidOut};
 ghost use Rattle.lvm_ranges.specs.Keeping.{KeepsTable};
 ghost use Rattle.lvm_ranges.specs.Landing.{AwaitCosts, AwaitEnds, HavePiecesLanded, IsUnfinished, TurnsFor};
 
-use crate::sound::is_sound;
 use lvm_disk::Shelf;
 use lvm_driver::Driver;
 use lvm_posts::Asked;
@@ -59,7 +58,7 @@ pub fn await_range<S: Shelf>(
         if patience.left == 0 {
             return Err(Stuck);
         }
-        is_sound(driver);
+        driver.is_sound();
         match driver.turn() {
             Turned::Moved => {}
             Turned::Idle => patience.left -= 1,

@@ -12,7 +12,6 @@ ghost use Rattle.lvm_ranges.specs.Landing.{HavePiecesLanded};
 ghost use Rattle.lvm_ranges.specs.Taking.{fault_taken};
 
 use crate::landing::await_range;
-use crate::sound::is_sound;
 use lvm_disk::Shelf;
 use lvm_driver::Driver;
 use lvm_posts::{Asked, RangeFault, first_fault, piece_lp};
@@ -49,11 +48,11 @@ pub fn take_range<S: Shelf>(driver: &mut Driver<S>, asked: &Asked) -> Result<(),
     ensures others { KeepsOthers asked.now driver.old.1 driver.new.1 }
     ensures runs { RunsOn (state_of S.device driver.old) (state_of S.device driver.new) }
 {
-    is_sound(driver);
+    driver.is_sound();
     let (have, total) = driver.votes();
     let mut fault = None;
     for piece in 0..asked.pieces {
-        is_sound(driver);
+        driver.is_sound();
         let taken = driver.take(CLIENT, asked.first + u64::from(piece));
         let failed = fault_taken(taken, piece_lp(asked, piece), have, total);
         fault = first_fault(fault, failed);
