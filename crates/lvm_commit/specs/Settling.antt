@@ -1,12 +1,11 @@
 -- How a session commits its records: what a commit needs, what it writes, and what it leaves.
-use Rattle.std.specs.Prelude.{◌≡◌, ◌⊎◌, ◌≢◌, ℕ, ◌+◌, ◌^◌, ◌<◌, ◌≤◌, false, not, List, [], length, map, None, Ok, IsTrue, IsFalse, IfSome, count_by}
+use Rattle.std.specs.Prelude.{◌≡◌, ◌⊎◌, ◌≢◌, ℕ, ◌+◌, ◌^◌, ◌<◌, ◌≤◌, false, not, List, [], length, None, Ok, IsTrue, IsFalse, IfSome, count_by}
 use Rattle.lvm_num.specs.declared.record.Kind.{Kind}
 use Rattle.lvm_num.specs.declared.record.Kind.TheVariants as kind
 use Rattle.lvm_num.specs.declared.place.Pp.{Pp}
 use Rattle.lvm_num.specs.declared.descriptor.PvRow.{PvRow}
 use Rattle.lvm_num.specs.declared.descriptor.LvRow.{LvRow}
 use Rattle.lvm_num.specs.declared.descriptor.Descriptor.{Descriptor}
-use Rattle.lvm_num.specs.declared.status.StatusRow.{StatusRow}
 use Rattle.lvm_num.specs.declared.status.Status.{Status}
 use Rattle.lvm_num.specs.Buffer.{Buffer, Sector}
 use Rattle.lvm_num.specs.Disks.{Disks, has}
@@ -28,6 +27,7 @@ use Rattle.lvm_kept.specs.Group.{IsOneOf}
 use Rattle.lvm_stale.specs.Table.{SameMissing}
 use Rattle.lvm_left.specs.Marking.{IsLeftIn}
 use Rattle.lvm_status.specs.Members.{HasItsRows}
+pub use Rattle.lvm_status.specs.Members.{HasSameRows}
 use Rattle.lvm_status.specs.Update.{Stored, members_there}
 use Rattle.lvm_steps.specs.Moments.{StaysKept, ImagesKept}
 use Rattle.lvm_homes.specs.declared.homes.Homes.{Homes}
@@ -97,12 +97,6 @@ pub record IsContentOf (group : Descriptor) (content : List ℕ) : Type 0 where
   pub describes : descriptor_of content ≡ Ok group
 
 -- ---- what is left
-
--- The group, its size and the disks that have rows stay.
-pub record HasSameRows (old new : Status) : Type 0 where
-  pub id : new.id ≡ old.id
-  pub big : new.big ≡ old.big
-  pub disks : map (λ (row : StatusRow). row.disk) new.rows ≡ map (λ (row : StatusRow). row.disk) old.rows
 
 -- Nothing is in flight, what is wanted is committed, and the members that aren't missing have votes enough to write.
 pub record IsCommitted (u : Stored) : Type 0 where

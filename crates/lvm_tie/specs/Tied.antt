@@ -15,12 +15,12 @@ use Rattle.lvm_kept.specs.Moments.{Moment}
 use Rattle.lvm_kept.specs.Torn.{RecordWrite}
 use Rattle.lvm_status.specs.Update.{Stored, members_there}
 use Rattle.lvm_steps.specs.Moments.{Begins, Upholds, Keeps}
-use Rattle.lvm_steps.specs.Requests.{at}
 use Rattle.lvm_session.specs.declared.bringing.OpenCopy.{OpenCopy}
 use Rattle.lvm_session.specs.declared.bringing.Step.TheVariants as step
 use Rattle.lvm_session.specs.declared.open.Power.TheVariants as power
 use Rattle.lvm_homes.specs.declared.homes.Homes.{Homes}
 use Rattle.lvm_session.specs.State.{Core, State}
+pub use Rattle.lvm_session.specs.State.{moment_of}
 use Rattle.lvm_session.specs.Bringing.{has_row, block_at}
 use Rattle.lvm_session.specs.Sound.{IsSound}
 use Rattle.lvm_invariant.specs.State.{ModelState}
@@ -99,10 +99,6 @@ abbrev pub Ties : (State → State → Type 0) → Type 0
 Ties Event = (past : List Fact) (old new : State) → IsTied past old → IsSound new → Event old new → IsTied past new
 
 -- ---- what follows
-
--- the session as a moment of its run
-abbrev pub moment_of : State → Moment
-moment_of s = at s.device s.core.history.facts
 
 -- a span that leads to the one leads on to the other
 abbrev pub SpanGoesOn : ℕ → Moment → State → State → Type 0
