@@ -17,7 +17,7 @@ ghost use Rattle.lvm_session.specs.State.{state, is_there, votes_there};
 ghost use Rattle.lvm_core.specs.State.{state_of};
 ghost use Rattle.lvm_session.specs.Judging.{is_waiting};
 ghost use Rattle.lvm_session.specs.Dark.{after_arrange};
-ghost use Rattle.lvm_core.specs.Looking.{IsNumberOf, HasNoVolume};
+ghost use Rattle.lvm_core.specs.Looking.{IsNumberOf, HasNoVolumeNamed};
 ghost use Rattle.lvm_core.specs.Sound.{IsSoundBetween, HaveAllLanded};
 ghost use Rattle.lvm_session.specs.Placed.{ArePlaced};
 ghost use Rattle.lvm_session_start.specs.Beginning.{AreFaults, first_core};
@@ -236,7 +236,7 @@ impl<S: Shelf> Driver<S> {
     /// The number of the volume of a name.
     pub fn volume(&self, name: Name) -> Option<u16>
         ensures some { IfSome result (IsNumberOf self.now.1.descriptor.lvs name) }
-        ensures none { IfNone result (HasNoVolume self.now.1.descriptor.lvs name) }
+        ensures none { IfNone result (HasNoVolumeNamed self.now.1.descriptor.lvs name) }
     {
         number_of(self.session.descriptor.lvs.as_slice(), &name)
     }

@@ -50,7 +50,7 @@ pub record IsDrained (old : State) (core mid : Core) : Type 0 where
   pub still : IsAtRest old → mid ≡ core
 
 -- a transfer of a member has failed since that wasn't missing then
-pub record HasLost (old : State) (new : Counts) : Type 0 where
+pub record HasLostMember (old : State) (new : Counts) : Type 0 where
   pub core : Core
   pub mid : Core
   pub drained : IsDrained old core mid
@@ -74,7 +74,7 @@ pub record HasFailedInSession (old new : State) : Type 0 where
 
 -- the votes were lost with a transfer that failed in the line, or by the turns before the command, and a transfer has failed since the session began
 abbrev pub WereLost : Refusal → State → State → Type 0
-WereLost why old new = HasLost old new.moment.device.counts ⊎ (WasUndrained why old new × HasFailedInSession old new)
+WereLost why old new = HasLostMember old new.moment.device.counts ⊎ (WasUndrained why old new × HasFailedInSession old new)
 
 -- a transfer has failed in the line; of a disk that isn't on the shelf, which a session can't count, since the session began that was on
 pub record HasFailedAsCounted (old new : State) : Type 0 where

@@ -28,7 +28,7 @@ use Rattle.lvm_session.specs.Judging.{is_missing, is_settled, is_stale, is_usabl
 use Rattle.lvm_session.specs.Bringing.{block_at, groups_of, has_row, step_place}
 use Rattle.lvm_session.specs.declared.answers.CopyFault.{CopyFault}
 use Rattle.lvm_session.specs.declared.answers.CopyFault.TheVariants as refusal
-use Rattle.lvm_session.specs.Calls.{Opens, aged, copy_at, copy_fault, faults_of, has_numbers, opened, refusal_at, refusal_by, refusal_in, refusal_on}
+use Rattle.lvm_session.specs.Calls.{Opens, aged, copy_at, copy_fault, faults_of, has_numbers, opened, refusal_at, refusal_when, refusal_in, refusal_on}
 use Rattle.lvm_session.specs.Ends.{with_step}
 use Rattle.lvm_session.specs.Sound.{IsSound}
 use Rattle.lvm_submit.proofs.Numbered.{below_next}
@@ -83,7 +83,7 @@ at_pp core copies p none = by (is_settled core p) (is_missing core p.disk) refl 
     by true false sa sb h = (sa, sb)
 
 is_opened : (core : Core) (lv lp number : ℕ) (row : LvRow) (pp : Pp) → core.power ≡ power.On → copy_fault core lv lp number ≡ None → volume_of core.descriptor lv ≡ Some row → copy_at (copies_of row lp) number ≡ Some pp → IsOpened core lv lp number pp
-is_opened core lv lp number row pp on none volume its = by (is_some core.copy) refl (sym (ap (λ (p : Power). refusal_by p (refusal_on core lv lp number)) on) ∙ none)
+is_opened core lv lp number row pp on none volume its = by (is_some core.copy) refl (sym (ap (λ (p : Power). refusal_when p (refusal_on core lv lp number)) on) ∙ none)
   where
     in_row : refusal_in core row lp number ≡ None → (is_settled core pp ≡ true) × (is_missing core pp.disk ≡ false)
     in_row none2 = of (nat_lt lp row.lps) none2

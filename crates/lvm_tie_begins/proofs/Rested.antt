@@ -37,7 +37,7 @@ use Rattle.lvm_tie.proofs.Recorded.{shown_of, shows_own}
 use Rattle.lvm_tie.proofs.Words.{not_true}
 use Rattle.lvm_tie.specs.Seen.{IsRequestAt, IsStepAt, SeesCopy, SeesNote, step_write_in, update_of}
 use Rattle.lvm_tie.specs.Tied.{IsTied, ShowsRecords, ShowsStatus}
-use Rattle.lvm_tie_begins.specs.Begins.{AreNotesHome, IsResting, ShowsIts, TiedRests, shown_to}
+use Rattle.lvm_tie_begins.specs.Begins.{NotesAreHomeIn, IsResting, ShowsIts, TiedRests, shown_to}
 use Rattle.lvm_tie_begins.proofs.Resting.{names_written, none_at, some_is_none}
 
 note_none : (n : Option Groups) → SeesNote n None → n ≡ None
@@ -205,7 +205,7 @@ module _ (past : List Fact) (s : State) (tied : IsTied past s) (rests : IsRestin
   rest = good_is_rest tied.votes v group core.status.committed (is_there core) c tied.setting.are_votes (valid_of s tied.write tied.orderly) (images_within image) shows idle sees tied.good
       (subst (λ (u : Option (Stamped Status)). Describes v v.facts group u c) no_update tied.describes)
 
-  home : AreNotesHome core c
+  home : NotesAreHomeIn core c
   home d lv g there = by (notes_on core.cache d) refl (tied.orderly.sound.fitting.notes d ∙ member)
     where
       left : (a b : Bool) → a && b ≡ true → a ≡ true

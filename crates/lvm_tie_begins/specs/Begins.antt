@@ -42,8 +42,8 @@ abbrev pub shown_to : State → Media → Contents
 shown_to s media = contents_of (image_of s.device.sizes media)
 
 -- the note of each member that isn't missing names the track groups that the session's cache says it does
-abbrev pub AreNotesHome : Core → Contents → Type 0
-AreNotesHome core c = (d lv group : ℕ) → IsTrue (is_there core d) → is_named c d lv group ≡ is_named_by core.cache d lv group
+abbrev pub NotesAreHomeIn : Core → Contents → Type 0
+NotesAreHomeIn core c = (d lv group : ℕ) → IsTrue (is_there core d) → is_named c d lv group ≡ is_named_by core.cache d lv group
 
 -- What stands on the disks of a session at rest: they hold what it says is committed, on each crash image at most one group has a quorum among all disks,
 -- notes are home, the usable copies are even, and none is left behind.
@@ -55,7 +55,7 @@ pub record StandsAtRest (s : State) (media : Media) : Type 0 where
   pub votes : CanWrite s.core.descriptor (is_there s.core)
   pub held : HoldsCommitted (image_of s.device.sizes media) s.core.descriptor s.core.status.committed (is_there s.core) s.core.status.stamp s.core.homes
   pub only : IsOneByAllOn s.device
-  pub notes : AreNotesHome s.core (shown_to s media)
+  pub notes : NotesAreHomeIn s.core (shown_to s media)
   pub even : IsEven (shown_to s media) s.core.descriptor (Some held.shows.stands) (is_there s.core)
   pub behind : NoneIsBehind (shown_to s media) s.core.descriptor (Some held.shows.stands) (is_there s.core)
 
@@ -118,7 +118,7 @@ ShowsIts s media = ShowsCommitted (shown_to s media) s.core.descriptor s.core.st
 pub record IsRested (past : List Fact) (s : State) (media : Media) (shows : ShowsIts s media) : Type 0 where
   pub told : s.device.media ≡ Some media
   pub rest : IsAtRest (shown_to s media) (past ++ s.core.history.facts) s.core.descriptor (Some shows.stands) (is_there s.core)
-  pub notes : AreNotesHome s.core (shown_to s media)
+  pub notes : NotesAreHomeIn s.core (shown_to s media)
 
 -- So they do where a tied session is at rest, and its members that aren't missing have votes enough to write.
 abbrev pub TiedRests : Type 0

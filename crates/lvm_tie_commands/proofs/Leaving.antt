@@ -17,7 +17,7 @@ use Rattle.lvm_core.specs.Settled.{IsSettled}
 use Rattle.lvm_rest.specs.Rest.{IsEven}
 use Rattle.lvm_even.proofs.OffLemmas.{off_is_even}
 use Rattle.lvm_handover.specs.passed.Tie.{SparesDescriptors, SparesOn, IsTied}
-use Rattle.lvm_handover.specs.passed.TieBegins.{IsRested, IsResting, AreNotesHome as AreHome, shown_to}
+use Rattle.lvm_handover.specs.passed.TieBegins.{IsRested, IsResting, NotesAreHomeIn as AreHome, shown_to}
 use Rattle.lvm_tie_groups.proofs.Leaving.{its_disks_hold, its_rest}
 use Rattle.lvm_tie_commands.specs.Commands.{MayBeCommanded}
 use Rattle.lvm_tie_commands.specs.Standing.{HoldsEmpty, StandsAfter}

@@ -23,7 +23,7 @@ use Rattle.lvm_core.specs.Settled.{IsSettled}
 use Rattle.lvm_rest.specs.Rest.{IsEven, NoneIsBehind}
 use Rattle.lvm_rest.proofs.Marking.{none_is_left_behind}
 use Rattle.lvm_handover.specs.passed.Tie.{SparesDescriptors, IsTied, moment_of}
-use Rattle.lvm_handover.specs.passed.TieBegins.{AreNotesHome, MembersShow, StandsAtRest, shown_to}
+use Rattle.lvm_handover.specs.passed.TieBegins.{NotesAreHomeIn, MembersShow, StandsAtRest, shown_to}
 use Rattle.lvm_handover.proofs.passed.TieBegins.{rest_spares, rest_ties}
 use Rattle.lvm_tie_commands.proofs.Resting.{left, rests}
 
@@ -44,7 +44,7 @@ members_show s media held stays d member present =
     member_of_parts (shown_to s media) all_disks core.descriptor.id core.descriptor d refl (shows_group (shown_to s media) core.descriptor core.status.committed (is_there core) held.shows d there) (held.shows.room d there)
 
 module _ (s : State) (media : Media) (sound : IsSound s) (settled : IsSettled s.core) (epoch : s.core.status.stamp.epoch < 2 ^ 64) (whole : HasSectors s.device)
-    (told : s.device.media ≡ Some media) (held : Held s media) (notes : AreNotesHome s.core (shown_to s media)) (one : IsOneByAllOn s.device)
+    (told : s.device.media ≡ Some media) (held : Held s media) (notes : NotesAreHomeIn s.core (shown_to s media)) (one : IsOneByAllOn s.device)
     (even : IsEven (shown_to s media) s.core.descriptor (Some held.shows.stands) (is_there s.core)) where
   behind : NoneIsBehind (shown_to s media) s.core.descriptor (Some held.shows.stands) (is_there s.core)
   behind = subst (λ (set : Disks). NoneIsBehind (shown_to s media) s.core.descriptor (Some held.shows.stands) set) (ap (λ (g : Descriptor). members_there g s.core.status.wanted) sound.fitting.group)

@@ -28,7 +28,7 @@ use Rattle.lvm_crash.proofs.Lasting.{description_lasts}
 use Rattle.lvm_crash.proofs.Statuses.{statuses_last}
 use Rattle.lvm_tie_shelf.specs.Owned.{IsNoteFlight}
 use Rattle.lvm_tie_shelf.specs.Writing.{Lands}
-use Rattle.lvm_tie_shelf.specs.Records.{home_after, flying_after, NoteEnded, NoteEnds}
+use Rattle.lvm_tie_shelf.specs.Records.{home_after, flying_after, NoteEnded, NoteEndMatches}
 use Rattle.lvm_tie_shelf.proofs.Flying.{writes_at, at_writes}
 use Rattle.lvm_tie_shelf.proofs.Owned.{its_note}
 use Rattle.lvm_tie_shelf.proofs.Records.{may_leave}
@@ -184,5 +184,5 @@ module _ (votes : Votes) (s : ModelState) (group : Descriptor) (in_flight : Opti
       by (Old bad same) = ended false (λ ends. absurd (clash well ends bad)) (named_old bad same)
       by (New new) = ended true (λ ends. refl) (named_new new)
 
-pub note_ends : NoteEnds
+pub note_ends : NoteEndMatches
 note_ends = note_ended

@@ -28,7 +28,7 @@ use Rattle.lvm_crash.proofs.Lasting.{description_lasts}
 use Rattle.lvm_crash.proofs.Statuses.{statuses_last}
 use Rattle.lvm_tie_shelf.specs.Owned.{IsStatusFlight, UpdateSince}
 use Rattle.lvm_tie_shelf.specs.Writing.{Lands}
-use Rattle.lvm_tie_shelf.specs.Records.{statuses_of, StatusEnded, StatusEnds}
+use Rattle.lvm_tie_shelf.specs.Records.{statuses_of, StatusEnded, StatusEndMatches}
 use Rattle.lvm_tie_shelf.proofs.Flying.{at_writes}
 use Rattle.lvm_tie_shelf.proofs.Owned.{in_slots}
 
@@ -131,5 +131,5 @@ module _ (votes : Votes) (s : ModelState) (group : Descriptor) (w : RecordWrite)
     stands = stands;
   }
 
-pub status_ends : StatusEnds
+pub status_ends : StatusEndMatches
 status_ends = status_ended

@@ -33,8 +33,8 @@ pub record StatusEnded (s : ModelState) (group : Descriptor) (u : Stamped Status
   pub describes : Describes (moved s (statuses_of group.id now) flying) s.facts group (Some u) now
   pub stands : IsTrue well → now.status disk ≡ Some u
 
-abbrev pub StatusEnds : Type 0
-StatusEnds =
+abbrev pub StatusEndMatches : Type 0
+StatusEndMatches =
     (votes : Votes) (s : ModelState) (group : Descriptor) (w : RecordWrite) (u : Stamped Status) (device : Device) (rest : List Flight) (m n : Media) (f : Flight) (well : Bool) (flying : ℕ → Bool)
     → Good votes s → Matches s s.facts group (Some u) device m → Removes f device.flights rest → IsStatusFlight s w f → UpdateSince device w u → Lands f well m n
     → StatusEnded s group u f.disk well flying (contents_of (image_of device.sizes n))
@@ -54,8 +54,8 @@ pub record NoteEnded (s : ModelState) (group : Descriptor) (in_flight : Option (
   pub describes : Describes (after_note s names (home_after s disk note well) (flying_after s disk)) s.facts group in_flight now
 
 -- It ended well, or its disk is missing.
-abbrev pub NoteEnds : Type 0
-NoteEnds =
+abbrev pub NoteEndMatches : Type 0
+NoteEndMatches =
     (votes : Votes) (s : ModelState) (group : Descriptor) (in_flight : Option (Stamped Status)) (device : Device) (rest : List Flight) (m n : Media) (f : Flight) (well : Bool)
     → Good votes s → Matches s s.facts group in_flight device m → Removes f device.flights rest → (own : IsNoteFlight s f) → Lands f well m n
     → has_records (image_of device.sizes m) f.disk ≡ true → IsTrue well ⊎ IsTrue (s.missing f.disk)
