@@ -44,7 +44,8 @@ use Rattle.lvm_volumes.proofs.Entering.{many_bound}
 use Rattle.lvm_volumes.proofs.Places.{places_of}
 use Rattle.lvm_handover.specs.Serving.{GoesOnWith, MayServe, MklvServes, RmlvServes, StaysSound}
 use Rattle.lvm_keeps.proofs.Updates.{few_updates}
-use Rattle.lvm_handover.proofs.Entailing.{none_left, passes}
+use Rattle.lvm_tie_begins.proofs.Entailing.{passes}
+use Rattle.lvm_handover.proofs.Entailing.{none_left}
 use Rattle.lvm_handover.proofs.Serving.{commands_serve}
 
 -- ---- rows

@@ -55,7 +55,7 @@ use Rattle.lvm_tie_begins.specs.Begins.{BeginsSound, StandsAtRest, Start, begun,
 use Rattle.lvm_tie_begins.proofs.Beginning.{begins_good}
 use Rattle.lvm_tie_groups.specs.Coming.{IsBegun, IsDriven, IsMadeEven, LeadsTo, MadeServes, VariedIsMadeEven, VariedOnServes}
 use Rattle.lvm_keeps.proofs.Updates.{few_updates}
-use Rattle.lvm_tie_groups.proofs.Entailing.{not_entailed}
+use Rattle.lvm_tie_begins.proofs.Entailing.{not_entailed}
 
 -- what holds of the media that is told
 of_told : {A : Type 0} (P : A → Type 0) (o : Option A) (x : A) → o ≡ Some x → IfSome o P → P x

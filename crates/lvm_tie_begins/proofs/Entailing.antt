@@ -23,7 +23,7 @@ use Rattle.lvm_tie_shelf.proofs.Writing.{and_both, pp_same}
 
 -- ---- lists
 
-passes : {X : Type 0} (test : X → Bool) (xs : List X) (x : X) → IsOneOf xs x → test x ≡ true → list_any test xs ≡ true
+pub passes : {X : Type 0} (test : X → Bool) (xs : List X) (x : X) → IsOneOf xs x → test x ≡ true → list_any test xs ≡ true
 passes test [] x one is = absurd one
 passes test (y ∷ ys) x (inl same) is = or_true (test y) (list_any test ys) (inl (sym (ap test same) ∙ is))
 passes test (y ∷ ys) x (inr later) is = or_true (test y) (list_any test ys) (inr (passes test ys x later is))
