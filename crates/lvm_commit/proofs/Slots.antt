@@ -31,14 +31,6 @@ then_first n (Some y) later = ap (λ (t : Bool). if t then 0 else 1) (later y re
 
 -- ---- of a disk
 
--- where the sectors of both slots are the same, so is the slot that comes next
-pub slot_for_same : {X : Type 0} (content_of : List ℕ → Result X ℕ) (kind : Kind) (old new : Sectors)
-    → ((slot s : ℕ) → slot < 2 → slot_start kind slot ≤ s → s < slot_start kind slot + slot_size kind → new s ≡ old s) → slot_for content_of kind new ≡ slot_for content_of kind old
-slot_for_same content_of kind old new same =
-    let first : slot_of kind 0 new ≡ slot_of kind 0 old = joined-same new old (slot_start kind 0) (slot_size kind) (λ s from to. same 0 s (omega arith) from to) in
-    let second : slot_of kind 1 new ≡ slot_of kind 1 old = joined-same new old (slot_start kind 1) (slot_size kind) (λ s from to. same 1 s (omega arith) from to) in
-    λ t. slot_to_write (held content_of kind (first t)) (held content_of kind (second t))
-
 module _ (w : SlotWrite) (old new : Sectors) (frames : Frames w.kind w.framed) (two : w.slot < 2) (torn : IsTornWrite w old new) where
   -- a sector of a slot that isn't written
   other_sector : (kind : Kind) (slot s : ℕ) → slot < 2 → (kind ≡ w.kind → ⊥) ⊎ (slot ≡ w.slot → ⊥) → slot_start kind slot ≤ s → s < slot_start kind slot + slot_size kind → new s ≡ old s

@@ -23,7 +23,8 @@ use Rattle.lvm_kept.specs.Torn.{IsOfRecord, IsOtherOrRecord, RecordWrite, Stands
 use Rattle.lvm_stamps.specs.Behind.{StampsBefore}
 use Rattle.lvm_stamps.specs.Laws.{IsWhole}
 use Rattle.lvm_stamps.proofs.Writes.{record_keeps_before}
-use Rattle.lvm_begin.proofs.Slots.{other_comes_next, slot_for_same}
+use Rattle.lvm_rec.proofs.NextLemmas.{slot_for_same}
+use Rattle.lvm_begin.proofs.Slots.{other_comes_next}
 use Rattle.lvm_commit.specs.Committed.{next_stamp}
 use Rattle.lvm_status.specs.Update.{Stored, members_there}
 use Rattle.lvm_homes.specs.declared.homes.Homes.{Homes}
