@@ -8,7 +8,7 @@ use lvm_image::ImageSink;
 use lvm_io::{Sink, StdSink, StdSource, SystemClock, write_all};
 use lvm_lane::FileShelf;
 use lvm_num::{Memory, Text};
-use lvm_top::{ExitStatus, Job, WordsFault, read_words, run_words};
+use lvm_program::{ExitStatus, Job, WordsFault, read_words, run_words};
 use std::alloc::{AllocError, Global};
 use std::fs::{File, OpenOptions};
 use std::io::ErrorKind;

@@ -1,10 +1,10 @@
 -- What a line does that reads or writes a range of a disk.
-use Rattle.std.specs.Prelude.{◌≡◌, ℕ, List, None, IsSome, Result, Ok, Err}
+use Rattle.std.specs.Prelude.{◌≡◌, ◌∷◌, ◌++◌, ◌+◌, ℕ, [], List, None, IsSome, Result, Ok, Err}
 use Rattle.lvm_num.specs.Buffer.{Sector}
 use Rattle.lvm_kept.specs.Moments.{Moment}
 use Rattle.lvm_stage.specs.passed.Quiesce.{ReadOnceQuiet, WriteOnceQuiet}
 use Rattle.lvm_vol.specs.Log.{Log}
-use Rattle.lvm_replies.specs.Blocks.{blocks_text}
+use Rattle.lvm_replies.specs.Blocks.{block_text}
 use Rattle.lvm_raw.specs.declared.fault.RawFault.{RawFault}
 use Rattle.lvm_raw.specs.declared.fault.RawFault.TheVariants as fault
 use Rattle.lvm_raw.specs.Keeping.{AnswerHasCause}
@@ -33,6 +33,11 @@ refusal_by fault.Memory = refusal.Memory
 abbrev pub write_reply : Result (Unit {0}) RawFault → Reply
 write_reply (Ok done) = reply.Ok
 write_reply (Err why) = reply.Refused (refusal_by why)
+
+-- a line for each block, the first of this number
+abbrev pub blocks_text : ℕ → List Sector → List ℕ
+blocks_text at [] = []
+blocks_text at (block ∷ blocks) = block_text at block ++ blocks_text (at + 1) blocks
 
 -- a line for each block that was read, if there was memory for them, or why it wasn't
 abbrev pub ShowsRead : ℕ → Result (List Sector) RawFault → Reply → Type 0

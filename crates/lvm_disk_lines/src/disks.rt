@@ -1,7 +1,6 @@
 //! The lines that read or write a range of a disk.
 ghost use Rattle.std.specs.Prelude.{◌≡◌, ◌≤◌, ◌<◌, ◌+◌, ◌^◌, length, IfOk, IfErr};
-ghost use Rattle.lvm_replies.specs.Blocks.{blocks_text};
-ghost use Rattle.lvm_disk_lines.specs.Disks.{WriteDoes, ReadDoes, refusal_by, write_reply};
+ghost use Rattle.lvm_disk_lines.specs.Disks.{WriteDoes, ReadDoes, refusal_by, write_reply, blocks_text};
 ghost use Rattle.lvm_stage.specs.Ends.{EndsUnasked};
 ghost use Rattle.lvm_stage.specs.Moments.{Aside};
 ghost use Rattle.lvm_stage.specs.Replies.{Shows};
@@ -10,7 +9,7 @@ ghost use Rattle.lvm_stage.specs.Stages.{IsBetweenStage, IsFitting};
 use lvm_disk::Shelf;
 use lvm_num::{Memory, Rows, Text};
 use lvm_raw::RawFault;
-use lvm_replies::show_blocks;
+use lvm_replies::show_block;
 use lvm_stage::below::quiesce::{read_disk, write_disk};
 use lvm_stage::{Answered, Holder, Refusal, Reply, Stage};
 use lvm_transfer::Patience;
@@ -34,6 +33,31 @@ fn refusal_by(fault: RawFault) -> Refusal
     }
 }
 
+// A line for each block, the first of this number.
+fn blocks_text(alloc: Global, at: u64, blocks: &[[u8; 512]]) -> Result<Text, Memory>
+    requires { at + length blocks.now < 2 ^ 64 }
+    ensures { IfOk result (λ text. text ≡ blocks_text at blocks.now) }
+{
+    let mut text = String::new(alloc);
+    let mut number = at;
+    for block in blocks {
+        text.push_str(show_block(alloc, number, block)?.as_str())?;
+        number += 1;
+    }
+    Ok(Text::new(text))
+}
+
+/// The lines of blocks, the first of this number, if there is memory for them.
+pub fn lines_reply(alloc: Global, at: u64, blocks: &[[u8; 512]]) -> Reply
+    requires { at + length blocks.now < 2 ^ 64 }
+    ensures { Shows (blocks_text at blocks.now) result }
+{
+    match blocks_text(alloc, at, blocks) {
+        Ok(text) => Reply::Lines(text),
+        Err(Memory) => Reply::Refused(Refusal::Memory),
+    }
+}
+
 // The reply to a write.
 fn write_reply(done: Result<(), RawFault>) -> Reply
     ensures { result ≡ write_reply done }
@@ -51,10 +75,7 @@ fn read_reply(alloc: Global, at: u64, read: Result<Rows<[u8; 512]>, RawFault>) -
     ensures fault { IfErr read (λ why. result ≡ Reply.Refused (refusal_by why)) }
 {
     match read {
-        Ok(blocks) => match show_blocks(alloc, at, blocks.as_slice()) {
-            Ok(text) => Reply::Lines(text),
-            Err(Memory) => Reply::Refused(Refusal::Memory),
-        },
+        Ok(blocks) => lines_reply(alloc, at, blocks.as_slice()),
         Err(why) => Reply::Refused(refusal_by(why)),
     }
 }

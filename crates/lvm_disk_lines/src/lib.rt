@@ -5,5 +5,5 @@ pub mod below;
 mod disks;
 mod shelves;
 
-pub use disks::{do_read, do_write};
+pub use disks::{do_read, do_write, lines_reply};
 pub use shelves::{do_arrange, do_cut};

@@ -15,7 +15,7 @@ use Rattle.clap.specs.declared.parser.matches.ValueSource.TheVariants.{CommandLi
 use Rattle.clap.proofs.OnLiterals.{clap_on_literals}
 use Rattle.clap.proofs.FaultLemmas.{stopped_fault}
 use Rattle.clap.proofs.WalkLemmas.{walk_stopped}
-use Rattle.lvm_language.specs.CommandLine.{is_signed, lvm_app, script_app, sim_app, gen_app, image_app}
+use Rattle.lvm_language.specs.CommandLine.{is_signed, lvm_app, script_app, sim_app, gen_app, image_app, weave_app}
 
 pub is_free : is_simple_and_free lvm_app ≡ true
 unfolding clap_on_literals
@@ -233,6 +233,209 @@ level_more j a b c more is_a is_b is_c =
     (fails_next (turn_fault s [] (walk_from nothing_held) a) (or_else (turn_fault s [] w1 b) (or_else (turn_fault s [] w2 c) later))
     (fails_next (turn_fault s [] w1 b) (or_else (turn_fault s [] w2 c) later) (fails_first (turn_fault s [] w2 c) later third)))
 
+-- ---- the job with five numbers
+
+abbrev pub disks_parser : ValueParser
+disks_parser = parser.Unsigned 1 8
+
+abbrev pub mib_parser : ValueParser
+mib_parser = parser.Unsigned 8 64
+
+abbrev pub clients_parser : ValueParser
+clients_parser = parser.Unsigned 1 64
+
+abbrev pub requests_parser : ValueParser
+requests_parser = parser.Unsigned 0 50000
+
+abbrev pub seed_parser : ValueParser
+seed_parser = parser.Unsigned 0 (2 ^ 64 - 1)
+
+abbrev pub row_of : Text → Text → Row
+row_of id word = record { id = id; values = word ∷ []; count = None; source = Some CommandLine; reading = AsWritten }
+
+-- the rows of the words before the last, and the last
+abbrev pending : List Row → Text → Text → Held
+pending rows id word = record { rows = rows; pending = Some (id, word ∷ []); skip = 0 }
+
+abbrev held_1 : Text → Held
+held_1 a = pending [] (codes "DISKS") a
+
+abbrev held_2 : Text → Text → Held
+held_2 a b = pending (row_of (codes "DISKS") a ∷ []) (codes "MIB") b
+
+abbrev held_3 : Text → Text → Text → Held
+held_3 a b c = pending (row_of (codes "DISKS") a ∷ row_of (codes "MIB") b ∷ []) (codes "CLIENTS") c
+
+abbrev held_4 : Text → Text → Text → Text → Held
+held_4 a b c d = pending (row_of (codes "DISKS") a ∷ row_of (codes "MIB") b ∷ row_of (codes "CLIENTS") c ∷ []) (codes "REQUESTS") d
+
+abbrev held_5 : Text → Text → Text → Text → Text → Held
+held_5 a b c d e = pending (row_of (codes "DISKS") a ∷ row_of (codes "MIB") b ∷ row_of (codes "CLIENTS") c ∷ row_of (codes "REQUESTS") d ∷ []) (codes "SEED") e
+
+abbrev five : Shape
+five = leaf weave_app
+
+module _ (a : Text) (is_a : is_signed a ≡ false) where
+  walk_1 : walked five.rules [] (walk_from nothing_held) a ≡ between (held_1 a) 2
+  walk_1 = next_walk five.rules nothing_held 1 a is_a
+
+  turn_1 : turn_fault five [] (walk_from nothing_held) a ≡ []
+  turn_1 = next_fault five nothing_held 1 a is_a
+
+  module _ (b : Text) (is_b : is_signed b ≡ false) where
+    walk_2 : walked five.rules [] (between (held_1 a) 2) b ≡ between (held_2 a b) 3
+    walk_2 = next_walk five.rules (held_1 a) 2 b is_b
+
+    turn_2 : turn_fault five [] (between (held_1 a) 2) b ≡ or_else (value_kinds false disks_parser a) []
+    turn_2 = next_fault five (held_1 a) 2 b is_b
+
+    module _ (c : Text) (is_c : is_signed c ≡ false) where
+      walk_3 : walked five.rules [] (between (held_2 a b) 3) c ≡ between (held_3 a b c) 4
+      walk_3 = next_walk five.rules (held_2 a b) 3 c is_c
+
+      turn_3 : turn_fault five [] (between (held_2 a b) 3) c ≡ or_else (value_kinds false mib_parser b) []
+      turn_3 = next_fault five (held_2 a b) 3 c is_c
+
+      module _ (d : Text) (is_d : is_signed d ≡ false) where
+        walk_4 : walked five.rules [] (between (held_3 a b c) 4) d ≡ between (held_4 a b c d) 5
+        walk_4 = next_walk five.rules (held_3 a b c) 4 d is_d
+
+        turn_4 : turn_fault five [] (between (held_3 a b c) 4) d ≡ or_else (value_kinds false clients_parser c) []
+        turn_4 = next_fault five (held_3 a b c) 4 d is_d
+
+        module _ (e : Text) (is_e : is_signed e ≡ false) where
+          walk_5 : walked five.rules [] (between (held_4 a b c d) 5) e ≡ between (held_5 a b c d e) 6
+          walk_5 = next_walk five.rules (held_4 a b c d) 5 e is_e
+
+          turn_5 : turn_fault five [] (between (held_4 a b c d) 5) e ≡ or_else (value_kinds false requests_parser d) []
+          turn_5 = next_fault five (held_4 a b c d) 5 e is_e
+
+          turn_6 : (f : Text) → is_signed f ≡ false → turn_fault five [] (between (held_5 a b c d e) 6) f ≡ kind.UnknownArgument ∷ []
+          turn_6 f is_f = next_fault five (held_5 a b c d e) 6 f is_f
+
+-- what the turns and the end say, one after the other
+abbrev turns_kinds : Kinds → Kinds → Kinds → Kinds → Kinds → Kinds → Kinds
+turns_kinds t1 t2 t3 t4 t5 end = or_else (or_else t1 (or_else t2 (or_else t3 (or_else t4 (or_else t5 []))))) end
+
+-- how the five numbers stand at the end
+abbrev pub five_kinds : Kinds → Kinds → Kinds → Kinds → Kinds → Kinds
+five_kinds k1 k2 k3 k4 k5 = turns_kinds [] (or_else k1 []) (or_else k2 []) (or_else k3 []) (or_else k4 []) (or_else (or_else k5 []) [])
+
+-- where a number is lacking at the end
+lacks : (w : Walk) (h : Held) (position : ℕ) → w ≡ between h position → fails (ends five h) ≡ true → fails (ends five w.held) ≡ true
+lacks w h position is some = ap (λ (v : Walk). fails (ends five v.held)) is ∙ some
+
+ends_0 : fails (ends five nothing_held) ≡ true
+unfolding clap_on_literals
+ends_0 = refl
+
+ends_1 : (a : Text) → fails (ends five (held_1 a)) ≡ true
+unfolding clap_on_literals
+ends_1 a = fails_next (or_else (value_kinds false disks_parser a) []) (kind.MissingRequiredArgument ∷ []) refl
+
+ends_2 : (a b : Text) → fails (ends five (held_2 a b)) ≡ true
+unfolding clap_on_literals
+ends_2 a b = fails_next (or_else (value_kinds false mib_parser b) []) (kind.MissingRequiredArgument ∷ []) refl
+
+ends_3 : (a b c : Text) → fails (ends five (held_3 a b c)) ≡ true
+unfolding clap_on_literals
+ends_3 a b c = fails_next (or_else (value_kinds false clients_parser c) []) (kind.MissingRequiredArgument ∷ []) refl
+
+ends_4 : (a b c d : Text) → fails (ends five (held_4 a b c d)) ≡ true
+unfolding clap_on_literals
+ends_4 a b c d = fails_next (or_else (value_kinds false requests_parser d) []) (kind.MissingRequiredArgument ∷ []) refl
+
+ends_5 : (a b c d e : Text) → ends five (held_5 a b c d e) ≡ or_else (or_else (value_kinds false seed_parser e) []) []
+unfolding clap_on_literals
+ends_5 a b c d e = refl
+
+pub five_none : fails (level weave_app []) ≡ true
+unfolding clap_on_literals
+five_none = ends_0
+
+module _ (a b c d e : Text) (is_a : is_signed a ≡ false) (is_b : is_signed b ≡ false) (is_c : is_signed c ≡ false) (is_d : is_signed d ≡ false) (is_e : is_signed e ≡ false) where
+  abbrev w_1 : Walk
+  w_1 = walked five.rules [] (walk_from nothing_held) a
+
+  abbrev w_2 : Walk
+  w_2 = walked five.rules [] w_1 b
+
+  abbrev w_3 : Walk
+  w_3 = walked five.rules [] w_2 c
+
+  abbrev w_4 : Walk
+  w_4 = walked five.rules [] w_3 d
+
+  abbrev w_5 : Walk
+  w_5 = walked five.rules [] w_4 e
+
+  at_2 : w_2 ≡ between (held_2 a b) 3
+  at_2 = ap (λ (w : Walk). walked five.rules [] w b) (walk_1 a is_a) ∙ walk_2 a is_a b is_b
+
+  at_3 : w_3 ≡ between (held_3 a b c) 4
+  at_3 = ap (λ (w : Walk). walked five.rules [] w c) at_2 ∙ walk_3 a is_a b is_b c is_c
+
+  at_4 : w_4 ≡ between (held_4 a b c d) 5
+  at_4 = ap (λ (w : Walk). walked five.rules [] w d) at_3 ∙ walk_4 a is_a b is_b c is_c d is_d
+
+  at_5 : w_5 ≡ between (held_5 a b c d e) 6
+  at_5 = ap (λ (w : Walk). walked five.rules [] w e) at_4 ∙ walk_5 a is_a b is_b c is_c d is_d e is_e
+
+  pub five_one : fails (level weave_app (a ∷ [])) ≡ true
+  unfolding clap_on_literals
+  five_one = fails_next (walk_fault five [] (walk_from nothing_held) (a ∷ [])) _ (lacks w_1 (held_1 a) 2 (walk_1 a is_a) (ends_1 a))
+
+  pub five_two : fails (level weave_app (a ∷ b ∷ [])) ≡ true
+  unfolding clap_on_literals
+  five_two = fails_next (walk_fault five [] (walk_from nothing_held) (a ∷ b ∷ [])) _ (lacks w_2 (held_2 a b) 3 at_2 (ends_2 a b))
+
+  pub five_three : fails (level weave_app (a ∷ b ∷ c ∷ [])) ≡ true
+  unfolding clap_on_literals
+  five_three = fails_next (walk_fault five [] (walk_from nothing_held) (a ∷ b ∷ c ∷ [])) _ (lacks w_3 (held_3 a b c) 4 at_3 (ends_3 a b c))
+
+  pub five_four : fails (level weave_app (a ∷ b ∷ c ∷ d ∷ [])) ≡ true
+  unfolding clap_on_literals
+  five_four = fails_next (walk_fault five [] (walk_from nothing_held) (a ∷ b ∷ c ∷ d ∷ [])) _ (lacks w_4 (held_4 a b c d) 5 at_4 (ends_4 a b c d))
+
+  t_2 : turn_fault five [] w_1 b ≡ or_else (value_kinds false disks_parser a) []
+  t_2 = ap (λ (w : Walk). turn_fault five [] w b) (walk_1 a is_a) ∙ turn_2 a is_a b is_b
+
+  t_3 : turn_fault five [] w_2 c ≡ or_else (value_kinds false mib_parser b) []
+  t_3 = ap (λ (w : Walk). turn_fault five [] w c) at_2 ∙ turn_3 a is_a b is_b c is_c
+
+  t_4 : turn_fault five [] w_3 d ≡ or_else (value_kinds false clients_parser c) []
+  t_4 = ap (λ (w : Walk). turn_fault five [] w d) at_3 ∙ turn_4 a is_a b is_b c is_c d is_d
+
+  t_5 : turn_fault five [] w_4 e ≡ or_else (value_kinds false requests_parser d) []
+  t_5 = ap (λ (w : Walk). turn_fault five [] w e) at_4 ∙ turn_5 a is_a b is_b c is_c d is_d e is_e
+
+  t_end : ends five w_5.held ≡ or_else (or_else (value_kinds false seed_parser e) []) []
+  t_end = ap (λ (w : Walk). ends five w.held) at_5 ∙ ends_5 a b c d e
+
+  pub five_five : level weave_app (a ∷ b ∷ c ∷ d ∷ e ∷ [])
+      ≡ five_kinds (value_kinds false disks_parser a) (value_kinds false mib_parser b) (value_kinds false clients_parser c) (value_kinds false requests_parser d) (value_kinds false seed_parser e)
+  unfolding clap_on_literals
+  five_five =
+      ap (λ (k : Kinds). turns_kinds k (turn_fault five [] w_1 b) (turn_fault five [] w_2 c) (turn_fault five [] w_3 d) (turn_fault five [] w_4 e) (ends five w_5.held)) (turn_1 a is_a)
+      ∙ ap (λ (k : Kinds). turns_kinds [] k (turn_fault five [] w_2 c) (turn_fault five [] w_3 d) (turn_fault five [] w_4 e) (ends five w_5.held)) t_2
+      ∙ ap (λ (k : Kinds). turns_kinds [] (or_else (value_kinds false disks_parser a) []) k (turn_fault five [] w_3 d) (turn_fault five [] w_4 e) (ends five w_5.held)) t_3
+      ∙ ap (λ (k : Kinds). turns_kinds [] (or_else (value_kinds false disks_parser a) []) (or_else (value_kinds false mib_parser b) []) k (turn_fault five [] w_4 e) (ends five w_5.held)) t_4
+      ∙ ap (λ (k : Kinds). turns_kinds [] (or_else (value_kinds false disks_parser a) []) (or_else (value_kinds false mib_parser b) []) (or_else (value_kinds false clients_parser c) []) k (ends five w_5.held)) t_5
+      ∙ ap (λ (k : Kinds). turns_kinds [] (or_else (value_kinds false disks_parser a) []) (or_else (value_kinds false mib_parser b) []) (or_else (value_kinds false clients_parser c) []) (or_else (value_kinds false requests_parser d) []) k) t_end
+
+  pub five_more : (f : Text) (more : List Text) → is_signed f ≡ false → fails (level weave_app (a ∷ b ∷ c ∷ d ∷ e ∷ f ∷ more)) ≡ true
+  unfolding clap_on_literals
+  five_more f more is_f =
+      let sixth : fails (turn_fault five [] w_5 f) ≡ true = ap (λ (w : Walk). fails (turn_fault five [] w f)) at_5 ∙ ap fails (turn_6 a is_a b is_b c is_c d is_d e is_e f is_f) in
+      let later : Kinds = or_else (turn_fault five [] w_5 f) (walk_fault five [] (walked five.rules [] w_5 f) more) in
+      let t : Text → Walk → Kinds = λ word w. turn_fault five [] w word in
+      fails_first (walk_fault five [] (walk_from nothing_held) (a ∷ b ∷ c ∷ d ∷ e ∷ f ∷ more)) _
+      (fails_next (t a (walk_from nothing_held)) (or_else (t b w_1) (or_else (t c w_2) (or_else (t d w_3) (or_else (t e w_4) later))))
+      (fails_next (t b w_1) (or_else (t c w_2) (or_else (t d w_3) (or_else (t e w_4) later)))
+      (fails_next (t c w_2) (or_else (t d w_3) (or_else (t e w_4) later))
+      (fails_next (t d w_3) (or_else (t e w_4) later)
+      (fails_next (t e w_4) later (fails_first (turn_fault five [] w_5 f) _ sixth))))))
+
 -- ---- the command line
 
 abbrev top : Shape
@@ -267,6 +470,10 @@ numbered_fault sim rest = ap₂ named_kinds (after_name (codes "sim") rest) (aft
 numbered_fault gen rest = ap₂ named_kinds (after_name (codes "gen") rest) (after_name_fault (codes "gen") rest)
 numbered_fault image rest = ap₂ named_kinds (after_name (codes "image") rest) (after_name_fault (codes "image") rest)
 
+pub weave_fault : (rest : List Text) → fault_of lvm_app (codes "weave" ∷ rest) ≡ or_else (level weave_app rest) []
+unfolding clap_on_literals
+weave_fault rest = ap₂ named_kinds (after_name (codes "weave") rest) (after_name_fault (codes "weave") rest)
+
 pub script_entered : (rest : List Text) → option_map (λ p. p.0) (subcommand_of lvm_app (codes "script" ∷ rest)) ≡ Some (codes "script")
 unfolding clap_on_literals
 script_entered rest = ap (λ (w : Walk). option_map (λ p. p.0) (entered (built lvm_app) w.stopped)) (after_name (codes "script") rest)
@@ -283,30 +490,37 @@ numbered_entered image a b is_a is_b =
     ap (λ (w : Walk). Some (codes "image", finished (leaf image_app).rules (walked (leaf image_app).rules [] w b).held)) (walked_one image a is_a)
     ∙ ap (λ (w : Walk). Some (codes "image", finished (leaf image_app).rules w.held)) (walked_two image a b is_b)
 
+module _ (a b c d e : Text) (is_a : is_signed a ≡ false) (is_b : is_signed b ≡ false) (is_c : is_signed c ≡ false) (is_d : is_signed d ≡ false) (is_e : is_signed e ≡ false) where
+  pub five_entered : subcommand_of lvm_app (codes "weave" ∷ a ∷ b ∷ c ∷ d ∷ e ∷ [])
+      ≡ Some (codes "weave", row_of (codes "DISKS") a ∷ row_of (codes "MIB") b ∷ row_of (codes "CLIENTS") c ∷ row_of (codes "REQUESTS") d ∷ row_of (codes "SEED") e ∷ [])
+  unfolding clap_on_literals
+  five_entered = ap (λ (w : Walk). Some (codes "weave", finished five.rules w.held)) (at_5 a b c d e is_a is_b is_c is_d is_e)
+
 pub none_fault : fault_of lvm_app [] ≡ kind.MissingSubcommand ∷ []
 unfolding clap_on_literals
 none_fault = refl
 
-unmet : (word : Text) → bytes_eq (codes "script") word ≡ false → bytes_eq (codes "sim") word ≡ false → bytes_eq (codes "gen") word ≡ false → bytes_eq (codes "image") word ≡ false
+unmet : (word : Text) → bytes_eq (codes "script") word ≡ false → bytes_eq (codes "sim") word ≡ false → bytes_eq (codes "gen") word ≡ false → bytes_eq (codes "weave") word ≡ false → bytes_eq (codes "image") word ≡ false
     → subcommand_met names idle word ≡ None
-unmet word no_script no_sim no_gen no_image =
-    go (bytes_eq (codes "script") word) (bytes_eq (codes "sim") word) (bytes_eq (codes "gen") word) (bytes_eq (codes "image") word) no_script no_sim no_gen no_image
+unmet word no_script no_sim no_gen no_weave no_image =
+    go (bytes_eq (codes "script") word) (bytes_eq (codes "sim") word) (bytes_eq (codes "gen") word) (bytes_eq (codes "weave") word) (bytes_eq (codes "image") word) no_script no_sim no_gen no_weave no_image
   where
-    go : (p q r s : Bool) → p ≡ false → q ≡ false → r ≡ false → s ≡ false → option_map (λ (t : Text × List Text). t.0)
-        (cond (p || false) (Some (codes "script", [])) (cond (q || false) (Some (codes "sim", [])) (cond (r || false) (Some (codes "gen", [])) (cond (s || false) (Some (codes "image", [])) None)))) ≡ None
-    go false false false false a b c d = refl
-    go true q r s a b c d = absurd (cc)
-    go false true r s a b c d = absurd (cc)
-    go false false true s a b c d = absurd (cc)
-    go false false false true a b c d = absurd (cc)
+    go : (p q r s t : Bool) → p ≡ false → q ≡ false → r ≡ false → s ≡ false → t ≡ false → option_map (λ (t : Text × List Text). t.0)
+        (cond (p || false) (Some (codes "script", [])) (cond (q || false) (Some (codes "sim", [])) (cond (r || false) (Some (codes "gen", [])) (cond (s || false) (Some (codes "weave", [])) (cond (t || false) (Some (codes "image", [])) None))))) ≡ None
+    go false false false false false a b c d e = refl
+    go true q r s t a b c d e = absurd (cc)
+    go false true r s t a b c d e = absurd (cc)
+    go false false true s t a b c d e = absurd (cc)
+    go false false false true t a b c d e = absurd (cc)
+    go false false false false true a b c d e = absurd (cc)
 
 -- a word that names no job is refused
 pub unknown_fault : (word : Text) (rest : List Text) → is_signed word ≡ false → bytes_eq (codes "script") word ≡ false → bytes_eq (codes "sim") word ≡ false
-    → bytes_eq (codes "gen") word ≡ false → bytes_eq (codes "image") word ≡ false → fails (fault_of lvm_app (word ∷ rest)) ≡ true
+    → bytes_eq (codes "gen") word ≡ false → bytes_eq (codes "weave") word ≡ false → bytes_eq (codes "image") word ≡ false → fails (fault_of lvm_app (word ∷ rest)) ≡ true
 unfolding clap_on_literals
-unknown_fault word rest is no_script no_sim no_gen no_image =
+unknown_fault word rest is no_script no_sim no_gen no_weave no_image =
     let turn : turn_fault top names (walk_from nothing_held) word ≡ kind.UnknownArgument ∷ kind.InvalidSubcommand ∷ [] =
-    ap (λ (name : Option Text). or_else (other_fault top name word nothing_held) (step_fault top 1 (subcommand_or_other top.rules name idle 1 word nothing_held).0 (subcommand_or_other top.rules name idle 1 word nothing_held).1)) (unmet word no_script no_sim no_gen no_image)
+    ap (λ (name : Option Text). or_else (other_fault top name word nothing_held) (step_fault top 1 (subcommand_or_other top.rules name idle 1 word nothing_held).0 (subcommand_or_other top.rules name idle 1 word nothing_held).1)) (unmet word no_script no_sim no_gen no_weave no_image)
     ∙ ap (λ (kinds : Kinds). or_else kinds (step_fault top 1 (subcommand_or_other top.rules None idle 1 word nothing_held).0 (subcommand_or_other top.rules None idle 1 word nothing_held).1)) (other_faultless top word nothing_held is)
     ∙ ap (λ (at : Held × Step). step_fault top 1 at.0 at.1) (other_is_value top.rules 1 word nothing_held is) in
     let later : Kinds = walk_fault top names (walked top.rules names (walk_from nothing_held) word) rest in

@@ -30,6 +30,13 @@ sim_app = with_numbers (codes "sim") (number_rule (codes "DISKS") 1 32) (number_
 abbrev pub gen_app : App
 gen_app = with_numbers (codes "gen") (number_rule (codes "SEED") 0 (2 ^ 64 - 1)) (number_rule (codes "COUNT") 0 100000)
 
+-- a job that has five numbers behind its name
+abbrev pub with_five : List ℕ → Rule → Rule → Rule → Rule → Rule → App
+with_five name first second third fourth fifth = with_rule (with_rule (with_rule (with_numbers name first second) third) fourth) fifth
+
+abbrev pub weave_app : App
+weave_app = with_five (codes "weave") (number_rule (codes "DISKS") 1 8) (number_rule (codes "MIB") 8 64) (number_rule (codes "CLIENTS") 1 64) (number_rule (codes "REQUESTS") 0 50000) (number_rule (codes "SEED") 0 (2 ^ 64 - 1))
+
 abbrev pub image_app : App
 image_app = with_numbers (codes "image") (number_rule (codes "N") 0 127) (number_rule (codes "MIB") 1 4096)
 
@@ -38,5 +45,5 @@ abbrev pub lvm_settings : Shape → Shape
 lvm_settings s = record s { no_binary_name = true; disable_help_flag = true; disable_help_subcommand = true; subcommand_required = true }
 
 abbrev pub lvm_app : App
-lvm_app = with_subcommand (with_subcommand (with_subcommand
-    (with_subcommand (on_top lvm_settings (new_app (codes "lvm"))) script_app.top) sim_app.top) gen_app.top) image_app.top
+lvm_app = with_subcommand (with_subcommand (with_subcommand (with_subcommand
+    (with_subcommand (on_top lvm_settings (new_app (codes "lvm"))) script_app.top) sim_app.top) gen_app.top) weave_app.top) image_app.top

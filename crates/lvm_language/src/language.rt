@@ -3,7 +3,7 @@ ghost use Rattle.std.specs.Prelude.{◌≡◌, IfOk, Err, true, false, [], codes
 ghost use Rattle.clap.specs.Simple.{on_top};
 ghost use Rattle.clap.specs.Words.{App, app_of, rule_of, new_app, with_rule, with_subcommand, fault_of, subcommand_of, subcommand_rows_of};
 ghost use Rattle.clap.specs.declared.builder.Command.TheViews.{out-Command};
-ghost use Rattle.lvm_language.specs.CommandLine.{number_rule, script_app, sim_app, gen_app, image_app, lvm_settings, lvm_app};
+ghost use Rattle.lvm_language.specs.CommandLine.{number_rule, script_app, sim_app, gen_app, image_app, weave_app, lvm_settings, lvm_app};
 
 use crate::fault::WordsFault;
 use clap::builder::ValueParser;
@@ -54,6 +54,18 @@ fn generate<'a>(alloc: Global) -> Result<Command<'a>, AllocError>
     with_number(job, alloc, "COUNT", 0, 100_000)
 }
 
+// `weave DISKS MIB CLIENTS REQUESTS SEED`
+fn weave<'a>(alloc: Global) -> Result<Command<'a>, AllocError>
+    ensures app { IfOk result (λ job. app_of job ≡ weave_app) }
+    ensures local { IfOk result (λ job. (out-Command job).has_globals ≡ false) }
+{
+    let job = with_number(Command::new(alloc, "weave"), alloc, "DISKS", 1, 8)?;
+    let job = with_number(job, alloc, "MIB", 8, 64)?;
+    let job = with_number(job, alloc, "CLIENTS", 1, 64)?;
+    let job = with_number(job, alloc, "REQUESTS", 0, 50_000)?;
+    with_number(job, alloc, "SEED", 0, u64::MAX)
+}
+
 // `image N MIB`
 fn image<'a>(alloc: Global) -> Result<Command<'a>, AllocError>
     ensures app { IfOk result (λ job. app_of job ≡ image_app) }
@@ -99,6 +111,7 @@ fn command_line<'a>(alloc: Global) -> Result<Command<'a>, AllocError>
     let program = with_script(without_jobs(alloc), alloc)?;
     let program = with_job(program, sim(alloc))?;
     let program = with_job(program, generate(alloc))?;
+    let program = with_job(program, weave(alloc))?;
     with_job(program, image(alloc))
 }
 

@@ -4,6 +4,7 @@ use Rattle.lvm_num.specs.Buffer.{Sector}
 use Rattle.lvm_core.specs.Looking.{IsNumberOf, HasNoVolumeNamed}
 use Rattle.lvm_session.specs.Sound.{IsSound}
 use Rattle.lvm_session.specs.State.{Core, State as Session}
+use Rattle.lvm_group_lines.specs.passed.DiskLines.{blocks_text}
 use Rattle.lvm_group_lines.specs.passed.Running.{RunsOn}
 use Rattle.lvm_posts.specs.declared.asked.Asked.{Asked}
 use Rattle.lvm_posts.specs.declared.fault.RangeFault.{RangeFault}
@@ -13,7 +14,6 @@ use Rattle.lvm_group_lines.specs.passed.Stage.{State, IsRefused, Shows, Refusal,
 use Rattle.lvm_group_lines.specs.passed.RefusalVariants as refusal
 use Rattle.lvm_group_lines.specs.passed.ReplyVariants as reply
 use Rattle.lvm_range_lines.specs.Leaving.{EndsBy, GoesOnWith, Waited, session_over}
-use Rattle.lvm_replies.specs.Blocks.{blocks_text}
 use Rattle.lvm_range_lines.specs.Refusals.{ask_refusal, range_refusal}
 
 -- The line is refused where no group is on, or has no volume of this name; else this happens to the session and the volume of that number.

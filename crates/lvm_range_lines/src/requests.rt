@@ -1,25 +1,24 @@
 //! The lines that read or write a range of a volume.
-ghost use Rattle.std.specs.Prelude.{◌≡◌, ◌≤◌, ◌<◌, ◌+◌, ◌++◌, ◌∷◌, ◌^◌, ℕ, [], Some, None, length, vec_capacity, vec_len, IfOk};
+ghost use Rattle.std.specs.Prelude.{◌≡◌, ◌≤◌, ◌<◌, ◌++◌, ◌∷◌, ℕ, [], Some, None, vec_capacity, vec_len, IfOk};
 ghost use Rattle.lvm_session.specs.declared.open.Power.TheVariants as power;
 ghost use Rattle.lvm_group_lines.specs.passed.Driver.{state_of};
 ghost use Rattle.lvm_posts.specs.Pieces.{IsLaidOut};
 ghost use Rattle.lvm_posts.specs.Posts.{AreHeld};
 ghost use Rattle.lvm_group_lines.specs.passed.Ranges.{IsAskedFor, FinishGives, KeepsOthers, HasEndedWell, IsRead};
 ghost use Rattle.lvm_group_lines.specs.passed.Running.{RunsOn};
-ghost use Rattle.lvm_group_lines.specs.passed.Stage.{Shows, IsBetweenStage, IsFitting};
+ghost use Rattle.lvm_group_lines.specs.passed.Stage.{IsBetweenStage, IsFitting};
 ghost use Rattle.lvm_range_lines.specs.Leaving.{EndsInPlace, EndsInSession, KeepsPosts, Waited, serving};
 ghost use Rattle.lvm_range_lines.specs.Requests.{AsksByName, PostDoes, RdDoes, ShowsBlocks, WrDoes};
-ghost use Rattle.lvm_replies.specs.Blocks.{blocks_text};
 ghost use Rattle.lvm_range_lines.specs.Refusals.{ending_of, reply_of};
 
 use crate::refusal::{ask_refusal, range_refusal};
 use lvm_disk::Shelf;
+use lvm_group_lines::below::disk_lines::lines_reply;
 use lvm_group_lines::below::driver::Driver;
 use lvm_group_lines::below::ranges::{ask_range, finish_range, read_blocks};
 use lvm_group_lines::below::stage::{Holder, Refusal, Reply, Stage, number_of};
-use lvm_num::{Memory, Name, Text};
+use lvm_num::{Memory, Name};
 use lvm_posts::{Asked, Post, RangeFault};
-use lvm_replies::show_blocks;
 use lvm_transfer::Patience;
 use std::alloc::Global;
 
@@ -189,17 +188,6 @@ pub fn do_wr<S: Shelf>(stage: &mut Stage<S>, name: Name, at: u64, count: u32, wo
         } => Reply::Refused(Refusal::NoGroup),
         Holder::Empty { driver: _ } => Reply::Refused(Refusal::NoVolume),
         Holder::Serving { driver } => wr_on(driver, &mut stage.bytes, name, at, count, word),
-    }
-}
-
-// The lines of blocks, if there is memory for them.
-fn lines_reply(alloc: Global, at: u64, blocks: &[[u8; 512]]) -> Reply
-    requires { at + length blocks.now < 2 ^ 64 }
-    ensures { Shows (blocks_text at blocks.now) result }
-{
-    match show_blocks(alloc, at, blocks) {
-        Ok(text) => Reply::Lines(text),
-        Err(Memory) => Reply::Refused(Refusal::Memory),
     }
 }
 

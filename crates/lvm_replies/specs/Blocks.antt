@@ -2,7 +2,6 @@
 use Rattle.std.specs.Prelude.{ℕ, ◌+◌, ◌/◌, ◌%◌, nat_lt, Bool, if◌then◌else◌, List, [], ◌∷◌, ◌++◌, take, replicate, bytes_eq}
 use Rattle.std.specs.List.{flat_map, concat}
 use Rattle.std.specs.Fmt.{decimal}
-use Rattle.lvm_num.specs.Buffer.{Sector}
 
 -- the lower-case hexadecimal digit of a number below 16
 abbrev pub hex_digit : ℕ → ℕ
@@ -23,8 +22,3 @@ content_text block = hex_text (if is_filled block then take 8 block else block)
 -- the block's number, and what it has
 abbrev pub block_text : ℕ → List ℕ → List ℕ
 block_text at block = decimal at ++ 32 ∷ content_text block ++ 10 ∷ []
-
--- a line for each block, the first of this number
-abbrev pub blocks_text : ℕ → List Sector → List ℕ
-blocks_text at [] = []
-blocks_text at (block ∷ blocks) = block_text at block ++ blocks_text (at + 1) blocks

@@ -1,7 +1,7 @@
 //! The line of a block.
-ghost use Rattle.std.specs.Prelude.{◌≡◌, ◌+◌, ◌++◌, ◌<◌, ◌^◌, OnOk, IfOk, if◌then◌else◌, length, take};
+ghost use Rattle.std.specs.Prelude.{◌≡◌, ◌++◌, ◌<◌, OnOk, IfOk, if◌then◌else◌, take};
 ghost use Rattle.std.specs.String.{string_bytes};
-ghost use Rattle.lvm_replies.specs.Blocks.{hex_digit, hex_text, is_filled, block_text, blocks_text};
+ghost use Rattle.lvm_replies.specs.Blocks.{hex_digit, hex_text, is_filled, block_text};
 
 use lvm_num::{Memory, Text, word_of};
 use std::alloc::{AllocError, Global};
@@ -15,20 +15,6 @@ pub fn show_block(alloc: Global, at: u64, block: &[u8; 512]) -> Result<Text, Mem
     ensures { IfOk result (λ text. text ≡ block_text at block.now) }
 {
     Ok(Text::new(block_line(alloc, at, block)?))
-}
-
-/// The lines of blocks, the first of this number.
-pub fn show_blocks(alloc: Global, at: u64, blocks: &[[u8; 512]]) -> Result<Text, Memory>
-    requires { at + length blocks.now < 2 ^ 64 }
-    ensures { IfOk result (λ text. text ≡ blocks_text at blocks.now) }
-{
-    let mut text = String::new(alloc);
-    let mut number = at;
-    for block in blocks {
-        text.push_str(show_block(alloc, number, block)?.as_str())?;
-        number += 1;
-    }
-    Ok(Text::new(text))
 }
 
 fn block_line(alloc: Global, at: u64, block: &[u8; 512]) -> Result<String, AllocError>

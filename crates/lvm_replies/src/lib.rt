@@ -6,7 +6,7 @@ mod refusal;
 mod stepped;
 mod synced;
 
-pub use block::{show_block, show_blocks};
+pub use block::show_block;
 pub use refusal::{Carried, Refusal, push_refusal, show_refusal};
 pub use stepped::show_stepped;
 pub use synced::show_synced;

@@ -14,7 +14,7 @@ use crate::words::{Answered, answer};
 use lvm_io::{MemClock, Sink};
 use lvm_memory::MemShelf;
 use lvm_num::{Rows, Text};
-use lvm_top::Ended;
+use lvm_program::Ended;
 use std::alloc::Global;
 
 /// How many entries the history of a run has room for where nothing else is said.

@@ -5,7 +5,7 @@ use crate::run::judged;
 use crate::words::Answered;
 use lvm_io::{Sink, write_all};
 use lvm_memory::MemShelf;
-use lvm_top::Ended;
+use lvm_program::Ended;
 use std::alloc::Global;
 use std::collections::BTreeSet;
 

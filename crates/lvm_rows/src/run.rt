@@ -10,7 +10,7 @@ use lvm_faults::{Planned, names_disks};
 use lvm_io::MemClock;
 use lvm_memory::MemShelf;
 use lvm_num::Rows;
-use lvm_top::{Ended, Room, run_script};
+use lvm_program::{Ended, Room, run_script};
 use lvm_vol::Vol;
 use std::alloc::Global;
 

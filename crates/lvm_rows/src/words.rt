@@ -9,7 +9,7 @@ use crate::run::blank;
 use lvm_io::{MemClock, MemSink, MemSource};
 use lvm_memory::MemShelf;
 use lvm_num::Text;
-use lvm_top::run_words;
+use lvm_program::run_words;
 use std::alloc::Global;
 
 /// How a run by words ended, and what it wrote.

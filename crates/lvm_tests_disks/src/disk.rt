@@ -27,7 +27,7 @@ enum Step {
     Calls,
 }
 
-#[derive(Clone, Copy, Debug, PartialEq, Eq)]
+#[derive(Clone, Copy, PartialEq, Eq)]
 enum Answer {
     Ticket(u64),
     Empty,
@@ -275,13 +275,20 @@ fn ask(rt: &(impl Abort + AllocGlobal), shelf: &mut MemShelf, step: Step) -> Ans
     }
 }
 
+fn see_steps(
+    rt: &(impl Abort + AllocGlobal),
+    shelf: &mut MemShelf,
+    name: &str,
+    steps: &[(Step, Answer)],
+) {
+    for (step, wanted) in steps {
+        check(rt, ask(rt, shelf, *step) == *wanted, name);
+    }
+}
+
 #[test]
 fn a_shelf_in_memory_answers_by_its_plan(rt: HostRuntime) {
     for (name, plan, steps) in &SCRIPTS {
-        let mut shelf = blank_shelf(&rt, &[16, 16], plan);
-        for (step, wanted) in *steps {
-            let answer = ask(&rt, &mut shelf, *step);
-            check(&rt, answer == *wanted, name);
-        }
+        see_steps(&rt, &mut blank_shelf(&rt, &[16, 16], plan), name, steps);
     }
 }

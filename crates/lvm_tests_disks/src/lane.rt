@@ -27,7 +27,7 @@ enum Transfer {
     Read(u16, u64, u32, u64),
 }
 
-#[derive(Clone, Copy, Debug, PartialEq, Eq)]
+#[derive(Clone, Copy, PartialEq, Eq)]
 enum End {
     Well,
     // It ended well, with other bytes in its buffer.

@@ -26,6 +26,16 @@ fn is_line(next: &NextLine, want: &[u8]) -> bool {
 // Expects these lines, and then the end.
 fn expect_lines<R: Abort + AllocGlobal, I: Source>(rt: &R, input: &mut I, want: &[&[u8]]) {
     let mut lines = Lines::new(rt.alloc()).expect(rt, "memory");
+    see_lines(rt, &mut lines, input, want);
+}
+
+// The same, of lines of which some were read before.
+fn see_lines<R: Abort + AllocGlobal, I: Source>(
+    rt: &R,
+    lines: &mut Lines,
+    input: &mut I,
+    want: &[&[u8]],
+) {
     for line in want {
         let next = lines.next_line(rt.alloc(), input);
         check(rt, is_line(&next, line), "a line");
@@ -34,14 +44,15 @@ fn expect_lines<R: Abort + AllocGlobal, I: Source>(rt: &R, input: &mut I, want: 
     check(rt, matches!(end, NextLine::End), "the end");
 }
 
+static TEXTS: [(&[u8], &[&[u8]]); 3] = [
+    (b"", &[]),
+    (b"wr\n\nrd 1\n", &[b"wr", b"", b"rd 1"]),
+    (b"\nrd", &[b"", b"rd"]),
+];
+
 #[test]
 fn lines_end_with_a_line_feed_that_the_last_may_lack(rt: HostRuntime) {
-    let texts: [(&[u8], &[&[u8]]); 3] = [
-        (b"", &[]),
-        (b"wr\n\nrd 1\n", &[b"wr", b"", b"rd 1"]),
-        (b"\nrd", &[b"", b"rd"]),
-    ];
-    for (text, want) in texts {
+    for (text, want) in &TEXTS {
         let mut input = MemSource::new(rows(&rt, text), calls(&rt, &[]));
         expect_lines(&rt, &mut input, want);
     }
@@ -71,6 +82,8 @@ impl Read for Dripping<'_> {
     }
 }
 
+static AFTER_THE_FAULT: [&[u8]; 2] = [b"wait", b"step"];
+
 #[test]
 fn a_fault_in_the_middle_of_a_line_loses_nothing(rt: HostRuntime) {
     let mut input = StdSource::new(Dripping {
@@ -80,12 +93,7 @@ fn a_fault_in_the_middle_of_a_line_loses_nothing(rt: HostRuntime) {
     let mut lines = Lines::new(rt.alloc()).expect(&rt, "memory");
     let first = lines.next_line(rt.alloc(), &mut input);
     check(&rt, matches!(first, NextLine::Failed), "the fault");
-    for want in [b"wait", b"step"] {
-        let next = lines.next_line(rt.alloc(), &mut input);
-        check(&rt, is_line(&next, want), "a line");
-    }
-    let end = lines.next_line(rt.alloc(), &mut input);
-    check(&rt, matches!(end, NextLine::End), "the end");
+    see_lines(&rt, &mut lines, &mut input, &AFTER_THE_FAULT);
 }
 
 // Reads a source of so many bytes without a line feed, and the answer after it.
@@ -196,12 +204,15 @@ fn a_writer_that_takes_nothing_has_failed(rt: HostRuntime) {
     check(&rt, puts == [Put::Took(1), Put::Failed], "answers");
 }
 
+// where a clock starts, and the first two moments that it tells
+static MOMENTS: [(u64, u64, u64); 2] = [(49, 49, 50), (u64::MAX, u64::MAX, u64::MAX)];
+
 #[test]
 fn a_clock_in_memory_counts_up_to_the_last_moment(rt: HostRuntime) {
-    for (start, first, second) in [(49, 49, 50), (u64::MAX, u64::MAX, u64::MAX)] {
-        let mut clock = MemClock::new(start);
+    for (start, first, second) in &MOMENTS {
+        let mut clock = MemClock::new(*start);
         let moments = [clock.now(), clock.now()];
-        check(&rt, moments == [first, second], "moments");
+        check(&rt, moments == [*first, *second], "moments");
     }
 }
 
@@ -222,12 +233,15 @@ impl time::Clock for Standing {
     }
 }
 
+// where a clock stands, and the first two moments that it tells
+static STANDING: [(Option<u64>, u64, u64); 2] = [(Some(70), 70, 71), (None, 1, 2)];
+
 #[test]
 fn the_clock_of_the_system_tells_microseconds_and_rises(rt: HostRuntime) {
-    for (time, first, second) in [(Some(70), 70, 71), (None, 1, 2)] {
-        let mut clock = SystemClock::new(Standing(time));
+    for (time, first, second) in &STANDING {
+        let mut clock = SystemClock::new(Standing(*time));
         let moments = [clock.now(), clock.now()];
-        check(&rt, moments == [first, second], "moments");
+        check(&rt, moments == [*first, *second], "moments");
     }
 
     // 2020 was over when this was written, and 2100 hasn't come.

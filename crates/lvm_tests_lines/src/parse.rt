@@ -14,13 +14,6 @@ fn refused(rt: &(impl Abort + AllocGlobal), line: &[u8], column: u32) {
     );
 }
 
-// None of these lines is.
-fn all_refused(rt: &(impl Abort + AllocGlobal), lines: &[(&[u8], u32)]) {
-    for (line, column) in lines {
-        refused(rt, line, *column);
-    }
-}
-
 // The line spells this command.
 fn spells(rt: &(impl Abort + AllocGlobal), line: &[u8], command: Command) {
     let read = parse(rt.alloc(), line);
@@ -48,19 +41,20 @@ fn repeated(rt: &(impl Abort + AllocGlobal), byte: u8, times: usize, end: &[u8])
     line
 }
 
+static UNPRINTED: [(&[u8], u32); 6] = [
+    (b"rd\thdisk0 0 1", 3),
+    (b"# remark \x07", 10),
+    (b"foo \x80", 5),
+    (b"\x7f", 1),
+    (b"mkvg -y 9 hdisk0\r", 17),
+    (b"rd hdisk0 0 1\n", 14),
+];
+
 #[test]
 fn a_byte_that_does_not_print_comes_first(rt: HostRuntime) {
-    all_refused(
-        &rt,
-        &[
-            (b"rd\thdisk0 0 1", 3),
-            (b"# remark \x07", 10),
-            (b"foo \x80", 5),
-            (b"\x7f", 1),
-            (b"mkvg -y 9 hdisk0\r", 17),
-            (b"rd hdisk0 0 1\n", 14),
-        ],
-    );
+    for (line, column) in &UNPRINTED {
+        refused(&rt, line, *column);
+    }
 }
 
 #[test]
@@ -148,27 +142,6 @@ fn requests_are_spelled(rt: HostRuntime) {
     );
     spells(&rt, b"wait ", Command::Wait);
     spells(&rt, b"step 0001000000", Command::Step { turns: 1_000_000 });
-}
-
-static REQUESTS: [(&[u8], u32); 13] = [
-    (b"rd lv00 5", 10),
-    (b"rd hdisk128 5 1", 4),
-    (b"rd hdisk 5 1", 4),
-    (b"wr lv00 0 4097 0000000000000001", 11),
-    (b"wr lv00 0 1 1", 13),
-    (b"post hdisk0 0 1 0000000000000001", 6),
-    (b"post lv00 18446744073709551616 1 0000000000000001", 11),
-    (b"post lv00 0 1", 14),
-    (b"wait now", 6),
-    (b"waits", 1),
-    (b"step 0", 6),
-    (b"step 1000001", 6),
-    (b"step 1 2", 8),
-];
-
-#[test]
-fn requests_that_do_not_fit(rt: HostRuntime) {
-    all_refused(&rt, &REQUESTS);
 }
 
 #[test]
@@ -265,16 +238,6 @@ fn copies_are_spelled(rt: HostRuntime) {
         b"rmlvcopy lv00 00",
         Command::Rmlvcopy { name, copies: 0 },
     );
-    all_refused(
-        &rt,
-        &[
-            (b"mklvcopy lv00 10", 15),
-            (b"mklvcopy hdisk0 2", 10),
-            (b"mklvcopy lv00 2 3", 17),
-            (b"rmlvcopy lv00 ", 15),
-            (b"rmlvcopy -f lv00 1", 10),
-        ],
-    );
 }
 
 #[test]
@@ -282,18 +245,6 @@ fn resyncs_are_spelled(rt: HostRuntime) {
     let name = name(&rt, b"lv00");
     spells(&rt, b"syncvg -l lv00", Command::SyncVolume { name });
     spells(&rt, b" syncvg  -v  lv00 ", Command::SyncGroup { name });
-    all_refused(
-        &rt,
-        &[
-            (b"syncvg", 7),
-            (b"syncvg lv00", 8),
-            (b"syncvg -l", 10),
-            (b"syncvg -l hdisk0", 11),
-            (b"syncvg -v -l lv00", 11),
-            (b"syncvg -l lv00 -v lv00", 16),
-            (b"syncvg -l lv00 lv00", 16),
-        ],
-    );
 }
 
 // The volume lv00 in datavg, in mode off.
@@ -350,11 +301,4 @@ fn a_volume_is_active_unless_it_is_said(rt: HostRuntime) {
     spells(&rt, b"mklv -y lv00 -c 2 -w y datavg 7", active);
     let active = volume_in(&rt, Mode::Active, 2, Policy::Parallel, 7);
     spells(&rt, b"mklv -w a -c 2 -y lv00 datavg 7", active);
-    all_refused(
-        &rt,
-        &[
-            (b"mklv -y lv00 -w p datavg 1", 17),
-            (b"mklv -y lv00 -w yy datavg 1", 17),
-        ],
-    );
 }

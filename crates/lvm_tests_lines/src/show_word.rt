@@ -117,13 +117,15 @@ fn block(rt: &(impl Abort + AllocGlobal), at: u64, block: &[u8; 512]) -> Text {
     show_block(rt.alloc(), at, block).expect(rt, "memory")
 }
 
+static FILLED: [(u64, u64, &str); 2] = [
+    (510, 0x19f, "510 000000000000019f\n"),
+    (0, 0xABCD_EF01_2345_6789, "0 abcdef0123456789\n"),
+];
+
 #[test]
 fn a_filled_block_is_shown_by_its_word(rt: HostRuntime) {
-    for (at, word, text) in [
-        (510, 0x19f, "510 000000000000019f\n"),
-        (0, 0xABCD_EF01_2345_6789, "0 abcdef0123456789\n"),
-    ] {
-        check(&rt, block(&rt, at, &fill(word)).as_str() == text, text);
+    for (at, word, text) in &FILLED {
+        check(&rt, block(&rt, *at, &fill(*word)).as_str() == *text, text);
     }
 }
 

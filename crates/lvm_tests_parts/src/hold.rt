@@ -1,7 +1,7 @@
 ghost use Rattle.lvm_hold.specs.Conflicts.{IsInGroup};
 
 use lvm_hold::{Held, Queue};
-use lvm_tests_values::check;
+use lvm_tests_values::{check, check_at};
 use std::process::Abort;
 
 fn read(at: u64, count: u32) -> Held {
@@ -55,40 +55,59 @@ fn waits(rt: &(impl Abort + AllocGlobal), first: Held, second: Held) -> [Option<
     [wait_of(&queue, 7), wait_of(&queue, 9)]
 }
 
-fn check_waits(rt: &(impl Abort + AllocGlobal), first: Held, second: Held, meet: bool) {
-    assert_eq!(rt;
-        waits(rt, first, second),
-        [Some(None), Some(meet.then_some(7))],
-        "{second:?} after {first:?}"
-    );
+// Whether the second of two waits for the first, or neither for the other.
+fn is_met(rt: &(impl Abort + AllocGlobal), first: Held, second: Held, meet: bool) -> bool {
+    waits(rt, first, second) == [Some(None), Some(meet.then_some(7))]
 }
+
+// What enters: a read or a write of so many blocks from one on, such a write of another volume, or the step of a copy.
+#[derive(Clone, Copy)]
+enum Ask {
+    Read(u64, u32),
+    Write(u64, u32),
+    WriteElsewhere(u64, u32),
+    Copy(u64),
+}
+
+fn held(ask: Ask) -> Held {
+    match ask {
+        Ask::Read(at, count) => read(at, count),
+        Ask::Write(at, count) => write(at, count),
+        Ask::WriteElsewhere(at, count) => Held {
+            lv: 2,
+            ..write(at, count)
+        },
+        Ask::Copy(at) => copy(at),
+    }
+}
+
+const LAST: u64 = u64::MAX - 255;
+
+// the first, the second, and whether it waits for the first
+static PAIRS: [(Ask, Ask, bool); 16] = [
+    (Ask::Write(10, 5), Ask::Write(15, 1), false),
+    (Ask::Write(10, 5), Ask::Write(14, 1), true),
+    (Ask::Write(10, 5), Ask::Read(9, 1), false),
+    (Ask::Write(10, 5), Ask::Read(9, 2), true),
+    (Ask::Read(10, 5), Ask::Write(0, 256), true),
+    (Ask::Read(10, 5), Ask::Read(10, 5), false),
+    (Ask::Write(10, 5), Ask::WriteElsewhere(10, 5), false),
+    (Ask::Write(LAST, 255), Ask::Read(LAST + 254, 1), true),
+    (Ask::Copy(256), Ask::Write(255, 1), false),
+    (Ask::Copy(256), Ask::Write(256, 1), true),
+    (Ask::Copy(256), Ask::Write(511, 1), true),
+    (Ask::Copy(256), Ask::Write(512, 1), false),
+    (Ask::Write(511, 1), Ask::Copy(256), true),
+    (Ask::Copy(256), Ask::Read(300, 9), false),
+    (Ask::Read(300, 9), Ask::Copy(256), false),
+    (Ask::Copy(256), Ask::Copy(256), false),
+];
 
 #[test]
 fn requests_meet_at_the_edges_of_a_range_and_of_a_track_group(rt: HostRuntime) {
-    let last = u64::MAX - 255;
-    let other = Held {
-        lv: 2,
-        ..write(10, 5)
-    };
-    for (first, second, meet) in [
-        (write(10, 5), write(15, 1), false),
-        (write(10, 5), write(14, 1), true),
-        (write(10, 5), read(9, 1), false),
-        (write(10, 5), read(9, 2), true),
-        (read(10, 5), write(0, 256), true),
-        (read(10, 5), read(10, 5), false),
-        (write(10, 5), other, false),
-        (write(last, 255), read(last + 254, 1), true),
-        (copy(256), write(255, 1), false),
-        (copy(256), write(256, 1), true),
-        (copy(256), write(511, 1), true),
-        (copy(256), write(512, 1), false),
-        (write(511, 1), copy(256), true),
-        (copy(256), read(300, 9), false),
-        (read(300, 9), copy(256), false),
-        (copy(256), copy(256), false),
-    ] {
-        check_waits(&rt, first, second, meet);
+    for (k, (first, second, meet)) in PAIRS.iter().enumerate() {
+        let met = is_met(&rt, held(*first), held(*second), *meet);
+        check_at(&rt, met, "pair", k);
     }
 }
 

@@ -1,7 +1,7 @@
 use crate::mwc::Do::{At, Ends, Named, NamedOnlyHere, Pins, Puts, Starts, Unpin};
 use lvm_mwc::{Cache, Pin};
 use lvm_num::{DiskSet, NoteEntry};
-use lvm_tests_values::check;
+use lvm_tests_values::{check, check_at};
 use std::process::Abort;
 
 // What a test does about a track group of volume 1, and what it is answered.
@@ -24,9 +24,9 @@ enum Do {
     NamedOnlyHere(u16, u32),
 }
 
-fn pin(rt: &impl Abort, cache: &mut Cache, group: u32, want: Pin) {
+fn pin(rt: &impl Abort, cache: &mut Cache, group: u32) -> Pin {
     assert!(rt; cache.pins(1, group) < u32::MAX);
-    check(rt, cache.pin(1, group) == want, "pin");
+    cache.pin(1, group)
 }
 
 fn unpin(rt: &impl Abort, cache: &mut Cache, group: u32) {
@@ -34,13 +34,14 @@ fn unpin(rt: &impl Abort, cache: &mut Cache, group: u32) {
     cache.unpin(1, group);
 }
 
-fn start(rt: &impl Abort, cache: &mut Cache, disk: u16, first: u32, last: u32) {
+// Whether the note that is started has 62 entries, of which these are the first and the last.
+fn starts(rt: &impl Abort, cache: &mut Cache, disk: u16, first: u32, last: u32) -> bool {
     assert!(rt; cache.has_disk(disk));
     assert!(rt; !cache.has_note_in_flight(disk));
     let note = cache.start_note(disk);
     let ends = [note.first().copied(), note.last().copied()];
     let want = [first, last].map(|group| Some(NoteEntry { lv: 1, group }));
-    check(rt, note.len() == 62 && ends == want, "note");
+    note.len() == 62 && ends == want
 }
 
 fn end(rt: &impl Abort, cache: &mut Cache, disk: u16, ok: bool) {
@@ -56,45 +57,55 @@ fn is_named_only_here(cache: &Cache, disk: u16, group: u32) -> bool {
         && !cache.is_named(disk, 2, group)
 }
 
-fn look(rt: &impl Abort, cache: &Cache, what: &Do) {
+fn is_so(cache: &Cache, what: &Do) -> bool {
     match what {
-        At(group, place) => check(rt, cache.find(1, *group) == *place, "place"),
-        Pins(group, count) => check(rt, cache.pins(1, *group) == *count, "pins"),
-        Named(disk, group, want) => {
-            check(rt, cache.is_named(*disk, 1, *group) == *want, "named")
+        At(group, place) => cache.find(1, *group) == *place,
+        Pins(group, count) => cache.pins(1, *group) == *count,
+        Named(disk, group, want) => cache.is_named(*disk, 1, *group) == *want,
+        NamedOnlyHere(disk, group) => is_named_only_here(cache, *disk, *group),
+        _ => true,
+    }
+}
+
+// Whether it is answered as it is to be.
+fn step(rt: &impl Abort, cache: &mut Cache, what: &Do) -> bool {
+    match what {
+        Puts(group, want) => pin(rt, cache, *group) == *want,
+        Unpin(group) => {
+            unpin(rt, cache, *group);
+            true
         }
-        NamedOnlyHere(disk, group) => check(rt, is_named_only_here(cache, *disk, *group), "here"),
-        _ => {}
+        Starts(disk, first, last) => starts(rt, cache, *disk, *first, *last),
+        Ends(disk, ok) => {
+            end(rt, cache, *disk, *ok);
+            true
+        }
+        _ => is_so(cache, what),
     }
 }
 
-fn step(rt: &impl Abort, cache: &mut Cache, what: &Do) {
-    match what {
-        Puts(group, want) => pin(rt, cache, *group, *want),
-        Unpin(group) => unpin(rt, cache, *group),
-        Starts(disk, first, last) => start(rt, cache, *disk, *first, *last),
-        Ends(disk, ok) => end(rt, cache, *disk, *ok),
-        _ => look(rt, cache, what),
-    }
-}
-
-// Does this to a cache for two disks that has the first 62 track groups of volume 1.
-fn run(rt: &(impl Abort + AllocGlobal), all: &[Do]) {
+// A cache for two disks that has the first 62 track groups of volume 1.
+fn full(rt: &(impl Abort + AllocGlobal)) -> Cache {
     let disks = DiskSet::empty().with(0).with(127);
     let mut cache = Cache::new(rt.alloc(), disks).expect(rt, "memory");
     for group in 0..62 {
-        pin(rt, &mut cache, group, Pin::Pinned);
+        check(rt, pin(rt, &mut cache, group) == Pin::Pinned, "pinned");
     }
-    for what in all {
-        step(rt, &mut cache, what);
+    cache
+}
+
+// Does this to such a cache, and ends the test at the first step of this name that is answered otherwise.
+fn run(rt: &(impl Abort + AllocGlobal), name: &str, all: &[Do]) {
+    let mut cache = full(rt);
+    for (k, what) in all.iter().enumerate() {
+        check_at(rt, step(rt, &mut cache, what), name, k);
     }
     check(rt, cache.find(2, 0).is_none(), "no other volume");
 }
 
-#[test]
-fn the_last_of_63_track_groups_waits_until_another_has_no_pins(rt: HostRuntime) {
-    run(
-        &rt,
+static SCRIPTS: [(&str, &[Do]); 4] = [
+    (
+        "the last of 63 track groups waits until another has no pins",
         &[
             Puts(62, Pin::AllPinned),
             At(62, None),
@@ -114,13 +125,9 @@ fn the_last_of_63_track_groups_waits_until_another_has_no_pins(rt: HostRuntime) 
             At(62, Some(61)),
             Pins(62, 1),
         ],
-    );
-}
-
-#[test]
-fn entries_without_pins_are_put_out_in_the_order_of_their_last_pin(rt: HostRuntime) {
-    run(
-        &rt,
+    ),
+    (
+        "entries without pins are put out in the order of their last pin",
         &[
             Unpin(9),
             Unpin(3),
@@ -141,13 +148,9 @@ fn entries_without_pins_are_put_out_in_the_order_of_their_last_pin(rt: HostRunti
             At(102, Some(61)),
             Puts(103, Pin::AllPinned),
         ],
-    );
-}
-
-#[test]
-fn a_group_is_named_where_the_last_note_and_the_one_in_flight_have_it(rt: HostRuntime) {
-    run(
-        &rt,
+    ),
+    (
+        "a group is named where the last note and the one in flight have it",
         &[
             Starts(0, 0, 61),
             Named(0, 0, false),
@@ -175,13 +178,9 @@ fn a_group_is_named_where_the_last_note_and_the_one_in_flight_have_it(rt: HostRu
             Ends(0, true),
             Named(0, 0, true),
         ],
-    );
-}
-
-#[test]
-fn after_failed_notes_a_group_is_named_where_each_that_may_stand_has_it(rt: HostRuntime) {
-    run(
-        &rt,
+    ),
+    (
+        "after failed notes a group is named where each that may stand has it",
         &[
             Starts(127, 0, 61),
             Ends(127, true),
@@ -209,5 +208,12 @@ fn after_failed_notes_a_group_is_named_where_each_that_may_stand_has_it(rt: Host
             Named(127, 2, true),
             Named(127, 62, true),
         ],
-    );
+    ),
+];
+
+#[test]
+fn track_groups_are_pinned_and_named_as_it_is_said(rt: HostRuntime) {
+    for (name, all) in &SCRIPTS {
+        run(&rt, name, all);
+    }
 }

@@ -1,19 +1,22 @@
+use lvm_num::Policy;
 use lvm_num::Policy::{Parallel, ParallelWrite, RoundRobin, Sequential};
 use lvm_sched::TargetState::{Done, Failed, Flying, Waiting};
 use lvm_sched::{read_order, write_next};
 use lvm_tests_values::check;
 
+static THREE: [(Policy, u8, [u32; 3], [u8; 3]); 6] = [
+    (Parallel, 0, [4, 2, 2], [2, 1, 3]),
+    (Parallel, 0, [1, 1, 0], [3, 1, 2]),
+    (ParallelWrite, 1, [9, 0, 0], [1, 2, 3]),
+    (RoundRobin, 0, [9, 0, 0], [1, 2, 3]),
+    (RoundRobin, 1, [0; 3], [2, 1, 3]),
+    (RoundRobin, 3, [0; 3], [1, 2, 3]),
+];
+
 #[test]
 fn three_copies_are_read_in_the_order_of_the_policy(rt: HostRuntime) {
-    for (policy, last, loads, want) in [
-        (Parallel, 0, [4, 2, 2], [2, 1, 3]),
-        (Parallel, 0, [1, 1, 0], [3, 1, 2]),
-        (ParallelWrite, 1, [9, 0, 0], [1, 2, 3]),
-        (RoundRobin, 0, [9, 0, 0], [1, 2, 3]),
-        (RoundRobin, 1, [0; 3], [2, 1, 3]),
-        (RoundRobin, 3, [0; 3], [1, 2, 3]),
-    ] {
-        let order = read_order(policy, &[1, 2, 3], last, loads);
+    for (policy, last, loads, want) in &THREE {
+        let order = read_order(*policy, &[1, 2, 3], *last, *loads);
         check(
             &rt,
             order.as_slice() == want.as_slice(),

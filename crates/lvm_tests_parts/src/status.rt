@@ -6,7 +6,7 @@ use lvm_num::{Descriptor, Pp, Stamp};
 use lvm_stale::StaleTable;
 use lvm_status::Progress::{Committed, QuorumLost, Waiting};
 use lvm_status::{Change, Progress, Updater};
-use lvm_tests_values::{Member, check, group, status};
+use lvm_tests_values::{Member, check, check_at, group, status};
 use std::process::Abort;
 
 // A table with rows for these disks and nothing stale.
@@ -82,26 +82,17 @@ fn want(rt: &impl Abort, updater: &mut Updater, change: Change) {
     updater.want(change);
 }
 
-fn start(rt: &impl Abort, updater: &mut Updater, starts: bool) {
+fn start(rt: &impl Abort, updater: &mut Updater) -> bool {
     let seq = updater.stamp().seq;
     assert!(rt; seq < u32::MAX);
-    check(rt, updater.start() == starts, "starts");
+    updater.start()
 }
 
-fn next_write(rt: &impl Abort, updater: &mut Updater, disk: Option<u16>) {
-    check(rt, updater.next_write() == disk, "the next write");
-}
-
-fn ended(rt: &impl Abort, updater: &mut Updater, disk: u16, ok: bool, progress: Progress) {
+fn ended(rt: &impl Abort, updater: &mut Updater, disk: u16, ok: bool) -> Progress {
     assert!(rt; disk < 128);
     let out = updater.writes().started.has(disk);
     assert!(rt; out);
-    check(rt, updater.ended(disk, ok) == progress, "progress");
-}
-
-fn is_stale(rt: &impl Abort, updater: &Updater, committed: bool, settled: bool) {
-    check(rt, updater.committed().is_stale(SOME) == committed, "stale");
-    check(rt, updater.is_settled_stale(SOME) == settled, "settled");
+    updater.ended(disk, ok)
 }
 
 fn set_stamp(rt: &impl Abort, updater: &mut Updater, stamp: Stamp) {
@@ -110,231 +101,68 @@ fn set_stamp(rt: &impl Abort, updater: &mut Updater, stamp: Stamp) {
     updater.set_stamp(stamp);
 }
 
-fn step(rt: &impl Abort, updater: &mut Updater, what: &Do) {
+fn is_stale(updater: &Updater, committed: bool, settled: bool) -> bool {
+    updater.committed().is_stale(SOME) == committed && updater.is_settled_stale(SOME) == settled
+}
+
+// What changes, where that is what a test does.
+fn change_of(what: &Do) -> Option<Change> {
     match what {
-        Do::Mark => want(rt, updater, Change::Stale(SOME)),
-        Do::Clear => want(rt, updater, Change::Fresh(SOME)),
-        Do::Miss(disk) => want(rt, updater, Change::Missing(*disk)),
-        Do::Dirty => want(rt, updater, Change::Dirty(511)),
-        Do::Clean => want(rt, updater, Change::Clean(511)),
-        Do::Starts(starts) => start(rt, updater, *starts),
-        Do::Writes(disk) => next_write(rt, updater, Some(*disk)),
-        Do::WritesNone => next_write(rt, updater, None),
-        Do::Ends(disk, ok, progress) => ended(rt, updater, *disk, *ok, *progress),
-        Do::SetStamp(epoch, seq) => set_stamp(
-            rt,
-            updater,
-            Stamp {
-                epoch: *epoch,
-                seq: *seq,
-            },
-        ),
-        _ => look(rt, updater, what),
+        Do::Mark => Some(Change::Stale(SOME)),
+        Do::Clear => Some(Change::Fresh(SOME)),
+        Do::Miss(disk) => Some(Change::Missing(*disk)),
+        Do::Dirty => Some(Change::Dirty(511)),
+        Do::Clean => Some(Change::Clean(511)),
+        _ => None,
     }
 }
 
-fn look(rt: &impl Abort, updater: &Updater, what: &Do) {
+// Whether it is answered as it is to be.
+fn step(rt: &impl Abort, updater: &mut Updater, what: &Do) -> bool {
+    if let Some(change) = change_of(what) {
+        want(rt, updater, change);
+    }
     match what {
-        Do::Stale(committed, settled) => is_stale(rt, updater, *committed, *settled),
-        Do::IsDirty(dirty) => check(rt, updater.committed().is_dirty(511) == *dirty, "dirty"),
-        Do::Missing(disk) => check(rt, updater.wanted().is_missing(*disk), "missing"),
-        Do::Flies(flies) => check(rt, updater.in_flight().is_some() == *flies, "in flight"),
-        Do::Votes(have, total) => check(rt, updater.votes() == (*have, *total), "votes"),
-        Do::HasStamp(epoch, seq) => has_stamp(rt, updater, *epoch, *seq),
-        _ => {}
+        Do::Starts(starts) => start(rt, updater) == *starts,
+        Do::Writes(disk) => updater.next_write() == Some(*disk),
+        Do::WritesNone => updater.next_write().is_none(),
+        Do::Ends(disk, ok, progress) => ended(rt, updater, *disk, *ok) == *progress,
+        Do::SetStamp(epoch, seq) => {
+            set_stamp(
+                rt,
+                updater,
+                Stamp {
+                    epoch: *epoch,
+                    seq: *seq,
+                },
+            );
+            true
+        }
+        _ => is_so(updater, what),
     }
 }
 
-fn has_stamp(rt: &impl Abort, updater: &Updater, epoch: u64, seq: u32) {
-    check(rt, updater.stamp() == Stamp { epoch, seq }, "stamp");
-}
-
-fn run(rt: &impl Abort, mut updater: Updater, all: &[Do]) {
-    for what in all {
-        step(rt, &mut updater, what);
+fn is_so(updater: &Updater, what: &Do) -> bool {
+    match what {
+        Do::Stale(committed, settled) => is_stale(updater, *committed, *settled),
+        Do::IsDirty(dirty) => updater.committed().is_dirty(511) == *dirty,
+        Do::Missing(disk) => updater.wanted().is_missing(*disk),
+        Do::Flies(flies) => updater.in_flight().is_some() == *flies,
+        Do::Votes(have, total) => updater.votes() == (*have, *total),
+        Do::HasStamp(epoch, seq) => has_stamp(updater, *epoch, *seq),
+        _ => true,
     }
 }
 
-#[test]
-fn an_update_goes_to_each_member_and_is_committed_by_more_than_half(rt: HostRuntime) {
-    let all = [
-        Starts(false),
-        Mark,
-        Starts(true),
-        Writes(2),
-        Writes(5),
-        Writes(9),
-        WritesNone,
-        Ends(5, true, Waiting),
-        Stale(false, false),
-        Ends(2, true, Committed),
-        Stale(true, true),
-        Clear,
-        Starts(false),
-        Flies(true),
-        Ends(9, true, Waiting),
-        Flies(false),
-        Stale(true, true),
-        Votes(3, 3),
-        Starts(true),
-    ];
-    run(&rt, three(&rt, true), &all);
+fn has_stamp(updater: &Updater, epoch: u64, seq: u32) -> bool {
+    updater.stamp() == Stamp { epoch, seq }
 }
 
-// What three members do where the first of these fails, before the others or after them.
-fn fails_first(failing: u16, a: u16, b: u16) -> [Do; 16] {
-    [
-        Mark,
-        Starts(true),
-        Writes(2),
-        Writes(5),
-        Writes(9),
-        Ends(failing, false, Waiting),
-        Missing(failing),
-        Ends(a, true, Waiting),
-        Ends(b, true, Committed),
-        Flies(false),
-        Votes(2, 3),
-        Stale(true, true),
-        Starts(true),
-        Writes(a),
-        Writes(b),
-        WritesNone,
-    ]
-}
-
-fn fails_last(failing: u16, a: u16, b: u16) -> [Do; 16] {
-    [
-        Mark,
-        Starts(true),
-        Writes(2),
-        Writes(5),
-        Writes(9),
-        Ends(a, true, Waiting),
-        Ends(b, true, Committed),
-        Flies(true),
-        Ends(failing, false, Waiting),
-        Missing(failing),
-        Flies(false),
-        Votes(2, 3),
-        Starts(true),
-        Writes(a),
-        Writes(b),
-        WritesNone,
-    ]
-}
-
-#[test]
-fn a_member_that_fails_at_any_write_is_missing_and_written_no_more(rt: HostRuntime) {
-    for (failing, a, b) in [(2, 5, 9), (5, 2, 9), (9, 2, 5)] {
-        run(&rt, three(&rt, true), &fails_first(failing, a, b));
-        run(&rt, three(&rt, true), &fails_last(failing, a, b));
+// Ends the test at the first step of this name that is answered otherwise.
+fn run(rt: &impl Abort, name: &str, mut updater: Updater, all: &[Do]) {
+    for (k, what) in all.iter().enumerate() {
+        check_at(rt, step(rt, &mut updater, what), name, k);
     }
-}
-
-#[test]
-fn an_update_that_ends_without_its_votes_stays_in_flight(rt: HostRuntime) {
-    let all = [
-        Mark,
-        Starts(true),
-        Writes(2),
-        Writes(5),
-        Writes(9),
-        Ends(5, true, Waiting),
-        Ends(9, false, Waiting),
-        Ends(2, false, QuorumLost { have: 1, total: 3 }),
-        Flies(true),
-        Stale(false, false),
-        Starts(false),
-        WritesNone,
-    ];
-    run(&rt, three(&rt, true), &all);
-}
-
-#[test]
-fn the_first_of_two_members_decides(rt: HostRuntime) {
-    let enough = [
-        Miss(1),
-        Starts(true),
-        Writes(4),
-        WritesNone,
-        Ends(4, true, Committed),
-        Missing(1),
-        Votes(2, 3),
-    ];
-    run(&rt, two(&rt, false), &enough);
-    let few = [
-        Dirty,
-        Starts(true),
-        Writes(1),
-        Writes(4),
-        Ends(1, true, Waiting),
-        Ends(4, false, QuorumLost { have: 1, total: 3 }),
-        Flies(true),
-        IsDirty(false),
-    ];
-    run(&rt, two(&rt, false), &few);
-}
-
-#[test]
-fn half_of_the_votes_is_not_enough(rt: HostRuntime) {
-    let all = [
-        Dirty,
-        Starts(true),
-        Writes(1),
-        Writes(4),
-        Ends(4, true, Waiting),
-        Ends(1, true, Committed),
-        IsDirty(true),
-        Clean,
-        Starts(true),
-        Writes(1),
-        Writes(4),
-        Ends(4, true, Waiting),
-        Ends(1, false, QuorumLost { have: 1, total: 2 }),
-        IsDirty(true),
-    ];
-    run(&rt, two(&rt, true), &all);
-}
-
-#[test]
-fn without_quorum_checking_one_member_is_enough(rt: HostRuntime) {
-    let all = [
-        Mark,
-        Starts(true),
-        Writes(2),
-        Writes(5),
-        Writes(9),
-        Ends(2, false, Waiting),
-        Ends(9, false, Waiting),
-        Ends(5, true, Committed),
-        Starts(true),
-        Writes(5),
-        WritesNone,
-        Ends(5, false, QuorumLost { have: 0, total: 3 }),
-    ];
-    run(&rt, three(&rt, false), &all);
-}
-
-#[test]
-fn an_update_ends_where_its_last_write_is_given_up(rt: HostRuntime) {
-    let all = [
-        Mark,
-        Starts(true),
-        Writes(2),
-        Writes(5),
-        Ends(2, true, Waiting),
-        Ends(5, true, Committed),
-        Flies(true),
-        Miss(9),
-        Flies(false),
-        WritesNone,
-        Starts(true),
-        Writes(2),
-        Writes(5),
-        WritesNone,
-    ];
-    run(&rt, three(&rt, true), &all);
 }
 
 // Three members, of which disk 2 was missing at the beginning.
@@ -346,70 +174,360 @@ fn three_without_2(rt: &(impl Abort + AllocGlobal)) -> Updater {
     updater_of(rt, &group(rt, &THREE, &[]), table)
 }
 
-#[test]
-fn members_that_were_missing_at_the_beginning_are_not_written(rt: HostRuntime) {
-    let all = [
-        Votes(2, 3),
-        Mark,
-        Starts(true),
-        Writes(5),
-        Writes(9),
-        WritesNone,
-    ];
-    run(&rt, three_without_2(&rt), &all);
-}
-
 // Two members, of which the first is disk 5.
 fn first_5(rt: &(impl Abort + AllocGlobal)) -> Updater {
     let group = group(rt, &[(5, 6, false), (1, 6, false)], &[]);
     updater_of(rt, &group, table_of(rt, &[1, 5]))
 }
 
-#[test]
-fn staleness_is_settled_once_no_later_session_can_find_it_fresh(rt: HostRuntime) {
-    let all = [
-        Mark,
-        Starts(true),
-        Writes(1),
-        Writes(5),
-        Ends(5, true, Committed),
-        Ends(1, true, Waiting),
-        Stale(true, true),
-        Clear,
-        Stale(true, true),
-        Starts(true),
-        Stale(true, false),
-        Mark,
-        Stale(true, false),
-    ];
-    run(&rt, first_5(&rt), &all);
+// Whom an updater is for.
+#[derive(Clone, Copy)]
+enum Of {
+    // Three members, with quorum checking or without.
+    Three(bool),
+    // The same three, of which disk 2 was missing at the beginning.
+    Without2,
+    // Two members, of which the first is disk 4, and whose votes are even or not.
+    Two(bool),
+    // Two members, of which the first is disk 5.
+    First5,
 }
 
-#[test]
-fn stamps_go_on_from_the_one_that_was_set(rt: HostRuntime) {
-    let all = [
-        HasStamp(0, 0),
-        SetStamp(60, 2),
-        Starts(false),
-        HasStamp(60, 2),
-        Dirty,
-        Starts(true),
-        HasStamp(60, 3),
-    ];
-    run(&rt, two(&rt, false), &all);
+fn updater(rt: &(impl Abort + AllocGlobal), of: Of) -> Updater {
+    match of {
+        Of::Three(quorum) => three(rt, quorum),
+        Of::Without2 => three_without_2(rt),
+        Of::Two(even) => two(rt, even),
+        Of::First5 => first_5(rt),
+    }
 }
+
+static SCRIPTS: [(&str, Of, &[Do]); 16] = [
+    (
+        "the member on disk 2 fails before the others, is missing and written no more",
+        Of::Three(true),
+        &[
+            Mark,
+            Starts(true),
+            Writes(2),
+            Writes(5),
+            Writes(9),
+            Ends(2, false, Waiting),
+            Missing(2),
+            Ends(5, true, Waiting),
+            Ends(9, true, Committed),
+            Flies(false),
+            Votes(2, 3),
+            Stale(true, true),
+            Starts(true),
+            Writes(5),
+            Writes(9),
+            WritesNone,
+        ],
+    ),
+    (
+        "the member on disk 2 fails after the others, is missing and written no more",
+        Of::Three(true),
+        &[
+            Mark,
+            Starts(true),
+            Writes(2),
+            Writes(5),
+            Writes(9),
+            Ends(5, true, Waiting),
+            Ends(9, true, Committed),
+            Flies(true),
+            Ends(2, false, Waiting),
+            Missing(2),
+            Flies(false),
+            Votes(2, 3),
+            Starts(true),
+            Writes(5),
+            Writes(9),
+            WritesNone,
+        ],
+    ),
+    (
+        "the member on disk 5 fails before the others, is missing and written no more",
+        Of::Three(true),
+        &[
+            Mark,
+            Starts(true),
+            Writes(2),
+            Writes(5),
+            Writes(9),
+            Ends(5, false, Waiting),
+            Missing(5),
+            Ends(2, true, Waiting),
+            Ends(9, true, Committed),
+            Flies(false),
+            Votes(2, 3),
+            Stale(true, true),
+            Starts(true),
+            Writes(2),
+            Writes(9),
+            WritesNone,
+        ],
+    ),
+    (
+        "the member on disk 5 fails after the others, is missing and written no more",
+        Of::Three(true),
+        &[
+            Mark,
+            Starts(true),
+            Writes(2),
+            Writes(5),
+            Writes(9),
+            Ends(2, true, Waiting),
+            Ends(9, true, Committed),
+            Flies(true),
+            Ends(5, false, Waiting),
+            Missing(5),
+            Flies(false),
+            Votes(2, 3),
+            Starts(true),
+            Writes(2),
+            Writes(9),
+            WritesNone,
+        ],
+    ),
+    (
+        "the member on disk 9 fails before the others, is missing and written no more",
+        Of::Three(true),
+        &[
+            Mark,
+            Starts(true),
+            Writes(2),
+            Writes(5),
+            Writes(9),
+            Ends(9, false, Waiting),
+            Missing(9),
+            Ends(2, true, Waiting),
+            Ends(5, true, Committed),
+            Flies(false),
+            Votes(2, 3),
+            Stale(true, true),
+            Starts(true),
+            Writes(2),
+            Writes(5),
+            WritesNone,
+        ],
+    ),
+    (
+        "the member on disk 9 fails after the others, is missing and written no more",
+        Of::Three(true),
+        &[
+            Mark,
+            Starts(true),
+            Writes(2),
+            Writes(5),
+            Writes(9),
+            Ends(2, true, Waiting),
+            Ends(5, true, Committed),
+            Flies(true),
+            Ends(9, false, Waiting),
+            Missing(9),
+            Flies(false),
+            Votes(2, 3),
+            Starts(true),
+            Writes(2),
+            Writes(5),
+            WritesNone,
+        ],
+    ),
+    (
+        "an update goes to each member and is committed by more than half",
+        Of::Three(true),
+        &[
+            Starts(false),
+            Mark,
+            Starts(true),
+            Writes(2),
+            Writes(5),
+            Writes(9),
+            WritesNone,
+            Ends(5, true, Waiting),
+            Stale(false, false),
+            Ends(2, true, Committed),
+            Stale(true, true),
+            Clear,
+            Starts(false),
+            Flies(true),
+            Ends(9, true, Waiting),
+            Flies(false),
+            Stale(true, true),
+            Votes(3, 3),
+            Starts(true),
+        ],
+    ),
+    (
+        "an update that ends without its votes stays in flight",
+        Of::Three(true),
+        &[
+            Mark,
+            Starts(true),
+            Writes(2),
+            Writes(5),
+            Writes(9),
+            Ends(5, true, Waiting),
+            Ends(9, false, Waiting),
+            Ends(2, false, QuorumLost { have: 1, total: 3 }),
+            Flies(true),
+            Stale(false, false),
+            Starts(false),
+            WritesNone,
+        ],
+    ),
+    (
+        "the first of two members decides",
+        Of::Two(false),
+        &[
+            Miss(1),
+            Starts(true),
+            Writes(4),
+            WritesNone,
+            Ends(4, true, Committed),
+            Missing(1),
+            Votes(2, 3),
+        ],
+    ),
+    (
+        "the first of two members decides",
+        Of::Two(false),
+        &[
+            Dirty,
+            Starts(true),
+            Writes(1),
+            Writes(4),
+            Ends(1, true, Waiting),
+            Ends(4, false, QuorumLost { have: 1, total: 3 }),
+            Flies(true),
+            IsDirty(false),
+        ],
+    ),
+    (
+        "half of the votes is not enough",
+        Of::Two(true),
+        &[
+            Dirty,
+            Starts(true),
+            Writes(1),
+            Writes(4),
+            Ends(4, true, Waiting),
+            Ends(1, true, Committed),
+            IsDirty(true),
+            Clean,
+            Starts(true),
+            Writes(1),
+            Writes(4),
+            Ends(4, true, Waiting),
+            Ends(1, false, QuorumLost { have: 1, total: 2 }),
+            IsDirty(true),
+        ],
+    ),
+    (
+        "without quorum checking one member is enough",
+        Of::Three(false),
+        &[
+            Mark,
+            Starts(true),
+            Writes(2),
+            Writes(5),
+            Writes(9),
+            Ends(2, false, Waiting),
+            Ends(9, false, Waiting),
+            Ends(5, true, Committed),
+            Starts(true),
+            Writes(5),
+            WritesNone,
+            Ends(5, false, QuorumLost { have: 0, total: 3 }),
+        ],
+    ),
+    (
+        "an update ends where its last write is given up",
+        Of::Three(true),
+        &[
+            Mark,
+            Starts(true),
+            Writes(2),
+            Writes(5),
+            Ends(2, true, Waiting),
+            Ends(5, true, Committed),
+            Flies(true),
+            Miss(9),
+            Flies(false),
+            WritesNone,
+            Starts(true),
+            Writes(2),
+            Writes(5),
+            WritesNone,
+        ],
+    ),
+    (
+        "members that were missing at the beginning are not written",
+        Of::Without2,
+        &[
+            Votes(2, 3),
+            Mark,
+            Starts(true),
+            Writes(5),
+            Writes(9),
+            WritesNone,
+        ],
+    ),
+    (
+        "staleness is settled once no later session can find it fresh",
+        Of::First5,
+        &[
+            Mark,
+            Starts(true),
+            Writes(1),
+            Writes(5),
+            Ends(5, true, Committed),
+            Ends(1, true, Waiting),
+            Stale(true, true),
+            Clear,
+            Stale(true, true),
+            Starts(true),
+            Stale(true, false),
+            Mark,
+            Stale(true, false),
+        ],
+    ),
+    (
+        "stamps go on from the one that was set",
+        Of::Two(false),
+        &[
+            HasStamp(0, 0),
+            SetStamp(60, 2),
+            Starts(false),
+            HasStamp(60, 2),
+            Dirty,
+            Starts(true),
+            HasStamp(60, 3),
+        ],
+    ),
+];
+
+#[test]
+fn updates_go_as_it_is_said(rt: HostRuntime) {
+    for (name, of, all) in &SCRIPTS {
+        run(&rt, name, updater(&rt, *of), all);
+    }
+}
+
+static TABLES: [(&[u16], bool); 4] = [
+    (&[2, 5, 9], true),
+    (&[2, 5, 8], false),
+    (&[2, 9], false),
+    (&[2, 5, 9, 10], false),
+];
 
 #[test]
 fn a_table_of_other_members_does_not_fit(rt: HostRuntime) {
     let group = group(&rt, &THREE, &[]);
-    let tables: [(&[u16], bool); 4] = [
-        (&[2, 5, 9], true),
-        (&[2, 5, 8], false),
-        (&[2, 9], false),
-        (&[2, 5, 9, 10], false),
-    ];
-    for (disks, fits) in tables {
+    for (disks, fits) in &TABLES {
         let table = table_of(&rt, disks);
-        check(&rt, Updater::has_its_rows(&group, &table) == fits, "fits");
+        check(&rt, Updater::has_its_rows(&group, &table) == *fits, "fits");
     }
 }

@@ -145,20 +145,23 @@ fn group_of_many(rt: &(impl Abort + AllocGlobal), disks: u16, big: bool) -> Desc
     group
 }
 
+// how many members, whether the group is big, and whether it is valid
+static MANY: [(u16, bool, bool); 5] = [
+    (32, false, true),
+    (33, false, false),
+    (33, true, true),
+    (128, true, true),
+    (129, true, false),
+];
+
+fn is_group_of(rt: &(impl Abort + AllocGlobal), disks: u16, big: bool) -> bool {
+    group_of_many(rt, disks, big).is_valid()
+}
+
 #[test]
 fn a_big_group_has_more_members(rt: HostRuntime) {
-    for (disks, big, valid) in [
-        (32, false, true),
-        (33, false, false),
-        (33, true, true),
-        (128, true, true),
-        (129, true, false),
-    ] {
-        check(
-            &rt,
-            group_of_many(&rt, disks, big).is_valid() == valid,
-            "members",
-        );
+    for (disks, big, valid) in &MANY {
+        check(&rt, is_group_of(&rt, *disks, *big) == *valid, "members");
     }
 }
 
@@ -245,17 +248,20 @@ fn is_status_of_first(rt: &(impl Abort + AllocGlobal), id: u64, big: bool, count
     is_status(rt, id, big, &disks, &[])
 }
 
+// id, big, how many rows, valid
+static OF_FIRST: [(u64, bool, u16, bool); 4] = [
+    (50, false, 32, true),
+    (50, false, 33, false),
+    (50, true, 33, true),
+    (0, true, 33, false),
+];
+
 #[test]
 fn a_big_status_has_more_rows(rt: HostRuntime) {
-    for (id, big, count, valid) in [
-        (50, false, 32, true),
-        (50, false, 33, false),
-        (50, true, 33, true),
-        (0, true, 33, false),
-    ] {
+    for (id, big, count, valid) in &OF_FIRST {
         check(
             &rt,
-            is_status_of_first(&rt, id, big, count) == valid,
+            is_status_of_first(&rt, *id, *big, *count) == *valid,
             "rows",
         );
     }
@@ -300,18 +306,26 @@ fn enough(rt: &impl Abort, group: &Descriptor, votes: u32) -> [bool; 2] {
     [group.enough_to_read(votes), group.enough_to_write(votes)]
 }
 
+// A group of two disks by its quorum and whether its votes are even: those of the first disk and of all, and whether
+// the first's are enough to read and to write.
+static VOTES: [(bool, bool, u32, u32, bool, bool); 4] = [
+    (true, false, 2, 3, true, true),
+    (true, true, 1, 2, false, false),
+    (false, false, 2, 3, false, true),
+    (false, true, 1, 2, false, true),
+];
+
 // What is enough for three of two disks, for two of two that are even, and without a quorum.
 #[test]
 fn two_disks_have_three_votes_unless_even(rt: HostRuntime) {
-    for (quorum, even, first, total, read, write) in [
-        (true, false, 2, 3, true, true),
-        (true, true, 1, 2, false, false),
-        (false, false, 2, 3, false, true),
-        (false, true, 1, 2, false, true),
-    ] {
-        let group = two_disks(&rt, quorum, even);
-        check(&rt, votes(&rt, &group) == [first, 1, 0], "votes");
-        check(&rt, sums(&rt, &group) == [total, first], "sums");
-        check(&rt, enough(&rt, &group, first) == [read, write], "enough");
+    for (quorum, even, first, total, read, write) in &VOTES {
+        let group = two_disks(&rt, *quorum, *even);
+        check(&rt, votes(&rt, &group) == [*first, 1, 0], "votes");
+        check(&rt, sums(&rt, &group) == [*total, *first], "sums");
+        check(
+            &rt,
+            enough(&rt, &group, *first) == [*read, *write],
+            "enough",
+        );
     }
 }

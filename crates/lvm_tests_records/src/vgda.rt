@@ -37,16 +37,21 @@ fn three(rt: &(impl Abort + AllocGlobal), big: bool) -> Descriptor {
     group
 }
 
+// Whether the group is written as these bytes, and is read of them.
+fn is_as(rt: &(impl Abort + AllocGlobal), group: &Descriptor, bytes: &[u8]) -> [bool; 2] {
+    let written = encoded(rt, group).as_slice() == bytes;
+    [written, decoded(rt, bytes) == *group]
+}
+
+static VERSIONS: [(bool, u8); 2] = [(false, b'1'), (true, b'2')];
+
 #[test]
 fn three_disks_are_written_and_read_in_both_versions(rt: HostRuntime) {
     let mut want = THREE;
-    for (big, version) in [(false, b'1'), (true, b'2')] {
-        want[3] = version;
-        let group = three(&rt, big);
-        let written = encoded(&rt, &group).as_slice() == want.as_slice();
-        let read = decoded(&rt, &want) == group;
-        check(&rt, written, "written");
-        check(&rt, read, "read");
+    for (big, version) in &VERSIONS {
+        want[3] = *version;
+        let group = three(&rt, *big);
+        check(&rt, is_as(&rt, &group, &want) == [true; 2], "bytes");
     }
 }
 
@@ -239,14 +244,17 @@ fn read_again(rt: &(impl Abort + AllocGlobal), group: &Descriptor) -> Option<usi
     same.then_some(bytes.len())
 }
 
+// whether it is big, how many members and volumes, and how many bytes
+static LARGEST: [(bool, u16, u16, usize); 3] = [
+    (false, 32, 0, 304),
+    (false, 32, 255, 138_512),
+    (true, 128, 511, 537_616),
+];
+
 #[test]
 fn the_largest_of_each_version_is_read_again(rt: HostRuntime) {
-    for (big, members, volumes, len) in [
-        (false, 32, 0, 304),
-        (false, 32, 255, 138_512),
-        (true, 128, 511, 537_616),
-    ] {
-        let group = full_group(&rt, big, members, volumes);
-        check_at(&rt, read_again(&rt, &group) == Some(len), "bytes", len);
+    for (big, members, volumes, len) in &LARGEST {
+        let group = full_group(&rt, *big, *members, *volumes);
+        check_at(&rt, read_again(&rt, &group) == Some(*len), "bytes", *len);
     }
 }

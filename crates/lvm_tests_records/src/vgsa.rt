@@ -136,28 +136,26 @@ fn read_again(
     (read == status).then_some(bytes.len())
 }
 
+// whether it is big, how many rows, and how many bytes, without dirty volumes and with all
+static LARGEST: [(bool, u16, usize, usize); 4] = [
+    (false, 2, 280, 1_304),
+    (true, 2, 280, 1_304),
+    (false, 32, 4_240, 5_264),
+    (true, 128, 16_912, 17_936),
+];
+
 #[test]
 fn the_largest_of_each_version_round_trips(rt: HostRuntime) {
     let mut all = Vec::new(rt.alloc());
     for lv in 1..512 {
         all.push(lv).expect(&rt, "memory");
     }
-    for (big, disks, clean, dirty) in [
-        (false, 2, 280, 1_304),
-        (true, 2, 280, 1_304),
-        (false, 32, 4_240, 5_264),
-        (true, 128, 16_912, 17_936),
-    ] {
-        check(
-            &rt,
-            read_again(&rt, big, disks, &[]) == Some(clean),
-            "clean",
-        );
-        check(
-            &rt,
-            read_again(&rt, big, disks, &all) == Some(dirty),
-            "dirty",
-        );
+    for (big, disks, clean, dirty) in &LARGEST {
+        let was = [
+            read_again(&rt, *big, *disks, &[]),
+            read_again(&rt, *big, *disks, &all),
+        ];
+        check(&rt, was == [Some(*clean), Some(*dirty)], "bytes");
     }
 }
 

@@ -1,10 +1,9 @@
 // The program over image files of the folder in which the test runs.
 
-use crate::outside::{check, sink, source, texts};
+use crate::outside::{check, sink, status_of};
 use lvm_image::ImageSink;
-use lvm_io::{MemClock, MemSink};
+use lvm_io::MemSink;
 use lvm_lane::FileShelf;
-use lvm_top::run_words;
 use std::fs;
 use std::fs::File;
 use std::process::Abort;
@@ -17,27 +16,14 @@ const MAKE: &[u8] = b"mkvg -y datavg -s 1 hdisk0\nfail hdisk0\n";
 const COME_ON: &[u8] = b"varyonvg datavg\nlspv hdisk0\n";
 
 // How the words end, with a script and a first moment, and what they write.
-fn run<R: Files<File = File> + AllocGlobal + Abort>(
+fn told<R: Files<File = File> + AllocGlobal + Abort>(
     rt: &R,
     words: &[&str],
     script: &[u8],
-    moment: u32,
+    moment: u64,
 ) -> (u8, MemSink) {
-    let texts = texts(rt, words);
-    let mut input = source(rt, script);
-    let mut out = sink(rt, 4_096);
     let files = FileShelf::open(rt, rt.alloc(), &mut sink(rt, 64)).expect(rt, "files");
-    let ended = run_words(
-        rt.alloc(),
-        &texts,
-        &mut input,
-        &mut out,
-        &mut sink(rt, 64),
-        &mut MemClock::new(u64::from(moment).max(1)),
-        files,
-        &mut ImageSink::new(rt),
-    );
-    (ended.status.code(), out)
+    status_of(rt, words, script, moment, files, &mut ImageSink::new(rt))
 }
 
 // Expects the words to end with this status and to write this.
@@ -45,11 +31,11 @@ fn says<R: Files<File = File> + AllocGlobal + Abort>(
     rt: &R,
     words: &[&str],
     script: &[u8],
-    moment: u32,
+    moment: u64,
     status: u8,
     wanted: &str,
 ) {
-    let (is, out) = run(rt, words, script, moment);
+    let (is, out) = told(rt, words, script, moment);
     check(rt, is == status, wanted);
     check(rt, out.bytes() == wanted.as_bytes(), wanted);
 }

@@ -28,7 +28,7 @@ use Rattle.lvm_line.specs.passed.ReplyVariants as reply
 use Rattle.lvm_line.proofs.passed.Stage.{over_goes}
 use Rattle.lvm_top.specs.declared.status.ExitStatus.{ExitStatus}
 use Rattle.lvm_top.specs.declared.status.ExitStatus.TheVariants as ended
-use Rattle.lvm_top.specs.Ending.{Concludes, NoneIsOn, NoneIsServed, IsServed, NothingIsLeft, TurnsAreMade, MakesTurns, RestsNow}
+use Rattle.lvm_top.specs.Ending.{Concludes, NoneIsOn, NoneIsServed, IsServed, NothingIsLeft, TurnsAreMade, RestsNow}
 use Rattle.lvm_top.specs.Run.{Run, IsRun, RanAlone, WhereAlone}
 use Rattle.lvm_top.specs.Script.{Script, NoLine, NextLine, Ends, AtLine, InLine, StaysAlone, EndsAlone, EndsHeard, EndsStuck, MakeRequests, is_requesting, empty_log, entry_state, facts_of}
 use Rattle.lvm_top.proofs.Lining.{stuck_is_off}
@@ -81,12 +81,13 @@ module _ (end : State) (exit : Moment) (between : IsBetween end.moment end.sessi
   abbrev behind : State
   behind = record { moment = exit; session = None; posts = []; last = end.last }
 
-  turned_goes : (last : Session) → MakesTurns (state end.moment.device core) last → RunsOn (state end.moment.device core) last → IsSound last → IsClosed last.core.power last.device exit.device → exit.facts ≡ last.core.history.facts
+  -- it has run on, and is closed
+  closed_goes : (last : Session) → (last.core.power ≡ power.Stuck → ⊥) → RunsOn (state end.moment.device core) last → IsSound last → IsClosed last.core.power last.device exit.device → exit.facts ≡ last.core.history.facts
       → GoesOn core.history.run OfRequests (reply.Refused refusal.Stuck) end behind
-  turned_goes last turns runs sound closed entries =
+  closed_goes last heard runs sound closed entries =
       over_goes OfRequests end core last
       (record { alone = λ new alone. alone.acts tt; session = some; facts = facts; volumes = vols; between = between; leaves = runs.leaves; sound = sound })
-      (reply.Refused refusal.Stuck) behind closed entries refl refl (unstuck turns.answer last.core.power turns.tells.power_is) (λ heard. absurd (heard refl)) (none_posted _ _)
+      (reply.Refused refusal.Stuck) behind closed entries refl refl heard (λ heard. absurd (heard refl)) (none_posted _ _)
       (λ not_asking. absurd (not_asking tt)) (omega arith)
 
 -- the span, and the clock
@@ -94,6 +95,14 @@ pub record Concluded (run : ℕ) (end : State) (exit : Moment) : Type 0 where
   pub keeps : IsTimely run end → IsAlone OfRequests end (record { moment = exit; session = None; posts = []; last = end.last }) → (first : Moment) → Keeps run first end.moment → StandsBy run first end → Keeps run first exit
   pub left : IsTimely run end → IsAhead run (end.last + 1) exit.device exit.facts
   pub power : exit.device.power ≡ true
+
+-- so where a session with volumes has run on, and is closed
+pub closed_concluded : (run : ℕ) (end : State) (exit : Moment) → IsBetween end.moment end.session end.posts → (core : Core) → end.session ≡ Some core → core.descriptor.lvs ≢ [] → end.moment.facts ≡ core.history.facts → core.history.run ≡ run
+    → (last : Session) → (last.core.power ≡ power.Stuck → ⊥) → RunsOn (state end.moment.device core) last → IsSound last → IsClosed last.core.power last.device exit.device → exit.facts ≡ last.core.history.facts → Concluded run end exit
+closed_concluded run end exit between core some vols facts named last heard runs sound closed entries =
+    let goes : GoesOn run OfRequests (reply.Refused refusal.Stuck) end (behind end exit between core some vols facts) =
+    subst (λ (n : ℕ). GoesOn n OfRequests (reply.Refused refusal.Stuck) end (behind end exit between core some vols facts)) named (closed_goes end exit between core some vols facts last heard runs sound closed entries) in
+    record { keeps = λ timely alone first span stands. (goes.keeps timely alone first span stands).0; left = λ timely. goes.left timely; power = goes.power }
 
 same_concluded : (run : ℕ) (end : State) (exit : Moment) → end.moment.device.power ≡ true → exit ≡ end.moment → Concluded run end exit
 same_concluded run end exit power same = record {
@@ -113,9 +122,7 @@ concluded run end exit (IsServed core some vols named facts (NothingIsLeft rests
     same_concluded run end exit between.lit.power
     (ap (λ (d : Device). record { device = d; facts = exit.facts }) (device ∙ freed_none end.moment.device between.lit.freed) ∙ ap (λ (fs : List Fact). record { device = end.moment.device; facts = fs }) (entries ∙ sym facts))
 concluded run end exit (IsServed core some vols named facts (TurnsAreMade last moving turns runs sound closed entries)) between =
-    let goes : GoesOn run OfRequests (reply.Refused refusal.Stuck) end (behind end exit between core some vols facts) =
-    subst (λ (n : ℕ). GoesOn n OfRequests (reply.Refused refusal.Stuck) end (behind end exit between core some vols facts)) named (turned_goes end exit between core some vols facts last turns runs sound closed entries) in
-    record { keeps = λ timely alone first span stands. (goes.keeps timely alone first span stands).0; left = λ timely. goes.left timely; power = goes.power }
+    closed_concluded run end exit between core some vols facts named last (unstuck turns.answer last.core.power turns.tells.power_is) runs sound closed entries
 
 -- ---- a run
 

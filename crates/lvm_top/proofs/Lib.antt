@@ -1,5 +1,5 @@
+pub mod passed
 pub mod Blanks
-pub mod Commanding
 mod Firsts
 pub mod Lining
 mod Runs

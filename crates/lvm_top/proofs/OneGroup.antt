@@ -262,7 +262,7 @@ module _ (log : Log) (old new : State) (answer : Reply) (shelf : IsShelf old.mom
 -- ---- the lines of a script
 
 -- where one group may be found, with such volumes, and a session has no other
-alone_so : (role : Role) (old new : State) → IsAllowed role old → FindsOneGroup old.moment.device → HasNoPassiveOn old → IsAlone role old new
+pub alone_so : (role : Role) (old new : State) → IsAllowed role old → FindsOneGroup old.moment.device → HasNoPassiveOn old → IsAlone role old new
 alone_so role old new allowed one off = record { enters = λ enters. one_by_all old.moment.device one; acts = λ acting. by_session old.session off; allowed = allowed }
   where
     by_session : (o : Option Core) → IfSome o (λ core. HasNoPassive core.descriptor) → IfSome o (StandsAlone old.moment.device)
@@ -271,13 +271,13 @@ alone_so role old new allowed one off = record { enters = λ enters. one_by_all 
 
 module _ (log : Log) (room : Room) (past : List Fact) (first : State) (begin : MayStart log.run past first) (one : FindsOneGroup first.moment.device) (off : FindsNoPassive first.moment.device) where
   -- all that is so of the lines
-  record ScriptOff {lines : List (List ℕ)} {replies : List Reply} {last : State} (script : Script log room first lines replies last) : Type 0 where
-    alone : StaysAlone script
-    finds_one : FindsOneGroup last.moment.device
-    finds_off : FindsNoPassive last.moment.device
-    session : HasNoPassiveOn last
+  pub record ScriptOff {lines : List (List ℕ)} {replies : List Reply} {last : State} (script : Script log room first lines replies last) : Type 0 where
+    pub alone : StaysAlone script
+    pub finds_one : FindsOneGroup last.moment.device
+    pub finds_off : FindsNoPassive last.moment.device
+    pub session : HasNoPassiveOn last
 
-  script_one : {lines : List (List ℕ)} {replies : List Reply} {last : State} (script : Script log room first lines replies last) → AreUnforced script → AreAllowed script → ScriptOff script
+  pub script_one : {lines : List (List ℕ)} {replies : List Reply} {last : State} (script : Script log room first lines replies last) → AreUnforced script → AreAllowed script → ScriptOff script
   script_one NoLine unforced allowed = record { alone = tt; finds_one = one; finds_off = off; session = subst (λ (s : Option Core). IfSome s (λ core. HasNoPassive core.descriptor)) (sym begin.off) tt }
   script_one (NextLine {mid = mid} {new = new} line answer said heard says before it) unforced allowed =
       let so_far = script_one before unforced.0 allowed.0 in
@@ -316,7 +316,7 @@ unforced_stays_alone log room past first lines replies last script begin one off
     (all.alone, all.finds_one, all.finds_off)
 
 -- a history isn't longer than itself
-not_more : (a b : List Fact) → b ≡ a → EntersVolumes a b → ⊥
+pub not_more : (a b : List Fact) → b ≡ a → EntersVolumes a b → ⊥
 not_more a b same more = let e : count_by is_of_volume b ≡ count_by is_of_volume a = ap (λ (l : List Fact). count_by is_of_volume l) same in omega (arith, e, more)
 
 pub unforced_runs_alone : UnforcedRunsAlone

@@ -14,7 +14,7 @@ use Rattle.lvm_top.specs.Run.{HaveCauses, IsRun, Run}
 use Rattle.lvm_top.specs.Script.{AtLine, Ends, InLine, NextLine, NoLine, Script}
 
 module _ (log : Log) (room : Room) where
-  line_caused : (line : List ℕ) (answer : Reply) (old new : State) → IsLine log room line answer old new → IsForCause line answer old new
+  pub line_caused : (line : List ℕ) (answer : Reply) (old new : State) → IsLine log room line answer old new → IsForCause line answer old new
   line_caused line (reply.Refused why) old new it = has_cause log room _ why old new it.between it.does
   line_caused line other old new it = tt
 

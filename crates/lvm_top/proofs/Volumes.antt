@@ -1,5 +1,5 @@
 -- What is found after a volume was to be made or removed: what was found before, or what was to be committed.
-use Rattle.std.proofs.Common.{◌≡◌, ◌⊎◌, inl, inr, ⊎_elim, ℕ, [], ◌∷◌, List, Bool, false, Option, Some, None, IfSome, Result, Ok, Err, refl, sym, ap, subst, ◌∙◌}
+use Rattle.std.proofs.Common.{◌≡◌, ◌⊎◌, inl, inr, ⊎_elim, ℕ, [], ◌∷◌, ◌++◌, List, Bool, false, Option, Some, None, IfSome, Result, Ok, Err, refl, sym, ap, subst, ◌∙◌}
 use Rattle.std.specs.Prelude.{IsSome, IsSomeAnd}
 use Rattle.lvm_num.specs.Votes.{all_disks}
 use Rattle.lvm_disk.specs.Device.{Media, image_of}
@@ -10,9 +10,14 @@ use Rattle.lvm_num.specs.declared.descriptor.Descriptor.{Descriptor}
 use Rattle.lvm_num.specs.declared.descriptor.LvRow.{LvRow}
 use Rattle.lvm_num.specs.declared.descriptor.Mode.{Mode}
 use Rattle.lvm_num.specs.declared.descriptor.Policy.{Policy}
+use Rattle.lvm_parse.specs.declared.command.Command.{Command}
 use Rattle.lvm_parse.specs.declared.command.Command.TheVariants as command
+use Rattle.lvm_operands.specs.declared.rest.Misfit.{Misfit}
+use Rattle.lvm_parse.specs.Grammar.{line_of}
 use Rattle.lvm_vol.specs.Facts.{Fact}
+use Rattle.lvm_vol.specs.Log.{Log}
 use Rattle.lvm_steps.specs.Moments.{Begins}
+use Rattle.lvm_core.specs.declared.parts.Room.{Room}
 use Rattle.lvm_core.specs.Held.{IsHeld}
 use Rattle.lvm_core.specs.Looking.{IsNumberOf}
 use Rattle.lvm_core.specs.Leaves.{MayBeFound, Scope}
@@ -28,6 +33,7 @@ use Rattle.lvm_line.specs.passed.VolumeLines.{MakesVolume, MklvFails, NoGroupFor
 use Rattle.lvm_line.specs.passed.VolumeLines.{RmlvFails, MklvEnds, RmlvEnds, ends_session, refusal_for, wanted}
 use Rattle.lvm_line.specs.passed.ReplyVariants as reply
 use Rattle.lvm_line.specs.Causes.{IsDrained}
+use Rattle.lvm_line.specs.Lines.{IsLine, LineDoes}
 use Rattle.lvm_top.specs.Standing.{MayHaveCommitted, StoodBefore, HeldAtRest, StandsSince}
 use Rattle.lvm_top.proofs.Devices.{NothingNew, then_nothing, same_nothing}
 use Rattle.lvm_top.proofs.Quiet.{runs_nothing}
@@ -193,3 +199,23 @@ module _ (run : ℕ) (old new : State) (leaves : LeavesDescriptors old.moment.de
       rmlv_finds (NoVolumeForRmlv core left mid some drains none stays last says) id k it = inl (idle_nothing core left mid mid drains refl stays id k it)
       rmlv_finds (RemovesVolume core left mid lv some drains its done is) id k it = tried_rmlv core left mid some drains lv its (Ok tt) false (inl is) done id k it
       rmlv_finds (RmlvFails core left mid lv why some drains its done is) id k it = failed_rmlv core left mid some drains lv its why is done id k it
+
+-- ---- a `mklv` that was done
+
+not_empty : {X : Type 0} (xs : List X) (y : X) (ys : List X) → xs ++ y ∷ ys ≡ [] → ⊥
+not_empty [] y ys none = cc none
+not_empty (x ∷ xs) y ys none = cc none
+
+-- it leaves a session on whose group has a volume
+pub mklv_serves : (log : Log) (room : Room) (line : List ℕ) (old new : State) (name : List ℕ) (copies : ℕ) (mode : Mode) (policy : Policy) (group : List ℕ) (lps : ℕ)
+    → line_of line ≡ Ok (Some (command.Mklv name copies mode policy group lps)) → IsLine log room line reply.Ok old new → (core : Core) × (new.session ≡ Some core) × (core.descriptor.lvs ≡ [] → ⊥)
+mklv_serves log room line old new name copies mode policy group lps reads it = by (subst (λ (read : Result (Option Command) Misfit). LineDoes log room read old new reply.Ok) reads it.does)
+  where
+    by : MklvDoes (wanted name copies mode policy lps) group old new reply.Ok → (core : Core) × (new.session ≡ Some core) × (core.descriptor.lvs ≡ [] → ⊥)
+    by (NoGroupForMklv none is) = absurd (let e = is.0 in cc (e))
+    by (BusyMklv on busy is) = absurd (let e = is.0 in cc (e))
+    by (UndrainedMklv core why some on un) = absurd (let e = un.says in cc (e))
+    by (MakesVolume core left mid number some on drains done says) =
+        let with = ap (λ (c : Core). c.descriptor.lvs) done.leaves.is ∙ ap (λ (c : Core). c.descriptor.lvs) done.gives.is in
+        (done.leaves.core, done.leaves.session, λ none. not_empty _ _ _ (sym with ∙ none))
+    by (MklvFails core left mid why some on drains done says) = absurd (cc (says))

@@ -1,6 +1,11 @@
--- Images of disks that hold nothing.
-use Rattle.std.specs.Prelude.{ℕ, ◌*◌, List, replicate}
+-- Disks of zeros.
+use Rattle.std.specs.Prelude.{◌≡◌, [], Some}
+use Rattle.lvm_disk.specs.Device.{Media, Device, image_of}
+use Rattle.lvm_kept.specs.Changes.{IsBlank}
 
--- so many MiB of zeros
-abbrev pub blank_image : ℕ → List ℕ
-blank_image mib = replicate (1048576 * mib) 0
+-- it is told what stands on the disks of a still shelf, and these are all zeros
+pub record IsToldBlank (device : Device) : Type 0 where
+  pub media : Media
+  pub told : device.media ≡ Some media
+  pub still : device.flights ≡ []
+  pub blank : IsBlank (image_of device.sizes media)

@@ -1,12 +1,11 @@
+pub mod passed
 pub mod Blank
-pub mod Program
 pub mod Script
 pub mod Statuses
 pub mod Ending
 pub mod Refused
 pub mod Run
 pub mod Runs
-pub mod Sim
 pub mod Turn
 pub mod Standing
 pub mod Laws

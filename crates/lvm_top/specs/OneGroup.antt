@@ -14,7 +14,7 @@ use Rattle.lvm_line.specs.passed.Recover.{HasNoPassive}
 use Rattle.lvm_line.specs.passed.Stage.{State, Reply}
 use Rattle.lvm_top.specs.Run.{Run, IsRun, RanAlone}
 use Rattle.lvm_top.specs.Script.{Script, NoLine, NextLine, AreAllowed, EndsAllowed, StaysAlone, Ends, AtLine, InLine}
-use Rattle.lvm_top.specs.Sim.{IsToldBlank}
+use Rattle.lvm_top.specs.Blank.{IsToldBlank}
 use Rattle.lvm_top.specs.Laws.{MayStart}
 use Rattle.lvm_top.specs.Standing.{HasFewDisks}
 

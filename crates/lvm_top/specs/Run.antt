@@ -22,7 +22,7 @@ use Rattle.lvm_top.specs.Script.{Passage, AreDone, AreAllRead, IsLineLeft, EndsH
 use Rattle.lvm_top.specs.Statuses.{at_end, IsAtEnd}
 use Rattle.lvm_top.specs.declared.status.ExitStatus.{ExitStatus}
 use Rattle.lvm_top.specs.declared.status.ExitStatus.TheVariants as ended
-use Rattle.lvm_top.specs.Sim.{IsToldBlank}
+use Rattle.lvm_top.specs.Blank.{IsToldBlank}
 
 -- What a run was given and what came of it: the moment that names it and the clock's last one, its rooms, the shelf before and after, what was read and written, its history, its status, and how many lines were refused.
 pub record Run : Type 0 where

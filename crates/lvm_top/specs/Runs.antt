@@ -7,7 +7,7 @@ use Rattle.lvm_vol.specs.Order.{Ordered}
 use Rattle.lvm_stamps.specs.Behind.{IsBehind}
 use Rattle.lvm_top.specs.Run.{Run, Promises, RanAlone}
 use Rattle.lvm_top.specs.Script.{facts_of}
-use Rattle.lvm_top.specs.Sim.{IsToldBlank}
+use Rattle.lvm_top.specs.Blank.{IsToldBlank}
 
 -- all that the run's history tells is of the run, as `History::run` answers
 abbrev pub TellsOfItself : Run → Type 0

@@ -43,8 +43,8 @@ pub struct Ended<S> {
     pub sim: Option<MemShelf>,
 }
 
-// The status of a run of which so many lines were refused, and that stopped so.
-fn status_of(stop: Option<Stop>, refused: u32) -> ExitStatus
+/// The status of a run of which so many lines were refused, and that stopped so.
+pub fn status_of(stop: Option<Stop>, refused: u32) -> ExitStatus
     ensures { result ≡ status_of stop refused }
 {
     match stop {
@@ -58,8 +58,8 @@ fn status_of(stop: Option<Stop>, refused: u32) -> ExitStatus
     }
 }
 
-// The end of a run for which no memory was found.
-fn unbegun<S>(shelf: S) -> Ended<S>
+/// The end of a run for which no memory was found.
+pub fn unbegun<S>(shelf: S) -> Ended<S>
     ensures { result ≡ record { status = ExitStatus.Memory; refused = 0; history = None; shelf = shelf; sim = None } }
 {
     Ended {
@@ -112,8 +112,8 @@ fn is_sound<S: Shelf>(driver: &Driver<S>)
     let _ = driver.power();
 }
 
-// Makes turns until one doesn't move.
-fn run_on<S: Shelf>(driver: &mut Driver<S>)
+/// Makes turns until one doesn't move.
+pub fn run_on<S: Shelf>(driver: &mut Driver<S>)
     requires unstuck { driver.old.1.power ≡ power.Stuck → ⊥ }
     ensures turns { MakesTurns (state_of S.device driver.old) (state_of S.device driver.new) }
     ensures runs { RunsOn (state_of S.device driver.old) (state_of S.device driver.new) }
@@ -130,8 +130,8 @@ fn run_on<S: Shelf>(driver: &mut Driver<S>)
     }
 }
 
-// Closes a session that is over or has nothing left to do. After a power cut the power is put on again.
-fn close_ended<S: Shelf>(driver: Driver<S>, posts: Vec<Post>, bytes: Vec<u8>) -> Closed<S>
+/// Closes a session that is over or has nothing left to do. After a power cut the power is put on again.
+pub fn close_ended<S: Shelf>(driver: Driver<S>, posts: Vec<Post>, bytes: Vec<u8>) -> Closed<S>
     ensures shelf { IsClosed driver.1.power (S.device driver.0) (S.device result.shelf) }
     ensures history { result.history ≡ driver.1.history }
 {
@@ -152,8 +152,8 @@ fn run_out<S: Shelf>(driver: Driver<S>, posts: Vec<Post>, bytes: Vec<u8>) -> Clo
     close_ended(driver, posts, bytes)
 }
 
-// Ends what stands after the last line: a session that is on makes turns until one doesn't move, and is closed.
-fn conclude<S: Shelf>(stage: Stage<S>) -> Closed<S>
+/// Ends what stands after the last line: a session that is on makes turns until one doesn't move, and is closed.
+pub fn conclude<S: Shelf>(stage: Stage<S>) -> Closed<S>
     requires between { (session_in stage ≡ None) ⊎ IsBetweenStage S.device stage }
     requires fits { IsFitting stage }
     ensures concludes { Concludes (history_in stage).run (moment_in S.device stage) (record { device = S.device result.shelf; facts = result.history.facts }) (session_in stage) }

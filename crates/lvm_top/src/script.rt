@@ -1,11 +1,11 @@
 //! A script, line by line.
-ghost use Rattle.std.specs.Prelude.{◌≡◌, ◌⊎◌, ◌↔◌, ◌+◌, ◌++◌, ◌^◌, if◌then◌else◌, ◌<◌, ◌≤◌, [], Some, None, OnOk, OnErr, IfOk, IfErr, IsTrue};
+ghost use Rattle.std.specs.Prelude.{◌≡◌, ◌↔◌, ◌+◌, ◌++◌, ◌^◌, if◌then◌else◌, ◌<◌, ◌≤◌, [], Some, None, OnOk, OnErr, IfOk, IfErr, IsTrue};
 ghost use Rattle.lvm_io.specs.Count.{Rose};
 ghost use Rattle.lvm_io.specs.Stream.{WhereTold, WritesFront};
 ghost use Rattle.lvm_core.specs.Starting.{IsRoom};
-ghost use Rattle.lvm_line.specs.passed.Stage.{reply_text, most_refusals, refusals_of, IsStuck, shelf_in, history_in, session_in, state_in};
+ghost use Rattle.lvm_line.specs.passed.Stage.{reply_text, most_refusals, refusals_of, IsStuck, history_in, session_in, state_in};
 ghost use Rattle.lvm_line.specs.passed.Stage.{IsBetweenStage, IsFitting, without_facts};
-ghost use Rattle.lvm_top.specs.Script.{Says, passage};
+ghost use Rattle.lvm_top.specs.Script.{Says, is_made_late, passage};
 ghost use Rattle.lvm_top.specs.Statuses.{GoesUntil};
 ghost use Rattle.lvm_top.specs.Turn.{ReadsLine, ReadsNone, Tells};
 
@@ -14,70 +14,43 @@ use lvm_disk::Shelf;
 use lvm_io::{Clock, Lines, NextLine, Sink, SinkFault, Source, write_all};
 use lvm_line::below::stage::{Refusal, Reply, Stage, memory_text, refusal_line};
 use lvm_line::{InPlace, answer_line, finish_line};
-use lvm_num::{Memory, Rows};
+use lvm_num::{Memory, Rows, Text};
 use lvm_replies::{show_stepped, show_synced};
 use std::alloc::Global;
 
-// Why a run ends before the input does.
+/// Why a run ends before the input does.
 #[derive(Clone, Copy, Drop)]
 pub enum Stop {
+    /// The source failed.
     SourceFault,
+    /// The sink failed.
     SinkFault,
+    /// Memory ran out for a further line.
     Memory,
+    /// Nothing was heard of a transfer.
     Stuck,
+    /// The source gave too much.
     TooLong,
 }
 
-// Writes why a line is refused, or where that finds no memory that it didn't. Answers which, and whether
-// the sink took it all.
-fn say_refusal<O: Sink>(alloc: Global, out: &mut O, why: Refusal) -> (Reply, Result<(), SinkFault>)
-    ensures says { Says (Reply.Refused why) result.0 }
+// Writes the line that was made of a reply, or where that found no memory that it didn't. Answers which, and whether the
+// sink took it all.
+fn say_late<O: Sink>(
+    out: &mut O,
+    reply: Reply,
+    line: Result<Text, Memory>,
+) -> (Reply, Result<(), SinkFault>)
+    requires late { IsTrue (is_made_late reply) }
+    requires line { IfOk line (λ text. text ≡ reply_text reply) }
+    ensures says { Says reply result.0 }
     ensures whole { OnOk result.1 (WhereTold (O.held out.old) (O.held out.new) (λ a b. b ≡ a ++ reply_text result.0)) }
     ensures front { OnErr result.1 (WhereTold (O.held out.old) (O.held out.new) (λ a b. WritesFront (reply_text result.0) a b)) }
     ensures later { O.faults out.old ≤ O.faults out.new }
     ensures cause { OnErr result.1 (Rose (O.faults out.old) (O.faults out.new)) }
     ensures well { OnOk result.1 (O.faults out.new ≡ O.faults out.old) }
 {
-    match refusal_line(alloc, &why) {
-        Ok(line) => (Reply::Refused(why), write_all(out, line.as_bytes())),
-        Err(Memory) => (
-            Reply::Refused(Refusal::Memory),
-            write_all(out, memory_text()),
-        ),
-    }
-}
-
-// Writes how many turns have moved, or where that finds no memory that it didn't. Answers which, and whether the sink took
-// it all.
-fn say_stepped<O: Sink>(alloc: Global, out: &mut O, turns: u32) -> (Reply, Result<(), SinkFault>)
-    ensures says { Says (Reply.Stepped turns) result.0 }
-    ensures whole { OnOk result.1 (WhereTold (O.held out.old) (O.held out.new) (λ a b. b ≡ a ++ reply_text result.0)) }
-    ensures front { OnErr result.1 (WhereTold (O.held out.old) (O.held out.new) (λ a b. WritesFront (reply_text result.0) a b)) }
-    ensures later { O.faults out.old ≤ O.faults out.new }
-    ensures cause { OnErr result.1 (Rose (O.faults out.old) (O.faults out.new)) }
-    ensures well { OnOk result.1 (O.faults out.new ≡ O.faults out.old) }
-{
-    match show_stepped(alloc, turns) {
-        Ok(line) => (Reply::Stepped(turns), write_all(out, line.as_bytes())),
-        Err(Memory) => (
-            Reply::Refused(Refusal::Memory),
-            write_all(out, memory_text()),
-        ),
-    }
-}
-
-// Writes how many copies were made fresh, or where that finds no memory that it didn't. Answers which, and whether the sink
-// took it all.
-fn say_synced<O: Sink>(alloc: Global, out: &mut O, made: u32) -> (Reply, Result<(), SinkFault>)
-    ensures says { Says (Reply.Synced made) result.0 }
-    ensures whole { OnOk result.1 (WhereTold (O.held out.old) (O.held out.new) (λ a b. b ≡ a ++ reply_text result.0)) }
-    ensures front { OnErr result.1 (WhereTold (O.held out.old) (O.held out.new) (λ a b. WritesFront (reply_text result.0) a b)) }
-    ensures later { O.faults out.old ≤ O.faults out.new }
-    ensures cause { OnErr result.1 (Rose (O.faults out.old) (O.faults out.new)) }
-    ensures well { OnOk result.1 (O.faults out.new ≡ O.faults out.old) }
-{
-    match show_synced(alloc, made) {
-        Ok(line) => (Reply::Synced(made), write_all(out, line.as_bytes())),
+    match line {
+        Ok(text) => (reply, write_all(out, text.as_bytes())),
         Err(Memory) => (
             Reply::Refused(Refusal::Memory),
             write_all(out, memory_text()),
@@ -99,8 +72,8 @@ fn say<O: Sink>(alloc: Global, out: &mut O, answer: Reply) -> (Reply, Result<(),
         Reply::Silent => (Reply::Silent, write_all(out, b"")),
         Reply::Ok => (Reply::Ok, write_all(out, b"ok\n")),
         Reply::Posted => (Reply::Posted, write_all(out, b"posted\n")),
-        Reply::Stepped(turns) => say_stepped(alloc, out, turns),
-        Reply::Synced(made) => say_synced(alloc, out, made),
+        Reply::Stepped(turns) => say_late(out, Reply::Stepped(turns), show_stepped(alloc, turns)),
+        Reply::Synced(made) => say_late(out, Reply::Synced(made), show_synced(alloc, made)),
         Reply::Lines(text) => {
             let wrote = write_all(out, text.as_bytes());
             (Reply::Lines(text), wrote)
@@ -109,7 +82,10 @@ fn say<O: Sink>(alloc: Global, out: &mut O, answer: Reply) -> (Reply, Result<(),
             let wrote = write_all(out, text.as_bytes());
             (Reply::Answers { text, refused }, wrote)
         }
-        Reply::Refused(why) => say_refusal(alloc, out, why),
+        Reply::Refused(why) => {
+            let line = refusal_line(alloc, &why);
+            say_late(out, Reply::Refused(why), line)
+        }
     }
 }
 
@@ -143,8 +119,8 @@ fn with_refusals(refused: u32, reply: &Reply) -> u32
     }
 }
 
-// Writes the reply to a line. Answers how many lines are refused with it, and why the run ends with it, if so.
-fn write_reply<O: Sink>(
+/// Writes the reply to a line. Answers how many lines are refused with it, and why the run ends with it, if so.
+pub fn write_reply<O: Sink>(
     alloc: Global,
     out: &mut O,
     answer: Reply,

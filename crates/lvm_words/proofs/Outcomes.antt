@@ -8,18 +8,20 @@ use Rattle.std.proofs.lemmas.Slice.Eq.{bytes_eq-Decides}
 use Rattle.clap.specs.Kinds.{or_else}
 use Rattle.clap.specs.ValueTests.{accepts}
 use Rattle.clap.specs.Words.{Kinds, Text, fault_of, subcommand_of}
+use Rattle.clap.specs.declared.builder.value_parser.ValueParser.{ValueParser}
+use Rattle.clap.specs.declared.builder.value_parser.ValueParser.TheVariants as parser
 use Rattle.clap.specs.declared.error.kind.ErrorKind.TheVariants as kind
 use Rattle.clap.proofs.OnLiterals.{clap_on_literals}
 use Rattle.lvm_literals.specs.Words.{number_in}
-use Rattle.lvm_language.specs.CommandLine.{is_plain, is_signed, lvm_app, script_app}
-use Rattle.lvm_words.specs.Matched.{job_matched, with_both}
-use Rattle.lvm_words.specs.Words.{IsWithin, gen_of, image_of, work_of, sim_of, with_two}
+use Rattle.lvm_language.specs.CommandLine.{is_plain, is_signed, lvm_app, script_app, weave_app}
+use Rattle.lvm_words.specs.Matched.{job_matched, unsigned_in, with_all, with_both}
+use Rattle.lvm_words.specs.Words.{IsWithin, bounded, gen_of, image_of, work_of, sim_of, weave_by, weave_of, with_five, with_two}
 use Rattle.lvm_words.specs.declared.job.Job.{Job}
 use Rattle.lvm_words.specs.declared.job.Job.TheVariants as job
 use Rattle.lvm_language.specs.declared.fault.WordsFault.{WordsFault}
 use Rattle.lvm_language.specs.declared.fault.WordsFault.TheVariants.{Usage}
 use Rattle.lvm_words.proofs.Digits.{accepted_number, both_true, number_accepted, number_is_plain, number_parts, number_read, plain_parts}
-use Rattle.lvm_language.proofs.Parses.{Numbered, app_for, fails, fails_first, first_parser, gen, image, level, level_more, level_none, level_one, level_two, none_fault, numbered_entered, numbered_fault, script_alone, script_fault, script_more, second_parser, sim, two_kinds, unknown_fault}
+use Rattle.lvm_language.proofs.Parses.{app_for, clients_parser, disks_parser, fails, fails_first, first_parser, five_entered, five_five, five_four, five_kinds, five_more, five_none, five_one, five_three, five_two, gen, image, level, level_more, level_none, level_one, level_two, mib_parser, none_fault, Numbered, numbered_entered, numbered_fault, requests_parser, script_alone, script_fault, script_more, second_parser, seed_parser, sim, two_kinds, unknown_fault, weave_fault}
 
 pub data Outcome (words : List Text) : Type 0 where
   asks : (j : Job) → work_of words ≡ Ok j → IsWithin j → fault_of lvm_app words ≡ [] → job_matched (subcommand_of lvm_app words) ≡ Some j → Outcome words
@@ -40,7 +42,10 @@ script_outcome : (rest : List Text) → list_all is_plain rest ≡ true → Outc
 script_outcome [] plain = asks job.Script refl tt (script_fault [] ∙ ap (λ (k : Kinds). or_else k []) script_alone) script_matched
 script_outcome (a ∷ []) plain = refused refl (behind a [] plain)
 script_outcome (a ∷ b ∷ []) plain = refused refl (behind a (b ∷ []) plain)
-script_outcome (a ∷ b ∷ c ∷ more) plain = refused refl (behind a (b ∷ c ∷ more) plain)
+script_outcome (a ∷ b ∷ c ∷ []) plain = refused refl (behind a (b ∷ c ∷ []) plain)
+script_outcome (a ∷ b ∷ c ∷ d ∷ []) plain = refused refl (behind a (b ∷ c ∷ d ∷ []) plain)
+script_outcome (a ∷ b ∷ c ∷ d ∷ e ∷ []) plain = refused refl (behind a (b ∷ c ∷ d ∷ e ∷ []) plain)
+script_outcome (a ∷ b ∷ c ∷ d ∷ e ∷ f ∷ more) plain = refused refl (behind a (b ∷ c ∷ d ∷ e ∷ f ∷ more) plain)
 
 -- ---- a job with two numbers
 
@@ -212,6 +217,20 @@ pair_outcome j a b plain_a plain_b = go (first_ok j a) (second_ok j b) refl refl
     go false true ok_a ok_b = refused (work_of_pair j a b ∙ no_first j a b plain_a ok_a) (ap fails (fault ∙ ap₂ (λ (x y : Bool). or_else (two_kinds (kinds_of x) (kinds_of y)) []) ok_a ok_b))
     go false false ok_a ok_b = refused (work_of_pair j a b ∙ no_first j a b plain_a ok_a) (ap fails (fault ∙ ap₂ (λ (x y : Bool). or_else (two_kinds (kinds_of x) (kinds_of y)) []) ok_a ok_b))
 
+work_of_more : (j : Numbered) (a b c : Text) (more : List Text) → work_of ((app_for j).top.name ∷ a ∷ b ∷ c ∷ more) ≡ Err Usage
+work_of_more sim a b c [] = refl
+work_of_more sim a b c (d ∷ []) = refl
+work_of_more sim a b c (d ∷ e ∷ []) = refl
+work_of_more sim a b c (d ∷ e ∷ f ∷ more) = refl
+work_of_more gen a b c [] = refl
+work_of_more gen a b c (d ∷ []) = refl
+work_of_more gen a b c (d ∷ e ∷ []) = refl
+work_of_more gen a b c (d ∷ e ∷ f ∷ more) = refl
+work_of_more image a b c [] = refl
+work_of_more image a b c (d ∷ []) = refl
+work_of_more image a b c (d ∷ e ∷ []) = refl
+work_of_more image a b c (d ∷ e ∷ f ∷ more) = refl
+
 numbered_outcome : (j : Numbered) (rest : List Text) → list_all is_plain rest ≡ true → Outcome ((app_for j).top.name ∷ rest)
 numbered_outcome j [] plain = refused (work_of_none j) (ap fails (numbered_fault j []) ∙ fails_first (level (app_for j) []) [] (level_none j))
 numbered_outcome j (a ∷ []) plain =
@@ -225,16 +244,184 @@ numbered_outcome j (a ∷ b ∷ c ∷ more) plain =
     let at_a = both_true (is_plain a) (list_all is_plain (b ∷ c ∷ more)) plain in
     let at_b = both_true (is_plain b) (list_all is_plain (c ∷ more)) at_a.1 in
     let at_c = both_true (is_plain c) (list_all is_plain more) at_b.1 in
-    refused refl (ap fails (numbered_fault j (a ∷ b ∷ c ∷ more)) ∙ fails_first (level (app_for j) (a ∷ b ∷ c ∷ more)) [] (level_more j a b c more (plain_parts a at_a.0).0 (plain_parts b at_b.0).0 (plain_parts c at_c.0).0))
+    refused (work_of_more j a b c more) (ap fails (numbered_fault j (a ∷ b ∷ c ∷ more)) ∙ fails_first (level (app_for j) (a ∷ b ∷ c ∷ more)) [] (level_more j a b c more (plain_parts a at_a.0).0 (plain_parts b at_b.0).0 (plain_parts c at_c.0).0))
+
+-- ---- the job with five numbers
+
+abbrev ok_by : ValueParser → Text → Bool
+ok_by how word = accepts false how word
+
+-- a word that is read as a number within its bounds
+record IsRead (low high : ℕ) (word : Text) : Type 0 where
+  pub n : ℕ
+  pub number : number_in word ≡ Some n
+  pub within : bounded low high (number_in word) ≡ Some n
+  pub above : low ≤ n
+  pub below : n ≤ high
+
+is_read : (word : Text) (low high : ℕ) → is_plain word ≡ true → ok_by (parser.Unsigned low high) word ≡ true → IsRead low high word
+is_read word low high plain ok =
+    let it = accepted_number word low high plain ok in
+    record { n = it.0; number = it.1; within = ap (bounded low high) it.1 ∙ rw (le-leb low it.0 it.2, le-leb it.0 high it.3) refl; above = it.2; below = it.3 }
+
+not_read : (word : Text) (low high : ℕ) → is_plain word ≡ true → ok_by (parser.Unsigned low high) word ≡ false → bounded low high (number_in word) ≡ None
+not_read word low high plain never = go (number_in word) refl
+  where
+    go : (x : Option ℕ) → number_in word ≡ x → bounded low high x ≡ None
+    go None is = refl
+    go (Some n) is = fails_test (nat_le low n && nat_le n high) (Some n) None (λ test.
+        let parts = both_true (nat_le low n) (nat_le n high) test in
+        let yes = number_accepted word low high n plain is (leb-true low n parts.0) (leb-true n high parts.1) in absurd (cc))
+
+no_seed : (word : Text) → is_plain word ≡ true → ok_by seed_parser word ≡ false → number_in word ≡ None
+no_seed word plain never = go (number_in word) refl
+  where
+    go : (x : Option ℕ) → number_in word ≡ x → x ≡ None
+    go None is = refl
+    go (Some n) is = let small = (number_parts word n is).small in let yes = number_accepted word 0 (2 ^ 64 - 1) n plain is (omega arith) (omega (arith, small)) in absurd (cc)
+
+no_second_of : (a c d e : Option ℕ) → weave_by a None c d e ≡ Err Usage
+no_second_of None c d e = refl
+no_second_of (Some a) c d e = refl
+
+no_third_of : (a b d e : Option ℕ) → weave_by a b None d e ≡ Err Usage
+no_third_of None b d e = refl
+no_third_of (Some a) None d e = refl
+no_third_of (Some a) (Some b) d e = refl
+
+no_fourth_of : (a b c e : Option ℕ) → weave_by a b c None e ≡ Err Usage
+no_fourth_of None b c e = refl
+no_fourth_of (Some a) None c e = refl
+no_fourth_of (Some a) (Some b) None e = refl
+no_fourth_of (Some a) (Some b) (Some c) e = refl
+
+no_fifth_of : (a b c d : Option ℕ) → weave_by a b c d None ≡ Err Usage
+no_fifth_of None b c d = refl
+no_fifth_of (Some a) None c d = refl
+no_fifth_of (Some a) (Some b) None d = refl
+no_fifth_of (Some a) (Some b) (Some c) None = refl
+no_fifth_of (Some a) (Some b) (Some c) (Some d) = refl
+
+module _ (a b c d e : Text) (plain_a : is_plain a ≡ true) (plain_b : is_plain b ≡ true) (plain_c : is_plain c ≡ true) (plain_d : is_plain d ≡ true) (plain_e : is_plain e ≡ true) where
+  abbrev words : List Text
+  words = codes "weave" ∷ a ∷ b ∷ c ∷ d ∷ e ∷ []
+
+  abbrev five_by : Bool → Bool → Bool → Bool → Bool → Kinds
+  five_by p q r s t = or_else (five_kinds (kinds_of p) (kinds_of q) (kinds_of r) (kinds_of s) (kinds_of t)) []
+
+  abbrev x : Option ℕ
+  x = bounded 1 8 (number_in a)
+
+  abbrev y : Option ℕ
+  y = bounded 8 64 (number_in b)
+
+  abbrev z : Option ℕ
+  z = bounded 1 64 (number_in c)
+
+  abbrev u : Option ℕ
+  u = bounded 0 50000 (number_in d)
+
+  fault : fault_of lvm_app words ≡ five_by (ok_by disks_parser a) (ok_by mib_parser b) (ok_by clients_parser c) (ok_by requests_parser d) (ok_by seed_parser e)
+  fault = weave_fault (a ∷ b ∷ c ∷ d ∷ e ∷ [])
+      ∙ ap (λ (k : Kinds). or_else k []) (five_five a b c d e (plain_parts a plain_a).0 (plain_parts b plain_b).0 (plain_parts c plain_c).0 (plain_parts d plain_d).0 (plain_parts e plain_e).0)
+
+  read_all : (n m k l s : ℕ) → number_in a ≡ Some n → number_in b ≡ Some m → number_in c ≡ Some k → number_in d ≡ Some l → number_in e ≡ Some s
+      → n ≤ 8 → m ≤ 64 → k ≤ 64 → l ≤ 50000 → s ≤ 2 ^ 64 - 1 → job_matched (subcommand_of lvm_app words) ≡ Some (job.Weave n m k l s)
+  read_all n m k l s is_a is_b is_c is_d is_e n_is m_is k_is l_is s_is =
+      ap job_matched (five_entered a b c d e (plain_parts a plain_a).0 (plain_parts b plain_b).0 (plain_parts c plain_c).0 (plain_parts d plain_d).0 (plain_parts e plain_e).0)
+      ∙ ap (λ o. with_all o (unsigned_in 32 b) (unsigned_in 32 c) (unsigned_in 32 d) (unsigned_in 64 e)) (number_read a 16 n plain_a is_a (omega (arith, n_is)))
+      ∙ ap (λ o. with_all (Some n) o (unsigned_in 32 c) (unsigned_in 32 d) (unsigned_in 64 e)) (number_read b 32 m plain_b is_b (omega (arith, m_is)))
+      ∙ ap (λ o. with_all (Some n) (Some m) o (unsigned_in 32 d) (unsigned_in 64 e)) (number_read c 32 k plain_c is_c (omega (arith, k_is)))
+      ∙ ap (λ o. with_all (Some n) (Some m) (Some k) o (unsigned_in 64 e)) (number_read d 32 l plain_d is_d (omega (arith, l_is)))
+      ∙ ap (λ o. with_all (Some n) (Some m) (Some k) (Some l) o) (number_read e 64 s plain_e is_e (omega (arith, s_is)))
+
+  five_outcome : Outcome words
+  five_outcome = go (ok_by disks_parser a) (ok_by mib_parser b) (ok_by clients_parser c) (ok_by requests_parser d) (ok_by seed_parser e) refl refl refl refl refl
+    where
+      go : (p q r s t : Bool) → ok_by disks_parser a ≡ p → ok_by mib_parser b ≡ q → ok_by clients_parser c ≡ r → ok_by requests_parser d ≡ s → ok_by seed_parser e ≡ t → Outcome words
+      go true true true true true ok_a ok_b ok_c ok_d ok_e =
+          let n = is_read a 1 8 plain_a ok_a in
+          let m = is_read b 8 64 plain_b ok_b in
+          let k = is_read c 1 64 plain_c ok_c in
+          let l = is_read d 0 50000 plain_d ok_d in
+          let s = accepted_number e 0 (2 ^ 64 - 1) plain_e ok_e in
+          asks (job.Weave n.n m.n k.n l.n s.0)
+          (rw (n.within, m.within, k.within, l.within, s.1) refl)
+          (n.above, n.below, m.above, m.below, k.above, k.below, l.below)
+          (fault ∙ rw (ok_a, ok_b, ok_c, ok_d, ok_e) refl)
+          (read_all n.n m.n k.n l.n s.0 n.number m.number k.number l.number s.1 n.below m.below k.below l.below s.3)
+      go false q r s t ok_a ok_b ok_c ok_d ok_e =
+          refused (ap (λ o. weave_by o y z u (number_in e)) (not_read a 1 8 plain_a ok_a))
+          (ap fails (fault ∙ ap (λ v. five_by v (ok_by mib_parser b) (ok_by clients_parser c) (ok_by requests_parser d) (ok_by seed_parser e)) ok_a))
+      go true false r s t ok_a ok_b ok_c ok_d ok_e =
+          refused (ap (λ o. weave_by x o z u (number_in e)) (not_read b 8 64 plain_b ok_b) ∙ no_second_of x z u (number_in e))
+          (ap fails (fault ∙ ap₂ (λ v w. five_by v w (ok_by clients_parser c) (ok_by requests_parser d) (ok_by seed_parser e)) ok_a ok_b))
+      go true true false s t ok_a ok_b ok_c ok_d ok_e =
+          refused (ap (λ o. weave_by x y o u (number_in e)) (not_read c 1 64 plain_c ok_c) ∙ no_third_of x y u (number_in e))
+          (ap fails (fault ∙ ap₂ (λ v w. five_by v w (ok_by clients_parser c) (ok_by requests_parser d) (ok_by seed_parser e)) ok_a ok_b
+          ∙ ap (λ v. five_by true true v (ok_by requests_parser d) (ok_by seed_parser e)) ok_c))
+      go true true true false t ok_a ok_b ok_c ok_d ok_e =
+          refused (ap (λ o. weave_by x y z o (number_in e)) (not_read d 0 50000 plain_d ok_d) ∙ no_fourth_of x y z (number_in e))
+          (ap fails (fault ∙ ap₂ (λ v w. five_by v w (ok_by clients_parser c) (ok_by requests_parser d) (ok_by seed_parser e)) ok_a ok_b
+          ∙ ap₂ (λ v w. five_by true true v w (ok_by seed_parser e)) ok_c ok_d))
+      go true true true true false ok_a ok_b ok_c ok_d ok_e =
+          refused (ap (λ o. weave_by x y z u o) (no_seed e plain_e ok_e) ∙ no_fifth_of x y z u)
+          (ap fails (fault ∙ ap₂ (λ v w. five_by v w (ok_by clients_parser c) (ok_by requests_parser d) (ok_by seed_parser e)) ok_a ok_b
+          ∙ ap₂ (λ v w. five_by true true v w (ok_by seed_parser e)) ok_c ok_d ∙ ap (λ v. five_by true true true true v) ok_e))
+
+weave_outcome : (rest : List Text) → list_all is_plain rest ≡ true → Outcome (codes "weave" ∷ rest)
+weave_outcome [] plain = refused refl (ap fails (weave_fault []) ∙ fails_first (level weave_app []) [] five_none)
+weave_outcome (a ∷ []) plain =
+    let p = (plain_parts a (both_true (is_plain a) true plain).0).0 in
+    refused refl (ap fails (weave_fault (a ∷ [])) ∙ fails_first (level weave_app (a ∷ [])) [] (five_one a a a a a p p p p p))
+weave_outcome (a ∷ b ∷ []) plain =
+    let at_a = both_true (is_plain a) (list_all is_plain (b ∷ [])) plain in
+    let p = (plain_parts a at_a.0).0 in
+    let q = (plain_parts b (both_true (is_plain b) true at_a.1).0).0 in
+    refused refl (ap fails (weave_fault (a ∷ b ∷ [])) ∙ fails_first (level weave_app (a ∷ b ∷ [])) [] (five_two a b b b b p q q q q))
+weave_outcome (a ∷ b ∷ c ∷ []) plain =
+    let at_a = both_true (is_plain a) (list_all is_plain (b ∷ c ∷ [])) plain in
+    let at_b = both_true (is_plain b) (list_all is_plain (c ∷ [])) at_a.1 in
+    let p = (plain_parts a at_a.0).0 in
+    let q = (plain_parts b at_b.0).0 in
+    let r = (plain_parts c (both_true (is_plain c) true at_b.1).0).0 in
+    refused refl (ap fails (weave_fault (a ∷ b ∷ c ∷ [])) ∙ fails_first (level weave_app (a ∷ b ∷ c ∷ [])) [] (five_three a b c c c p q r r r))
+weave_outcome (a ∷ b ∷ c ∷ d ∷ []) plain =
+    let at_a = both_true (is_plain a) (list_all is_plain (b ∷ c ∷ d ∷ [])) plain in
+    let at_b = both_true (is_plain b) (list_all is_plain (c ∷ d ∷ [])) at_a.1 in
+    let at_c = both_true (is_plain c) (list_all is_plain (d ∷ [])) at_b.1 in
+    let p = (plain_parts a at_a.0).0 in
+    let q = (plain_parts b at_b.0).0 in
+    let r = (plain_parts c at_c.0).0 in
+    let s = (plain_parts d (both_true (is_plain d) true at_c.1).0).0 in
+    refused refl (ap fails (weave_fault (a ∷ b ∷ c ∷ d ∷ [])) ∙ fails_first (level weave_app (a ∷ b ∷ c ∷ d ∷ [])) [] (five_four a b c d d p q r s s))
+weave_outcome (a ∷ b ∷ c ∷ d ∷ e ∷ []) plain =
+    let at_a = both_true (is_plain a) (list_all is_plain (b ∷ c ∷ d ∷ e ∷ [])) plain in
+    let at_b = both_true (is_plain b) (list_all is_plain (c ∷ d ∷ e ∷ [])) at_a.1 in
+    let at_c = both_true (is_plain c) (list_all is_plain (d ∷ e ∷ [])) at_b.1 in
+    let at_d = both_true (is_plain d) (list_all is_plain (e ∷ [])) at_c.1 in
+    five_outcome a b c d e at_a.0 at_b.0 at_c.0 at_d.0 (both_true (is_plain e) true at_d.1).0
+weave_outcome (a ∷ b ∷ c ∷ d ∷ e ∷ f ∷ more) plain =
+    let at_a = both_true (is_plain a) (list_all is_plain (b ∷ c ∷ d ∷ e ∷ f ∷ more)) plain in
+    let at_b = both_true (is_plain b) (list_all is_plain (c ∷ d ∷ e ∷ f ∷ more)) at_a.1 in
+    let at_c = both_true (is_plain c) (list_all is_plain (d ∷ e ∷ f ∷ more)) at_b.1 in
+    let at_d = both_true (is_plain d) (list_all is_plain (e ∷ f ∷ more)) at_c.1 in
+    let at_e = both_true (is_plain e) (list_all is_plain (f ∷ more)) at_d.1 in
+    let at_f = both_true (is_plain f) (list_all is_plain more) at_e.1 in
+    refused refl (ap fails (weave_fault (a ∷ b ∷ c ∷ d ∷ e ∷ f ∷ more)) ∙ fails_first (level weave_app (a ∷ b ∷ c ∷ d ∷ e ∷ f ∷ more)) []
+    (five_more a b c d e (plain_parts a at_a.0).0 (plain_parts b at_b.0).0 (plain_parts c at_c.0).0 (plain_parts d at_d.0).0 (plain_parts e at_e.0).0 f more (plain_parts f at_f.0).0))
 
 -- ---- any words
 
-unknown_job : (name : Text) (rest : List Text) → bytes_eq name (codes "script") ≡ false → bytes_eq name (codes "sim") ≡ false → bytes_eq name (codes "gen") ≡ false → bytes_eq name (codes "image") ≡ false
-    → work_of (name ∷ rest) ≡ Err Usage
-unknown_job name [] a b c d = rw a refl
-unknown_job name (x ∷ []) a b c d = refl
-unknown_job name (x ∷ y ∷ []) a b c d = rw (b, c, d) refl
-unknown_job name (x ∷ y ∷ z ∷ more) a b c d = refl
+unknown_job : (name : Text) (rest : List Text) → bytes_eq name (codes "script") ≡ false → bytes_eq name (codes "sim") ≡ false → bytes_eq name (codes "gen") ≡ false → bytes_eq name (codes "weave") ≡ false
+    → bytes_eq name (codes "image") ≡ false → work_of (name ∷ rest) ≡ Err Usage
+unknown_job name [] a b c w d = rw a refl
+unknown_job name (x ∷ []) a b c w d = refl
+unknown_job name (x ∷ y ∷ []) a b c w d = rw (b, c, d) refl
+unknown_job name (x ∷ y ∷ z ∷ []) a b c w d = refl
+unknown_job name (x ∷ y ∷ z ∷ u ∷ []) a b c w d = refl
+unknown_job name (x ∷ y ∷ z ∷ u ∷ v ∷ []) a b c w d = rw w refl
+unknown_job name (x ∷ y ∷ z ∷ u ∷ v ∷ t ∷ more) a b c w d = refl
 
 turned : (a b : Text) → bytes_eq a b ≡ false → bytes_eq b a ≡ false
 turned a b differ = go (bytes_eq b a) refl
@@ -245,18 +432,20 @@ turned a b differ = go (bytes_eq b a) refl
 
 pub outcome : (words : List Text) → list_all is_plain words ≡ true → Outcome words
 outcome [] plain = refused refl (ap fails none_fault)
-outcome (name ∷ rest) plain = go (bytes_eq name (codes "script")) (bytes_eq name (codes "sim")) (bytes_eq name (codes "gen")) (bytes_eq name (codes "image")) refl refl refl refl
+outcome (name ∷ rest) plain =
+    go (bytes_eq name (codes "script")) (bytes_eq name (codes "sim")) (bytes_eq name (codes "gen")) (bytes_eq name (codes "weave")) (bytes_eq name (codes "image")) refl refl refl refl refl
   where
     parts : (is_plain name ≡ true) × (list_all is_plain rest ≡ true)
     parts = both_true (is_plain name) (list_all is_plain rest) plain
 
-    go : (p q r s : Bool) → bytes_eq name (codes "script") ≡ p → bytes_eq name (codes "sim") ≡ q → bytes_eq name (codes "gen") ≡ r → bytes_eq name (codes "image") ≡ s → Outcome (name ∷ rest)
-    go true q r s a b c d = subst (λ (n : Text). Outcome (n ∷ rest)) (sym ((bytes_eq-Decides name (codes "script")).0 a)) (script_outcome rest parts.1)
-    go false true r s a b c d = subst (λ (n : Text). Outcome (n ∷ rest)) (sym ((bytes_eq-Decides name (codes "sim")).0 b)) (numbered_outcome sim rest parts.1)
-    go false false true s a b c d = subst (λ (n : Text). Outcome (n ∷ rest)) (sym ((bytes_eq-Decides name (codes "gen")).0 c)) (numbered_outcome gen rest parts.1)
-    go false false false true a b c d = subst (λ (n : Text). Outcome (n ∷ rest)) (sym ((bytes_eq-Decides name (codes "image")).0 d)) (numbered_outcome image rest parts.1)
-    go false false false false a b c d = refused (unknown_job name rest a b c d)
-        (unknown_fault name rest (plain_parts name parts.0).0 (turned name (codes "script") a) (turned name (codes "sim") b) (turned name (codes "gen") c) (turned name (codes "image") d))
+    go : (p q r t s : Bool) → bytes_eq name (codes "script") ≡ p → bytes_eq name (codes "sim") ≡ q → bytes_eq name (codes "gen") ≡ r → bytes_eq name (codes "weave") ≡ t → bytes_eq name (codes "image") ≡ s → Outcome (name ∷ rest)
+    go true q r t s a b c w d = subst (λ (n : Text). Outcome (n ∷ rest)) (sym ((bytes_eq-Decides name (codes "script")).0 a)) (script_outcome rest parts.1)
+    go false true r t s a b c w d = subst (λ (n : Text). Outcome (n ∷ rest)) (sym ((bytes_eq-Decides name (codes "sim")).0 b)) (numbered_outcome sim rest parts.1)
+    go false false true t s a b c w d = subst (λ (n : Text). Outcome (n ∷ rest)) (sym ((bytes_eq-Decides name (codes "gen")).0 c)) (numbered_outcome gen rest parts.1)
+    go false false false true s a b c w d = subst (λ (n : Text). Outcome (n ∷ rest)) (sym ((bytes_eq-Decides name (codes "weave")).0 w)) (weave_outcome rest parts.1)
+    go false false false false true a b c w d = subst (λ (n : Text). Outcome (n ∷ rest)) (sym ((bytes_eq-Decides name (codes "image")).0 d)) (numbered_outcome image rest parts.1)
+    go false false false false false a b c w d = refused (unknown_job name rest a b c w d)
+        (unknown_fault name rest (plain_parts name parts.0).0 (turned name (codes "script") a) (turned name (codes "sim") b) (turned name (codes "gen") c) (turned name (codes "weave") w) (turned name (codes "image") d))
 
 -- ---- words of which some are not plain
 
@@ -271,6 +460,23 @@ numbers_plain j a b mixed = go j (number_in a) (number_in b) refl refl
     go gen (Some n) None is_a is_b = refl
     go image (Some n) None is_a is_b = refl
     go j (Some n) (Some m) is_a is_b = let plain_a = number_is_plain a n is_a in let plain_b = number_is_plain b m is_b in absurd (cc)
+
+five_plain : (a b c d e : Text) → (is_plain a && (is_plain b && (is_plain c && (is_plain d && (is_plain e && true))))) ≡ false → weave_of (number_in a) (number_in b) (number_in c) (number_in d) (number_in e) ≡ Err Usage
+five_plain a b c d e mixed = go (number_in a) (number_in b) (number_in c) (number_in d) (number_in e) refl refl refl refl refl
+  where
+    go : (x y z u v : Option ℕ) → number_in a ≡ x → number_in b ≡ y → number_in c ≡ z → number_in d ≡ u → number_in e ≡ v → weave_of x y z u v ≡ Err Usage
+    go None y z u v is_a is_b is_c is_d is_e = refl
+    go (Some n) None z u v is_a is_b is_c is_d is_e = no_second_of (bounded 1 8 (Some n)) (bounded 1 64 z) (bounded 0 50000 u) v
+    go (Some n) (Some m) None u v is_a is_b is_c is_d is_e = no_third_of (bounded 1 8 (Some n)) (bounded 8 64 (Some m)) (bounded 0 50000 u) v
+    go (Some n) (Some m) (Some k) None v is_a is_b is_c is_d is_e = no_fourth_of (bounded 1 8 (Some n)) (bounded 8 64 (Some m)) (bounded 1 64 (Some k)) v
+    go (Some n) (Some m) (Some k) (Some l) None is_a is_b is_c is_d is_e = no_fifth_of (bounded 1 8 (Some n)) (bounded 8 64 (Some m)) (bounded 1 64 (Some k)) (bounded 0 50000 (Some l))
+    go (Some n) (Some m) (Some k) (Some l) (Some s) is_a is_b is_c is_d is_e =
+        let plain_a = number_is_plain a n is_a in
+        let plain_b = number_is_plain b m is_b in
+        let plain_c = number_is_plain c k is_c in
+        let plain_d = number_is_plain d l is_d in
+        let plain_e = number_is_plain e s is_e in
+        absurd (cc)
 
 pub not_plain : (words : List Text) → list_all is_plain words ≡ false → work_of words ≡ Err Usage
 not_plain [] mixed = absurd (cc)
@@ -291,7 +497,17 @@ not_plain (name ∷ a ∷ b ∷ []) mixed = go (bytes_eq name (codes "sim")) (by
     go false true r is_sim is_gen is_image = rw (is_sim, is_gen) (named gen ((bytes_eq-Decides name (codes "gen")).0 is_gen) refl)
     go false false true is_sim is_gen is_image = rw (is_sim, is_gen, is_image) (named image ((bytes_eq-Decides name (codes "image")).0 is_image) refl)
     go false false false is_sim is_gen is_image = rw (is_sim, is_gen, is_image) refl
-not_plain (name ∷ a ∷ b ∷ c ∷ more) mixed = refl
+not_plain (name ∷ a ∷ b ∷ c ∷ []) mixed = refl
+not_plain (name ∷ a ∷ b ∷ c ∷ d ∷ []) mixed = refl
+not_plain (name ∷ a ∷ b ∷ c ∷ d ∷ e ∷ []) mixed = go (bytes_eq name (codes "weave")) refl
+  where
+    go : (t : Bool) → bytes_eq name (codes "weave") ≡ t → with_five name a b c d e ≡ Err Usage
+    go true is =
+        let here : is_plain name ≡ true = ap is_plain ((bytes_eq-Decides name (codes "weave")).0 is) in
+        let rest : (is_plain a && (is_plain b && (is_plain c && (is_plain d && (is_plain e && true))))) ≡ false = cc in
+        rw is (five_plain a b c d e rest)
+    go false is = rw is refl
+not_plain (name ∷ a ∷ b ∷ c ∷ d ∷ e ∷ f ∷ more) mixed = refl
 
 -- where `clap` finds no fault the job is found, and is what the words ask for
 pub job_found : (words : List Text) → list_all is_plain words ≡ true → fault_of lvm_app words ≡ [] → (found : Option Job) → found ≡ job_matched (subcommand_of lvm_app words) → (j : Job) × (found ≡ Some j) × (work_of words ≡ Ok j) × IsWithin j

@@ -7,11 +7,30 @@ pub enum Job {
     Script,
     /// `sim DISKS MIB`: a script over so many disks of zeros in memory, 1 to 32, each of so many MiB, 1
     /// to 64.
-    Sim { disks: u16, mib: u32 },
+    Sim {
+        disks: u16,
+        mib: u32,
+    },
     /// `gen SEED COUNT`: a script of so many reads and writes, at most 100,000, which are drawn from the seed.
-    Gen { seed: u64, count: u32 },
+    Gen {
+        seed: u64,
+        count: u32,
+    },
+    /// `weave DISKS MIB CLIENTS REQUESTS SEED`: a workload of so many clients, 1 to 64, and so many requests, at most 50,000,
+    /// which are drawn from the seed, over a group of so many disks of zeros in memory, 1 to 8, each of so many MiB, 8 to
+    /// 64.
+    Weave {
+        disks: u16,
+        mib: u32,
+        clients: u32,
+        requests: u32,
+        seed: u64,
+    },
     /// `image N MIB`: a new image file for disk N, 0 to 127, of so many MiB of zeros, 1 to 4,096.
-    Image { disk: u16, mib: u32 },
+    Image {
+        disk: u16,
+        mib: u32,
+    },
     /// `--help`: how the words go.
     Help,
     /// `--version`: which program this is.

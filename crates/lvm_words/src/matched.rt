@@ -1,7 +1,7 @@
 //! The job that `clap` found.
 ghost use Rattle.std.specs.Prelude.{◌≡◌, codes};
 ghost use Rattle.clap.specs.Words.{found_of, rows_of, subcommand_rows_of};
-ghost use Rattle.lvm_words.specs.Matched.{number_at, job_named, job_matched};
+ghost use Rattle.lvm_words.specs.Matched.{number_at, weave_in, job_named, job_matched};
 
 use crate::job::Job;
 use clap::ArgMatches;
@@ -27,11 +27,24 @@ fn seed(found: &ArgMatches<'_>) -> Option<u64>
     found.get_one::<u64>("SEED")
 }
 
-// How many requests are asked for.
-fn requests(found: &ArgMatches<'_>) -> Option<u32>
-    ensures { result ≡ number_at 32 (codes "COUNT") (rows_of (found_of found.now)) }
+// How many requests or clients are asked for.
+fn many(found: &ArgMatches<'_>, id: &str) -> Option<u32>
+    ensures { result ≡ number_at 32 id.now (rows_of (found_of found.now)) }
 {
-    found.get_one::<u32>("COUNT")
+    found.get_one::<u32>(id)
+}
+
+// The workload, with the numbers that were given.
+fn weave(found: &ArgMatches<'_>) -> Option<Job>
+    ensures { result ≡ weave_in (rows_of (found_of found.now)) }
+{
+    Some(Job::Weave {
+        disks: count(found, "DISKS")?,
+        mib: size(found)?,
+        clients: many(found, "CLIENTS")?,
+        requests: many(found, "REQUESTS")?,
+        seed: seed(found)?,
+    })
 }
 
 // The job of this name, with the numbers that were given.
@@ -48,8 +61,10 @@ fn job_named(name: &str, found: &ArgMatches<'_>) -> Option<Job>
     } else if name == "gen" {
         Some(Job::Gen {
             seed: seed(found)?,
-            count: requests(found)?,
+            count: many(found, "COUNT")?,
         })
+    } else if name == "weave" {
+        weave(found)
     } else if name == "image" {
         Some(Job::Image {
             disk: count(found, "N")?,

@@ -1,0 +1,5 @@
+mod Blanks
+mod Commanding
+mod Making
+mod Sim
+mod Woven

@@ -1,0 +1,4 @@
+pub mod Blank
+pub mod Program
+pub mod Sim
+pub mod Woven

@@ -1,0 +1,2 @@
+-- Passed on from `lvm_running`.
+pub use Rattle.lvm_line.specs.passed.Running.{RunsOn}

@@ -1,0 +1,5 @@
+//! What is passed on from the crates below.
+
+pub mod driver;
+pub mod line;
+pub mod stage;
