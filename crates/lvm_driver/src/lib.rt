@@ -4,6 +4,7 @@
 mod closed;
 mod drain;
 mod driver;
+mod dues;
 pub mod laws;
 mod shown;
 mod sound;

@@ -1,10 +1,10 @@
 -- Lines that are being read.
-use Rattle.std.proofs.Common.{◌≡◌, ◌≤◌, ◌++◌, ◌∷◌, [], ℕ, List, Option, Some, None, Ok, Err, false, refl, sym, ◌∙◌, ap, append_assoc}
+use Rattle.std.proofs.Common.{◌≡◌, ◌≤◌, ◌++◌, ◌∷◌, [], ℕ, List, Option, Some, None, Ok, Err, false, length, refl, sym, ◌∙◌, ap, subst, append_assoc}
 use Rattle.lvm_num.specs.declared.Memory.{Memory}
 use Rattle.std.proofs.lemmas.List.{append-nil}
 use Rattle.lvm_io.specs.Stream.{WhereTold}
 use Rattle.lvm_io.specs.Lines.{lines_of, has_feed}
-use Rattle.lvm_io.specs.Reading.{Reading, to_come, lines_left, CountsGiven, TakesLine, TakesLast, NextGives}
+use Rattle.lvm_io.specs.Reading.{Reading, to_come, lines_left, CountsGiven, LeavesFront, TakesLine, TakesLast, NextGives}
 use Rattle.lvm_io.specs.declared.lines.NextLine.{NextLine}
 use Rattle.lvm_io.specs.declared.lines.NextLine.TheVariants as next
 use Rattle.lvm_io.proofs.Feeds.{lines-feed, lines-last}
@@ -74,3 +74,11 @@ last_given first old mid now new (Some before) (Some left) None answer same take
 last_given first old mid now new before left after next.Failed same takes stays ends last = absurd last
 last_given first old mid now new before left after next.TooLong same takes stays ends last = absurd last
 last_given first old mid now new before left after next.Memory same takes stays ends last = absurd last
+
+-- nothing is left of what was read but the front of a line
+pub front_left : (old mid now : Reading) → TakesLine old mid (Ok None) → now ≡ mid → LeavesFront now next.Failed
+front_left old mid now (clean, is) stays = subst (λ (r : Reading). LeavesFront r next.Failed) (sym stays) (clean, ap (λ (r : Reading). r.block) is)
+
+-- that and the block, where nothing was taken
+pub front_stays : (old new : Reading) (want : Memory) → TakesLine old new (Err want) → has_feed old.front ≡ false → length old.block ≤ 65536 → LeavesFront new next.Memory
+front_stays old new want (stays, some) clean few = subst (λ (r : Reading). LeavesFront r next.Memory) (sym stays) (clean, few)

@@ -27,6 +27,14 @@ NextGives old new next.Failed = WhereTold old new (λ a b. b ≡ a)
 NextGives old new next.TooLong = WhereTold old new (λ a b. b ≡ a)
 NextGives old new next.Memory = WhereTold old new (λ a b. (b ≡ a) × (a ≡ [] → ⊥))
 
+-- where a read failed, nothing is left of what was read but the front of a line; where too much was read or no memory was found, that and at most what the last read gave
+abbrev pub LeavesFront : Reading → NextLine → Type 0
+LeavesFront new (next.Line line) = Unit {0}
+LeavesFront new next.End = Unit {0}
+LeavesFront new next.Failed = (has_feed new.front ≡ false) × (new.block ≡ [])
+LeavesFront new next.TooLong = (has_feed new.front ≡ false) × (length new.block ≤ 65536)
+LeavesFront new next.Memory = (has_feed new.front ≡ false) × (length new.block ≤ 65536)
+
 -- a line that has begun counts once
 abbrev pub begun : List ℕ → ℕ
 begun [] = 0

@@ -59,14 +59,14 @@ PostDoes name at count word old new answer = OnVolume name (λ core lv. Posts lv
 
 -- ---- wr and rd
 
--- It is asked for and waited for, and its answers are taken; so much patience is left. Where it ended otherwise than well, that has its cause since it was asked for.
+-- It is asked for and waited for, and its answers are taken; so much patience is left. Where it ended otherwise than well, that has its cause.
 pub record IsFinished (write : Option ℕ) (lv at count : ℕ) (core : Core) (old new : State) (end : Session) (asked : Asked) (done : Result (Unit {0}) RangeFault) : Type 0 where
   pub begun : Core
   pub gives : AskRangeGives write lv at count core begun (Ok asked)
   pub left : ℕ
   pub finishes : FinishGives asked left (session_over old begun) end done
   pub waited : Waited left (session_over old begun) end
-  pub caused : IfErr done (RangeCause left old.moment.device end)
+  pub caused : IfErr done (RangeCause lv left (session_over old core) end)
   pub runs : RunsOn (session_over old core) end
   pub sound : IsSound end
   pub ends : EndsBy done end old.posts old.last new

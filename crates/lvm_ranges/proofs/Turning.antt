@@ -22,6 +22,9 @@ use Rattle.lvm_keeps_events.proofs.Standing.{never_stands_still}
 use Rattle.lvm_running.specs.Running.{RunsOn}
 use Rattle.lvm_running.proofs.Running.{runs_both, runs_none}
 use Rattle.lvm_turn_answers.specs.Telling.{TurnTells, power_by}
+use Rattle.lvm_turn_losses.specs.Losing.{LosesByFaults, LosesVotesByFaults}
+use Rattle.lvm_turn_losses.proofs.Losing.{loses_both, loses_none, turn_loses}
+use Rattle.lvm_turn_losses.proofs.Votes.{votes_go}
 use Rattle.lvm_driver.specs.Drains.{IsAny, LastTurn, NoTurn, ThenMoves, ThenWaits, TurnsWhile}
 use Rattle.lvm_turn_answers.proofs.Stepping.{turn_counts}
 use Rattle.lvm_posts.specs.declared.asked.Asked.{Asked}
@@ -34,9 +37,10 @@ pub record GoesWith (first now : State) : Type 0 where
   pub table : KeepsTable first.core now.core
   pub unstuck : now.core.power ≡ power.Stuck → ⊥
   pub runs : RunsOn first now
+  pub loses : LosesByFaults first now
 
 pub at_first : (first : State) → (first.core.power ≡ power.Stuck → ⊥) → GoesWith first first
-at_first first unstuck = record { table = table_same first.core; unstuck = unstuck; runs = runs_none first }
+at_first first unstuck = record { table = table_same first.core; unstuck = unstuck; runs = runs_none first; loses = loses_none first }
 
 -- no turn leaves a session stuck
 not_stuck : (answer : Turned) → power_by answer ≡ power.Stuck → ⊥
@@ -50,7 +54,12 @@ with_turn first old new answer so_far sound made tells runs = record {
   table = table_then first.core old.core new.core so_far.table (turn_table old new answer sound made);
   unstuck = λ stuck. not_stuck answer (sym tells.power_is ∙ stuck);
   runs = runs_both first old new so_far.runs runs;
+  loses = loses_both first old new so_far.runs.leaves.keeps.counts runs.leaves.keeps.counts so_far.loses (turn_loses old new answer sound made);
 }
+
+-- so the votes go by faults alone
+pub votes_with : (first now : State) → GoesWith first now → LosesVotesByFaults first now
+votes_with first now on = votes_go first now on.runs.leaves.keeps.descriptor on.loses
 
 -- So far turns were made while some piece hadn't landed, and the patience that is gone went with answers that nothing has ended.
 pub record Goes (asked : Asked) (first now : State) (patience left : ℕ) : Type 0 where

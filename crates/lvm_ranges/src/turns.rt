@@ -3,6 +3,7 @@ ghost use Rattle.std.specs.Prelude.{◌≡◌, ◌≤◌, ℕ, List};
 ghost use Rattle.lvm_session.specs.declared.open.Power.TheVariants as power;
 ghost use Rattle.lvm_running.specs.Running.{RunsOn};
 ghost use Rattle.lvm_driver.specs.Answers.{state_of};
+ghost use Rattle.lvm_turn_losses.specs.Losing.{LosesVotesByFaults};
 ghost use Rattle.lvm_ranges.specs.Keeping.{KeepsTable};
 ghost use Rattle.lvm_ranges.specs.Stepping.{StepEnds};
 
@@ -17,6 +18,8 @@ pub fn step<S: Shelf>(driver: &mut Driver<S>, turns: u32) -> (u32, Turned)
     ensures ends { StepEnds turns (state_of S.device driver.old) (state_of S.device driver.new) result.0 result.1 }
     ensures table { KeepsTable driver.old.1 driver.new.1 }
     ensures runs { RunsOn (state_of S.device driver.old) (state_of S.device driver.new) }
+    // The votes go by faults alone.
+    ensures votes { LosesVotesByFaults (state_of S.device driver.old) (state_of S.device driver.new) }
 {
     for moved in 0..turns {
         driver.is_sound();

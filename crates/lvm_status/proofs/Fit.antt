@@ -30,6 +30,19 @@ fit_next d committed wanted flying new writes next known fit same unstarted star
   same = λ is. absurd (cc is);
 }
 
+-- and what is wanted is known to be committed where it is
+pub fit_known : (d : Descriptor) (committed wanted flying : Status) (writes : Writes) (known now : Bool) → IsFit d committed wanted flying writes known → (now ≡ true → wanted ≡ committed)
+    → IsFit d committed wanted flying writes now
+fit_known d committed wanted flying writes known now fit same = record {
+  valid = fit.valid;
+  rows = fit.rows;
+  as_many = fit.as_many;
+  as_many_flying = fit.as_many_flying;
+  unstarted_members = fit.unstarted_members;
+  started_members = fit.started_members;
+  same = same;
+}
+
 -- a disk of what is left of a set is one of the set
 pub stays : (set left : ℕ) (gone : ℕ) → ((disk : ℕ) → has left disk ≡ has set disk && not (disk == gone)) → (disk : ℕ) → has left disk ≡ true → has set disk ≡ true
 stays set left gone is disk among = by_test (has set disk) (disk == gone) (sym (is disk) ∙ among)

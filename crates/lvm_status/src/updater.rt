@@ -107,8 +107,8 @@ impl Updater {
         // The wanted table is a status that a record may state.
         let _ = self.wanted.as_status();
         let there = members_there(&self.group, &self.wanted);
-        self.is_known = false;
         mark_volumes(&mut self.wanted, volumes, there);
+        self.is_known = says_the_same(&self.wanted, &self.committed);
     }
 
     /// Puts what is wanted in flight, under the next stamp, where nothing is in flight and it isn't what is

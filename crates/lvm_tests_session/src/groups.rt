@@ -50,9 +50,9 @@ pub const STALE: Setup = Setup {
     ..MIRROR
 };
 
-pub const MODES: [Mode; 3] = [Mode::Active, Mode::Passive, Mode::Off];
+pub static MODES: [Mode; 3] = [Mode::Active, Mode::Passive, Mode::Off];
 
-pub const POLICIES: [Policy; 4] = [
+pub static POLICIES: [Policy; 4] = [
     Policy::Parallel,
     Policy::Sequential,
     Policy::ParallelWrite,

@@ -1,9 +1,12 @@
 //! What ends a test.
+ghost use Rattle.std.specs.Prelude.{IsTrue};
 
 use std::process::Abort;
 
 /// Ends the test where this isn't so, and says of what.
-pub fn check(rt: &impl Abort, is: bool, what: &str) {
+pub fn check(rt: &impl Abort, is: bool, what: &str)
+    ensures { IsTrue is }
+{
     assert!(rt; is, "{what}");
 }
 

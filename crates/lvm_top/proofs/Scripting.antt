@@ -1,7 +1,7 @@
 -- Runs of lines.
 use Rattle.std.specs.Prelude.{is_some, IsTrue}
 use Rattle.std.specs.List.{list_any}
-use Rattle.std.proofs.Common.{◌≡◌, ◌||◌, inl, inr, ⊎_elim, ◌↔◌, ◌+◌, ◌≤◌, ◌<◌, ℕ, List, [], ◌∷◌, ◌++◌, Option, Some, None, Bool, true, false, if◌then◌else◌, length, refl, sym, ◌∙◌, ap, subst, arith, zero-add, append_assoc}
+use Rattle.std.proofs.Common.{◌≡◌, ◌⊎◌, ◌||◌, inl, inr, ⊎_elim, ◌↔◌, ◌+◌, ◌≤◌, ◌<◌, ℕ, List, [], ◌∷◌, ◌++◌, Option, Some, None, Bool, true, false, if◌then◌else◌, length, refl, sym, ◌∙◌, ap, subst, arith, zero-add, append_assoc}
 use Rattle.std.proofs.lemmas.Bool.{cases_lt}
 use Rattle.std.proofs.lemmas.List.{append-nil}
 use Rattle.std.proofs.lemmas.List.Sums.{sum_by-append}
@@ -23,11 +23,11 @@ use Rattle.lvm_posts.specs.declared.posts.Post.{Post}
 use Rattle.lvm_line.specs.Lines.{IsLine, role_of}
 use Rattle.lvm_line.specs.passed.Stage.{IsRequesting, Role, Aside, OfGroup, OfGroupWhere, OfRequests, reply_text, refusals_of, most_refusals, IsStuck, State}
 use Rattle.lvm_line.specs.passed.Stage.{IsAtRest, IsTimely, StandsBy, Reply}
-use Rattle.lvm_top.specs.Script.{Stream, Passage, Says, Script, NoLine, NextLine, StaysAlone, Ends, AtLine, InLine, EndsAlone, EndsHeard, AreDone, AreAllRead, IsLineLeft, MakeRequests, is_made_late, is_requesting, texts_of, refusals_in, entry_state}
+use Rattle.lvm_top.specs.Script.{Stream, Passage, Says, Script, NoLine, NextLine, StaysAlone, Ends, AtLine, InLine, EndsAlone, EndsHeard, AreDone, AreAllRead, AreDoneBut, ComesBehind, IsLineLeft, MakeRequests, is_made_late, is_requesting, texts_of, refusals_in, entry_state}
 use Rattle.lvm_top.specs.Statuses.{GoesUntil}
 use Rattle.lvm_top.specs.declared.script.Stop.{Stop}
 use Rattle.lvm_top.specs.declared.script.Stop.TheVariants as stop
-use Rattle.lvm_top.specs.Turn.{Wrote, EndsFor, ReadsLine, ReadsNone, Tells}
+use Rattle.lvm_top.specs.Turn.{Wrote, EndsFor, KeepsFront, ReadsLine, ReadsNone, Tells}
 use Rattle.lvm_line.specs.passed.ReplyVariants as reply
 
 -- nothing was read yet
@@ -51,7 +51,7 @@ pub record RunSoFar (log : Log) (room : Room) (first now : State) (reading : Rea
 abbrev pub through : Option (List ℕ) → ℕ → Option (List ℕ) → ℕ → Passage
 through a f b g = record { before = record { content = a; faults = f }; after = record { content = b; faults = g } }
 
-told_then : (x y : Option (List ℕ)) (R S : List ℕ → List ℕ → Type 0) → ((a b : List ℕ) → R a b → S a b) → WhereTold x y R → WhereTold x y S
+pub told_then : (x y : Option (List ℕ)) (R S : List ℕ → List ℕ → Type 0) → ((a b : List ℕ) → R a b → S a b) → WhereTold x y R → WhereTold x y S
 told_then None None R S f one = tt
 told_then (Some a) (Some b) R S f one = f a b one
 told_then None (Some b) R S f one = absurd one
@@ -221,18 +221,35 @@ module _ (log : Log) (room : Room) (first now : State) (reading : Reading) (inpu
       go (Some a) y None read some count = absurd count
       go (Some a) None (Some c) read some count = absurd read
 
+  -- no line that was read is left but for those that end in the last bytes of it
+  kept_front : (most : ℕ) (reading' : Reading) (left' : Option (List ℕ)) (f g h k : ℕ) → KeepsFront most reading reading' (through left f left' g) → CountsGiven reading reading' left left'
+      → AreDoneBut most (lines_so_far (record { content = left'; faults = g }) f h k) (through input f left' g)
+  unfolding lines_so_far
+  kept_front most reading' left' f g h k kept given = go input left left' so_far.read kept.same (all_given reading' left' given)
+    where
+      go : (x y z : Option (List ℕ)) → WhereTold (to_come nothing_read x) (to_come reading y) (λ a b. lines_of a ≡ so_far.lines ++ lines_of b) → WhereTold (to_come reading y) (to_come reading' z) (λ a b. b ≡ a) → WhereTold x z (λ a b. length a + 0 ≡ length b + reading'.given)
+          → WhereTold x z (λ a b. ComesBehind so_far.lines most a b)
+      go None y None read same count = tt
+      go (Some a) (Some b) (Some c) read same count = record { front = reading'.front; block = reading'.block; clean = kept.clean; few = kept.few; whole = read ∙ ap (λ (l : List ℕ). so_far.lines ++ lines_of l) (sym same) }
+      go None y (Some c) read same count = absurd count
+      go (Some a) y None read same count = absurd count
+      go (Some a) None (Some c) read same count = absurd read
+
   -- the run stops between two lines
   pub stops_between :
       (why : Option Stop) (reading' : Reading) (left' : Option (List ℕ)) (f g h k : ℕ) → CountsGiven reading reading' left left' → (why ≡ Some stop.TooLong) ↔ (16777216 < reading'.given) → (why ≡ Some stop.SinkFault → ⊥) → (why ≡ Some stop.Stuck → ⊥)
       → (why ≡ None → WhereTold (to_come reading left) (to_come reading' left') (λ a b. (a ≡ []) × (b ≡ []))) → (why ≡ Some stop.SourceFault → Rose f g) → ((why ≡ Some stop.SourceFault → ⊥) → g ≡ f) → k ≡ h
       → (why ≡ Some stop.Memory → WhereTold (to_come reading left) (to_come reading' left') (λ a b. (b ≡ a) × (a ≡ [] → ⊥)))
+      → (why ≡ Some stop.SourceFault → KeepsFront 0 reading reading' (through left f left' g)) → ((why ≡ Some stop.TooLong) ⊎ (why ≡ Some stop.Memory) → KeepsFront 65536 reading reading' (through left f left' g))
       → GoesUntil why log room first now (through input f left' g) (through before h after k) refused
   unfolding lines_so_far
-  stops_between why reading' left' f g h k given too_long no_sink no_stuck ends source read_well written_well some = record {
+  stops_between why reading' left' f g h k given too_long no_sink no_stuck ends source read_well written_well some behind beyond = record {
     lines = lines_so_far (record { content = left'; faults = g }) f h k;
     whole = λ is. all_read reading' left' f g h k (ends is) given (within (λ long. cc (is, long)));
     between = λ no_sink no_stuck. refl;
     wanting = λ is. line_left reading' left' f g h k (some is) given;
+    behind = λ is. kept_front 0 reading' left' f g h k (behind is) given;
+    beyond = λ cause. kept_front 65536 reading' left' f g h k (beyond cause) given;
     source = source;
     sink = λ is. absurd (no_sink is);
     read_well = read_well;
@@ -270,6 +287,8 @@ module _ (log : Log) (room : Room) (first now : State) (reading : Reading) (inpu
     whole = λ is. absurd (not_end is);
     between = λ no_sink no_stuck. absurd (no_stuck (either no_sink));
     wanting = λ is. absurd (let stuck_too = either (λ sink_too. cc (is, sink_too)) in cc (is, stuck_too));
+    behind = λ is. absurd (no_source is);
+    beyond = λ cause. absurd (⊎_elim not_long (λ is. let stuck_too = either (λ sink_too. cc (is, sink_too)) in cc (is, stuck_too)) cause);
     source = λ is. absurd (no_source is);
     sink = sink;
     read_well = λ no_source. well;
@@ -290,7 +309,7 @@ module _ (log : Log) (room : Room) (first now : State) (reading : Reading) (inpu
   -- none was read
   pub none_read : (why : Option Stop) (reading' : Reading) (left' : Option (List ℕ)) (f g h k : ℕ) → k ≡ h → ReadsNone reading reading' (through left f left' g) why → GoesUntil why log room first now (through input f left' g) (through before h after k) refused
   none_read why reading' left' f g h k same none =
-      stops_between why reading' left' f g h k none.given none.long none.unwritten none.unstuck none.ends none.failed none.well same none.wanting
+      stops_between why reading' left' f g h k none.given none.long none.unwritten none.unstuck none.ends none.failed none.well same none.wanting none.behind none.beyond
 
   -- the run goes on
   pub line_told :
@@ -428,6 +447,11 @@ nothing_done log room first input output none =
 pub nothing_broken : (log : Log) (room : Room) (first : State) (input output : Stream) (none : first.posts ≡ []) → (nothing_done log room first input output none).done ≡ []
 unfolding nothing_done lines_so_far
 nothing_broken log room first input output none = refl
+
+-- nor is a line left of what was read
+pub nothing_left : (log : Log) (room : Room) (first : State) (input output : Stream) (none : first.posts ≡ []) (most : ℕ) → AreDoneBut most (nothing_done log room first input output none) (record { before = input; after = input })
+unfolding nothing_done lines_so_far at_start
+nothing_left log room first input output none most = told_same input.content (λ a b. ComesBehind [] most a b) (λ a. record { front = []; block = []; clean = refl; few = omega arith; whole = refl })
 
 -- nor was anything not heard of
 pub nothing_heard : (log : Log) (room : Room) (first : State) (input output : Stream) (none : first.posts ≡ []) → EndsHeard (nothing_done log room first input output none).ends

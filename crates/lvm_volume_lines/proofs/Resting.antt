@@ -10,7 +10,9 @@ use Rattle.lvm_num.specs.declared.status.Status.{Status}
 use Rattle.lvm_num.specs.declared.status.StatusRow.{StatusRow}
 use Rattle.lvm_num.specs.Disks.{has}
 use Rattle.lvm_disk.specs.Device.{Flight}
+use Rattle.lvm_disk.specs.Counts.{NoneFalls}
 use Rattle.lvm_disk.specs.Paths.{Path, Here, Then}
+use Rattle.lvm_disk.proofs.Rising.{none_falls_at_once, none_falls_on}
 use Rattle.lvm_session.specs.declared.answers.Turned.{Turned}
 use Rattle.lvm_session.specs.declared.answers.Turned.TheVariants as turned
 use Rattle.lvm_session.specs.declared.bringing.OpenCopy.{OpenCopy}
@@ -21,28 +23,40 @@ use Rattle.lvm_session.specs.declared.open.Open.{Open}
 use Rattle.lvm_session.specs.declared.open.Power.TheVariants as power
 use Rattle.lvm_session.specs.State.{Core, State}
 use Rattle.lvm_session.specs.Enabled.{admission_at, data_at, first_event, first_from, first_of, has_buffer, is_lost, is_status_due, landing, landing_at, may_read, may_write, note_at, or_next, parts_to_settle, parts_to_start, pinning_at, same_rows, same_status}
+use Rattle.lvm_session.specs.Judging.{is_missing}
 use Rattle.lvm_session.specs.Sound.{IsSound}
 use Rattle.lvm_session.specs.Turns.{FinishMakes, OnMakes, TurnMakes, WasDark, WasOff, WasOn, Moves, NoStart, Finishes}
 use Rattle.lvm_range_lines.specs.passed.Driver.{IsAny, IsTurn}
+use Rattle.lvm_turn_answers.proofs.Stepping.{turn_counts}
 use Rattle.lvm_keeps_turn.proofs.Turning.{turn_keeps}
+use Rattle.lvm_turn_marks.proofs.Turning.{turn_marks}
+use Rattle.lvm_turn_losses.specs.Losing.{LosesByFaults}
+use Rattle.lvm_turn_losses.proofs.Losing.{loses_both, loses_none, turn_loses}
 use Rattle.lvm_range_lines.proofs.passed.Handover.{none_flown}
 use Rattle.lvm_range_lines.specs.passed.Ranges.{KeepsTable}
 use Rattle.lvm_range_lines.proofs.passed.Ranges.{table_same, table_then, turn_table}
 
 -- ---- the table
 
--- turns leave it sound, with the same requests
+-- turns leave it sound, with the same requests, and make disks missing by faults alone, whose counts never fall, and for good
 pub record TurnsKeep (old new : State) : Type 0 where
   pub sound : IsSound new
   pub table : KeepsTable old.core new.core
+  pub counts : NoneFalls old.device.counts new.device.counts
+  pub loses : LosesByFaults old new
+  pub missing : (disk : ℕ) → is_missing old.core disk ≡ true → is_missing new.core disk ≡ true
 
 pub turns_keep : (old new : State) → IsSound old → Path IsTurn IsAny old new → TurnsKeep old new
-turns_keep old _ sound (Here any) = record { sound = sound; table = table_same old.core }
+turns_keep old _ sound (Here any) = record { sound = sound; table = table_same old.core; counts = none_falls_at_once old.device.counts; loses = loses_none old; missing = λ disk is. is }
 turns_keep old new sound (Then {m = mid} path turn any) =
     let before = turns_keep old mid sound path in
+    let counts = turn_counts mid new turn.0 turn.1 in
     record {
       sound = turn_keeps mid new turn.0 before.sound turn.1;
       table = table_then old.core mid.core new.core before.table (turn_table mid new turn.0 before.sound turn.1);
+      counts = none_falls_on before.counts counts;
+      loses = loses_both old mid new before.counts counts before.loses (turn_loses mid new turn.0 before.sound turn.1);
+      missing = λ disk is. (turn_marks mid new before.sound turn.0 turn.1).missing disk (before.missing disk is);
     }
 
 -- a table without requests stays so

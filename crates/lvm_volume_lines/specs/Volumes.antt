@@ -6,8 +6,10 @@ use Rattle.lvm_disk.specs.Counts.{RoseBy}
 use Rattle.lvm_disk.specs.Device.{IsReady}
 use Rattle.lvm_transfer.specs.Transfer.{Relights}
 use Rattle.lvm_write.specs.Written.{KeepsShelf}
+use Rattle.lvm_session.specs.Judging.{is_missing}
 use Rattle.lvm_session.specs.Sound.{IsSound}
 use Rattle.lvm_session.specs.State.{Core, State as Session, state, is_there}
+use Rattle.lvm_turn_losses.specs.Losing.{LosesVotesByFaults}
 use Rattle.lvm_core.specs.Held.{IsHeld}
 use Rattle.lvm_core.specs.Leaves.{IsOfCommand, KeepsStatus, FindsOnly, Scope}
 use Rattle.lvm_core.specs.Looking.{IsNumberOf, HasNoVolumeNamed}
@@ -96,22 +98,25 @@ IsLeft false left old new = StaysOn left old new
 
 -- ---- before a command
 
--- No request is open. Where the group has a volume turns were made until nothing was left, and so much patience is; else, and at rest, nothing has changed.
+-- No request is open. Where the group has a volume turns were made until nothing was left, and so much patience is; else, and at rest, nothing has changed. A
+-- missing disk stays missing.
 pub record Drains (core : Core) (old : State) (left : ℕ) (mid : Session) : Type 0 where
   pub none : core.requests ≡ []
   pub runs : RunsOn (state old.moment.device core) mid
   pub still : IsAtRest old → mid ≡ state old.moment.device core
   pub empty : core.descriptor.lvs ≡ [] → mid ≡ state old.moment.device core
+  pub missing : (disk : ℕ) → is_missing core disk ≡ true → is_missing mid.core disk ≡ true
   pub sound : IsSound mid
   pub settled : IsSettled mid.core
   pub few : left ≤ patience_of_line
   pub waited : RoseBy (patience_of_line - left) old.moment.device.counts.waits mid.device.counts.waits
 
--- No request is open, and the turns ended before nothing was left, for this.
+-- No request is open, and the turns ended before nothing was left, for this. They lose the votes by faults alone.
 pub record IsUndrained (core : Core) (old new : State) (why : DrainFault) (answer : Reply) : Type 0 where
   pub none : core.requests ≡ []
   pub end : Session
   pub runs : RunsOn (state old.moment.device core) end
+  pub votes : LosesVotesByFaults (state old.moment.device core) end
   pub sound : IsSound end
   pub left : ℕ
   pub fails : FailsSo left end why

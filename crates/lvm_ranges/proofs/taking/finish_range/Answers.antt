@@ -22,7 +22,7 @@ returns-in-Ok g c =
     let waited = c.in-Ok.ensures in
     let took = c.take_range.ensures in
     record {
-      gives = Finished mid waited.turns waited.table took.gives;
+      gives = Finished mid waited.turns waited.table waited.votes took.gives;
       others = others_then c.args.asked.now old.core mid.core new.core waited.table took.others;
       runs = runs_both old mid new waited.runs took.runs;
       costs = TakesBehind mid waited.costs took.gives;
