@@ -7,6 +7,7 @@ mod driver;
 mod dues;
 pub mod laws;
 mod shown;
+mod sound;
 
 pub use closed::Closed;
 pub use drain::DrainFault;

@@ -14,7 +14,7 @@ use Rattle.lvm_status.specs.Update.{Stored}
 use Rattle.lvm_commit.specs.Settling.{HasLostQuorum, there}
 use Rattle.lvm_session.specs.State.{Core, State as Session}
 use Rattle.lvm_session.specs.Judging.{is_missing}
-use Rattle.lvm_line.specs.Causes.{HasCause, HasFailed, HasLost}
+use Rattle.lvm_line.specs.Causes.{HasCause, HasFailed, HasLostMember}
 use Rattle.lvm_write.proofs.Transfers.{rose_then}
 use Rattle.lvm_disk.proofs.Rising.{rose_before}
 use Rattle.lvm_copy_lines.specs.passed.Driver.{DrainFault}
@@ -104,7 +104,7 @@ module _ (read : Result (Option Command) Misfit) (other : IsOther read) (failed 
         by true is = let gone = sym (drains.missing disk is) ∙ second (is_member mid.core.status.group disk) (calls_missing mid.core.status.wanted disk) was in absurd (cc gone)
         by false is = refl
 
-    lost : (have total : ℕ) (last : Stored) → HasLostQuorum mid.core.status last mid.device left.device have total → new.moment.device.counts ≡ left.device.counts → (2 * have ≤ total) × HasLost old new.moment.device.counts
+    lost : (have total : ℕ) (last : Stored) → HasLostQuorum mid.core.status last mid.device left.device have total → new.moment.device.counts ≡ left.device.counts → (2 * have ≤ total) × HasLostMember old new.moment.device.counts
     lost have total last it same = (
       subst (λ (n : ℕ). 2 * have ≤ n) (sym it.total_is) (at_most_half last.group have it.few),
       record {

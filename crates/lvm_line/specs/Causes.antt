@@ -47,7 +47,7 @@ HasFailed (Ok (Some (command.RawWr on at count word))) disk old new = Rose (old.
 HasFailed other disk old new = Rose (old.faults disk) (new.faults disk)
 
 -- a transfer has failed since of a member of the group that was on, which wasn't missing then
-pub record HasLost (old : State) (new : Counts) : Type 0 where
+pub record HasLostMember (old : State) (new : Counts) : Type 0 where
   pub core : Core
   pub on : old.session ≡ Some core
   pub disk : ℕ
@@ -71,7 +71,7 @@ pub record HasFailedInSession (old new : State) : Type 0 where
 
 -- the votes were lost with a transfer that failed in the line, or the turns before the command ended for them, which were lost before the line or so
 abbrev pub WereLost : Refusal → State → State → Type 0
-WereLost why old new = HasLost old new.moment.device.counts ⊎ (WasUndrained why old new × HasFailedInSession old new)
+WereLost why old new = HasLostMember old new.moment.device.counts ⊎ (WasUndrained why old new × HasFailedInSession old new)
 
 -- a transfer has failed in the line; of a disk that isn't on the shelf, which a session can't count, since the session began that was on
 pub record HasFailedAsCounted (old new : State) : Type 0 where

@@ -29,7 +29,7 @@ use Rattle.lvm_driver.specs.Drains.{IsAny, LastTurn, NoTurn, ThenMoves, ThenWait
 use Rattle.lvm_turn_answers.proofs.Stepping.{turn_counts}
 use Rattle.lvm_posts.specs.declared.asked.Asked.{Asked}
 use Rattle.lvm_ranges.specs.Keeping.{KeepsTable}
-use Rattle.lvm_ranges.specs.Landing.{AwaitCosts, HaveLanded, IsUnfinished, TurnsFor}
+use Rattle.lvm_ranges.specs.Landing.{AwaitCosts, HavePiecesLanded, IsUnfinished, TurnsFor}
 use Rattle.lvm_ranges.proofs.Tables.{table_same, table_then, turn_table}
 
 -- what goes on over turns, and over each call
@@ -97,7 +97,7 @@ none_waits (o ∷ os) id all = by (is_waiting o) all.0.landed (none_waits os id 
     by false is rest = rest
 
 -- once a session is over each range has landed
-over_landed : (asked : Asked) (s : State) → IsSound s → IsOver s → HaveLanded asked s
+over_landed : (asked : Asked) (s : State) → IsSound s → IsOver s → HavePiecesLanded asked s
 over_landed asked s sound over k less = sound.told.each (asked.first + k) ∙ none_waits s.core.requests (asked.first + k) over.landed
 
 ends_so : (answer : Turned) → (answer ≡ turned.Dark) ⊎ (answer ≡ turned.Off) → is_last answer ≡ true
@@ -114,7 +114,7 @@ module _ (asked : Asked) (first old new : State) (patience left : ℕ) (so_far :
   pub goes : IsSound old → (answer : Turned) → TurnMakes old new answer → TurnTells old new answer → RunsOn old new → Goes asked first new patience left
   goes sound answer made tells runs = record { turns = path answer made; on = with_turn first old new answer so_far.on sound made tells runs; fewer = so_far.fewer; waited = waited_on answer made }
 
-  pub landed_at_end : IsSound old → (answer : Turned) → TurnMakes old new answer → TurnTells old new answer → (answer ≡ turned.Dark) ⊎ (answer ≡ turned.Off) → HaveLanded asked new
+  pub landed_at_end : IsSound old → (answer : Turned) → TurnMakes old new answer → TurnTells old new answer → (answer ≡ turned.Dark) ⊎ (answer ≡ turned.Off) → HavePiecesLanded asked new
   landed_at_end sound answer made tells ended = let last = ends_so answer ended in over_landed asked new (turn_ends old new answer sound made last).0 (tells.over last)
 
   -- while a piece hasn't landed some transfer is out

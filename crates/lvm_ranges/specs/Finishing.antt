@@ -19,7 +19,7 @@ use Rattle.lvm_posts.specs.declared.asked.Asked.{Asked}
 use Rattle.lvm_posts.specs.declared.fault.RangeFault.{RangeFault}
 use Rattle.lvm_posts.specs.declared.fault.RangeFault.TheVariants as fault
 use Rattle.lvm_ranges.specs.Keeping.{KeepsTable}
-use Rattle.lvm_ranges.specs.Landing.{AwaitCosts, HaveLanded, IsUnfinished, TurnsFor}
+use Rattle.lvm_ranges.specs.Landing.{AwaitCosts, HavePiecesLanded, IsUnfinished, TurnsFor}
 use Rattle.lvm_posts.specs.Deciding.{RangeEnds}
 use Rattle.lvm_ranges.specs.Taking.{Takes}
 
@@ -32,7 +32,7 @@ pub record HasLandedSo (s : State) (id : ℕ) (how : Outcome) : Type 0 where
 
 -- The answers of a range that has landed are taken, and the first that isn't well decides its own; each has its cause.
 pub record TakesRange (asked : Asked) (old new : State) (answer : Result (Unit {0}) RangeFault) : Type 0 where
-  pub landed : HaveLanded asked old
+  pub landed : HavePiecesLanded asked old
   pub shelf : new.device ≡ old.device
   pub takes : Takes asked.first old.core asked.pieces new.core
   pub fewer : length new.core.requests + asked.pieces ≡ length old.core.requests

@@ -8,8 +8,8 @@ use Rattle.lvm_posts.specs.declared.asked.Asked.{Asked}
 use Rattle.lvm_ranges.specs.declared.landing.Stuck.{Stuck}
 
 -- each of its pieces has landed
-abbrev pub HaveLanded : Asked → State → Type 0
-HaveLanded asked s = (k : ℕ) → k < asked.pieces → is_open s.core.history.facts (asked.first + k) ≡ false
+abbrev pub HavePiecesLanded : Asked → State → Type 0
+HavePiecesLanded asked s = (k : ℕ) → k < asked.pieces → is_open s.core.history.facts (asked.first + k) ≡ false
 
 -- some piece hasn't
 pub record IsUnfinished (asked : Asked) (s : State) : Type 0 where
@@ -23,7 +23,7 @@ TurnsFor asked old new = IsUnfinished asked old × IsTurn old new
 
 -- All pieces have landed; or some hasn't, and the patience has run out.
 abbrev pub AwaitEnds : Asked → ℕ → State → Result (Unit {0}) Stuck → Type 0
-AwaitEnds asked left new (Ok done) = HaveLanded asked new
+AwaitEnds asked left new (Ok done) = HavePiecesLanded asked new
 AwaitEnds asked left new (Err stuck) = IsUnfinished asked new × (left ≡ 0)
 
 -- The turns are those while some piece hasn't landed, each that waits for one of the patience, and perhaps a last one with which the session is over.

@@ -9,9 +9,8 @@ ghost use Rattle.lvm_turn_losses.specs.Losing.{LosesVotesByFaults};
 ghost use Rattle.lvm_driver.specs.Drains.{IsAny};
 ghost use Rattle.lvm_posts.specs.Pieces.{IsLaidOut};
 ghost use Rattle.lvm_ranges.specs.Keeping.{KeepsTable};
-ghost use Rattle.lvm_ranges.specs.Landing.{AwaitCosts, AwaitEnds, HaveLanded, IsUnfinished, TurnsFor};
+ghost use Rattle.lvm_ranges.specs.Landing.{AwaitCosts, AwaitEnds, HavePiecesLanded, IsUnfinished, TurnsFor};
 
-use crate::sound::is_sound;
 use lvm_disk::Shelf;
 use lvm_driver::Driver;
 use lvm_posts::Asked;
@@ -26,7 +25,7 @@ pub struct Stuck;
 fn is_unfinished<S: Shelf>(driver: &Driver<S>, asked: &Asked) -> bool
     requires laid { IsLaidOut asked.now }
     ensures open { result ≡ true → IsUnfinished asked.now (state_of S.device driver.now) }
-    ensures landed { result ≡ false → HaveLanded asked.now (state_of S.device driver.now) }
+    ensures landed { result ≡ false → HavePiecesLanded asked.now (state_of S.device driver.now) }
 {
     for piece in 0..asked.pieces {
         if driver.is_open(asked.first + u64::from(piece)) {
@@ -61,7 +60,7 @@ pub fn await_range<S: Shelf>(
         if patience.left == 0 {
             return Err(Stuck);
         }
-        is_sound(driver);
+        driver.is_sound();
         match driver.turn() {
             Turned::Moved => {}
             Turned::Idle => patience.left -= 1,

@@ -7,7 +7,6 @@ ghost use Rattle.lvm_turn_losses.specs.Losing.{LosesVotesByFaults};
 ghost use Rattle.lvm_ranges.specs.Keeping.{KeepsTable};
 ghost use Rattle.lvm_ranges.specs.Stepping.{StepEnds};
 
-use crate::sound::is_sound;
 use lvm_disk::Shelf;
 use lvm_driver::Driver;
 use lvm_session::Turned;
@@ -23,7 +22,7 @@ pub fn step<S: Shelf>(driver: &mut Driver<S>, turns: u32) -> (u32, Turned)
     ensures votes { LosesVotesByFaults (state_of S.device driver.old) (state_of S.device driver.new) }
 {
     for moved in 0..turns {
-        is_sound(driver);
+        driver.is_sound();
         match driver.turn() {
             Turned::Moved => {}
             how => return (moved, how),

@@ -1,23 +1,15 @@
 -- What is true of an updater's tables and sets stays so.
-use Rattle.std.proofs.Common.{◌≡◌, ℕ, Bool, true, false, ◌&&◌, ◌||◌, not, List, [], ◌∷◌, length, map, refl, sym, ap, ◌∙◌, arith}
+use Rattle.std.proofs.Common.{◌≡◌, ℕ, Bool, true, false, ◌&&◌, not, length, refl, sym, ap, ◌∙◌, arith}
 use Rattle.std.specs.Prelude.{◌==◌}
-use Rattle.std.specs.List.{list_any}
 use Rattle.std.proofs.lemmas.List.{length-map}
 use Rattle.lvm_num.specs.declared.descriptor.Descriptor.{Descriptor}
 use Rattle.lvm_num.specs.declared.status.StatusRow.{StatusRow}
 use Rattle.lvm_num.specs.declared.status.Status.{Status}
 use Rattle.lvm_num.specs.Disks.{has}
-use Rattle.lvm_stale.specs.Table.{has_row, SameMembers}
+use Rattle.lvm_stale.specs.Table.{SameMembers}
+use Rattle.lvm_left.proofs.MarkLemmas.{has_row-same}
 use Rattle.lvm_status.specs.declared.writes.Writes.{Writes}
 use Rattle.lvm_status.specs.Members.{IsFit}
-
-any_disk : (rows : List StatusRow) (disk : ℕ) → list_any (λ (row : StatusRow). row.disk == disk) rows ≡ list_any (λ n. n == disk) (map (λ (row : StatusRow). row.disk) rows)
-any_disk [] disk = refl
-any_disk (row ∷ rows) disk = ap (λ b. row.disk == disk || b) (any_disk rows disk)
-
-pub has_row-same : (old new : Status) → SameMembers old new → (disk : ℕ) → has_row new disk ≡ has_row old disk
-has_row-same old new same disk =
-    any_disk new.rows disk ∙ ap (λ disks. list_any (λ n. n == disk) disks) same.disks ∙ sym (any_disk old.rows disk)
 
 pub as_many : (old new : Status) → SameMembers old new → length new.rows ≡ length old.rows
 as_many old new same =

@@ -3,5 +3,3 @@
 
 #[cfg(test)]
 mod commit;
-#[cfg(test)]
-mod fixtures;

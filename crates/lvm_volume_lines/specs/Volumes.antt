@@ -12,7 +12,7 @@ use Rattle.lvm_session.specs.State.{Core, State as Session, state, is_there}
 use Rattle.lvm_turn_losses.specs.Losing.{LosesVotesByFaults}
 use Rattle.lvm_core.specs.Held.{IsHeld}
 use Rattle.lvm_core.specs.Leaves.{IsOfCommand, KeepsStatus, FindsOnly, Scope}
-use Rattle.lvm_core.specs.Looking.{IsNumberOf, HasNoVolume}
+use Rattle.lvm_core.specs.Looking.{IsNumberOf, HasNoVolumeNamed}
 use Rattle.lvm_core.specs.Settled.{IsSettled}
 use Rattle.lvm_range_lines.specs.passed.Driver.{DrainFault, FailsSo}
 use Rattle.lvm_range_lines.specs.passed.DrainFaultVariants as drain_fault
@@ -172,7 +172,7 @@ pub data RmlvDoes (name : List ℕ) (old new : State) (answer : Reply) : Type 0 
   NoGroupForRmlv : old.session ≡ None → IsRefused refusal.NoGroup answer old new → RmlvDoes name old new answer
   BusyRmlv : 1 ≤ open_in old.session → IsRefused refusal.Busy answer old new → RmlvDoes name old new answer
   UndrainedRmlv : (core : Core) (why : DrainFault) → old.session ≡ Some core → IsUndrained core old new why answer → RmlvDoes name old new answer
-  NoVolumeForRmlv : (core : Core) (left : ℕ) (mid : Session) → old.session ≡ Some core → Drains core old left mid → HasNoVolume mid.core.descriptor.lvs name → StaysOn mid old new → new.last ≡ old.last
+  NoVolumeForRmlv : (core : Core) (left : ℕ) (mid : Session) → old.session ≡ Some core → Drains core old left mid → HasNoVolumeNamed mid.core.descriptor.lvs name → StaysOn mid old new → new.last ≡ old.last
       → answer ≡ reply.Refused refusal.NoVolume → RmlvDoes name old new answer
   RemovesVolume : (core : Core) (left : ℕ) (mid : Session) (lv : ℕ) → old.session ≡ Some core → Drains core old left mid → IsNumberOf mid.core.descriptor.lvs name lv → RmlvEnds lv (Ok tt) false left mid old new
       → answer ≡ reply.Ok → RmlvDoes name old new answer
