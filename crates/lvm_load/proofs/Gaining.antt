@@ -202,8 +202,7 @@ draws_gain lv blocks first n more new NoneDrawn = (0, gains_none (facts_in first
 draws_gain lv blocks first n more new (OneDrawn {n = m} {old = old} before named k goes names asks rng idle) =
     let so_far = draws_gain lv blocks first m true old before in
     let passes = subst (λ (w : Weaving). Gains 0 (facts_in old) (facts_in w)) (sym names.is) (passes_gain old names.mid names.passes) in
-    let begins = submit_gains named.session.core new.session.core (k + 1) _ _ asks.answer asks.submits in
-    (
+    let begins = submit_gains named.session.core new.session.core (k + 1) _ _ asks.answer asks.submits in (
       (so_far.0 + 0) + taken_one asks.answer,
       gains_then (so_far.0 + 0) (taken_one asks.answer) (facts_in first) (facts_in named) (facts_in new) (gains_then so_far.0 0 (facts_in first) (facts_in old) (facts_in named) so_far.1 passes) begins,
     )

@@ -25,10 +25,8 @@ returns-clause-drawn g c =
     let last = state_of device c.weave-woven.new.driver in
     let end = state_of device c.behind.new.driver in
     let load = c.args.load.now in
-    let told : c.totals_since-totals.result ≡ totals_of load.requests (entries_since (length first.core.history.facts) end.core.history.facts) =
-        c.totals_since-totals.ensures
-        ∙ ap₂ (λ (n : ℕ) (l : Log). totals_of load.requests (entries_since n l.facts)) (c.len-from.ensures ∙ ap (λ (l : Log). length l.facts) c.history.ensures) c.history-2.ensures
-    in
+    let since = ap₂ (λ (n : ℕ) (l : Log). totals_of load.requests (entries_since n l.facts)) (c.len-from.ensures ∙ ap (λ (l : Log). length l.facts) c.history.ensures) c.history-2.ensures in
+    let told : c.totals_since-totals.result ≡ totals_of load.requests (entries_since (length first.core.history.facts) end.core.history.facts) = c.totals_since-totals.ensures ∙ since in
     let facts = ap (λ (l : Log). l.facts) c.close_ended.ensures.history in
     record {
       last = last;
