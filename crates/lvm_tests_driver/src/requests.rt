@@ -1,5 +1,5 @@
 //! Requests that nothing disturbs, and how many may be under way.
-use crate::fixtures::{MIRROR, MODES, POLICIES, Setup, begin, check, close, write};
+use crate::fixtures::{MIRROR, MODES, POLICIES, Setup, begin, check, write};
 use crate::steps::{Step, break_off, does, play_out};
 use lvm_disk::Shelf;
 use lvm_num::Mode;
