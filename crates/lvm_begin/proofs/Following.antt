@@ -30,7 +30,8 @@ use Rattle.lvm_begin.specs.Ends.{BothFlip}
 use Rattle.lvm_begin.specs.Shown.{TargetsSpareNewest, OthersSpareNewest, RangesAreOfRecords, StampsAreOfBeginning}
 use Rattle.lvm_begin.proofs.Places.{beside_descriptors, beside_statuses, on_target}
 use Rattle.lvm_begin.proofs.Shown.{media_by}
-use Rattle.lvm_begin.proofs.Slots.{slot_for_same, other_comes_next}
+use Rattle.lvm_rec.proofs.NextLemmas.{slot_for_same}
+use Rattle.lvm_begin.proofs.Slots.{other_comes_next}
 
 -- ---- slots
 

@@ -7,23 +7,12 @@ use Rattle.lvm_num.specs.declared.record.Kind.TheVariants as kind
 use Rattle.lvm_num.specs.declared.record.Framed.{Framed}
 use Rattle.lvm_num.specs.declared.record.Stamp.{Stamp}
 use Rattle.lvm_num.specs.Record.{Stamped, slot_start, slot_size, stamp_lt, newer}
-use Rattle.lvm_num.specs.Torn.{Sectors}
 use Rattle.lvm_num.proofs.Records.{joined-same}
 use Rattle.lvm_num.proofs.Torn.{whole_is_read, sectors-fit}
 use Rattle.lvm_rec.specs.Slots.{read_under, held, slot_of, slot_to_write, slot_for}
 use Rattle.lvm_disk.specs.Device.{Image}
 use Rattle.lvm_kept.specs.Plans.{ChangesBy}
 use Rattle.lvm_kept.specs.Torn.{RecordWrite, IsOtherOrRecord, MayWriteAll, StandsOn, written as as_read}
-
--- ---- no write
-
--- where the sectors of both slots are the same, so is the slot that comes next
-pub slot_for_same : {X : Type 0} (content_of : List ℕ → Result X ℕ) (kind : Kind) (old new : Sectors)
-    → ((slot s : ℕ) → slot < 2 → slot_start kind slot ≤ s → s < slot_start kind slot + slot_size kind → new s ≡ old s) → slot_for content_of kind new ≡ slot_for content_of kind old
-slot_for_same content_of kind old new same =
-    let first : slot_of kind 0 new ≡ slot_of kind 0 old = joined-same new old (slot_start kind 0) (slot_size kind) (λ s from to. same 0 s (omega arith) from to) in
-    let second : slot_of kind 1 new ≡ slot_of kind 1 old = joined-same new old (slot_start kind 1) (slot_size kind) (λ s from to. same 1 s (omega arith) from to) in
-    λ t. slot_to_write (held content_of kind (first t)) (held content_of kind (second t))
 
 -- ---- a write
 

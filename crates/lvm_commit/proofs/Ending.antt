@@ -13,7 +13,7 @@ use Rattle.lvm_num.specs.Votes.{votes_in, is_enough_to_write, CanWrite}
 use Rattle.lvm_num.proofs.VotesLemmas.{more_is_enough, more_have_more}
 use Rattle.lvm_status.specs.Update.{Updates, no_disks, without_disk, is_there, is_held, is_owed}
 use Rattle.lvm_status.specs.Calls.{WantsAtEnd, closed, comes_held, with_start, with_end, with_commit, after_end}
-use Rattle.lvm_status.specs.Runs.{NextWrite, Ended, IsSound}
+use Rattle.lvm_status.specs.Runs.{NextWrite, Ended, IsSoundStatus}
 use Rattle.lvm_status.proofs.Disks.{no_is_false}
 use Rattle.lvm_status.proofs.Sessions.{without_update, closed_cases, commit_cases}
 use Rattle.lvm_status.proofs.Sound.{and_left, and_right, or_left, neither, none_held, owed_at, steps_stay_sound}
@@ -159,7 +159,7 @@ well_on first failed d = is_there first d && not (failed d)
 
 -- Some of the writes have ended: those of disks that are still unstarted haven't.
 pub record IsEnding (first : Updates) (failed : Disks) (u : Updates) : Type 0 where
-  pub sound : IsSound (committing first.wanted u)
+  pub sound : IsSoundStatus (committing first.wanted u)
   pub group : u.group ≡ first.group
   pub stamp : u.stamp ≡ first.stamp
   pub started : (d : ℕ) → u.started d ≡ false
@@ -281,7 +281,7 @@ module _ (first : Updates) (failed : Disks) where
     pub ending_next : (x : Updates) → WantsAtEnd disk ok v.wanted x.wanted → x ≡ after_end v disk ok x.wanted → IsEnding first failed x
     ending_next x wants ends =
         let it : EndsAs first.wanted v disk x = ends_as x ends in
-        let started : IsSound (committing first.wanted v) = steps_stay_sound (NextWrite disk) (committing first.wanted u) (committing first.wanted v) ending.sound (lowest, refl) in
+        let started : IsSoundStatus (committing first.wanted v) = steps_stay_sound (NextWrite disk) (committing first.wanted u) (committing first.wanted v) ending.sound (lowest, refl) in
         let out : v.started disk ≡ true = ap (λ b. b || disk == disk) (ending.started disk) ∙ eq-eqb disk disk refl in
         record {
           sound = steps_stay_sound (Ended disk ok) (committing first.wanted v) (committing first.wanted x) started (out, wants, ap (committing first.wanted) ends ∙ end_committing first.wanted v disk ok x.wanted flies);

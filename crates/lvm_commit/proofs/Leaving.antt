@@ -28,7 +28,7 @@ use Rattle.lvm_steps.proofs.Booleans.{either, clash, second}
 use Rattle.lvm_homes.specs.declared.homes.Homes.{Homes}
 use Rattle.lvm_write.proofs.Writing.{if_told, told_at}
 use Rattle.lvm_commit.specs.Committed.{MayMark, HoldsCommitted}
-use Rattle.lvm_commit.specs.Settling.{there, IsForgotten, IsOf, SessionIsHeld, WantsMarks, IsPassed, MarksLeft}
+use Rattle.lvm_commit.specs.Settling.{there, IsForgotten, IsOf, SessionIsHeld, WantsMarks, IsPassedOver, MarksLeft}
 use Rattle.lvm_commit.specs.Rounds.{Misses, LosesMembers, HasMarked, MarksRound, CommitsRound, IsByVotes}
 use Rattle.lvm_commit.specs.declared.commit.CommitEnd.{CommitEnd}
 use Rattle.lvm_commit.specs.declared.commit.CommitEnd.TheVariants as commit_end
@@ -250,14 +250,8 @@ module _ (d : Descriptor) (first last : Stored) (valid : IsValid d) (round : Mar
     only = λ p stale. ⊎_elim
         (λ before. inl before)
         (λ left. let q = other_of p left left.row left.left.lp left.volume left.left.left.one in inr (record {
-          row = left.row;
-          lp = left.left.lp;
-          volume = left.volume;
-          inside = left.left.below;
-          one = left.left.left.one;
+          its = record { row = left.row; lp = left.left.lp; volume = left.volume; inside = left.left.below; one = left.left.left.one; other = q.0; among = q.1 };
           absent = left.left.left.absent;
-          other = q.0;
-          among = q.1;
           fresh = q.2;
           was_there = less q.0.disk q.3;
         }))
@@ -269,59 +263,36 @@ pub left_same_as : (d : Descriptor) (u : Stored) → MarksLeft d u u
 left_same_as d u = record { none = λ none. none; only = λ p stale. inl stale }
 
 -- a copy passed over since later was so since earlier too, where what was there later was there earlier
-pub passed_before : (d : Descriptor) (first mid last : Stored) (p : Pp) → ((e : ℕ) → IsTrue (there mid e) → IsTrue (there first e)) → IsPassed d mid last p → IsPassed d first last p
-passed_before d first mid last p less is = record {
-  row = is.row;
-  lp = is.lp;
-  volume = is.volume;
-  inside = is.inside;
-  one = is.one;
-  absent = is.absent;
-  other = is.other;
-  among = is.among;
-  fresh = is.fresh;
-  was_there = less is.other.disk is.was_there;
-}
+pub passed_before : (d : Descriptor) (first mid last : Stored) (p : Pp) → ((e : ℕ) → IsTrue (there mid e) → IsTrue (there first e)) → IsPassedOver d mid last p → IsPassedOver d first last p
+passed_before d first mid last p less is = record { its = is.its; absent = is.absent; fresh = is.fresh; was_there = less is.its.other.disk is.was_there }
 
 pub left_then : (d : Descriptor) (first mid last : Stored) → IsValid d → ((e : ℕ) → IsTrue (there mid e) → IsTrue (there first e)) → ((e : ℕ) → IsTrue (there last e) → IsTrue (there mid e)) → MarksLeft d first mid → MarksLeft d mid last → MarksLeft d first last
 left_then d first mid last valid less fewer one two = record {
   none = λ none. two.none (one.none none);
-  only = λ p stale. ⊎_elim (λ before. ⊎_elim (λ first_so. inl first_so) (λ (is : IsPassed d first mid p). inr (passed_still p is)) (one.only p before)) (λ (is : IsPassed d mid last p). inr (passed_before d first mid last p less is)) (two.only p stale);
+  only = λ p stale. ⊎_elim (λ before. ⊎_elim (λ first_so. inl first_so) (λ (is : IsPassedOver d first mid p). inr (passed_still p is)) (one.only p before)) (λ (is : IsPassedOver d mid last p). inr (passed_before d first mid last p less is)) (two.only p stale);
 }
   where
     gone_still : (p : Pp) → IsFalse (there mid p.disk) → IsFalse (there last p.disk)
     gone_still p gone = ⊎_elim (λ on. absurd (clash (there mid p.disk) (fewer p.disk on) gone)) (λ off. off) (either (there last p.disk))
 
     -- its other copy serves still, or is left behind too, and so has another one
-    passed_still : (p : Pp) → IsPassed d first mid p → IsPassed d first last p
+    passed_still : (p : Pp) → IsPassedOver d first mid p → IsPassedOver d first last p
     passed_still p is = ⊎_elim
-        (λ (stale : calls_stale last.wanted is.other ≡ true). ⊎_elim
-        (λ before. absurd (clash (calls_stale mid.wanted is.other) before is.fresh))
-        (λ (next : IsPassed d mid last is.other).
-        let place = one_place d is.row next.row is.lp next.lp is.other valid is.volume next.volume is.among next.one in
+        (λ (stale : calls_stale last.wanted is.its.other ≡ true). ⊎_elim
+        (λ before. absurd (clash (calls_stale mid.wanted is.its.other) before is.fresh))
+        (λ (next : IsPassedOver d mid last is.its.other).
+        let its = is.its in
+        let more = next.its in
+        let place = one_place d its.row more.row its.lp more.lp its.other valid its.volume more.volume its.among more.one in
         record {
-          row = is.row;
-          lp = is.lp;
-          volume = is.volume;
-          inside = is.inside;
-          one = is.one;
+          its = record its {
+            other = more.other;
+            among = subst (λ (r : LvRow). IsOneOf (copies_of r its.lp) more.other) (sym place.row_is) (subst (λ (n : ℕ). IsOneOf (copies_of more.row n) more.other) (sym place.lp_is) more.among);
+          };
           absent = gone_still p is.absent;
-          other = next.other;
-          among = subst (λ (r : LvRow). IsOneOf (copies_of r is.lp) next.other) (sym place.row_is) (subst (λ (n : ℕ). IsOneOf (copies_of next.row n) next.other) (sym place.lp_is) next.among);
           fresh = next.fresh;
-          was_there = less next.other.disk next.was_there;
+          was_there = less more.other.disk next.was_there;
         })
-        (two.only is.other stale))
-        (λ (fresh : calls_stale last.wanted is.other ≡ false). record {
-          row = is.row;
-          lp = is.lp;
-          volume = is.volume;
-          inside = is.inside;
-          one = is.one;
-          absent = gone_still p is.absent;
-          other = is.other;
-          among = is.among;
-          fresh = fresh;
-          was_there = is.was_there;
-        })
-        (either (calls_stale last.wanted is.other))
+        (two.only is.its.other stale))
+        (λ (fresh : calls_stale last.wanted is.its.other ≡ false). record { its = is.its; absent = gone_still p is.absent; fresh = fresh; was_there = is.was_there })
+        (either (calls_stale last.wanted is.its.other))

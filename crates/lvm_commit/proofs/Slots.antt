@@ -11,7 +11,8 @@ use Rattle.lvm_num.specs.Torn.{Sectors}
 use Rattle.lvm_num.proofs.Fresh.{before_is_older}
 use Rattle.lvm_num.proofs.Records.{joined-same}
 use Rattle.lvm_num.proofs.Torn.{whole_is_read, sectors-fit}
-use Rattle.lvm_rec.specs.Slots.{read_under, held, slot_of, slot_to_write, slot_for, RecordWrite, IsTornWrite, StandsOn, BothBefore, written_as}
+use Rattle.lvm_rec.specs.Slots.{read_under, held, slot_of, slot_to_write, slot_for, SlotWrite, IsTornWrite, StandsIn, BothBefore, written_as}
+use Rattle.lvm_rec.proofs.NextLemmas.{slot_for_same}
 use Rattle.lvm_rec.proofs.SlotLaws.{slots-apart, held-record}
 
 -- ---- of two records
@@ -31,15 +32,7 @@ then_first n (Some y) later = ap (λ (t : Bool). if t then 0 else 1) (later y re
 
 -- ---- of a disk
 
--- where the sectors of both slots are the same, so is the slot that comes next
-pub slot_for_same : {X : Type 0} (content_of : List ℕ → Result X ℕ) (kind : Kind) (old new : Sectors)
-    → ((slot s : ℕ) → slot < 2 → slot_start kind slot ≤ s → s < slot_start kind slot + slot_size kind → new s ≡ old s) → slot_for content_of kind new ≡ slot_for content_of kind old
-slot_for_same content_of kind old new same =
-    let first : slot_of kind 0 new ≡ slot_of kind 0 old = joined-same new old (slot_start kind 0) (slot_size kind) (λ s from to. same 0 s (omega arith) from to) in
-    let second : slot_of kind 1 new ≡ slot_of kind 1 old = joined-same new old (slot_start kind 1) (slot_size kind) (λ s from to. same 1 s (omega arith) from to) in
-    λ t. slot_to_write (held content_of kind (first t)) (held content_of kind (second t))
-
-module _ (w : RecordWrite) (old new : Sectors) (frames : Frames w.kind w.framed) (two : w.slot < 2) (torn : IsTornWrite w old new) where
+module _ (w : SlotWrite) (old new : Sectors) (frames : Frames w.kind w.framed) (two : w.slot < 2) (torn : IsTornWrite w old new) where
   -- a sector of a slot that isn't written
   other_sector : (kind : Kind) (slot s : ℕ) → slot < 2 → (kind ≡ w.kind → ⊥) ⊎ (slot ≡ w.slot → ⊥) → slot_start kind slot ≤ s → s < slot_start kind slot + slot_size kind → new s ≡ old s
   other_sector kind slot s lt differ from to = ⊎_elim
@@ -55,7 +48,7 @@ module _ (w : RecordWrite) (old new : Sectors) (frames : Frames w.kind w.framed)
   pub other_kind : {X : Type 0} (content_of : List ℕ → Result X ℕ) (kind : Kind) → (kind ≡ w.kind → ⊥) → slot_for content_of kind new ≡ slot_for content_of kind old
   other_kind content_of kind differ = slot_for_same content_of kind old new (λ slot s lt from to. other_sector kind slot s lt (inl differ) from to)
 
-  module _ (X : Type 0) (content_of : List ℕ → Result X ℕ) (x : X) (reads : content_of w.framed.content ≡ Ok x) (both : BothBefore w old) (stands : StandsOn w new) where
+  module _ (X : Type 0) (content_of : List ℕ → Result X ℕ) (x : X) (reads : content_of w.framed.content ≡ Ok x) (both : BothBefore w old) (stands : StandsIn w new) where
     abbrev at : ℕ → Option (Stamped X)
     at slot = held content_of w.kind (slot_of w.kind slot new)
 

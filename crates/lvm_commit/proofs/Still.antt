@@ -26,7 +26,7 @@ use Rattle.lvm_commit.specs.Committed.{next_stamp, ShowsCommitted}
 use Rattle.lvm_commit.specs.LawsOfData.{IsSectorOf, PartitionChange, IsFlightOf, FreeDataGoesOn, DataKeepsCommitted, StillHoldsCommitted, TransferHoldsCommitted}
 use Rattle.lvm_commit.proofs.Committed.{still_shows}
 use Rattle.lvm_commit.proofs.Data.{free_data_keeps}
-use Rattle.lvm_commit.proofs.Slots.{slot_for_same}
+use Rattle.lvm_rec.proofs.NextLemmas.{slot_for_same}
 
 -- ---- other data
 

@@ -1,15 +1,15 @@
 -- Members are wanted missing while nothing is in flight.
-use Rattle.std.proofs.Common.{◌≡◌, ℕ, ◌+◌, ◌<◌, Bool, true, false, ◌&&◌, ◌||◌, not, List, [], ◌∷◌, length, map, take, get_or, None, refl, sym, ◌∙◌, ap, subst}
+use Rattle.std.proofs.Common.{◌≡◌, ℕ, ◌+◌, ◌<◌, Bool, true, false, ◌&&◌, ◌||◌, not, List, [], length, take, get_or, None, refl, sym, ◌∙◌, ap, subst}
 use Rattle.std.specs.Prelude.{◌==◌, if◌then◌else◌}
 use Rattle.std.specs.List.{list_any}
 use Rattle.std.proofs.lemmas.Bool.{eq-eqb, eqb-true, false≢true}
 use Rattle.std.proofs.lemmas.List.Folds.{list_any_more}
 use Rattle.lvm_num.specs.declared.descriptor.PvRow.{PvRow}
-use Rattle.lvm_num.specs.declared.status.StatusRow.{StatusRow}
 use Rattle.lvm_num.specs.declared.status.Status.{Status}
 use Rattle.lvm_num.specs.Disks.{Disks}
 use Rattle.lvm_num.specs.Status.{calls_missing}
 use Rattle.lvm_stale.specs.Table.{has_row}
+use Rattle.lvm_left.proofs.MarkLemmas.{any_disk}
 use Rattle.lvm_status.specs.declared.change.Change.TheVariants as change
 use Rattle.lvm_status.specs.Update.{Stored, Updates, seen}
 use Rattle.lvm_status.specs.Calls.{BecomesMissing, with_wanted, given_up}
@@ -20,10 +20,6 @@ use Rattle.lvm_status.proofs.Sessions.{closed_cases}
 use Rattle.lvm_commit.proofs.Losing.{misses_none, misses_same, misses_more}
 
 -- ---- rows
-
-any_disk : (rows : List StatusRow) (disk : ℕ) → list_any (λ (row : StatusRow). row.disk == disk) rows ≡ list_any (λ n. n == disk) (map (λ (row : StatusRow). row.disk) rows)
-any_disk [] disk = refl
-any_disk (row ∷ rows) disk = ap (λ b. row.disk == disk || b) (any_disk rows disk)
 
 pub row_stays : (old new : Status) → HasSameRows old new → (disk : ℕ) → has_row new disk ≡ has_row old disk
 row_stays old new same disk = any_disk new.rows disk ∙ ap (λ disks. list_any (λ n. n == disk) disks) same.disks ∙ sym (any_disk old.rows disk)

@@ -1,12 +1,11 @@
 -- How a session commits its records: what a commit needs, what it writes, and what it leaves.
-use Rattle.std.specs.Prelude.{◌≡◌, ◌⊎◌, ◌≢◌, ℕ, ◌+◌, ◌^◌, ◌<◌, ◌≤◌, false, not, List, [], length, map, None, Ok, IsTrue, IsFalse, IfSome, count_by}
+use Rattle.std.specs.Prelude.{◌≡◌, ◌⊎◌, ◌≢◌, ℕ, ◌+◌, ◌^◌, ◌<◌, ◌≤◌, false, not, List, [], length, None, Ok, IsTrue, IsFalse, IfSome, count_by}
 use Rattle.lvm_num.specs.declared.record.Kind.{Kind}
 use Rattle.lvm_num.specs.declared.record.Kind.TheVariants as kind
 use Rattle.lvm_num.specs.declared.place.Pp.{Pp}
 use Rattle.lvm_num.specs.declared.descriptor.PvRow.{PvRow}
 use Rattle.lvm_num.specs.declared.descriptor.LvRow.{LvRow}
 use Rattle.lvm_num.specs.declared.descriptor.Descriptor.{Descriptor}
-use Rattle.lvm_num.specs.declared.status.StatusRow.{StatusRow}
 use Rattle.lvm_num.specs.declared.status.Status.{Status}
 use Rattle.lvm_num.specs.Buffer.{Buffer, Sector}
 use Rattle.lvm_num.specs.Disks.{Disks, has}
@@ -28,6 +27,7 @@ use Rattle.lvm_kept.specs.Group.{IsOneOf}
 use Rattle.lvm_stale.specs.Table.{SameMissing}
 use Rattle.lvm_left.specs.Marking.{IsLeftIn}
 use Rattle.lvm_status.specs.Members.{HasItsRows}
+pub use Rattle.lvm_status.specs.Members.{HasSameRows}
 use Rattle.lvm_status.specs.Update.{Stored, members_there}
 use Rattle.lvm_steps.specs.Moments.{StaysKept, ImagesKept}
 use Rattle.lvm_homes.specs.declared.homes.Homes.{Homes}
@@ -98,12 +98,6 @@ pub record IsContentOf (group : Descriptor) (content : List ℕ) : Type 0 where
 
 -- ---- what is left
 
--- The group, its size and the disks that have rows stay.
-pub record HasSameRows (old new : Status) : Type 0 where
-  pub id : new.id ≡ old.id
-  pub big : new.big ≡ old.big
-  pub disks : map (λ (row : StatusRow). row.disk) new.rows ≡ map (λ (row : StatusRow). row.disk) old.rows
-
 -- Nothing is in flight, what is wanted is committed, and the members that aren't missing have votes enough to write.
 pub record IsCommitted (u : Stored) : Type 0 where
   pub idle : u.in_flight ≡ None
@@ -137,24 +131,28 @@ IsForgotten u = u.in_flight ≡ None → (disk : ℕ) → (has u.writes.unstarte
 abbrev pub NoneIsLeft : Descriptor → Stored → Type 0
 NoneIsLeft group u = (p : Pp) → IsLeftIn (there u) u.wanted group.lvs p → IsTrue (calls_stale u.wanted p)
 
--- It is a copy of one of the group's volumes on a disk that is missing at last. Another copy of its logical partition isn't wanted stale, and was on a
--- member that wasn't missing at first.
-pub record IsPassed (group : Descriptor) (first last : Stored) (p : Pp) : Type 0 where
+-- a copy of one of the group's volumes, and a copy of its logical partition beside it
+pub record HasAnother (group : Descriptor) (p : Pp) : Type 0 where
   pub row : LvRow
   pub lp : ℕ
   pub volume : IsOneOf group.lvs row
   pub inside : lp < row.lps
   pub one : IsOneOf (copies_of row lp) p
-  pub absent : IsFalse (there last p.disk)
   pub other : Pp
   pub among : IsOneOf (copies_of row lp) other
-  pub fresh : IsFalse (calls_stale last.wanted other)
-  pub was_there : IsTrue (there first other.disk)
+
+-- It is a copy of one of the group's volumes on a disk that is missing at last. Another copy of its logical partition isn't wanted stale, and was on a
+-- member that wasn't missing at first.
+pub record IsPassedOver (group : Descriptor) (first last : Stored) (p : Pp) : Type 0 where
+  pub its : HasAnother group p
+  pub absent : IsFalse (there last p.disk)
+  pub fresh : IsFalse (calls_stale last.wanted its.other)
+  pub was_there : IsTrue (there first its.other.disk)
 
 -- No copy is left behind where none was, and no partition becomes stale for another reason.
 pub record MarksLeft (group : Descriptor) (first last : Stored) : Type 0 where
   pub none : NoneIsLeft group first → NoneIsLeft group last
-  pub only : (p : Pp) → IsTrue (calls_stale last.wanted p) → IsTrue (calls_stale first.wanted p) ⊎ IsPassed group first last p
+  pub only : (p : Pp) → IsTrue (calls_stale last.wanted p) → IsTrue (calls_stale first.wanted p) ⊎ IsPassedOver group first last p
 
 -- no transfer to a member that isn't missing has failed
 abbrev pub AreWell : Stored → Device → Device → Type 0

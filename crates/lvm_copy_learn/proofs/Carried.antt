@@ -16,7 +16,7 @@ use Rattle.lvm_stale.specs.Table.{SameMembers, is_pp}
 use Rattle.lvm_status.specs.declared.change.Change.TheVariants as change
 use Rattle.lvm_status.specs.Calls.{IsMarkable}
 use Rattle.lvm_status.specs.Members.{HasItsRows}
-use Rattle.lvm_status.specs.Runs.{IsSound as IsSoundStatus, Want}
+use Rattle.lvm_status.specs.Runs.{IsSoundStatus, Want}
 use Rattle.lvm_status.specs.Update.{Stored, seen}
 use Rattle.lvm_status.proofs.Sound.{steps_stay_sound}
 use Rattle.lvm_session.specs.declared.bringing.OpenCopy.{OpenCopy}

@@ -5,7 +5,7 @@ use Rattle.lvm_num.specs.declared.place.Pp.{Pp}
 use Rattle.lvm_status.specs.Calls.{IsMarkable}
 use Rattle.lvm_status.specs.Members.{HasItsRows}
 use Rattle.lvm_session.specs.Sound.{IsSound}
-use Rattle.lvm_session.specs.State.{State as Session}
+use Rattle.lvm_session.specs.State.{State}
 use Rattle.lvm_volume_lines.specs.passed.VolumePlan.{GroupFault}
 use Rattle.lvm_volume_lines.specs.passed.GroupFaultVariants as fault
 use Rattle.lvm_volume_lines.specs.passed.Mirrors.{AreAdded, AreTaken, MklvcopyGives, RmlvcopyGives, to_add, to_take}
@@ -22,13 +22,13 @@ abbrev failed : (X : Type 0) → GroupFault → Result X GroupFault
 failed X why = Err why
 
 -- What is asked where a session is closed behind a fault, or goes on behind it.
-pub record MayFail (old new : Session) (why : GroupFault) : Type 0 where
+pub record MayFail (old new : State) (why : GroupFault) : Type 0 where
   pub dark : why ≡ fault.Dark → new.device.flights ≡ []
   pub lit : ends_session why ≡ true → (why ≡ fault.Dark → ⊥) → (new.device.power ≡ true) × (new.device.freed ≡ [])
   pub rows : ends_session why ≡ false → HasItsRows new.core.descriptor new.core.origin.table
   pub may : ends_session why ≡ false → MayServeWith [] new
 
-module _ (lv copies before after : ℕ) (old new : Session) (sound : IsSound old) (rows : HasItsRows old.core.descriptor old.core.origin.table) where
+module _ (lv copies before after : ℕ) (old new : State) (sound : IsSound old) (rows : HasItsRows old.core.descriptor old.core.origin.table) where
   -- copies were added
   module _ (added : List Pp) (c : IsCommanded (to_add lv copies old.core) before after old new (Ok added)) (it : AreAdded lv copies old new added) where
     pub added_rows : HasItsRows new.core.descriptor new.core.origin.table

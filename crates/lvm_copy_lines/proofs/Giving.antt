@@ -4,7 +4,7 @@ use Rattle.lvm_num.specs.declared.place.Pp.{Pp}
 use Rattle.lvm_vol.specs.Facts.{Fact}
 use Rattle.lvm_vol.specs.Log.{Log}
 use Rattle.lvm_session.specs.declared.open.Power.TheVariants as power
-use Rattle.lvm_session.specs.State.{Core, State as Session}
+use Rattle.lvm_session.specs.State.{Core, State}
 use Rattle.lvm_volume_lines.specs.passed.VolumePlan.{GroupFault}
 use Rattle.lvm_volume_lines.specs.passed.GroupFaultVariants as fault
 use Rattle.lvm_volume_lines.specs.passed.Mirrors.{MklvcopyGives, RmlvcopyGives}
@@ -12,10 +12,10 @@ use Rattle.lvm_volume_lines.proofs.passed.Stage.{Bears, bears_cut}
 use Rattle.lvm_volume_lines.specs.Volumes.{is_over}
 use Rattle.lvm_volume_lines.proofs.Ending.{Facts, SameShape}
 
-same_shape : (old new : Session) → new ≡ old → SameShape old new
-same_shape old new same = record { origin = ap (λ (s : Session). s.core.origin) same; pvs = ap (λ (s : Session). s.core.descriptor.pvs) same }
+same_shape : (old new : State) → new ≡ old → SameShape old new
+same_shape old new same = record { origin = ap (λ (s : State). s.core.origin) same; pvs = ap (λ (s : State). s.core.descriptor.pvs) same }
 
-module _ (lv copies patience : ℕ) (old new : Session) where
+module _ (lv copies patience : ℕ) (old new : State) where
   -- ---- the shelf
 
   module _ (on : old.core.power ≡ power.On) where
@@ -59,7 +59,7 @@ module _ (lv copies patience : ℕ) (old new : Session) where
 
   module _ (P : List Fact → Type 0) (bears : Bears P) (holds : P old.core.history.facts) where
     unchanged : new ≡ old → P new.core.history.facts
-    unchanged same = subst (λ (s : Session). P s.core.history.facts) (sym same) holds
+    unchanged same = subst (λ (s : State). P s.core.history.facts) (sym same) holds
 
     as_it_was : new.core.history ≡ old.core.history → P new.core.history.facts
     as_it_was same = subst (λ (l : Log). P l.facts) (sym same) holds

@@ -2,7 +2,7 @@
 use Rattle.std.specs.Prelude.{◌≡◌, ◌≤◌, ℕ, Bool, false, List, Some, None, Result, Ok, Err}
 use Rattle.lvm_num.specs.declared.place.Pp.{Pp}
 use Rattle.lvm_session.specs.State.{Core, State as Session}
-use Rattle.lvm_core.specs.Looking.{IsNumberOf, HasNoVolume}
+use Rattle.lvm_core.specs.Looking.{IsNumberOf, HasNoVolumeNamed}
 use Rattle.lvm_volume_lines.specs.passed.Driver.{DrainFault}
 use Rattle.lvm_volume_lines.specs.passed.VolumePlan.{GroupFault}
 use Rattle.lvm_volume_lines.specs.passed.Mirrors.{MklvcopyGives, RmlvcopyGives, to_add, to_take}
@@ -31,7 +31,7 @@ pub data MklvcopyDoes (name : List ℕ) (copies : ℕ) (old new : State) (answer
   NoGroupForMklvcopy : old.session ≡ None → IsRefused refusal.NoGroup answer old new → MklvcopyDoes name copies old new answer
   BusyMklvcopy : 1 ≤ open_in old.session → IsRefused refusal.Busy answer old new → MklvcopyDoes name copies old new answer
   UndrainedMklvcopy : (core : Core) (why : DrainFault) → old.session ≡ Some core → IsUndrained core old new why answer → MklvcopyDoes name copies old new answer
-  NoVolumeForMklvcopy : (core : Core) (left : ℕ) (mid : Session) → old.session ≡ Some core → Drains core old left mid → HasNoVolume mid.core.descriptor.lvs name → StaysOn mid old new → new.last ≡ old.last
+  NoVolumeForMklvcopy : (core : Core) (left : ℕ) (mid : Session) → old.session ≡ Some core → Drains core old left mid → HasNoVolumeNamed mid.core.descriptor.lvs name → StaysOn mid old new → new.last ≡ old.last
       → answer ≡ reply.Refused refusal.NoVolume → MklvcopyDoes name copies old new answer
   AddsCopies : (core : Core) (left : ℕ) (mid : Session) (lv : ℕ) (added : List Pp) → old.session ≡ Some core → Drains core old left mid → IsNumberOf mid.core.descriptor.lvs name lv
       → MklvcopyEnds lv copies (Ok added) false left mid old new → answer ≡ reply.Ok → MklvcopyDoes name copies old new answer
@@ -43,7 +43,7 @@ pub data RmlvcopyDoes (name : List ℕ) (copies : ℕ) (old new : State) (answer
   NoGroupForRmlvcopy : old.session ≡ None → IsRefused refusal.NoGroup answer old new → RmlvcopyDoes name copies old new answer
   BusyRmlvcopy : 1 ≤ open_in old.session → IsRefused refusal.Busy answer old new → RmlvcopyDoes name copies old new answer
   UndrainedRmlvcopy : (core : Core) (why : DrainFault) → old.session ≡ Some core → IsUndrained core old new why answer → RmlvcopyDoes name copies old new answer
-  NoVolumeForRmlvcopy : (core : Core) (left : ℕ) (mid : Session) → old.session ≡ Some core → Drains core old left mid → HasNoVolume mid.core.descriptor.lvs name → StaysOn mid old new → new.last ≡ old.last
+  NoVolumeForRmlvcopy : (core : Core) (left : ℕ) (mid : Session) → old.session ≡ Some core → Drains core old left mid → HasNoVolumeNamed mid.core.descriptor.lvs name → StaysOn mid old new → new.last ≡ old.last
       → answer ≡ reply.Refused refusal.NoVolume → RmlvcopyDoes name copies old new answer
   RemovesCopies : (core : Core) (left : ℕ) (mid : Session) (lv : ℕ) → old.session ≡ Some core → Drains core old left mid → IsNumberOf mid.core.descriptor.lvs name lv
       → RmlvcopyEnds lv copies (Ok tt) false left mid old new → answer ≡ reply.Ok → RmlvcopyDoes name copies old new answer

@@ -4,7 +4,7 @@ use Rattle.lvm_num.specs.Votes.{total_votes}
 use Rattle.lvm_session.specs.Calls.{has_numbers}
 use Rattle.lvm_session.specs.Sound.{IsSound}
 use Rattle.lvm_session.specs.State.{Core, State as Session, votes_there}
-use Rattle.lvm_core.specs.Looking.{IsNumberOf, HasNoVolume}
+use Rattle.lvm_core.specs.Looking.{IsNumberOf, HasNoVolumeNamed}
 use Rattle.lvm_resync.specs.declared.fault.SyncFault.{SyncFault}
 use Rattle.lvm_resync.specs.declared.fault.SyncFault.TheVariants as fault
 use Rattle.lvm_resync.specs.Causes.{SyncCause}
@@ -63,7 +63,7 @@ pub record IsSynced (refused : Core → Option SyncFault) (copies : List Copy) (
 -- It is refused while no group is on, and where the group has no volume of the name. Else the volume's copies are brought up.
 pub data SyncVolumeDoes (name : List ℕ) (old new : State) (answer : Reply) : Type 0 where
   NoGroupForSync : old.session ≡ None → IsRefused refusal.NoGroup answer old new → SyncVolumeDoes name old new answer
-  NoVolumeForSync : (core : Core) → old.session ≡ Some core → HasNoVolume core.descriptor.lvs name → IsRefused refusal.NoVolume answer old new → SyncVolumeDoes name old new answer
+  NoVolumeForSync : (core : Core) → old.session ≡ Some core → HasNoVolumeNamed core.descriptor.lvs name → IsRefused refusal.NoVolume answer old new → SyncVolumeDoes name old new answer
   SyncsVolume : (core : Core) (lv : ℕ) → old.session ≡ Some core → IsNumberOf core.descriptor.lvs name lv → IsSynced (λ c. volume_fault c lv) (volume_copies core.descriptor lv) core old new answer
       → SyncVolumeDoes name old new answer
 

@@ -14,7 +14,7 @@ use Rattle.lvm_session.specs.declared.open.Power.TheVariants as power
 use Rattle.lvm_session.specs.State.{Core}
 use Rattle.lvm_session.specs.Judging.{copies_in}
 use Rattle.lvm_session.specs.declared.answers.CopyFault.TheVariants as refusal
-use Rattle.lvm_session.specs.Calls.{copy_at, copy_fault, faults_of, refusal_at, refusal_by, refusal_in, refusal_on}
+use Rattle.lvm_session.specs.Calls.{copy_at, copy_fault, faults_of, refusal_at, refusal_when, refusal_in, refusal_on}
 use Rattle.lvm_session.specs.Asking.{IsAwake}
 use Rattle.lvm_copy_open.specs.Opening.{HasCopy}
 
@@ -56,7 +56,7 @@ taken_on core lv lp number on is = by_copy core.copy refl is
 pub taken : (core : Core) (lv lp number : ℕ) → IsAwake core → None ≡ copy_fault core lv lp number → IsTaken core lv lp number
 taken core lv lp number awake is = by_power core.power refl (sym is)
   where
-    by_power : (p : Power) → core.power ≡ p → refusal_by p (refusal_on core lv lp number) ≡ None → IsTaken core lv lp number
+    by_power : (p : Power) → core.power ≡ p → refusal_when p (refusal_on core lv lp number) ≡ None → IsTaken core lv lp number
     by_power power.On on none = taken_on core lv lp number on none
     by_power power.Off off none = absurd (cc none)
     by_power power.Dark dark none = absurd (cc none)

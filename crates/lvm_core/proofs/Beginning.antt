@@ -23,7 +23,7 @@ use Rattle.lvm_session.specs.Placed.{ArePlaced}
 use Rattle.lvm_session_start.specs.declared.parts.Parts.{Parts}
 use Rattle.lvm_session_start.specs.Parts.{IsEmptyCache, IsReserved}
 use Rattle.lvm_session_start.specs.Beginning.{first_core}
-use Rattle.lvm_core.specs.Sound.{HaveAllLanded, IsFitting, IsSound}
+use Rattle.lvm_core.specs.Sound.{HaveAllLanded, IsFitting, IsSoundBetween}
 use Rattle.lvm_core.specs.Starting.{AreReserved}
 use Rattle.lvm_core.proofs.Dark.{landed_still}
 use Rattle.lvm_core.proofs.Own.{sound_ready}
@@ -65,7 +65,7 @@ module _ (device : Device) (p : Parts) (history : Log) (stamp : Stamp) (homes : 
     forgotten = λ none disk. (ap (λ (u : Updates). u.unstarted disk) its.status, ap (λ (u : Updates). u.started disk) its.status, ap (λ (u : Updates). u.written disk) its.status, ap (λ (u : Updates). u.failed disk) its.status);
   }
 
-  pub sound_first : HaveAllLanded history.facts → IsReady device → ArePlaced device.sizes p.descriptor p.updater.wanted → IsSound (state device core)
+  pub sound_first : HaveAllLanded history.facts → IsReady device → ArePlaced device.sizes p.descriptor p.updater.wanted → IsSoundBetween (state device core)
   sound_first landed ready placed = sound_ready device core fits_first
       (record { requests = its.requests; copy = refl })
       (landed_still history.facts (On stamp.epoch) refl (λ id. refl) landed)

@@ -23,7 +23,7 @@ use Rattle.lvm_commit.specs.Settling.{MayCommit, IsOf, IsOfCommit, IsPlain, Sess
 use Rattle.lvm_commit.proofs.Chaining.{keeps_wider}
 use Rattle.lvm_core.specs.declared.fault.CommitFault.{CommitFault}
 use Rattle.lvm_session.specs.State.{Core, State, is_there}
-use Rattle.lvm_core.specs.Sound.{IsSound}
+use Rattle.lvm_core.specs.Sound.{IsSoundBetween}
 use Rattle.lvm_core.specs.Held.{IsHeld}
 use Rattle.lvm_core.specs.Settled.{IsSettled}
 use Rattle.lvm_core.specs.Committing.{CommitEnds, HasCommitted, FailsCommitted, moment_of, SpanGoesOn, LetsCommit, StaysBehind}
@@ -49,7 +49,7 @@ may_next records d next u device may valid alike =
       numbers = may.numbers;
     }
 
-module _ (next : Descriptor) (before after : ℕ) (old new : State) (answer : Result (Unit {0}) CommitFault) (w : CommitsDescriptor next before after old new answer) (settled_is : IsSettled old.core) (sound : IsSound old) (alike : IsAlike next old.core.descriptor) where
+module _ (next : Descriptor) (before after : ℕ) (old new : State) (answer : Result (Unit {0}) CommitFault) (w : CommitsDescriptor next before after old new answer) (settled_is : IsSettled old.core) (sound : IsSoundBetween old) (alike : IsAlike next old.core.descriptor) where
   abbrev plan : Plan
   plan = IsOfCommit (descriptor_bytes next) old.core.status new.core.status
 
@@ -68,7 +68,7 @@ module _ (next : Descriptor) (before after : ℕ) (old new : State) (answer : Re
   held_first : IsHeld old.device old.core → SessionIsHeld old.device old.core.descriptor old.core.status old.core.homes
   held_first = session_holds old.device old.core sound.fitting.group
 
-  pub descriptor_sound : IsSound new
+  pub descriptor_sound : IsSoundBetween new
   descriptor_sound = settles_sound Held Plain next plan old.core.status before after old new w.how answer w.settles (still_begun old.core) settled_is sound w.valid alike
 
   pub descriptor_sizes : SameSizes old.core new.core

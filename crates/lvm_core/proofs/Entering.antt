@@ -7,7 +7,7 @@ use Rattle.lvm_vol.specs.Facts.{Fact, Making, Made, Removing, Removed}
 use Rattle.lvm_vol.specs.Log.{is_open, with_fact, plain_fact}
 use Rattle.lvm_keeps.proofs.Telling.{open_still}
 use Rattle.lvm_session.specs.State.{Core, state}
-use Rattle.lvm_core.specs.Sound.{IsSound}
+use Rattle.lvm_core.specs.Sound.{IsSoundBetween}
 use Rattle.lvm_core.specs.Entering.{IsOfVolume}
 use Rattle.lvm_core.proofs.Own.{fits_with}
 
@@ -24,7 +24,7 @@ open_entered facts (entry.Landed num how started) is id = absurd is
 open_entered facts (entry.Taken client num) is id = absurd is
 open_entered facts entry.Cut is id = absurd is
 
-pub entered_sound : (device : Device) (core : Core) (e : Entry) → IsOfVolume e → IsSound (state device core) → IsSound (state device (record core { history = with_fact core.history (plain_fact e) }))
+pub entered_sound : (device : Device) (core : Core) (e : Entry) → IsOfVolume e → IsSoundBetween (state device core) → IsSoundBetween (state device (record core { history = with_fact core.history (plain_fact e) }))
 entered_sound device core e is sound = record {
   fitting = fits_with core (with_fact core.history (plain_fact e)) core.pool core.power refl sound.fitting;
   none = record { requests = sound.none.requests; copy = sound.none.copy };

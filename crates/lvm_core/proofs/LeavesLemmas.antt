@@ -18,7 +18,7 @@ use Rattle.lvm_steps.proofs.Making.{media_may}
 use Rattle.lvm_steps.proofs.Spans.{later_append}
 use Rattle.lvm_status.specs.Update.{Stored}
 use Rattle.lvm_commit.specs.LawsOfFinding.{FindsNothingNew, FindsNoMore, FindsNothingNewOn, FindsNoMoreOn}
-use Rattle.lvm_commit.specs.Settling.{IsPassed}
+use Rattle.lvm_commit.specs.Settling.{IsPassedOver}
 use Rattle.lvm_session.specs.State.{State}
 use Rattle.lvm_core.specs.Leaves.{WasLeftBehind, KeepsStatus, is_of_volume, EntersVolumes, KeepsHistory, MayBeFound, FindsOnly}
 
@@ -97,20 +97,14 @@ outside false u more off = refl
 -- a copy that a commit passes over is left behind
 pub passed_behind : (N : Descriptor → Type 0) (F : Pp → Type 0) (a b : State) (group : Descriptor) → (group ≡ a.core.descriptor) ⊎ N group
     → ((p : Pp) → (F p → ⊥) → IsTrue (calls_stale a.core.status.wanted p) → IsTrue (calls_stale b.core.status.wanted p))
-    → (p : Pp) → IsTrue (calls_stale b.core.status.wanted p) → IsPassed group a.core.status b.core.status p → WasLeftBehind N F a b p
+    → (p : Pp) → IsTrue (calls_stale b.core.status.wanted p) → IsPassedOver group a.core.status b.core.status p → WasLeftBehind N F a b p
 passed_behind N F a b group known stale p gone is = record {
   group = group;
   known = known;
-  row = is.row;
-  lp = is.lp;
-  volume = is.volume;
-  inside = is.inside;
-  one = is.one;
+  its = is.its;
   absent = is.absent;
-  other = is.other;
-  among = is.among;
   apart = λ same. false≢true (sym is.fresh ∙ ap (calls_stale b.core.status.wanted) same ∙ gone);
-  usable = λ out. outside (calls_stale a.core.status.wanted is.other) (calls_stale b.core.status.wanted is.other) (stale is.other out) is.fresh;
+  usable = λ out. outside (calls_stale a.core.status.wanted is.its.other) (calls_stale b.core.status.wanted is.its.other) (stale is.its.other out) is.fresh;
   was_there = is.was_there;
 }
 

@@ -17,7 +17,7 @@ use Rattle.lvm_session.proofs.RoomsLemmas.{rooms_last}
 use Rattle.lvm_session.specs.Dark.{all_dark}
 use Rattle.lvm_session.specs.Placed.{ArePlaced}
 use Rattle.lvm_session.specs.Sound.{count_if, has_number, is_dark, out_with}
-use Rattle.lvm_core.specs.Sound.{HasNoneOpen, HaveAllLanded, IsFitting, IsSound}
+use Rattle.lvm_core.specs.Sound.{HasNoneOpen, HaveAllLanded, IsFitting, IsSoundBetween}
 use Rattle.lvm_core.specs.Committing.{with_one_out}
 use Rattle.lvm_core.proofs.Dark.{cut_core, cut_fits, cut_landed, dark_is, on_shelf, out_is}
 
@@ -98,7 +98,7 @@ one_counted buf pool (suc n) is some all =
 
 pub sound_ready :
     (device : Device) (core : Core) → IsFitting core → HasNoneOpen core → HaveAllLanded core.history.facts → ArePlaced device.sizes core.descriptor core.status.wanted → core.pool ≡ replicate (length core.pool) false
-    → is_dark core.power ≡ false → (core.power ≡ power.Off → is_lost core ≡ true) → (core.power ≡ power.Stuck → ⊥) → IsReady device → IsSound (state device core)
+    → is_dark core.power ≡ false → (core.power ≡ power.Off → is_lost core ≡ true) → (core.power ≡ power.Stuck → ⊥) → IsReady device → IsSoundBetween (state device core)
 sound_ready device core fits none landed placed all lit off heard ready = record {
   fitting = fits;
   none = none;
@@ -117,8 +117,8 @@ sound_ready device core fits none landed placed all lit off heard ready = record
 
 pub sound_dark :
     (old device : Device) (core : Core) (pool : List Bool) → IsFitting core → HasNoneOpen core → HaveAllLanded core.history.facts → ArePlaced device.sizes core.descriptor core.status.wanted
-    → core.pool ≡ with_one_out pool → pool ≡ replicate (length pool) false → 1 ≤ length pool → IsDarkened 0 old device → IsSound (state device (all_dark core))
-sound_dark old device core pool fits none landed placed is all some cut = subst (λ (c : Core). IsSound (state device c)) (sym (dark_is core none)) (record {
+    → core.pool ≡ with_one_out pool → pool ≡ replicate (length pool) false → 1 ≤ length pool → IsDarkened 0 old device → IsSoundBetween (state device (all_dark core))
+sound_dark old device core pool fits none landed placed is all some cut = subst (λ (c : Core). IsSoundBetween (state device c)) (sym (dark_is core none)) (record {
   fitting = cut_fits core fits;
   none = record { requests = refl; copy = refl };
   landed = cut_landed core.history landed;
@@ -152,7 +152,7 @@ sound_dark old device core pool fits none landed placed is all some cut = subst 
 pub sound_stuck :
     (patience : ℕ) (old device : Device) (core : Core) (pool : List Bool) → IsFitting core → HasNoneOpen core → HaveAllLanded core.history.facts → ArePlaced device.sizes core.descriptor core.status.wanted
     → core.pool ≡ with_one_out pool → pool ≡ replicate (length pool) false → 1 ≤ length pool → is_dark core.power ≡ false
-    → (core.power ≡ power.Off → is_lost core ≡ true) → (core.power ≡ power.Stuck → ⊥) → IsGivenUp 0 patience old device → IsSound (state device core)
+    → (core.power ≡ power.Off → is_lost core ≡ true) → (core.power ≡ power.Stuck → ⊥) → IsGivenUp 0 patience old device → IsSoundBetween (state device core)
 sound_stuck patience old device core pool fits none landed placed is all some lit off heard out = record {
   fitting = fits;
   none = none;

@@ -37,7 +37,7 @@ use Rattle.lvm_session.specs.State.{Core, State, state, is_there}
 use Rattle.lvm_session.specs.Dark.{all_dark}
 use Rattle.lvm_session.specs.Placed.{IsPlaced, ArePlaced}
 use Rattle.lvm_session.specs.Sound.{is_dark}
-use Rattle.lvm_core.specs.Sound.{HasNoneOpen, IsFitting, IsSound}
+use Rattle.lvm_core.specs.Sound.{HasNoneOpen, IsFitting, IsSoundBetween}
 use Rattle.lvm_core.specs.Settled.{IsSettled}
 use Rattle.lvm_core.specs.Committing.{with_one_out, RecordsEnd, FailsCommitted, moment_of, StaysBehind}
 use Rattle.lvm_core.specs.Leaves.{KeepsHistory}
@@ -61,7 +61,7 @@ pub record IsBegun (old : Core) (first : Stored) : Type 0 where
   pub forgotten : IsForgotten old.status → IsForgotten first
 
 module _ (Held Plain : Type 0) (next : Descriptor) (plan : Plan) (first : Stored) (before after : ℕ) (old new : State) (how : CommitEnd) (answer : Result (Unit {0}) CommitFault) (s : Settles Held Plain next plan first before after old new how answer)
-    (begins : IsBegun old.core first) (settled_is : IsSettled old.core) (sound : IsSound old) (valid : IsValid next) (alike : IsAlike next old.core.descriptor) where
+    (begins : IsBegun old.core first) (settled_is : IsSettled old.core) (sound : IsSoundBetween old) (valid : IsValid next) (alike : IsAlike next old.core.descriptor) where
   group_first : first.group ≡ record old.core.descriptor { lvs = [] }
   group_first = begins.group ∙ sound.fitting.group
 
@@ -121,10 +121,10 @@ module _ (Held Plain : Type 0) (next : Descriptor) (plan : Plan) (first : Stored
   few : (have total : ℕ) → HasLostQuorum first new.core.status old.device new.device have total → IsFalse (is_enough_to_write old.core.descriptor (votes_in old.core.descriptor (members_there old.core.descriptor new.core.status.wanted)))
   few have total lost = subst (λ (g : Descriptor). IsFalse (is_enough_to_write g (votes_in g (members_there g new.core.status.wanted)))) group_is (subst (λ (n : ℕ). IsFalse (is_enough_to_write new.core.status.group n)) lost.have_is lost.few)
 
-  as_core : (core : Core) → new.core ≡ core → IsSound (state new.device core) → IsSound new
-  as_core core is it = subst (λ (c : Core). IsSound (state new.device c)) (sym is) it
+  as_core : (core : Core) → new.core ≡ core → IsSoundBetween (state new.device core) → IsSoundBetween new
+  as_core core is it = subst (λ (c : Core). IsSoundBetween (state new.device c)) (sym is) it
 
-  pub settles_sound : IsSound new
+  pub settles_sound : IsSoundBetween new
   settles_sound = by_how how s.ends s.goes
     where
       own : IsAlike old.core.descriptor old.core.descriptor
@@ -142,7 +142,7 @@ module _ (Held Plain : Type 0) (next : Descriptor) (plan : Plan) (first : Stored
       fits_out : IsFitting out
       fits_out = fits_pool here (with_one_out old.core.pool) (one_out_long old.core.pool) fits_here
 
-      by_how : (h : CommitEnd) → SettleEnds Held Plain 0 before first new.core.status old.device new.device h → CoreEnds next old.core new.core h answer → IsSound new
+      by_how : (h : CommitEnd) → SettleEnds Held Plain 0 before first new.core.status old.device new.device h → CoreEnds next old.core new.core h answer → IsSoundBetween new
       by_how (commit_end.Done back) ends goes = as_core (base next) goes.1 (sound_ready new.device (base next) (fits next valid alike) (none next) sound.landed (placed next alike) settled_is.quiet.buffers lit not_off not_stuck ends.back.ready)
       by_how (commit_end.WentOff have total back) ends goes = as_core (record here { power = power.Off }) goes.1
           (sound_ready new.device (record here { power = power.Off }) (fits_with here here.history here.pool power.Off refl fits_here) (record { requests = settled_is.quiet.requests; copy = settled_is.quiet.copy }) sound.landed (placed old.core.descriptor own) settled_is.quiet.buffers refl

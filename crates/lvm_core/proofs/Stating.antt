@@ -18,12 +18,12 @@ use Rattle.lvm_kept.specs.Contents.{contents_of}
 use Rattle.lvm_disk.specs.Device.{image_of}
 use Rattle.lvm_write.proofs.Writing.{if_told}
 use Rattle.lvm_commit.specs.LawsOfFinding.{FindsNothingNewOn}
-use Rattle.lvm_commit.specs.Settling.{IsPassed, there, IsOf, IsOfStatus, IsPlainStatus, SessionIsHeld, SpendsNumbers, StaysHeld, WantsMarks}
+use Rattle.lvm_commit.specs.Settling.{IsPassedOver, there, IsOf, IsOfStatus, IsPlainStatus, SessionIsHeld, SpendsNumbers, StaysHeld, WantsMarks}
 use Rattle.lvm_commit.proofs.Chaining.{keeps_wider}
 use Rattle.lvm_commit.proofs.Leaving.{passed_before}
 use Rattle.lvm_core.specs.declared.fault.CommitFault.{CommitFault}
 use Rattle.lvm_session.specs.State.{State, is_there}
-use Rattle.lvm_core.specs.Sound.{IsSound}
+use Rattle.lvm_core.specs.Sound.{IsSoundBetween}
 use Rattle.lvm_core.specs.Held.{IsHeld}
 use Rattle.lvm_core.specs.Settled.{IsSettled}
 use Rattle.lvm_core.specs.Committing.{MarkEnds, HasStated, FailsCommitted, is_among, AreUnused, AreMarked, Restates, moment_of, SpanGoesOn, StaysBehind}
@@ -53,7 +53,7 @@ was_marked false false c is = absurd (false≢true is)
 
 -- ---- the call
 
-module _ (stale fresh : List Pp) (before after : ℕ) (old new : State) (answer : Result (Unit {0}) CommitFault) (w : CommitsMarks stale fresh before after old new answer) (settled_is : IsSettled old.core) (sound : IsSound old) where
+module _ (stale fresh : List Pp) (before after : ℕ) (old new : State) (answer : Result (Unit {0}) CommitFault) (w : CommitsMarks stale fresh before after old new answer) (settled_is : IsSettled old.core) (sound : IsSoundBetween old) where
   abbrev plan : Plan
   plan = IsOfStatus w.first new.core.status
 
@@ -79,7 +79,7 @@ module _ (stale fresh : List Pp) (before after : ℕ) (old new : State) (answer 
   wants unused = if_told old.device.media (λ media. MayMark (contents_of (image_of old.device.sizes media)) old.core.descriptor w.first.committed w.first.wanted)
       (λ media told. wants_marks old.core stale fresh w.first w.marked settled_is sound.fitting.group sound.fitting.valid unused (contents_of (image_of old.device.sizes media)))
 
-  pub status_sound : IsSound new
+  pub status_sound : IsSoundBetween new
   status_sound = settles_sound Held Plain old.core.descriptor plan w.first before after old new w.how answer w.settles begins settled_is sound sound.fitting.valid same
 
   pub status_sizes : SameSizes old.core new.core
@@ -107,13 +107,13 @@ module _ (stale fresh : List Pp) (before after : ℕ) (old new : State) (answer 
   there_is_so : there w.first ≡ is_there old.core
   there_is_so = there_first Held Plain old.core.descriptor plan w.first before after old new w.how answer w.settles begins settled_is sound sound.fitting.valid same
 
-  passed_so : (p : Pp) → IsPassed old.core.descriptor w.first new.core.status p → IsPassed old.core.descriptor old.core.status new.core.status p
+  passed_so : (p : Pp) → IsPassedOver old.core.descriptor w.first new.core.status p → IsPassedOver old.core.descriptor old.core.status new.core.status p
   passed_so p is = passed_before old.core.descriptor old.core.status w.first new.core.status p (λ d. subst (λ (set : Disks). IsTrue (set d)) (there_is_so ∙ sym (there_is old.core.descriptor old.core.status sound.fitting.group))) is
 
   pub restates : AreUnused old.core.descriptor (stale ++ fresh) → Restates stale fresh old new
   restates unused = record {
     kept = λ p is. w.settles.leaves.loses.stale p (w.marked.marks p ∙ is);
-    only = λ p stale. ⊎_elim (λ was. inl (sym (w.marked.marks p) ∙ was)) (λ (is : IsPassed old.core.descriptor w.first new.core.status p). inr (passed_so p is)) (w.settles.leaves.left.only p stale);
+    only = λ p stale. ⊎_elim (λ was. inl (sym (w.marked.marks p) ∙ was)) (λ (is : IsPassedOver old.core.descriptor w.first new.core.status p). inr (passed_so p is)) (w.settles.leaves.left.only p stale);
     none = λ none. w.settles.leaves.left.none (first_none old.core stale fresh w.first w.marked settled_is sound.fitting.group sound.fitting.valid unused none);
   }
 
@@ -131,7 +131,7 @@ module _ (stale fresh : List Pp) (before after : ℕ) (old new : State) (answer 
         stale = stale_stays;
         further = λ p is. ⊎_elim
             (λ was. ⊎_elim (λ old. inl old) (λ new. inr (inl (among_at stale p new))) (was_marked (calls_stale old.core.status.wanted p) (is_among stale p) (is_among fresh p) (sym (marked.marks p) ∙ was)))
-            (λ (passed : IsPassed old.core.descriptor w.first new.core.status p). inr (inr (passed_behind NoDescriptor (Contains fresh) old new old.core.descriptor (inl refl) stale_stays p is (passed_so p passed))))
+            (λ (passed : IsPassedOver old.core.descriptor w.first new.core.status p). inr (inr (passed_behind NoDescriptor (Contains fresh) old new old.core.descriptor (inl refl) stale_stays p is (passed_so p passed))))
             (w.settles.leaves.left.only p is);
         dirty = loses.dirty ∙ marked.dirty;
         stays = λ d is. loses.stays d (marked.missing d ∙ is);

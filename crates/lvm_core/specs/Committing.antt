@@ -13,17 +13,17 @@ use Rattle.lvm_vol.specs.Facts.{Fact}
 use Rattle.lvm_kept.specs.Contents.{contents_of}
 use Rattle.lvm_kept.specs.Moments.{Moment}
 use Rattle.lvm_steps.specs.Moments.{Begins, Holds, Keeps}
-use Rattle.lvm_steps.specs.Requests.{at}
 use Rattle.lvm_stale.specs.Table.{is_pp}
 use Rattle.lvm_stamps.specs.Behind.{IsBehind}
 use Rattle.lvm_write.specs.Written.{IsDarkened, IsGivenUp}
 use Rattle.lvm_commit.specs.LawsOfData.{IsFree}
 use Rattle.lvm_commit.specs.LawsOfVolumes.{VolumeServes}
-use Rattle.lvm_commit.specs.Settling.{NoneIsLeft, IsPassed, HasLostQuorum, AreWell, SpendsNumbers, StaysCommitted, IsPlain}
+use Rattle.lvm_commit.specs.Settling.{NoneIsLeft, IsPassedOver, HasLostQuorum, AreWell, SpendsNumbers, StaysCommitted, IsPlain}
 use Rattle.lvm_core.specs.declared.fault.CommitFault.{CommitFault}
 use Rattle.lvm_core.specs.declared.fault.CommitFault.TheVariants as fault
 use Rattle.lvm_session.specs.declared.open.Power.TheVariants as power
 use Rattle.lvm_session.specs.State.{State}
+pub use Rattle.lvm_session.specs.State.{moment_of}
 use Rattle.lvm_session.specs.Dark.{all_dark}
 use Rattle.lvm_core.specs.Held.{IsHeld}
 use Rattle.lvm_core.specs.Settled.{IsSettled}
@@ -115,14 +115,10 @@ pub record AreMarked (to_stale to_fresh : List Pp) (s : Status) : Type 0 where
 -- What is wanted of the status afterwards has these marks, and the copies are stale that members left behind which became missing.
 pub record Restates (stale fresh : List Pp) (old new : State) : Type 0 where
   pub kept : (p : Pp) → IsTrue (marks_of stale fresh old.core.status.wanted p) → IsTrue (calls_stale new.core.status.wanted p)
-  pub only : (p : Pp) → IsTrue (calls_stale new.core.status.wanted p) → IsTrue (marks_of stale fresh old.core.status.wanted p) ⊎ IsPassed old.core.descriptor old.core.status new.core.status p
+  pub only : (p : Pp) → IsTrue (calls_stale new.core.status.wanted p) → IsTrue (marks_of stale fresh old.core.status.wanted p) ⊎ IsPassedOver old.core.descriptor old.core.status new.core.status p
   pub none : NoneIsLeft old.core.descriptor old.core.status → NoneIsLeft old.core.descriptor new.core.status
 
 -- ---- the moments
-
--- what the history of a session has, and what its shelf is
-abbrev pub moment_of : State → Moment
-moment_of s = at s.device s.core.history.facts
 
 -- A span that leads to the one moment goes on to the other.
 abbrev pub SpanGoesOn : ℕ → Moment → State → State → Type 0

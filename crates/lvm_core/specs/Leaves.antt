@@ -1,9 +1,7 @@
 -- What each call of a session leaves, whatever its answer.
-use Rattle.std.specs.Prelude.{◌≡◌, ◌≢◌, ◌⊎◌, ℕ, ◌<◌, ◌≤◌, Bool, true, false, List, [], count_by, Contains, IsTrue, IsFalse}
+use Rattle.std.specs.Prelude.{◌≡◌, ◌≢◌, ◌⊎◌, ℕ, ◌≤◌, ◌<◌, Bool, true, false, List, [], count_by, Contains, IsTrue, IsFalse}
 use Rattle.lvm_num.specs.declared.place.Pp.{Pp}
-use Rattle.lvm_num.specs.declared.descriptor.LvRow.{LvRow}
 use Rattle.lvm_num.specs.declared.descriptor.Descriptor.{Descriptor}
-use Rattle.lvm_num.specs.Descriptor.{copies_of}
 use Rattle.lvm_num.specs.DescriptorBytes.{descriptor_bytes}
 use Rattle.lvm_num.specs.Status.{calls_stale, calls_missing}
 use Rattle.lvm_disk.specs.Counts.{Rose, NoneFalls}
@@ -13,13 +11,13 @@ use Rattle.lvm_vol.specs.Facts.{Fact, Making, Made, Split, Removing, Removed}
 use Rattle.lvm_vol.specs.Legal.{IsLater}
 use Rattle.lvm_vol.specs.Log.{Log}
 use Rattle.lvm_kept.specs.Contents.{contents_of}
-use Rattle.lvm_kept.specs.Group.{IsFound, IsOneOf}
+use Rattle.lvm_kept.specs.Group.{IsFound}
 use Rattle.lvm_kept.specs.Moments.{Moment, StaysCalm}
 use Rattle.lvm_kept.specs.Plans.{Plan}
 use Rattle.lvm_steps.specs.Moments.{Begins}
 use Rattle.lvm_write.specs.Parts.{Spends}
 use Rattle.lvm_write.specs.Written.{KeepsShelf}
-use Rattle.lvm_commit.specs.Settling.{there, HasSameRows, SpendsNumbers, IsOfStatus, IsOfCommit}
+use Rattle.lvm_commit.specs.Settling.{there, HasAnother, HasSameRows, SpendsNumbers, IsOfStatus, IsOfCommit}
 use Rattle.lvm_session.specs.State.{State, is_there}
 use Rattle.lvm_core.specs.Held.{IsHeld}
 use Rattle.lvm_core.specs.Committing.{moment_of, SpanGoesOn, LetsCommit, StaysBehind}
@@ -76,17 +74,11 @@ IsOfCommand N Z old new d s value =
 pub record WasLeftBehind (N : Descriptor → Type 0) (F : Pp → Type 0) (old new : State) (p : Pp) : Type 0 where
   pub group : Descriptor
   pub known : (group ≡ old.core.descriptor) ⊎ N group
-  pub row : LvRow
-  pub lp : ℕ
-  pub volume : IsOneOf group.lvs row
-  pub inside : lp < row.lps
-  pub one : IsOneOf (copies_of row lp) p
+  pub its : HasAnother group p
   pub absent : IsFalse (there new.core.status p.disk)
-  pub other : Pp
-  pub among : IsOneOf (copies_of row lp) other
-  pub apart : other ≢ p
-  pub usable : (F other → ⊥) → IsFalse (calls_stale old.core.status.wanted other)
-  pub was_there : IsTrue (there old.core.status other.disk)
+  pub apart : its.other ≢ p
+  pub usable : (F its.other → ⊥) → IsFalse (calls_stale old.core.status.wanted its.other)
+  pub was_there : IsTrue (there old.core.status its.other.disk)
 
 -- What is wanted of the status afterwards: members have become missing, each after a transfer to it has failed; stale ones of the partitions of which F holds
 -- may be fresh, and further ones are stale only where S holds or as copies that were left behind.

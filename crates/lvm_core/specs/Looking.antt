@@ -10,5 +10,5 @@ pub record IsNumberOf (volumes : List LvRow) (name : List ℕ) (number : ℕ) : 
   pub its : row.number ≡ number
 
 -- no volume has the name
-abbrev pub HasNoVolume : List LvRow → List ℕ → Type 0
-HasNoVolume volumes name = (row : LvRow) → Contains volumes row → row.name ≡ name → ⊥
+abbrev pub HasNoVolumeNamed : List LvRow → List ℕ → Type 0
+HasNoVolumeNamed volumes name = (row : LvRow) → Contains volumes row → row.name ≡ name → ⊥

@@ -1,8 +1,7 @@
 -- What holds of a session between commands.
 use Rattle.std.specs.Prelude.{◌≡◌, ◌≤◌, ◌+◌, ℕ, false, true, List, [], None, length, replicate, slice_index_or}
 use Rattle.lvm_num.specs.Descriptor.{IsValid, is_member}
-use Rattle.lvm_vol.specs.Facts.{Fact}
-use Rattle.lvm_vol.specs.Log.{is_open}
+pub use Rattle.lvm_vol.specs.Log.{HaveAllLanded}
 use Rattle.lvm_mwc.specs.Entries.{AreEntries}
 use Rattle.lvm_mwc.specs.Cache.{has_disk, flight_on}
 use Rattle.lvm_status.specs.Members.{HasItsRows}
@@ -12,10 +11,6 @@ use Rattle.lvm_session.specs.State.{Core, State}
 use Rattle.lvm_session.specs.Enabled.{is_lost}
 use Rattle.lvm_session.specs.Placed.{ArePlaced}
 use Rattle.lvm_session.specs.Sound.{IsLit, IsDark, count_if, is_dark, out_with}
-
--- each request that the history tells of has landed
-abbrev pub HaveAllLanded : List Fact → Type 0
-HaveAllLanded facts = (id : ℕ) → is_open facts id ≡ false
 
 -- The parts of a session are of one group, and their rooms agree.
 pub record IsFitting (core : Core) : Type 0 where
@@ -46,7 +41,7 @@ pub record IsQuiet (core : Core) : Type 0 where
   pub notes : (disk : ℕ) → flight_on core.cache disk ≡ None
   pub buffers : core.pool ≡ replicate (length core.pool) false
 
-pub record IsSound (s : State) : Type 0 where
+pub record IsSoundBetween (s : State) : Type 0 where
   pub fitting : IsFitting s.core
   pub none : HasNoneOpen s.core
   pub landed : HaveAllLanded s.core.history.facts

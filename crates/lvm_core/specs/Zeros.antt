@@ -52,7 +52,7 @@ pub record HasZeroed (pp : Pp) (old new : State) : Type 0 where
   pub well : new.device.counts.faults pp.disk ≡ old.device.counts.faults pp.disk
 
 -- a transfer of the disk failed
-pub record HasFailed (pp : Pp) (disk : ℕ) (old new : State) : Type 0 where
+pub record HasZeroFailed (pp : Pp) (disk : ℕ) (old new : State) : Type 0 where
   pub same : IsAsBefore old new
   pub disk_is : disk ≡ pp.disk
   pub fault : Rose (old.device.counts.faults disk) (new.device.counts.faults disk)
@@ -67,7 +67,7 @@ pub record KeepsRecords (old new : State) : Type 0 where
 -- what a write of zeros answers
 abbrev pub ZeroEnds : Pp → ℕ → State → State → Result (Unit {0}) CommitFault → Type 0
 ZeroEnds pp patience old new (Ok done) = HasZeroed pp old new
-ZeroEnds pp patience old new (Err (fault.DiskFailed disk)) = HasFailed pp disk old new
+ZeroEnds pp patience old new (Err (fault.DiskFailed disk)) = HasZeroFailed pp disk old new
 ZeroEnds pp patience old new (Err fault.Dark) = HasGoneDark old new
 ZeroEnds pp patience old new (Err fault.Stuck) = IsLeftOut patience old new
 ZeroEnds pp patience old new (Err (fault.WentOff have total)) = ⊥

@@ -17,8 +17,8 @@ ghost use Rattle.lvm_session.specs.State.{state, is_there, votes_there};
 ghost use Rattle.lvm_core.specs.State.{state_of};
 ghost use Rattle.lvm_session.specs.Judging.{is_waiting};
 ghost use Rattle.lvm_session.specs.Dark.{after_arrange};
-ghost use Rattle.lvm_core.specs.Looking.{IsNumberOf, HasNoVolume};
-ghost use Rattle.lvm_core.specs.Sound.{IsSound, HaveAllLanded};
+ghost use Rattle.lvm_core.specs.Looking.{IsNumberOf, HasNoVolumeNamed};
+ghost use Rattle.lvm_core.specs.Sound.{IsSoundBetween, HaveAllLanded};
 ghost use Rattle.lvm_session.specs.Placed.{ArePlaced};
 ghost use Rattle.lvm_session_start.specs.Beginning.{AreFaults, first_core};
 ghost use Rattle.lvm_core.specs.Settled.{IsSettled, HasSpareNumbers};
@@ -56,13 +56,13 @@ impl<S: Shelf> Model for Driver<S> {
     ghost use Rattle.lvm_session.specs.State.{Core, state};
     ghost use Rattle.lvm_session.specs.Fields.{core_of};
     ghost use Rattle.lvm_session.specs.Rooms.{HasRooms};
-    ghost use Rattle.lvm_core.specs.Sound.{IsSound};
+    ghost use Rattle.lvm_core.specs.Sound.{IsSoundBetween};
 
     ghost Value = { S × Core };
 
     ghost view = { λ d. (d.shelf, core_of d.session) };
 
-    ghost invariant = { λ d. HasRooms d.session × IsSound (state (S.device d.shelf) (core_of d.session)) };
+    ghost invariant = { λ d. HasRooms d.session × IsSoundBetween (state (S.device d.shelf) (core_of d.session)) };
 }
 
 impl<S: Shelf> Driver<S> {
@@ -84,7 +84,7 @@ impl<S: Shelf> Driver<S> {
     /// The session of another driver at which nothing is under way, over its shelf.
     pub fn from_parts(shelf: S, session: Session) -> Driver<S>
         requires rooms { HasRooms session }
-        requires sound { IsSound (state (S.device shelf) (core_of session)) }
+        requires sound { IsSoundBetween (state (S.device shelf) (core_of session)) }
         ensures shelf { result.0 ≡ shelf }
         ensures core { result.1 ≡ core_of session }
     {
@@ -96,7 +96,7 @@ impl<S: Shelf> Driver<S> {
         ensures shelf { result.0 ≡ self.0 }
         ensures core { core_of result.1 ≡ self.1 }
         ensures rooms { HasRooms result.1 }
-        ensures sound { IsSound (state (S.device self.0) self.1) }
+        ensures sound { IsSoundBetween (state (S.device self.0) self.1) }
     {
         (self.shelf, self.session)
     }
@@ -236,7 +236,7 @@ impl<S: Shelf> Driver<S> {
     /// The number of the volume of a name.
     pub fn volume(&self, name: Name) -> Option<u16>
         ensures some { IfSome result (IsNumberOf self.now.1.descriptor.lvs name) }
-        ensures none { IfNone result (HasNoVolume self.now.1.descriptor.lvs name) }
+        ensures none { IfNone result (HasNoVolumeNamed self.now.1.descriptor.lvs name) }
     {
         number_of(self.session.descriptor.lvs.as_slice(), &name)
     }
@@ -261,7 +261,7 @@ impl<S: Shelf> Driver<S> {
     pub fn open(&self) -> u32
         ensures number { result ≡ length self.now.1.requests }
         // What holds of the session at every moment.
-        ensures sound { IsSound (state (S.device self.now.0) self.now.1) }
+        ensures sound { IsSoundBetween (state (S.device self.now.0) self.now.1) }
     {
         self.session.requests.len() as u32
     }

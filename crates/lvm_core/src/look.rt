@@ -1,7 +1,7 @@
 //! What is looked up in a group.
 ghost use Rattle.std.specs.Prelude.{◌≡◌, IfSome, IfNone, IsTrue, IsFalse};
 ghost use Rattle.lvm_num.specs.Geometry.{sectors_needed};
-ghost use Rattle.lvm_core.specs.Looking.{IsNumberOf, HasNoVolume};
+ghost use Rattle.lvm_core.specs.Looking.{IsNumberOf, HasNoVolumeNamed};
 ghost use Rattle.lvm_session.specs.Placed.{IsPlaced, AreAllPlaced};
 
 use lvm_disk::Shelf;
@@ -11,7 +11,7 @@ use lvm_stale::StaleTable;
 // The number of the volume of this name.
 pub fn number_of(volumes: &[LvRow], name: &Name) -> Option<u16>
     ensures some { IfSome result (IsNumberOf volumes.now name.now) }
-    ensures none { IfNone result (HasNoVolume volumes.now name.now) }
+    ensures none { IfNone result (HasNoVolumeNamed volumes.now name.now) }
 {
     for row in volumes {
         if row.name == *name {

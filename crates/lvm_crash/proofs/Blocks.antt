@@ -19,13 +19,13 @@ use Rattle.lvm_vol.specs.May.{known, IsValue, cut, is_off}
 use Rattle.lvm_kept.specs.Contents.{Contents}
 use Rattle.lvm_kept.specs.Group.{passes, is_of, has_room, members_in, is_stale_by, fresh_on, block_at, IsBlockOf, is_named, IsOneOf, IsSome}
 use Rattle.lvm_kept.specs.Kept.{MayDiffer, IsBlockKept}
-use Rattle.lvm_invariant.specs.State.{State}
+use Rattle.lvm_invariant.specs.State.{ModelState}
 use Rattle.lvm_invariant.specs.Crash.{Fresh, MayDifferAfter, BlockKept}
-use Rattle.lvm_crash.specs.Session.{marks_of, view_of, members_there, has_notes, has_mark, HasVolumes}
+use Rattle.lvm_crash.specs.Session.{marks_of, view_of, members_showing, has_notes, has_mark, HasVolumes}
 use Rattle.lvm_crash.proofs.Lists.{left_of, right_of, both_of, not_so, so_not, of_passing, one_passes}
 
 -- a member among some disks is one among all
-member_there : (c : Contents) (disks : Disks) (group : Descriptor) (d : ℕ) → IsTrue (members_in c disks group.id group d) → IsTrue (members_there c group d)
+member_there : (c : Contents) (disks : Disks) (group : Descriptor) (d : ℕ) → IsTrue (members_in c disks group.id group d) → IsTrue (members_showing c group d)
 member_there c disks group d h =
     both_of (passes (is_of group.id) (c.descriptor d)) (has_room c d group)
     (right_of (disks d) (passes (is_of group.id) (c.descriptor d)) (left_of (disks d && passes (is_of group.id) (c.descriptor d)) (has_room c d group) h))
@@ -35,7 +35,7 @@ both_so : (b : Bool) → IsTrue b → IsFalse b → ⊥
 both_so true h k = absurd cc
 both_so false h k = absurd cc
 
-module _ (s : State) (facts : List Fact) (group : Descriptor) (c : Contents) (volumes : HasVolumes s facts group (members_there c group)) (r : Stamped Status) (row : LvRow) (lp b : ℕ)
+module _ (s : ModelState) (facts : List Fact) (group : Descriptor) (c : Contents) (volumes : HasVolumes s facts group (members_showing c group)) (r : Stamped Status) (row : LvRow) (lp b : ℕ)
     (one : IsOneOf group.lvs row) (inside : IsBlockOf group.mib row lp b) (kept : BlockKept s (view_of group c) (marks_of r.value) (cut b (known facts (Lv row.number) b)) row.number b) where
   module _ (disks : Disks) where
     abbrev test : Pp → Bool
@@ -70,13 +70,13 @@ module _ (s : State) (facts : List Fact) (group : Descriptor) (c : Contents) (vo
     }
 
   -- some copy is fresh among all disks
-  pub some_fresh : IsSome (fresh_on (members_there c group) (Some r) row lp)
+  pub some_fresh : IsSome (fresh_on (members_showing c group) (Some r) row lp)
   some_fresh =
       let one_copy = volumes.some row lp one inside.inside in
       let stays = kept.some one_copy.0 ((volumes.copies row lp b one_copy.0 one inside).1 (one_copy.1, one_copy.2)) in
       let at = (volumes.copies row lp b stays.0 one inside).0 stays.1.copy in
-      one_passes (λ p. members_there c group p.disk && not (is_stale_by (Some r) p)) (copies_of row lp) stays.0 at.0
-      (both_of (members_there c group stays.0.disk) (not (is_stale_by (Some r) stays.0)) at.1 (so_not (is_stale_by (Some r) stays.0) stays.1.fresh))
+      one_passes (λ p. members_showing c group p.disk && not (is_stale_by (Some r) p)) (copies_of row lp) stays.0 at.0
+      (both_of (members_showing c group stays.0.disk) (not (is_stale_by (Some r) stays.0)) at.1 (so_not (is_stale_by (Some r) stays.0) stays.1.fresh))
 
 -- each logical partition has a block
 pub block_of : (mib lp : ℕ) → 1 ≤ mib → partition_of mib (lp * partition_blocks mib) ≡ lp

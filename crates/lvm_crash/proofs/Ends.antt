@@ -14,7 +14,7 @@ use Rattle.lvm_vol.specs.Standing.{Volume, no_volumes, volumes_in}
 use Rattle.lvm_vol.proofs.Knowing.{known-push}
 use Rattle.lvm_kept.specs.Contents.{Contents}
 use Rattle.lvm_kept.specs.Kept.{StandsAs}
-use Rattle.lvm_invariant.specs.State.{State}
+use Rattle.lvm_invariant.specs.State.{ModelState}
 use Rattle.lvm_invariant.specs.Found.{Votes}
 use Rattle.lvm_invariant.specs.Good.{Good}
 use Rattle.lvm_invariant.specs.Over.{IsUnlanded, landings}
@@ -32,7 +32,7 @@ cut_again b k x may = by_values (cut b k).values may
     by_values None h = h
     by_values (Some vs) h = subst (Stands x) (sym (append-nil vs)) h
 
-module _ (s : State) (group : Descriptor) (in_flight : Option (Stamped Status)) (c : Contents) where
+module _ (s : ModelState) (group : Descriptor) (in_flight : Option (Stamped Status)) (c : Contents) where
   -- with a longer history, by which the modes stay, the volumes stand as they did, and disks in no group may show what they show
   longer : (facts more : List Fact) → ((lv b : ℕ) → (known more (Lv lv) b).mode ≡ (known facts (Lv lv) b).mode)
       → ((lv : ℕ) → StandsAs group.mib (volumes_in facts lv).standing (volumes_in facts lv).shape (volume_of group lv) → StandsAs group.mib (volumes_in more lv).standing (volumes_in more lv).shape (volume_of group lv))

@@ -12,7 +12,7 @@ use Rattle.lvm_kept.specs.Contents.{Contents}
 use Rattle.lvm_kept.specs.Group.{if_passes, is_status_of, members_in, status_by}
 use Rattle.lvm_kept.specs.Committed.{IsWithinDisks}
 use Rattle.lvm_kept.proofs.Finding.{passed, some_same, offered, is_offered}
-use Rattle.lvm_invariant.specs.State.{Marks, State}
+use Rattle.lvm_invariant.specs.State.{Marks, ModelState}
 use Rattle.lvm_invariant.specs.Found.{Votes, Found, HasIt}
 use Rattle.lvm_invariant.specs.Crash.{IsCrash, IsPossible}
 use Rattle.lvm_invariant.proofs.Finding.{quorum_finds}
@@ -28,12 +28,12 @@ let_through true o e = refl
 let_through false o e = absurd cc
 
 -- the status that members find, and that it is one of the two
-pub record FindsStatus (s : State) (group : Descriptor) (c : Contents) (disks : Disks) : Type 0 where
+pub record FindsStatus (s : ModelState) (group : Descriptor) (c : Contents) (disks : Disks) : Type 0 where
   pub status : Stamped Status
   pub found : status_by c disks group.id group ≡ Some status
   pub possible : IsPossible s (marks_of status.value)
 
-module _ (votes : Votes) (s : State) (group : Descriptor) (c : Contents) (are : AreVotesOf group votes) (found : Found votes s) (crash : IsCrash s (view_of group c)) (within : IsWithinDisks c) (disks : Disks)
+module _ (votes : Votes) (s : ModelState) (group : Descriptor) (c : Contents) (are : AreVotesOf group votes) (found : Found votes s) (crash : IsCrash s (view_of group c)) (within : IsWithinDisks c) (disks : Disks)
     (enough : CanRead group (members_in c disks group.id group)) where
   abbrev set : Disks
   set = members_in c disks group.id group

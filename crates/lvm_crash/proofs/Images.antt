@@ -18,7 +18,7 @@ use Rattle.lvm_kept.specs.Plans.{ChangesBy}
 use Rattle.lvm_kept.specs.Torn.{IsOfRecord, IsOtherOrRecord, StandsOn, written}
 use Rattle.lvm_kept.proofs.Contained.{room-same, newest-same, at-same, note-same, blocks_are_sectors}
 use Rattle.lvm_kept.proofs.Records.{never, part_is, newest_is, whole_is_new, newest_stays}
-use Rattle.lvm_invariant.specs.State.{Groups, State}
+use Rattle.lvm_invariant.specs.State.{Groups, ModelState}
 use Rattle.lvm_invariant.specs.Crash.{Brings, CopyBrings}
 use Rattle.lvm_vol.specs.Facts.{Fact}
 use Rattle.lvm_kept.specs.Kept.{Kept}
@@ -54,7 +54,7 @@ module _ (device : Device) (media : Media) (told : device.media ≡ Some media) 
   stays : MayLeave device base
   stays = subst (λ (o : Option Media). IsSomeAnd o (λ m. IsCrashImage (image_of device.sizes m) device.flights base)) (sym told) (record { same = record { disks = refl; size = λ d. refl }; each = λ d s. inl refl })
 
-  module _ (image : Image) (may : MayLeave device image) (s : State) (group : Descriptor) where
+  module _ (image : Image) (may : MayLeave device image) (s : ModelState) (group : Descriptor) where
     crash : IsCrashImage base device.flights image
     crash = crash_of image may
 
@@ -177,7 +177,7 @@ module _ (device : Device) (media : Media) (told : device.media ≡ Some media) 
 pub images_remain : CrashImagesRemain
 images_remain s facts group in_flight device media image matches may = remain device media matches.told image may s group in_flight matches.out
 
-images_agree : (votes : Votes) (s : State) (facts : List Fact) (group : Descriptor) (in_flight : Option (Stamped Status)) (device : Device) (media : Media) (image : Image)
+images_agree : (votes : Votes) (s : ModelState) (facts : List Fact) (group : Descriptor) (in_flight : Option (Stamped Status)) (device : Device) (media : Media) (image : Image)
     → AreVotesOf group votes → Found votes s → EachViewAgrees s facts → Matches s facts group in_flight device media → MayLeave device image → Kept (contents_of image) facts
 images_agree votes s facts group in_flight device media image are found agrees matches may = remains_kept votes s facts group in_flight (contents_of (image_of device.sizes media)) (contents_of image) are found agrees matches.describes
     (images_remain s facts group in_flight device media image matches may) (images_within image)

@@ -22,11 +22,11 @@ use Rattle.lvm_vol.specs.Standing.{Standing, Absent, Open, Settled, Shape, Volum
 use Rattle.lvm_vol.proofs.Knowing.{known-push, others_stay}
 use Rattle.lvm_kept.specs.Contents.{Contents}
 use Rattle.lvm_kept.specs.Kept.{StandsAs, RawAgrees}
-use Rattle.lvm_invariant.specs.State.{State, Queued}
+use Rattle.lvm_invariant.specs.State.{ModelState, Queued}
 use Rattle.lvm_invariant.specs.Found.{Votes}
 use Rattle.lvm_invariant.specs.Good.{Good}
-use Rattle.lvm_invariant.specs.Events.{Event, Submit, EnterStep, Admit, Pin, Read, StartWrite, Transfer, LandDone, LandLost, LandGot, LandReadFailed, LandNoFresh, EndStep, Take, TakeEarlier, Want, BeginUpdate, MoveStatus, CommitUpdate, EndUpdate, StartNote, EndNote, Open as OpenCopy, CopyWrite, Clear, Step}
-use Rattle.lvm_crash.specs.Session.{members_there, GroupStands, HasVolumes, Shows, Describes}
+use Rattle.lvm_invariant.specs.Events.{Event, Submit, EnterStep, Admit, Pin, Read, StartWrite, Transfer, LandDone, LandLost, LandGot, LandReadFailed, LandNoFresh, EndStep, Take, TakeEarlier, Want, BeginUpdate, MoveStatus, CommitUpdate, EndUpdate, StartNote, EndNote, Open as OpenCopy, CopyWrite, Clear, ModelStep}
+use Rattle.lvm_crash.specs.Session.{members_showing, GroupStands, HasVolumes, Shows, Describes}
 use Rattle.lvm_crash.specs.Left.{KeepsGroup}
 use Rattle.lvm_crash.specs.Lasting.{AsksOf, DescriptionLasts}
 use Rattle.lvm_invariant.proofs.Telling.{landed_mode}
@@ -121,13 +121,13 @@ raw_stays group facts f of d b =
 -- ---- each event
 
 -- what the group's volumes are told by stays, and the history gets at most one entry of a session
-record Goes (group : Descriptor) (s new : State) : Type 0 where
+record Goes (group : Descriptor) (s new : ModelState) : Type 0 where
   copies : new.is_copy ≡ s.is_copy
   active : new.is_active ≡ s.is_active
   passive : new.is_passive ≡ s.is_passive
   facts : (new.facts ≡ s.facts) ⊎ ((f : Fact) × (new.facts ≡ s.facts ++ f ∷ []) × IsOfSession group f)
 
-module _ (votes : Votes) (group : Descriptor) (s : State) (good : Good votes s) where
+module _ (votes : Votes) (group : Descriptor) (s : ModelState) (good : Good votes s) where
   -- a request of the queue is on a volume
   pub on_volume : (i : ℕ) (r : Queued) → s.queue i ≡ Some r → IsFalse r.step → (lv : ℕ) × ((s.name i).vol ≡ Lv lv)
   on_volume i r there request = (r.lv, (good.told.same i r there request).vol)
@@ -144,14 +144,14 @@ module _ (votes : Votes) (group : Descriptor) (s : State) (good : Good votes s) 
       by_step true is = absurd (never r.write write (good.told.steps_read i r there is))
       by_step false is = refl
 
-  abbrev Went : State → Type 0
+  abbrev Went : ModelState → Type 0
   Went new = Goes group s new
 
   -- the volumes stay
-  went : (new : State) → record new { is_copy = s.is_copy; is_active = s.is_active; is_passive = s.is_passive } ≡ new → (new.facts ≡ s.facts) ⊎ ((f : Fact) × (new.facts ≡ s.facts ++ f ∷ []) × IsOfSession group f) → Went new
-  went new same facts = record { copies = ap (λ (x : State). x.is_copy) (sym same); active = ap (λ (x : State). x.is_active) (sym same); passive = ap (λ (x : State). x.is_passive) (sym same); facts = facts }
+  went : (new : ModelState) → record new { is_copy = s.is_copy; is_active = s.is_active; is_passive = s.is_passive } ≡ new → (new.facts ≡ s.facts) ⊎ ((f : Fact) × (new.facts ≡ s.facts ++ f ∷ []) × IsOfSession group f) → Went new
+  went new same facts = record { copies = ap (λ (x : ModelState). x.is_copy) (sym same); active = ap (λ (x : ModelState). x.is_active) (sym same); passive = ap (λ (x : ModelState). x.is_passive) (sym same); facts = facts }
 
-  goes : (event : Event) (new : State) → Step votes event s new → AsksOf group event → Went new
+  goes : (event : Event) (new : ModelState) → ModelStep votes event s new → AsksOf group event → Went new
   goes (Submit i q r) new step asks = subst Went (sym step.1) (went _ refl (inr (Begun q, refl, (r.lv, step.0.same.vol, asks))))
   goes (EnterStep i q r) new step asks = subst Went (sym step.1) (went _ refl (inl refl))
   goes (Admit i r phase several targets) new step asks = subst Went (sym step.1) (went _ refl (inl refl))
@@ -188,10 +188,10 @@ module _ (votes : Votes) (group : Descriptor) (s : State) (good : Good votes s) 
 -- ---- all of it
 
 -- what holds with the history, and with each entry of a session more, holds with the new one
-with_facts : (group : Descriptor) (s new : State) (P : List Fact → Type 0) → Goes group s new → P s.facts → ((f : Fact) → IsOfSession group f → P (s.facts ++ f ∷ [])) → P new.facts
+with_facts : (group : Descriptor) (s new : ModelState) (P : List Fact → Type 0) → Goes group s new → P s.facts → ((f : Fact) → IsOfSession group f → P (s.facts ++ f ∷ [])) → P new.facts
 with_facts group s new P goes same more = ⊎_elim (λ is. subst P (sym is) same) (λ is. subst P (sym is.1) (more is.0 is.2)) goes.facts
 
-volumes_last : (group : Descriptor) (members : Disks) (s new : State) → Goes group s new → HasVolumes s s.facts group members → HasVolumes new new.facts group members
+volumes_last : (group : Descriptor) (members : Disks) (s new : ModelState) → Goes group s new → HasVolumes s s.facts group members → HasVolumes new new.facts group members
 volumes_last group members s new goes volumes = record {
   copies = λ row lp b p one inside. subst (λ (is : ℕ → ℕ → Pp → Bool). IsTrue (is row.number b p) ↔ (IsOneOf (copies_of row lp) p × IsTrue (members p.disk))) (sym goes.copies) (volumes.copies row lp b p one inside);
   inside = λ lv b p copy. volumes.inside lv b p (sym (ap (λ (is : ℕ → ℕ → Pp → Bool). is lv b p) goes.copies) ∙ copy);
@@ -220,13 +220,13 @@ module _ (old : Contents) (status : ℕ → Option (Stamped Status)) (note : ℕ
     alike = stands.alike;
   }
 
-  description_lasts_here : (votes : Votes) (event : Event) (s new : State) (group : Descriptor) (in_flight next : Option (Stamped Status))
-      → Step votes event s new → Good votes s → AsksOf group event → Describes s s.facts group in_flight old → KeepsGroup old now → Shows new group next now → Describes new new.facts group next now
+  description_lasts_here : (votes : Votes) (event : Event) (s new : ModelState) (group : Descriptor) (in_flight next : Option (Stamped Status))
+      → ModelStep votes event s new → Good votes s → AsksOf group event → Describes s s.facts group in_flight old → KeepsGroup old now → Shows new group next now → Describes new new.facts group next now
   description_lasts_here votes event s new group in_flight next step good asks describes keeps shows =
       let went : Goes group s new = goes votes group s good event new step asks in
       record {
         stands = group_stands group describes.stands;
-        volumes = volumes_last group (members_there old group) s new went describes.volumes;
+        volumes = volumes_last group (members_showing old group) s new went describes.volumes;
         shown = shows;
         raw = λ d b low none from to. with_facts group s new (λ l. May (known (l ++ Cut ∷ []) (Disk d) b) (block d b)) went (held d b low none from to)
             (λ f of. subst (λ (k : Known). May k (block d b)) (sym (raw_stays group s.facts f of d b)) (held d b low none from to));

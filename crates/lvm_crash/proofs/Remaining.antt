@@ -25,10 +25,10 @@ use Rattle.lvm_kept.specs.Kept.{HasStatus, IsBlockKept, BlocksKept, RawAgrees, I
 use Rattle.lvm_kept.specs.Committed.{IsWithinDisks}
 use Rattle.lvm_kept.proofs.Finding.{some_same, finding_reads}
 use Rattle.lvm_kept.proofs.Entries.{volume_is_row}
-use Rattle.lvm_invariant.specs.State.{State}
+use Rattle.lvm_invariant.specs.State.{ModelState}
 use Rattle.lvm_invariant.specs.Found.{Votes, Found}
 use Rattle.lvm_invariant.specs.Crash.{IsCrash, BlockKept}
-use Rattle.lvm_crash.specs.Session.{marks_of, as_marks, marks_shown, view_of, AreVotesOf, members_there, OthersStand, HasStatuses, Describes}
+use Rattle.lvm_crash.specs.Session.{marks_of, as_marks, marks_shown, view_of, AreVotesOf, members_showing, OthersStand, HasStatuses, Describes}
 use Rattle.lvm_crash.specs.Left.{MayRemain}
 use Rattle.lvm_crash.specs.Laws.{EachViewAgrees, WhatRemainsIsKept}
 use Rattle.lvm_crash.proofs.Blocks.{block_kept, some_fresh, block_of}
@@ -94,7 +94,7 @@ module _ (old : Contents) (status : ℕ → Option (Stamped Status)) (note : ℕ
     partitions = λ other g h apart is also. others.partitions other g h apart (found_before other g is) (found_before other h also);
   }
 
-  module _ (votes : Votes) (s : State) (facts : List Fact) (group : Descriptor) (in_flight : Option (Stamped Status)) (are : AreVotesOf group votes) (stood : Found votes s)
+  module _ (votes : Votes) (s : ModelState) (facts : List Fact) (group : Descriptor) (in_flight : Option (Stamped Status)) (are : AreVotesOf group votes) (stood : Found votes s)
       (agrees : EachViewAgrees s facts) (describes : Describes s facts group in_flight old)
       (remain : MayRemain s group in_flight old new) (within : IsWithinDisks new) where
     -- the session's view of what remains is one that it may leave
@@ -151,7 +151,7 @@ module _ (old : Contents) (status : ℕ → Option (Stamped Status)) (note : ℕ
         subst (λ (k : Known). IsBlockKept new group.mib (Some finds.status) row (fresh_on (members_in new members group.id group) (Some finds.status) row lp) k b) (sym (after_cut row.number b))
         (block_kept s facts group new describes.volumes finds.status row lp b one inside (kept_by disks finds row b) members)
 
-    some_by : (disks : Disks) (finds : FindsStatus s group new disks) (row : LvRow) (lp : ℕ) → IsOneOf group.lvs row → lp < row.lps → IsSome (fresh_on (members_there new group) (Some finds.status) row lp)
+    some_by : (disks : Disks) (finds : FindsStatus s group new disks) (row : LvRow) (lp : ℕ) → IsOneOf group.lvs row → lp < row.lps → IsSome (fresh_on (members_showing new group) (Some finds.status) row lp)
     some_by disks finds row lp one low =
         some_fresh s facts group new describes.volumes finds.status row lp (lp * partition_blocks group.mib) one
         (record { inside = low; partition = block_of group.mib lp describes.stands.size }) (kept_by disks finds row (lp * partition_blocks group.mib))

@@ -25,7 +25,7 @@ use Rattle.lvm_kept.specs.Kept.{StandsAs}
 use Rattle.lvm_invariant.specs.State.{has_notes, has_mark}
 use Rattle.lvm_invariant.specs.Updates.{is_pp}
 use Rattle.lvm_invariant.specs.First.{two_disks, first_copy, second_copy, is_either, marks_with, at_rest}
-use Rattle.lvm_crash.specs.Session.{as_marks, members_there, GroupStands, HasVolumes}
+use Rattle.lvm_crash.specs.Session.{as_marks, members_showing, GroupStands, HasVolumes}
 use Rattle.lvm_crash.specs.Worked.{Shown, sizes, status_shown, GroupsHaveVotes}
 use Rattle.lvm_crash.proofs.Standing.{shown}
 use Rattle.lvm_crash.proofs.Lists.{left_of, right_of, both_of}
@@ -111,7 +111,7 @@ module _ (mode : Mode) where
   the_row row (inr none) = absurd none
 
   abbrev is_there : Pp → Type 0
-  is_there p = IsOneOf (copies_of (mirror mode) 0) p × IsTrue (members_there base (two mode) p.disk)
+  is_there p = IsOneOf (copies_of (mirror mode) 0) p × IsTrue (members_showing base (two mode) p.disk)
 
   there : (p : Pp) → IsTrue (is_either p) → is_there p
   there p is = ⊎_elim (λ (e : p ≡ first_copy). subst is_there (sym e) (inl refl, refl)) (λ (e : p ≡ second_copy). subst is_there (sym e) (inr (inl refl), refl)) (on_either p is)
@@ -123,9 +123,9 @@ module _ (mode : Mode) where
 
   module _ (stale : Bool) where
     copies_at : (row : LvRow) → row ≡ mirror mode → (lp b : ℕ) (p : Pp) → lp ≡ 0 → b / 2048 ≡ lp
-        → IsTrue ((at_rest mode stale).is_copy row.number b p) ↔ (IsOneOf (copies_of row lp) p × IsTrue (members_there base (two mode) p.disk))
-    copies_at row is lp b p none part = subst (λ (r : LvRow). IsTrue ((at_rest mode stale).is_copy r.number b p) ↔ (IsOneOf (copies_of r lp) p × IsTrue (members_there base (two mode) p.disk))) (sym is)
-        (subst (λ (n : ℕ). IsTrue ((at_rest mode stale).is_copy 1 b p) ↔ (IsOneOf (copies_of (mirror mode) n) p × IsTrue (members_there base (two mode) p.disk))) (sym none)
+        → IsTrue ((at_rest mode stale).is_copy row.number b p) ↔ (IsOneOf (copies_of row lp) p × IsTrue (members_showing base (two mode) p.disk))
+    copies_at row is lp b p none part = subst (λ (r : LvRow). IsTrue ((at_rest mode stale).is_copy r.number b p) ↔ (IsOneOf (copies_of r lp) p × IsTrue (members_showing base (two mode) p.disk))) (sym is)
+        (subst (λ (n : ℕ). IsTrue ((at_rest mode stale).is_copy 1 b p) ↔ (IsOneOf (copies_of (mirror mode) n) p × IsTrue (members_showing base (two mode) p.disk))) (sym none)
         (λ h. there p (right_of (nat_lt b 2048) (is_either p) h), λ h. both_of (nat_lt b 2048) (is_either p) (within b (part ∙ none)) (back p h.0)))
 
     -- what the history says of a block of volume 1, if it is one
@@ -141,7 +141,7 @@ module _ (mode : Mode) where
     stands_as true lv = refl
     stands_as false lv = tt
 
-    pub volumes : HasVolumes (at_rest mode stale) (at_rest mode stale).facts (two mode) (members_there base (two mode))
+    pub volumes : HasVolumes (at_rest mode stale) (at_rest mode stale).facts (two mode) (members_showing base (two mode))
     volumes = record {
       copies = λ row lp b p one inside. copies_at row (the_row row one) lp b p (first_partition lp (subst (λ (r : LvRow). lp < r.lps) (the_row row one) inside.inside)) inside.partition;
       inside = λ lv b p copy.

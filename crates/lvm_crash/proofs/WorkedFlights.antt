@@ -13,7 +13,7 @@ use Rattle.lvm_disk.specs.Device.{Flight, IsInFlight, written, image_of}
 use Rattle.lvm_vol.specs.Facts.{Begun}
 use Rattle.lvm_kept.specs.Contents.{contents_of}
 use Rattle.lvm_kept.specs.Examples.{two}
-use Rattle.lvm_invariant.specs.State.{has_notes, has_mark, State, covers, Started}
+use Rattle.lvm_invariant.specs.State.{has_notes, has_mark, ModelState, covers, Started}
 use Rattle.lvm_invariant.specs.Crash.{Brings, CopyBrings}
 use Rattle.lvm_invariant.specs.First.{two_disks, first_copy, second_copy, is_either, at_rest}
 use Rattle.lvm_invariant.specs.Worked.{ones, asked, both_out, step_read, zero_blocks, writing, stepping}
@@ -57,7 +57,7 @@ abbrev pub AreOfData : List Flight → Type 0
 AreOfData flights = (d s : ℕ) (value : Sector) → IsInFlight flights d s value → (4096 ≤ s) × IsTrue (two_disks d)
 
 -- only the flights over blocks have to be told
-out_of : (s : State) (w : Shown) (flights : List Flight) → AreOfData flights
+out_of : (s : ModelState) (w : Shown) (flights : List Flight) → AreOfData flights
     → ((lv b : ℕ) (p : Pp) (value : Sector) → IsTrue (s.is_copy lv b p) → IsInFlight flights p.disk (sector_of (two w.mode).mib p.pp b) value → Brings s lv b p value ⊎ CopyBrings s lv b p value)
     → HasOut s (two w.mode) None (device_of w flights) (media_of w)
 out_of s w flights are blocks = record {

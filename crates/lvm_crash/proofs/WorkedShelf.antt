@@ -29,10 +29,10 @@ use Rattle.lvm_kept.specs.Examples.{stamped, either_of, two}
 use Rattle.lvm_kept.specs.Group.{names_if, is_named, block_at}
 use Rattle.lvm_kept.proofs.Contained.{blocks_are_sectors}
 use Rattle.lvm_kept.proofs.Standing.{zeros-sector}
-use Rattle.lvm_invariant.specs.State.{Marks, State}
+use Rattle.lvm_invariant.specs.State.{Marks, ModelState}
 use Rattle.lvm_invariant.specs.First.{two_disks, marks_with, on_both, at_rest}
 use Rattle.lvm_invariant.specs.Worked.{first_group}
-use Rattle.lvm_crash.specs.Session.{marks_shown, members_there, HasVolumes, HasStatuses, Shows, Describes}
+use Rattle.lvm_crash.specs.Session.{marks_shown, members_showing, HasVolumes, HasStatuses, Shows, Describes}
 use Rattle.lvm_crash.specs.Worked.{Shown, sizes, status_shown, note_shown, framed_group, framed_status, media_of}
 use Rattle.lvm_crash.proofs.Worked.{base, behind, stands, volumes, its_marks}
 use Rattle.lvm_crash.proofs.Lasting.{group_stands}
@@ -98,11 +98,11 @@ room w d = by_first (d == 0) refl
     by_first false is = by_second (d == 1) refl is
 
 -- with what the group's volumes are told by as it was
-abbrev pub keeping_volumes : State → State → State
+abbrev pub keeping_volumes : ModelState → ModelState → ModelState
 keeping_volumes old new = record new { is_copy = old.is_copy; is_active = old.is_active; is_passive = old.is_passive }
 
-pub same_volumes : (old new : State) → keeping_volumes old new ≡ new → (facts : List Fact) (group : Descriptor) (members : Disks) → HasVolumes old facts group members → HasVolumes new facts group members
-same_volumes old new same facts group members v = subst (λ (s : State). HasVolumes s facts group members) same
+pub same_volumes : (old new : ModelState) → keeping_volumes old new ≡ new → (facts : List Fact) (group : Descriptor) (members : Disks) → HasVolumes old facts group members → HasVolumes new facts group members
+same_volumes old new same facts group members v = subst (λ (s : ModelState). HasVolumes s facts group members) same
     (record { copies = v.copies; inside = v.inside; some = v.some; notes = v.notes; mark = v.mark; modes = v.modes; history = v.history })
 
 module _ (w : Shown) where
@@ -253,7 +253,7 @@ module _ (w : Shown) where
   -- ---- a session of it
 
   -- no update is under way
-  pub no_update : (s : State) → s.in_flight ≡ None → HasStatuses s (two w.mode) None (contents_of image)
+  pub no_update : (s : ModelState) → s.in_flight ≡ None → HasStatuses s (two w.mode) None (contents_of image)
   no_update s none = record {
     same = none;
     own = λ u e. absurd cc;
@@ -262,19 +262,19 @@ module _ (w : Shown) where
   }
 
   -- what stands on the disks is what such a state says
-  pub record Fits (s : State) (in_flight : Option (Stamped Status)) : Type 0 where
+  pub record Fits (s : ModelState) (in_flight : Option (Stamped Status)) : Type 0 where
     pub block : (lv b : ℕ) (p : Pp) → s.media.block lv b p ≡ zero_sector
     pub names : (d lv g : ℕ) → s.media.names d lv g ≡ (w.named && (two_disks d && first_group lv g))
     pub status : (d : ℕ) → s.media.status d ≡ on_both (record { stamp = (status_shown w).stamp; value = marks_with w.stale w.dirty }) d
     pub statuses : HasStatuses s (two w.mode) in_flight (contents_of image)
-    pub volumes : (facts : List Fact) → HasVolumes (at_rest w.mode w.stale) facts (two w.mode) (members_there (base w.mode) (two w.mode)) → HasVolumes s facts (two w.mode) (members_there (base w.mode) (two w.mode))
+    pub volumes : (facts : List Fact) → HasVolumes (at_rest w.mode w.stale) facts (two w.mode) (members_showing (base w.mode) (two w.mode)) → HasVolumes s facts (two w.mode) (members_showing (base w.mode) (two w.mode))
 
   -- one that shows no written block, with no status out and the volumes at rest
-  pub fits_still : (s : State) → ((lv b : ℕ) (p : Pp) → s.media.block lv b p ≡ zero_sector) → ((d lv g : ℕ) → s.media.names d lv g ≡ (w.named && (two_disks d && first_group lv g)))
+  pub fits_still : (s : ModelState) → ((lv b : ℕ) (p : Pp) → s.media.block lv b p ≡ zero_sector) → ((d lv g : ℕ) → s.media.names d lv g ≡ (w.named && (two_disks d && first_group lv g)))
       → ((d : ℕ) → s.media.status d ≡ on_both (record { stamp = (status_shown w).stamp; value = marks_with w.stale w.dirty }) d) → s.in_flight ≡ None → keeping_volumes (at_rest w.mode w.stale) s ≡ s → Fits s None
   fits_still s block names status none same = record { block = block; names = names; status = status; statuses = no_update s none; volumes = λ facts v. same_volumes (at_rest w.mode w.stale) s same facts (two w.mode) _ v }
 
-  shows : (s : State) (in_flight : Option (Stamped Status)) → Fits s in_flight → Shows s (two w.mode) in_flight (contents_of image)
+  shows : (s : ModelState) (in_flight : Option (Stamped Status)) → Fits s in_flight → Shows s (two w.mode) in_flight (contents_of image)
   shows s in_flight fits = record {
     blocks = λ lv b p copy. fits.block lv b p ∙ zeros lv b p;
     names = λ d lv g. fits.names d lv g ∙ sym (names d lv g);
@@ -283,7 +283,7 @@ module _ (w : Shown) where
   }
 
   -- such a state describes the image, with the history of its beginning
-  pub describes : (s : State) (in_flight : Option (Stamped Status)) → Fits s in_flight → Describes s (at_rest w.mode w.stale).facts (two w.mode) in_flight (contents_of image)
+  pub describes : (s : ModelState) (in_flight : Option (Stamped Status)) → Fits s in_flight → Describes s (at_rest w.mode w.stale).facts (two w.mode) in_flight (contents_of image)
   describes s in_flight fits = subst (λ c. Describes s (at_rest w.mode w.stale).facts (two w.mode) in_flight c) (sym rest) (record {
     stands = group_stands (base w.mode) (status_on image) (note_on image) (data_at image) (two w.mode) (stands w.mode);
     volumes = fits.volumes (at_rest w.mode w.stale).facts (volumes w.mode w.stale);

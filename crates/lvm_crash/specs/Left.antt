@@ -7,7 +7,7 @@ use Rattle.lvm_num.specs.Geometry.{data_start}
 use Rattle.lvm_num.specs.Record.{Stamped}
 use Rattle.lvm_kept.specs.Contents.{Contents}
 use Rattle.lvm_kept.specs.Group.{block_at, is_named}
-use Rattle.lvm_invariant.specs.State.{Groups, State}
+use Rattle.lvm_invariant.specs.State.{Groups, ModelState}
 use Rattle.lvm_invariant.specs.Crash.{Brings, CopyBrings}
 
 -- Nothing has changed but statuses, notes, and data of disks that show a descriptor.
@@ -17,7 +17,7 @@ pub record KeepsGroup (old new : Contents) : Type 0 where
 
 -- Each block of a copy is the old one, or what a write or a step brings there; each note is the old one or the one that is out; each
 -- status is the old one, or where its write is out the one in flight. All else is what it was.
-pub record MayRemain (s : State) (group : Descriptor) (in_flight : Option (Stamped Status)) (old new : Contents) : Type 0 where
+pub record MayRemain (s : ModelState) (group : Descriptor) (in_flight : Option (Stamped Status)) (old new : Contents) : Type 0 where
   pub kept : KeepsGroup old new
   pub blocks : (lv b : ℕ) (p : Pp) → IsTrue (s.is_copy lv b p)
       → (block_at new group.mib p b ≡ block_at old group.mib p b) ⊎ Brings s lv b p (block_at new group.mib p b) ⊎ CopyBrings s lv b p (block_at new group.mib p b)

@@ -17,7 +17,7 @@ use Rattle.lvm_vol.specs.Standing.{volumes_in}
 use Rattle.lvm_kept.specs.Contents.{Contents}
 use Rattle.lvm_kept.specs.Group.{if_passes, is_status_of, Finds, IsFound, members_in, Reads, AreAlike, block_at, IsBlockOf, is_named, IsOneOf}
 use Rattle.lvm_kept.specs.Kept.{StandsAs, RawAgrees}
-use Rattle.lvm_invariant.specs.State.{Marks, View, State}
+use Rattle.lvm_invariant.specs.State.{Marks, View, ModelState}
 pub use Rattle.lvm_invariant.specs.State.{has_notes, has_mark}
 use Rattle.lvm_invariant.specs.Found.{Votes}
 
@@ -46,8 +46,8 @@ pub record AreVotesOf (group : Descriptor) (votes : Votes) : Type 0 where
   pub writes : (set : Disks) → votes.writes set ≡ is_enough_to_write group (votes_in group set)
 
 -- the members by the descriptor that show a descriptor of the group and have the sectors that their partitions need
-abbrev pub members_there : Contents → Descriptor → Disks
-members_there c group = members_in c all_disks group.id group
+abbrev pub members_showing : Contents → Descriptor → Disks
+members_showing c group = members_in c all_disks group.id group
 
 -- Of the groups beside this one: two sets of disks that can read one have a common member, and by what is found of it the partitions are of one size,
 -- and as many on the members that are shared.
@@ -81,7 +81,7 @@ pub record IsBlockIn (group : Descriptor) (lv b : ℕ) : Type 0 where
 
 -- The session's copies are those of the group that stand on members which are there, of which each logical partition has one; its
 -- modes are the group's, and the history has the group's volumes.
-pub record HasVolumes (s : State) (facts : List Fact) (group : Descriptor) (members : Disks) : Type 0 where
+pub record HasVolumes (s : ModelState) (facts : List Fact) (group : Descriptor) (members : Disks) : Type 0 where
   pub copies : (row : LvRow) (lp b : ℕ) (p : Pp) → IsOneOf group.lvs row → IsBlockOf group.mib row lp b → IsTrue (s.is_copy row.number b p) ↔ (IsOneOf (copies_of row lp) p × IsTrue (members p.disk))
   pub inside : (lv b : ℕ) (p : Pp) → IsTrue (s.is_copy lv b p) → IsBlockIn group lv b
   pub some : (row : LvRow) (lp : ℕ) → IsOneOf group.lvs row → lp < row.lps → (p : Pp) × IsOneOf (copies_of row lp) p × IsTrue (members p.disk)
@@ -93,7 +93,7 @@ pub record HasVolumes (s : State) (facts : List Fact) (group : Descriptor) (memb
 -- ---- its statuses
 
 -- The status in flight is this one, of the group, and statuses of a group under one stamp are one.
-pub record HasStatuses (s : State) (group : Descriptor) (in_flight : Option (Stamped Status)) (c : Contents) : Type 0 where
+pub record HasStatuses (s : ModelState) (group : Descriptor) (in_flight : Option (Stamped Status)) (c : Contents) : Type 0 where
   pub same : s.in_flight ≡ option_map as_marks in_flight
   pub own : (u : Stamped Status) → in_flight ≡ Some u → u.value.id ≡ group.id
   pub once : (d e : ℕ) (r t : Stamped Status) → c.status d ≡ Some r → c.status e ≡ Some t → r.value.id ≡ t.value.id → r.stamp ≡ t.stamp → r ≡ t
@@ -102,7 +102,7 @@ pub record HasStatuses (s : State) (group : Descriptor) (in_flight : Option (Sta
 -- ---- all of it
 
 -- The blocks of copies, the notes and the statuses that stand on the disks are what the state says.
-pub record Shows (s : State) (group : Descriptor) (in_flight : Option (Stamped Status)) (c : Contents) : Type 0 where
+pub record Shows (s : ModelState) (group : Descriptor) (in_flight : Option (Stamped Status)) (c : Contents) : Type 0 where
   pub blocks : (lv b : ℕ) (p : Pp) → IsTrue (s.is_copy lv b p) → s.media.block lv b p ≡ block_at c group.mib p b
   pub names : (d lv track_group : ℕ) → s.media.names d lv track_group ≡ is_named c d lv track_group
   pub status : (d : ℕ) → s.media.status d ≡ marks_shown group.id (c.status d)
@@ -110,8 +110,8 @@ pub record Shows (s : State) (group : Descriptor) (in_flight : Option (Stamped S
 
 -- So is all that stands on the disks, and disks in no group hold what the history allows. (The history is the state's while the session is on;
 -- once it is over, that one with the landings of what was open.)
-pub record Describes (s : State) (facts : List Fact) (group : Descriptor) (in_flight : Option (Stamped Status)) (c : Contents) : Type 0 where
+pub record Describes (s : ModelState) (facts : List Fact) (group : Descriptor) (in_flight : Option (Stamped Status)) (c : Contents) : Type 0 where
   pub stands : GroupStands c group
-  pub volumes : HasVolumes s facts group (members_there c group)
+  pub volumes : HasVolumes s facts group (members_showing c group)
   pub shown : Shows s group in_flight c
   pub raw : RawAgrees c facts

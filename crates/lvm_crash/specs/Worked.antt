@@ -15,7 +15,7 @@ use Rattle.lvm_num.specs.Record.{Stamped, frame, slot_start}
 use Rattle.lvm_disk.specs.Device.{Media, Flight, Device}
 use Rattle.lvm_kept.specs.Contents.{note_sector}
 use Rattle.lvm_kept.specs.Examples.{row_of, status_of_rows, two}
-use Rattle.lvm_invariant.specs.State.{has_notes, has_mark, State}
+use Rattle.lvm_invariant.specs.State.{has_notes, has_mark, ModelState}
 use Rattle.lvm_invariant.specs.Found.{Votes}
 use Rattle.lvm_invariant.specs.Good.{Good}
 use Rattle.lvm_invariant.specs.First.{at_rest}
@@ -95,7 +95,7 @@ next_sector = frame kind.Status framed_next.stamp framed_next.content 0
 -- ---- laws
 
 -- a good session that matches this shelf, in a group whose votes are these
-pub record IsMet (s : State) (w : Shown) (in_flight : Option (Stamped Status)) (flights : List Flight) : Type 0 where
+pub record IsMet (s : ModelState) (w : Shown) (in_flight : Option (Stamped Status)) (flights : List Flight) : Type 0 where
   pub good : (votes : Votes) → AreVotesOf (two w.mode) votes → Good votes s
   pub matches : Matches s s.facts (two w.mode) in_flight (device_of w flights) (media_of w)
 

@@ -5,4 +5,4 @@ mod head;
 mod rows;
 
 pub use head::{begin_at, counts_at, name_at, rules_at};
-pub use rows::{has_member, members_at, volumes_at};
+pub use rows::{members_at, volumes_at};

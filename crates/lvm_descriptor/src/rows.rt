@@ -14,7 +14,7 @@ use crate::head::{most_volumes, name_at};
 use lvm_fields::{
     Fault, Unread, behind, u8_from_1, u8_up_to, u16_at, u16_from_1, u32_at, zeros_at,
 };
-use lvm_num::{LvRow, Mode, Policy, PvRow, Rows};
+use lvm_num::{LvRow, Mode, Policy, PvRow, Rows, has_member};
 use std::alloc::Global;
 
 /// So many rows of members.
@@ -54,18 +54,6 @@ fn disk_at<'a>(earlier: &[PvRow], unread: Unread<'a>) -> Result<(u16, Unread<'a>
         return Err(Fault::At(unread.place));
     }
     read
-}
-
-/// Whether a member is on the disk.
-pub fn has_member(members: &[PvRow], disk: u16) -> bool
-    ensures { result ≡ list_any (λ (row : PvRow). row.disk == disk) members.now }
-{
-    for row in members {
-        if row.disk == disk {
-            return true;
-        }
-    }
-    false
 }
 
 /// So many rows of volumes, with no partitions yet.

@@ -1,14 +1,6 @@
 -- Counts of 64 bits that never fall.
-use Rattle.std.specs.Prelude.{◌≡◌, ℕ, ◌+◌, ◌-◌, ◌^◌, ◌≤◌, min}
-
--- a count rose by n, or stands at its last value
-pub record RoseBy (n before now : ℕ) : Type 0 where
-  pub later : before ≤ now
-  pub risen : min (before + n) (2 ^ 64 - 1) ≤ now
-
--- a count rose, or stands at its last value
-abbrev pub Rose : ℕ → ℕ → Type 0
-Rose before now = RoseBy 1 before now
+use Rattle.std.specs.Prelude.{◌≡◌, ℕ, ◌≤◌}
+pub use Rattle.lvm_num.specs.Counting.{RoseBy, Rose}
 
 -- at this disk the count rose, and at the others it stands
 pub record RoseAt (disk : ℕ) (before now : ℕ → ℕ) : Type 0 where

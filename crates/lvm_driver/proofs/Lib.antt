@@ -4,3 +4,4 @@ mod Draining
 mod Causes
 pub mod Beginnings
 mod Closing
+mod Due

@@ -27,9 +27,11 @@ ghost use Rattle.lvm_turn_answers.specs.Telling.{TurnTells};
 ghost use Rattle.lvm_driver.specs.Answers.{IsCausedFor, IsCopyCaused, IsOffSince, state_of};
 
 use crate::closed::{Closed, without_freed};
-use lvm_calls::{close_copy, copy_state, take};
+use crate::dues::{all_due, submit, take};
+use lvm_calls::{close_copy, copy_state};
 use lvm_copy_open::open_copy;
 use lvm_disk::{Arrange, Shelf};
+use lvm_due::Due;
 use lvm_history::History;
 use lvm_homes::Homes;
 use lvm_num::{Descriptor, Stamp};
@@ -39,7 +41,6 @@ use lvm_session::{AskFault, CopyFault, CopyState, Open, Power, Session, Taken, T
 use lvm_session_start::{Parts, begin_session};
 use lvm_session_turn::turn;
 use lvm_stale::StaleTable;
-use lvm_submit::submit_request;
 use lvm_work_left::left;
 use std::marker::Model;
 
@@ -51,6 +52,7 @@ use std::marker::Model;
 pub struct Driver<S: Shelf> {
     shelf: S,
     session: Session,
+    due: Due,
 }
 
 impl<S: Shelf> Model for Driver<S> {
@@ -58,12 +60,13 @@ impl<S: Shelf> Model for Driver<S> {
     ghost use Rattle.lvm_session.specs.Rooms.{HasRooms};
     ghost use Rattle.lvm_session.specs.State.{Core, state};
     ghost use Rattle.lvm_session.specs.Sound.{IsSound};
+    ghost use Rattle.lvm_due.specs.Due.{IsDue};
 
     ghost Value = { S × Core };
 
     ghost view = { λ d. (d.shelf, core_of d.session) };
 
-    ghost invariant = { λ d. HasRooms d.session × IsSound (state (S.device d.shelf) (core_of d.session)) };
+    ghost invariant = { λ d. HasRooms d.session × IsSound (state (S.device d.shelf) (core_of d.session)) × IsDue (core_of d.session) d.due };
 }
 
 impl<S: Shelf> Driver<S> {
@@ -78,7 +81,12 @@ impl<S: Shelf> Driver<S> {
         ensures causes { HasCausesSince result.1.history.facts (state_of S.device result) }
     {
         let session = begin_session(parts, &shelf, history, stamp, homes);
-        Driver { shelf, session }
+        let due = all_due(&session);
+        Driver {
+            shelf,
+            session,
+            due,
+        }
     }
 
     /// A session over its shelf, from another driver.
@@ -88,7 +96,12 @@ impl<S: Shelf> Driver<S> {
         ensures shelf { result.0 ≡ shelf }
         ensures core { result.1 ≡ core_of session }
     {
-        Driver { shelf, session }
+        let due = all_due(&session);
+        Driver {
+            shelf,
+            session,
+            due,
+        }
     }
 
     /// Its shelf and its session, for another driver.
@@ -115,7 +128,7 @@ impl<S: Shelf> Driver<S> {
         ensures off { IsOffSince (state_of S.device self.old) }
         ensures runs { RunsOn (state_of S.device self.old) (state_of S.device self.new) }
     {
-        submit_request(&mut self.session, client, ask, bytes)
+        submit(&mut self.session, &mut self.due, client, ask, bytes)
     }
 
     /// Makes one turn. The first event that may be made is: a request lands, is admitted or pins its track group, or
@@ -129,7 +142,7 @@ impl<S: Shelf> Driver<S> {
         ensures got { GetsItsBlocks (state_of S.device self.old) (state_of S.device self.new) }
     {
         statuses_are_valid(&self.session);
-        turn(&mut self.session, &mut self.shelf)
+        turn(&mut self.session, &mut self.shelf, &mut self.due)
     }
 
     /// Takes the answer of a client's request of this number, which goes with it. `NotYet` where it hasn't landed,
@@ -141,7 +154,7 @@ impl<S: Shelf> Driver<S> {
         ensures caused { IsCausedFor (state_of S.device self.old) client id }
         ensures runs { RunsOn (state_of S.device self.old) (state_of S.device self.new) }
     {
-        take(&mut self.session, client, id)
+        take(&mut self.session, &mut self.due, client, id)
     }
 
     /// How much work is left: each turn that has moved leaves less, and nothing is left once the session is over.
@@ -164,7 +177,9 @@ impl<S: Shelf> Driver<S> {
         ensures off { IsOffSince (state_of S.device self.old) }
         ensures leaves { LeavesSession (state_of S.device self.old) (state_of S.device self.new) }
     {
-        open_copy(&mut self.session, &self.shelf, lv, lp, number)
+        let answer = open_copy(&mut self.session, &self.shelf, lv, lp, number);
+        self.due = all_due(&self.session);
+        answer
     }
 
     /// How far the copy is that is open.
@@ -183,7 +198,8 @@ impl<S: Shelf> Driver<S> {
         ensures closed { self.new.1 ≡ closed self.old.1 }
         ensures runs { RunsOn (state_of S.device self.old) (state_of S.device self.new) }
     {
-        close_copy(&mut self.session)
+        close_copy(&mut self.session);
+        self.due = all_due(&self.session);
     }
 
     /// Gives an order to the shelf: a disk fails or heals, or the power is cut, which ends the session. Answers
@@ -193,7 +209,9 @@ impl<S: Shelf> Driver<S> {
         ensures gives { Arranges (state_of S.device self.old) (state_of S.device self.new) what result }
         ensures leaves { LeavesSession (state_of S.device self.old) (state_of S.device self.new) }
     {
-        arrange(&mut self.session, &mut self.shelf, what)
+        let done = arrange(&mut self.session, &mut self.shelf, what);
+        self.due = all_due(&self.session);
+        done
     }
 
     /// Whether the session goes on.
@@ -295,7 +313,7 @@ impl<S: Shelf> Driver<S> {
         // Where no request waited, each that the history tells of has landed.
         ensures landed { list_any is_waiting self.1.requests ≡ false → (id : ℕ) → is_open result.history.facts id ≡ false }
     {
-        let Driver { shelf, session } = self;
+        let Driver { shelf, session, .. } = self;
         Closed {
             shelf: without_freed(shelf),
             history: session.history,

@@ -4,8 +4,10 @@
 mod closed;
 mod drain;
 mod driver;
+mod dues;
 pub mod laws;
 mod shown;
+mod sound;
 
 pub use closed::Closed;
 pub use drain::DrainFault;

@@ -14,11 +14,11 @@ use Rattle.lvm_vol.proofs.Legality.{fits_taken, legal_prefix}
 use Rattle.lvm_session.specs.declared.flown.Flown.{Flown}
 use Rattle.lvm_session.specs.declared.flown.Owner.{Owner}
 use Rattle.lvm_session.specs.declared.flown.Owner.TheVariants as owner
-use Rattle.lvm_session.specs.State.{Core, State as Session, state}
+use Rattle.lvm_session.specs.State.{Core, State, state}
 use Rattle.lvm_session.specs.Calls.{is_asked}
 use Rattle.lvm_session.specs.Sound.{IsAsked, IsSound}
 use Rattle.lvm_invariant.specs.Events.{TakeEarlier}
-use Rattle.lvm_invariant.specs.State.{Queued, State}
+use Rattle.lvm_invariant.specs.State.{Queued, ModelState}
 use Rattle.lvm_invariant.specs.TakeEarlier.{TakesEarlier}
 use Rattle.lvm_invariant.proofs.Each.{each_keeps}
 use Rattle.lvm_keeps.proofs.Lists.{all_at}
@@ -55,11 +55,11 @@ and_no : (a b : Bool) → b ≡ false → a && b ≡ false
 and_no true b is = is
 and_no false b is = refl
 
-module _ (past : List Fact) (s : Session) (tied : IsTied past s) (id : ℕ) (its : is_answered s.core.history.facts 1 id ≡ true) (gone : list_any (is_asked 1 id) s.core.requests ≡ false) where
+module _ (past : List Fact) (s : State) (tied : IsTied past s) (id : ℕ) (its : is_answered s.core.history.facts 1 id ≡ true) (gone : list_any (is_asked 1 id) s.core.requests ≡ false) where
   abbrev core : Core
   core = s.core
 
-  abbrev v : State
+  abbrev v : ModelState
   v = tied.view
 
   abbrev q : Request
@@ -104,7 +104,7 @@ module _ (past : List Fact) (s : Session) (tied : IsTied past s) (id : ℕ) (its
           let same : a.0 ≡ r = some_of a.0 r (sym a.1 ∙ ap v.queue it.its ∙ at) in
           absurd (let e : ◌≡◌ {A = Bool} true false = sym a.2.step ∙ ap (λ (x : Queued). x.step) same ∙ no_step in cc e)
 
-  abbrev w : State
+  abbrev w : ModelState
   w = record v { facts = v.facts ++ Taken q ∷ [] }
 
   sees : Sees past entered w

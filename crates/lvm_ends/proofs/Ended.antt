@@ -12,7 +12,7 @@ use Rattle.lvm_num.specs.Descriptor.{IsPartitionOf, IsValid}
 use Rattle.lvm_pbuf.specs.Out.{IsOut}
 use Rattle.lvm_stale.specs.Table.{is_pp}
 use Rattle.lvm_status.specs.Members.{HasItsRows}
-use Rattle.lvm_status.specs.Runs.{IsSound as IsSoundStatus}
+use Rattle.lvm_status.specs.Runs.{IsSoundStatus}
 use Rattle.lvm_status.specs.Update.{seen}
 use Rattle.lvm_session.specs.declared.bringing.OpenCopy.{OpenCopy}
 use Rattle.lvm_session.specs.declared.flown.Flown.{Flown}

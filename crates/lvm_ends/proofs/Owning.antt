@@ -13,13 +13,13 @@ use Rattle.lvm_mwc.specs.Cache.{flight_on, notes_on}
 use Rattle.lvm_status.specs.declared.change.Change.TheVariants as change
 use Rattle.lvm_status.specs.Calls.{WantsAtEnd, after_end}
 use Rattle.lvm_status.specs.Members.{HasItsRows}
-use Rattle.lvm_status.specs.Runs.{Ended, IsSound as IsSoundStatus, Want}
+use Rattle.lvm_status.specs.Runs.{Ended, IsSoundStatus, Want}
 use Rattle.lvm_status.specs.Update.{Stored, seen}
 use Rattle.lvm_status.proofs.Disks.{member-below}
 use Rattle.lvm_status.proofs.Sound.{steps_stay_sound}
 use Rattle.lvm_session.specs.State.{Core}
 use Rattle.lvm_session.specs.Ends.{LosesDisk}
-use Rattle.lvm_learn.specs.Learning.{NoteEnds}
+use Rattle.lvm_learn.specs.Learning.{NoteWriteEnds}
 use Rattle.lvm_session.specs.Sound.{IsGoing}
 
 -- ---- of the update
@@ -55,5 +55,5 @@ has_its_row core disk going flies = going.fitting.rows disk ∙ sym (going.fitti
     by_notes None is flies = absurd (cc flies)
     by_notes (Some n) is flies = refl
 
-pub lost : (core mid : Core) (at disk : ℕ) (ok : Bool) (buf : Buffer) → ok ≡ false → NoteEnds ok core at disk buf mid → NoteEnds false core at disk buf mid
-lost core mid at disk ok buf is ends = subst (λ (b : Bool). NoteEnds b core at disk buf mid) is ends
+pub lost : (core mid : Core) (at disk : ℕ) (ok : Bool) (buf : Buffer) → ok ≡ false → NoteWriteEnds ok core at disk buf mid → NoteWriteEnds false core at disk buf mid
+lost core mid at disk ok buf is ends = subst (λ (b : Bool). NoteWriteEnds b core at disk buf mid) is ends

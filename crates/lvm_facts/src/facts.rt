@@ -146,6 +146,23 @@ fn chosen_facts(session: &Session, request: &Request) -> Facts
     }
 }
 
+// Of a write that waits for its entry: what is pending is read only where it matters.
+fn entry_facts(session: &Session, request: &Request) -> Facts
+    requires valid { IsValid session.now.descriptor }
+    requires within { IsWithin session.now.descriptor request.now.ask }
+    ensures { next_in phase.WantEntry result request.now ≡ next_in phase.WantEntry (facts_of (core_of session.now) request.now) request.now }
+{
+    if has_usable(session, &request.ask) && !is_changed(session, request) {
+        Facts {
+            pinned: request.pinned,
+            usable: true,
+            ..no_facts()
+        }
+    } else {
+        chosen_facts(session, request)
+    }
+}
+
 // Of a write whose transfers have all ended.
 fn ended_facts(session: &Session, request: &Request) -> Facts
     ensures { result ≡ record no_facts { marked = is_marked (core_of session.now) request.now; kept = is_kept (core_of session.now) request.now } }
@@ -197,7 +214,8 @@ fn read_facts(session: &Session, request: &Request) -> Facts
 {
     match request.phase {
         Phase::Held => held_facts(session, request),
-        Phase::WantEntry | Phase::WantRecord => chosen_facts(session, request),
+        Phase::WantEntry => entry_facts(session, request),
+        Phase::WantRecord => chosen_facts(session, request),
         Phase::Data => data_facts(session, request),
         Phase::WantStatus => ended_facts(session, request),
         Phase::Landed => no_facts(),

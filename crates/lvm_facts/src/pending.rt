@@ -1,15 +1,17 @@
 //! What is pending on a logical partition.
-ghost use Rattle.std.specs.Prelude.{◌≡◌, ◌&&◌, ◌==◌, not};
+ghost use Rattle.std.specs.Prelude.{◌≡◌, ◌*◌, ◌<◌, ◌^◌, ◌&&◌, ◌==◌, not};
 ghost use Rattle.std.specs.List.{list_any};
 ghost use Rattle.lvm_num.specs.declared.place.Pp.{Pp};
 ghost use Rattle.lvm_num.specs.Descriptor.{IsValid};
+ghost use Rattle.lvm_num.specs.Geometry.{partition_blocks};
 ghost use Rattle.lvm_path.specs.declared.target.Target.{Target};
+ghost use Rattle.lvm_path.specs.Asks.{at_of};
 ghost use Rattle.lvm_session.specs.declared.open.Open.{Open};
 ghost use Rattle.lvm_session.specs.Fields.{core_of};
-ghost use Rattle.lvm_session.specs.Judging.{IsWithin, counts_failed, is_beside, is_failing, is_pending, is_settled, is_waiting, is_wanted_stale};
+ghost use Rattle.lvm_session.specs.Judging.{IsWithin, counts_failed, is_beside, is_failing, is_pending, is_settled, is_waiting, is_wanted_stale, lp_of};
 
 use crate::judged::counts_failed;
-use lvm_copies::{copies_for, is_settled, is_wanted_stale, lp_of};
+use lvm_copies::{copies_for, is_settled, is_wanted_stale, lp_of, partition_blocks};
 use lvm_num::Pp;
 use lvm_path::{Ask, Request, Target};
 use lvm_session::{Open, Session};
@@ -43,23 +45,38 @@ fn any_is_unsettled(session: &Session, pps: &[Pp]) -> bool
     pps.iter().any(|pp| is_wanted_stale(session, *pp) && !is_settled(session, *pp))
 }
 
-// Whether two requests lie in one logical partition.
-fn is_beside(session: &Session, a: &Ask, b: &Ask) -> bool
-    requires { IsValid session.now.descriptor }
+// The first block, in its volume, of the logical partition in which a request lies.
+fn first_block(session: &Session, ask: &Ask) -> u64
+    requires valid { IsValid session.now.descriptor }
+    requires fits { at_of ask.now < 2 ^ 40 }
+    ensures first { result ≡ lp_of (core_of session.now) ask.now * partition_blocks session.now.descriptor.mib }
+    ensures fits { result < 2 ^ 40 }
+{
+    lp_of(session, ask) * partition_blocks(session.descriptor.mib)
+}
+
+// Whether two requests lie in one logical partition; that of the second begins at block `first`.
+#[tactic(auto, using(crate::proofs::Parting::same_partition))]
+fn is_beside(session: &Session, a: &Ask, b: &Ask, first: u64) -> bool
+    requires valid { IsValid session.now.descriptor }
+    requires first { first ≡ lp_of (core_of session.now) b.now * partition_blocks session.now.descriptor.mib }
+    requires fits { first < 2 ^ 40 }
     ensures { result ≡ is_beside (core_of session.now) a.now b.now }
 {
-    a.lv() == b.lv() && lp_of(session, a) == lp_of(session, b)
+    a.lv() == b.lv() && first <= a.at() && a.at() < first + partition_blocks(session.descriptor.mib)
 }
 
 // Whether another write in its logical partition is failing.
 fn any_fails_beside(session: &Session, request: &Request) -> bool
-    requires { IsValid session.now.descriptor }
+    requires valid { IsValid session.now.descriptor }
+    requires fits { at_of request.now.ask < 2 ^ 40 }
     ensures { result ≡ list_any (λ (e : Open). not (e.request.id == request.now.id) && is_beside (core_of session.now) e.request.ask request.now.ask && is_failing (core_of session.now) e) session.now.requests.items }
 {
+    let first = first_block(session, &request.ask);
     for other in &session.requests {
-        if is_failing(session, other)
+        if is_beside(session, &other.request.ask, &request.ask, first)
             && other.request.id != request.id
-            && is_beside(session, &other.request.ask, &request.ask)
+            && is_failing(session, other)
         {
             return true;
         }

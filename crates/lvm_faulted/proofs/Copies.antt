@@ -16,7 +16,7 @@ use Rattle.lvm_num.proofs.BitsLemmas.{has-none, has-set}
 use Rattle.lvm_num.proofs.DisksLemmas.{has-zero, has-with}
 use Rattle.lvm_kept.specs.Examples.{mirror}
 use Rattle.lvm_status.specs.Update.{is_there, seen}
-use Rattle.lvm_status.specs.Runs.{IsSound as IsSoundStatus}
+use Rattle.lvm_status.specs.Runs.{IsSoundStatus}
 use Rattle.lvm_stale.specs.Table.{is_pp}
 use Rattle.lvm_session.specs.declared.bringing.CopyEnd.TheVariants as ending
 use Rattle.lvm_session.specs.declared.event.Event.TheVariants as event

@@ -7,7 +7,7 @@ use Rattle.lvm_num.specs.declared.descriptor.Mode.{Mode}
 use Rattle.lvm_num.specs.declared.descriptor.Mode.TheVariants as mode
 use Rattle.lvm_num.specs.Status.{calls_stale}
 use Rattle.lvm_status.specs.Update.{seen}
-use Rattle.lvm_status.specs.Runs.{IsSound as IsSoundStatus}
+use Rattle.lvm_status.specs.Runs.{IsSoundStatus}
 use Rattle.lvm_session.specs.declared.event.Event.TheVariants as event
 use Rattle.lvm_session.specs.Enabled.{first_event, is_lost}
 use Rattle.lvm_session.specs.Left.{updates_left}

@@ -15,7 +15,7 @@ use Rattle.lvm_vol.specs.declared.entry.Outcome.TheVariants as outcome
 use Rattle.lvm_vol.specs.Facts.{Begun}
 use Rattle.lvm_vol.specs.Order.{Ordered}
 use Rattle.lvm_status.specs.Update.{members_there, seen}
-use Rattle.lvm_status.specs.Runs.{IsSound as IsSoundStatus}
+use Rattle.lvm_status.specs.Runs.{IsSoundStatus}
 use Rattle.lvm_path.specs.declared.facts.Next.TheVariants as next
 use Rattle.lvm_path.specs.declared.target.Target.{Target}
 use Rattle.lvm_session.specs.declared.event.Event.TheVariants as event

@@ -1,7 +1,7 @@
-pub mod Finding
 pub mod Nexts
 pub mod Places
 pub mod Queue
 mod Rest
 pub mod Might
+pub mod Spans
 mod Usable

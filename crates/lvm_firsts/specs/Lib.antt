@@ -1,1 +1,2 @@
 pub mod Might
+pub mod Spans

@@ -4,9 +4,11 @@ ghost use Rattle.lvm_session.specs.declared.open.Open.{Open};
 ghost use Rattle.lvm_session.specs.Fields.{core_of};
 ghost use Rattle.lvm_session.specs.Enabled.{admission, admission_at, data_at, first_from, landing, landing_at};
 ghost use Rattle.lvm_session.specs.Sound.{IsGoing};
+ghost use Rattle.lvm_firsts.specs.Spans.{Spans};
 
 use crate::next::next_at;
 use crate::phases::{might_admit, might_land, might_start};
+use crate::span::Span;
 use lvm_path::Next;
 use lvm_session::{Event, Session};
 
@@ -25,15 +27,18 @@ fn landing_at(session: &Session, place: usize) -> Option<Event>
 }
 
 /// The first request that may land, with its outcome.
-pub fn first_landing(session: &Session) -> Option<Event>
-    requires { IsGoing (core_of session.now) }
-    ensures { result ≡ landing (core_of session.now) }
+pub fn first_landing(session: &Session, span: &mut Span) -> Option<Event>
+    requires going { IsGoing (core_of session.now) }
+    requires span { Spans (landing_at (core_of session.now)) session.now.requests.items span.old }
+    ensures first { result ≡ landing (core_of session.now) }
+    ensures span { Spans (landing_at (core_of session.now)) session.now.requests.items span.new }
 {
-    for place in 0..session.requests.len() {
-        let landing = landing_at(session, place);
+    while span.from < span.to {
+        let landing = landing_at(session, span.from);
         if landing.is_some() {
             return landing;
         }
+        span.from += 1;
     }
     None
 }
@@ -53,15 +58,18 @@ fn admission_at(session: &Session, place: usize) -> Option<Event>
 }
 
 /// The first request that may be admitted.
-pub fn first_admission(session: &Session) -> Option<Event>
-    requires { IsGoing (core_of session.now) }
-    ensures { result ≡ admission (core_of session.now) }
+pub fn first_admission(session: &Session, span: &mut Span) -> Option<Event>
+    requires going { IsGoing (core_of session.now) }
+    requires span { Spans (admission_at (core_of session.now)) session.now.requests.items span.old }
+    ensures first { result ≡ admission (core_of session.now) }
+    ensures span { Spans (admission_at (core_of session.now)) session.now.requests.items span.new }
 {
-    for place in 0..session.requests.len() {
-        let admission = admission_at(session, place);
+    while span.from < span.to {
+        let admission = admission_at(session, span.from);
         if admission.is_some() {
             return admission;
         }
+        span.from += 1;
     }
     None
 }
@@ -81,15 +89,18 @@ fn data_at(session: &Session, place: usize) -> Option<Event>
 }
 
 /// The first transfer of a request that is due, whether or not a buffer is there for it.
-pub fn first_data(session: &Session) -> Option<Event>
-    requires { IsGoing (core_of session.now) }
-    ensures { result ≡ first_from (data_at (core_of session.now)) 0 session.now.requests.items }
+pub fn first_data(session: &Session, span: &mut Span) -> Option<Event>
+    requires going { IsGoing (core_of session.now) }
+    requires span { Spans (data_at (core_of session.now)) session.now.requests.items span.old }
+    ensures first { result ≡ first_from (data_at (core_of session.now)) 0 session.now.requests.items }
+    ensures span { Spans (data_at (core_of session.now)) session.now.requests.items span.new }
 {
-    for place in 0..session.requests.len() {
-        let data = data_at(session, place);
+    while span.from < span.to {
+        let data = data_at(session, span.from);
         if data.is_some() {
             return data;
         }
+        span.from += 1;
     }
     None
 }

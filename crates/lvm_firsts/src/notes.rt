@@ -9,7 +9,9 @@ ghost use Rattle.lvm_session.specs.Fields.{core_of};
 ghost use Rattle.lvm_session.specs.Judging.{is_missing};
 ghost use Rattle.lvm_session.specs.Enabled.{first_from, note_at, note_due};
 ghost use Rattle.lvm_session.specs.Sound.{IsGoing};
+ghost use Rattle.lvm_firsts.specs.Spans.{Spans};
 
+use crate::span::Span;
 use lvm_copies::{group_of, is_missing};
 use lvm_path::{Phase, Target};
 use lvm_session::{Event, Open, Session};
@@ -66,15 +68,18 @@ fn note_at(session: &Session, place: usize) -> Option<Event>
 }
 
 /// The first note that is due, whether or not a buffer is there for it.
-pub fn first_note(session: &Session) -> Option<Event>
-    requires { IsGoing (core_of session.now) }
-    ensures { result ≡ first_from (note_at (core_of session.now)) 0 session.now.requests.items }
+pub fn first_note(session: &Session, span: &mut Span) -> Option<Event>
+    requires going { IsGoing (core_of session.now) }
+    requires span { Spans (note_at (core_of session.now)) session.now.requests.items span.old }
+    ensures first { result ≡ first_from (note_at (core_of session.now)) 0 session.now.requests.items }
+    ensures span { Spans (note_at (core_of session.now)) session.now.requests.items span.new }
 {
-    for place in 0..session.requests.len() {
-        let note = note_at(session, place);
+    while span.from < span.to {
+        let note = note_at(session, span.from);
         if note.is_some() {
             return note;
         }
+        span.from += 1;
     }
     None
 }

@@ -1,7 +1,6 @@
 //! Whether the votes are lost, and whether a buffer is there.
 ghost use Rattle.std.specs.Prelude.{◌≡◌};
 ghost use Rattle.std.specs.List.{list_any};
-ghost use Rattle.std.specs.Option.{option_map_or};
 ghost use Rattle.lvm_num.specs.declared.status.StatusRow.{StatusRow};
 ghost use Rattle.lvm_session.specs.Fields.{core_of};
 ghost use Rattle.lvm_session.specs.State.{votes_there};

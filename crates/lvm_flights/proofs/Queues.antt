@@ -1,11 +1,13 @@
 -- Which flight is next, and which ticket is free.
 use Rattle.std.proofs.Common.{◌≡◌, ◌+◌, ◌-◌, ◌≤◌, ◌<◌, ◌==◌, ◌||◌, [], ◌∷◌, ℕ, zero, suc, List, Bool, true, false, cond, not, Some, None, nat_le, nat_lt, slice_set, get_or, length, map, refl, sym, ◌∙◌, ap, arith, below_more, take, drop, ◌++◌}
 use Rattle.std.specs.List.{list_any, position, prefix_len, remove}
+use Rattle.std.proofs.lemmas.Bool.{eqb-false, eqb-true, ne_eqb, or_right}
 use Rattle.std.proofs.lemmas.Bool.Decides.{nat_tests}
-use Rattle.std.proofs.lemmas.List.{map-set}
-use Rattle.std.proofs.lemmas.Grind.{common_steps}
+use Rattle.std.proofs.lemmas.List.{get_or-set_other, map-set}
+use Rattle.std.proofs.lemmas.List.Folds.{list_any_more}
+use Rattle.std.proofs.lemmas.Grind.{common_steps, get_or-set_at}
 use Rattle.std.proofs.Math.Seq.{map-set_same}
-use Rattle.lvm_flights.specs.Tickets.{has_ticket, IsLeastFree}
+use Rattle.lvm_flights.specs.Tickets.{has_ticket, IsLeastFree, IsTableOf}
 use Rattle.lvm_flights.specs.Flights.{flight_of, flights_of, delays_of}
 use Rattle.lvm_flights.specs.declared.flying.Flying.{Flying}
 
@@ -91,6 +93,29 @@ taken_more l t taken some = record {
 
 pub least_free : (l : List Flying) (t : ℕ) → TakenBelow l t → list_any (λ (f : Flying). f.ticket == t) l ≡ false → IsLeastFree t (flights_of l)
 least_free l t taken none = record { free = sym (taken-list l t) ∙ none; least = taken.below }
+
+-- ---- the table of tickets
+
+any_more : (l : List Flying) (i t : ℕ) (f : Flying) → i < length l → f ≡ get_or l i f → list_any (λ (g : Flying). g.ticket == t) (take (i + 1) l) ≡ (list_any (λ (g : Flying). g.ticket == t) (take i l) || (f.ticket == t))
+any_more l i t f within is = list_any_more (λ (g : Flying). g.ticket == t) l i f within ∙ ap (λ (g : Flying). list_any (λ (h : Flying). h.ticket == t) (take i l) || (g.ticket == t)) (sym is)
+
+or_false : (b : Bool) → (b || false) ≡ b
+or_false true = refl
+or_false false = refl
+
+told_by : (b : Bool) (table : List Bool) (t u : ℕ) (some : Bool) → (u == t) ≡ b → u < length table → get_or table t false ≡ some → get_or (slice_set table u true) t false ≡ (some || b)
+told_by true table t u some is within was = get_or-set_at table u t true false (sym (eqb-true u t is)) within ∙ sym (or_right some true refl)
+told_by false table t u some is within was = get_or-set_other table u t true false (λ e. eqb-false u t is (sym e)) ∙ was ∙ sym (or_false some)
+
+-- one flight more is told of
+pub one_told : (n : ℕ) (l : List Flying) (table : List Bool) (i : ℕ) (f : Flying) → IsTableOf n (take i l) table → i < length l → f ≡ get_or l i f → f.ticket < length table → IsTableOf n (take (i + 1) l) (slice_set table f.ticket true)
+one_told n l table i f told within is there t below =
+    told_by (f.ticket == t) table t f.ticket (list_any (λ (g : Flying). g.ticket == t) (take i l)) refl there (told t below) ∙ sym (any_more l i t f within is)
+
+-- one that has a later ticket tells nothing
+pub none_told : (n : ℕ) (l : List Flying) (table : List Bool) (i : ℕ) (f : Flying) → IsTableOf n (take i l) table → i < length l → f ≡ get_or l i f → n ≤ f.ticket → IsTableOf n (take (i + 1) l) table
+none_told n l table i f told within is past t below =
+    told t below ∙ sym (any_more l i t f within is ∙ ap (λ (b : Bool). list_any (λ (g : Flying). g.ticket == t) (take i l) || b) (ne_eqb f.ticket t (λ e. absurd (omega arith))) ∙ or_false (list_any (λ (g : Flying). g.ticket == t) (take i l)))
 
 -- one is passed over once more
 pub one_passed :

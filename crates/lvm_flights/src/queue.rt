@@ -2,15 +2,37 @@
 ghost use Rattle.std.specs.Prelude.{◌≡◌, ◌≤◌, ◌<◌, ◌==◌, length, Some, slice_get, vec_capacity};
 ghost use Rattle.std.specs.List.{position, list_any, remove};
 ghost use Rattle.lvm_flights.specs.Flights.{passed};
-ghost use Rattle.lvm_flights.specs.Tickets.{IsLeastFree};
+ghost use Rattle.lvm_flights.specs.Tickets.{IsLeastFree, IsTableOf};
 ghost use Rattle.lvm_flights.specs.Flights.{flight_of, flights_of, delays_of};
 
 use crate::flying::Flying;
 
-fn is_taken(flights: &[Flying], ticket: u64) -> bool
+// The tickets below are looked up in a table.
+const TABLE: usize = 64;
+
+// Which of the tickets in the table some transfer has.
+fn taken_of(flights: &[Flying]) -> [bool; TABLE]
+    ensures { IsTableOf 64 flights.now result }
+{
+    let mut taken = [false; TABLE];
+    for flying in flights {
+        if flying.ticket < TABLE as u64 {
+            taken[flying.ticket as usize] = true;
+        }
+    }
+    taken
+}
+
+// Whether some transfer has the ticket.
+fn is_taken(flights: &[Flying], ticket: u64, taken: &[bool; TABLE]) -> bool
+    requires { IsTableOf 64 flights.now taken.now }
     ensures { result ≡ list_any (λ flying. flying.ticket == ticket) flights.now }
 {
-    flights.iter().any(|flying| flying.ticket == ticket)
+    if ticket < TABLE as u64 {
+        taken[ticket as usize]
+    } else {
+        flights.iter().any(|flying| flying.ticket == ticket)
+    }
 }
 
 /// The least ticket that no transfer has.
@@ -19,8 +41,9 @@ pub fn free_ticket(flights: &[Flying]) -> u64
     ensures least { IsLeastFree result (flights_of flights.now) }
     ensures few { result ≤ length flights.now }
 {
+    let taken = taken_of(flights);
     let mut ticket = 0;
-    while is_taken(flights, ticket) {
+    while is_taken(flights, ticket, &taken) {
         ticket += 1;
     }
     ticket

@@ -20,7 +20,7 @@ use Rattle.lvm_core.specs.declared.refused.Cause.TheVariants as cause
 use Rattle.lvm_group.specs.NewGroup.{NewGroup, among, size_for, given_up, MayBegin, RefusesFirst}
 use Rattle.lvm_group.specs.Shown.{IsClear}
 use Rattle.lvm_group.specs.Planned.{IsPlanned, RefusesPlan}
-use Rattle.lvm_group.specs.Made.{beginning_for, IsAsBefore, Stops, Breaks, HasRead, Refuses}
+use Rattle.lvm_group.specs.Made.{beginning_for, IsAsBefore, StopsAtWrite, Breaks, HasRead, Refuses}
 use Rattle.lvm_group.specs.Steps.{HasOnlyRead, LetsMake, RefusesFound, AreWritten, WritingFails, Stands, cuts_power}
 use Rattle.lvm_group.specs.declared.look.Free.{Free}
 use Rattle.lvm_group.specs.declared.plan.Plan.{Plan}
@@ -93,7 +93,7 @@ module _ (w : NewGroup) (old mid new : Device) (un : IsUnwritten old mid) where
         (subst (λ (o : Option Media). BothTold o new.media (λ was is. ChangesBy P (image_of mid.sizes was) (image_of new.sizes is))) un.media keeps.media);
   }
 
-  pub stops_as : (b : Beginning) (A B : Part → Type 0) → b.targets ≡ among w.disks → ((part : Part) → A part → B part) → StopsAt b new_order mid new A → Stops w b old new B
+  pub stops_as : (b : Beginning) (A B : Part → Type 0) → b.targets ≡ among w.disks → ((part : Part) → A part → B part) → StopsAt b new_order mid new A → StopsAtWrite w b old new B
   stops_as b A B targets carries stops = record {
     before = stops.before;
     hand = stops.hand;

@@ -20,7 +20,7 @@ use Rattle.lvm_core.specs.Starting.{IsReservedFor}
 use Rattle.lvm_session_start.specs.Beginning.{first_core}
 use Rattle.lvm_session.specs.State.{Core}
 use Rattle.lvm_group.specs.NewGroup.{NewGroup, among, new_group, new_status, given_up, MayBegin, RefusesFirst}
-use Rattle.lvm_group.specs.Shown.{IfShown, HasGroup, IsClockBack, IsUnread, AllRead, AreFree, IsClear, SparesTold}
+use Rattle.lvm_group.specs.Shown.{IfShown, HasGroup, IsClockBehindDisks, IsUnread, AllRead, AreFree, IsClear, SparesTold}
 
 -- ---- what is written
 
@@ -38,7 +38,7 @@ pub record IsAsBefore (w : NewGroup) (P : Plan) (old new : Device) : Type 0 wher
   pub media : BothTold old.media new.media (λ was is. ChangesBy P (image_of old.sizes was) (image_of new.sizes is))
 
 -- Where the writes stopped: those before one of them stand on each disk named, that one was at hand, and those behind it weren't begun.
-pub record Stops (w : NewGroup) (b : Beginning) (old new : Device) (AtHand : Part → Type 0) : Type 0 where
+pub record StopsAtWrite (w : NewGroup) (b : Beginning) (old new : Device) (AtHand : Part → Type 0) : Type 0 where
   pub before : List Part
   pub hand : Part
   pub behind : List Part
@@ -52,7 +52,7 @@ pub record Breaks (w : NewGroup) (was is : Log) (old new : Device) (AtHand : Beg
   pub clear : IsClear w was old new
   pub homes : Homes
   pub spares : SparesTold homes old
-  pub stops : Stops w (beginning_for old.sizes w homes) old new (AtHand (beginning_for old.sizes w homes))
+  pub stops : StopsAtWrite w (beginning_for old.sizes w homes) old new (AtHand (beginning_for old.sizes w homes))
   pub entered : is ≡ given_up was w.disks
 
 -- ---- the answers
@@ -136,7 +136,7 @@ Refuses w patience was is old new (cause.TooSmall disk) = IsIdle was is old new 
 Refuses w patience was is old new cause.HistoryFull = IsIdle was is old new × RefusesFirst old.sizes (spare_entries was) w.disks w.mib cause.HistoryFull
 Refuses w patience was is old new (cause.DiskFailed disk) = HasUnread w was is old new disk ⊎ HasUnwritten w was is old new disk
 Refuses w patience was is old new cause.GroupExists = HasRead was is old new × MayBegin old.sizes (spare_entries was) w.disks w.mib × AllRead old new × IfShown old (λ c. HasGroup c w.force)
-Refuses w patience was is old new (cause.ClockBack seen) = HasRead was is old new × AreFree w was old new × IsClockBack old w.moment seen
+Refuses w patience was is old new (cause.ClockBack seen) = HasRead was is old new × AreFree w was old new × IsClockBehindDisks old w.moment seen
 Refuses w patience was is old new cause.Dark = IsCutReading w was is old new ⊎ IsCutWriting w was is old new
 Refuses w patience was is old new cause.Stuck = IsStuckReading w patience was is old new ⊎ IsStuckWriting w patience was is old new
 Refuses w patience was is old new cause.Memory = LacksMemory w was is old new

@@ -42,8 +42,8 @@ abbrev pub IsLastShown : Contents → ℕ → Type 0
 IsLastShown c seen = ShowsMoment c seen × ShowsEarlier c (seen + 1)
 
 -- The clock is back: its moment is the last that there is, or isn't later than the last one that the disks show.
-abbrev pub IsClockBack : Device → ℕ → ℕ → Type 0
-IsClockBack device moment seen = ((moment ≡ last_moment) × (seen ≡ last_moment)) ⊎ ((moment < last_moment) × (moment ≤ seen) × IfShown device (λ c. IsLastShown c seen))
+abbrev pub IsClockBehindDisks : Device → ℕ → ℕ → Type 0
+IsClockBehindDisks device moment seen = ((moment ≡ last_moment) × (seen ≡ last_moment)) ⊎ ((moment < last_moment) × (moment ≤ seen) × IfShown device (λ c. IsLastShown c seen))
 
 -- ---- a disk that can't be read
 

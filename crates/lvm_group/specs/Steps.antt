@@ -18,7 +18,7 @@ use Rattle.lvm_group.specs.declared.look.Free.{Free}
 use Rattle.lvm_group.specs.declared.make.Standing.{Standing}
 use Rattle.lvm_group.specs.NewGroup.{NewGroup, among, size_for, new_group, new_status, given_up}
 use Rattle.lvm_group.specs.Made.{beginning_for, IsAsBefore}
-use Rattle.lvm_group.specs.Shown.{IfShown, HasGroup, ShowsEarlier, IsClockBack, IsUnread, AllRead, IsClear, SparesTold}
+use Rattle.lvm_group.specs.Shown.{IfShown, HasGroup, ShowsEarlier, IsClockBehindDisks, IsUnread, AllRead, IsClear, SparesTold}
 
 -- ---- the disks are read
 
@@ -41,7 +41,7 @@ pub record LetsMake (force : Bool) (moment : ℕ) (old new : Device) (free : Fre
 abbrev pub RefusesFound : Bool → ℕ → ℕ → Device → Device → Cause → Type 0
 RefusesFound force moment patience old new (cause.DiskFailed disk) = HasOnlyRead old new × IsUnread old new disk
 RefusesFound force moment patience old new cause.GroupExists = HasOnlyRead old new × AllRead old new × IfShown old (λ c. HasGroup c force)
-RefusesFound force moment patience old new (cause.ClockBack seen) = HasOnlyRead old new × AllRead old new × IfShown old (λ c. HasGroup c force → ⊥) × IsClockBack old moment seen
+RefusesFound force moment patience old new (cause.ClockBack seen) = HasOnlyRead old new × AllRead old new × IfShown old (λ c. HasGroup c force → ⊥) × IsClockBehindDisks old moment seen
 RefusesFound force moment patience old new cause.Dark = IsUnwritten old new × IsCutOff old new
 RefusesFound force moment patience old new cause.Stuck = IsUnwritten old new × IsReadStuck 0 patience old new
 RefusesFound force moment patience old new cause.Memory = HasOnlyRead old new

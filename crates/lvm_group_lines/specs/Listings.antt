@@ -5,7 +5,7 @@ use Rattle.lvm_num.specs.declared.descriptor.PvRow.{PvRow}
 use Rattle.lvm_num.specs.declared.status.Status.{Status}
 use Rattle.lvm_num.specs.Descriptor.{member_of}
 use Rattle.lvm_show.specs.Listings.{group_text, volumes_text, volume_map_text, disk_text}
-use Rattle.lvm_core.specs.Looking.{IsNumberOf, HasNoVolume}
+use Rattle.lvm_core.specs.Looking.{IsNumberOf, HasNoVolumeNamed}
 use Rattle.lvm_session.specs.State.{Core}
 use Rattle.lvm_disk_lines.specs.passed.Stage.{Shows, Refusal, Reply}
 use Rattle.lvm_disk_lines.specs.passed.RefusalVariants as refusal
@@ -31,7 +31,7 @@ pub data GroupShows (volumes : Bool) (name : List ℕ) (session : Option Core) (
 
 -- `lslv -m` of a group with this status
 pub data CopiesShow (name : List ℕ) (group : Descriptor) (status : Status) (answer : Reply) : Type 0 where
-  NoSuchVolume : HasNoVolume group.lvs name → IsAnswered answer refusal.NoVolume → CopiesShow name group status answer
+  NoSuchVolume : HasNoVolumeNamed group.lvs name → IsAnswered answer refusal.NoVolume → CopiesShow name group status answer
   ListsVolume : (lv : ℕ) → IsNumberOf group.lvs name lv → Shows (volume_map_text group status lv) answer → CopiesShow name group status answer
 
 -- and where none may be on

@@ -4,7 +4,7 @@ ghost use Rattle.std.specs.Option.{ForSome};
 ghost use Rattle.lvm_num.specs.Descriptor.{is_size};
 ghost use Rattle.lvm_io.specs.Count.{next_count};
 ghost use Rattle.lvm_session.specs.Sound.{IsSound};
-ghost use Rattle.lvm_core.specs.Sound.{IsSound as IsSoundBetween};
+ghost use Rattle.lvm_core.specs.Sound.{IsSoundBetween};
 ghost use Rattle.lvm_core.specs.Starting.{IsRoom};
 ghost use Rattle.lvm_core.specs.State.{state_of};
 ghost use Rattle.lvm_group_lines.specs.Groups.{IsHeldBy, IsLeftBy, MkvgDoes, VaryonDoes, VaryoffDoes};

@@ -1,12 +1,12 @@
 //! The lines that list the group that is on.
 ghost use Rattle.std.specs.Prelude.{◌≡◌, ℕ, List, length, IfOk};
-ghost use Rattle.lvm_num.specs.Descriptor.{IsValid, is_member};
+ghost use Rattle.lvm_num.specs.Descriptor.{IsValid};
 ghost use Rattle.lvm_group_lines.specs.Listings.{CopiesShow, DiskShows, GroupShows, MemberShows, NamedShows, VolumeShows};
 ghost use Rattle.lvm_disk_lines.specs.passed.Stage.{Shows, shelf_in, session_in};
 
 use lvm_disk::Shelf;
 use lvm_disk_lines::below::stage::{Holder, Refusal, Reply, Stage, number_of};
-use lvm_num::{Descriptor, Memory, Name, Text};
+use lvm_num::{Descriptor, Memory, Name, Text, has_member};
 use lvm_show::{show_disk, show_group, show_map, show_volumes};
 use lvm_stale::StaleTable;
 use std::alloc::Global;
@@ -87,13 +87,6 @@ pub fn list_volume<S: Shelf>(alloc: Global, stage: &Stage<S>, name: Name) -> Rep
     }
 }
 
-// Whether the disk is a member of the group.
-fn is_member(group: &Descriptor, disk: u16) -> bool
-    ensures { result ≡ is_member group.now disk }
-{
-    group.pvs.as_slice().iter().any(|row| row.disk == disk)
-}
-
 // Lists a member of a group on a shelf with so many disks.
 fn list_member(
     alloc: Global,
@@ -108,7 +101,7 @@ fn list_member(
     if disk >= disks {
         return Reply::Refused(Refusal::NoDisk { disk });
     }
-    if is_member(group, disk) {
+    if has_member(group.pvs.as_slice(), disk) {
         shows(show_disk(alloc, group, table, disk))
     } else {
         Reply::Refused(Refusal::NoDisk { disk })

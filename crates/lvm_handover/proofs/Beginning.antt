@@ -15,7 +15,7 @@ use Rattle.lvm_hold.specs.Waiting.{Waiting}
 use Rattle.lvm_homes.specs.declared.homes.Homes.{Homes}
 use Rattle.lvm_status.specs.Calls.{first_updates}
 use Rattle.lvm_status.specs.Members.{HasItsRows}
-use Rattle.lvm_status.specs.Runs.{SetStamp, IsSound as IsSoundStatus}
+use Rattle.lvm_status.specs.Runs.{SetStamp, IsSoundStatus}
 use Rattle.lvm_status.specs.Update.{Updates, members_there, seen}
 use Rattle.lvm_status.proofs.Sound.{first_is_sound, steps_stay_sound}
 use Rattle.lvm_session.specs.declared.open.Open.{Open}
@@ -34,7 +34,7 @@ use Rattle.lvm_group.specs.NewGroup.{given_up, new_group, new_status}
 use Rattle.lvm_earlier.specs.passed.Tie.{IsStamped}
 use Rattle.lvm_handover.specs.Beginning.{HasJustBegun, IsHistory, MadeBegins, Serves, VariedOnBegins}
 use Rattle.lvm_keeps.proofs.Updates.{few_updates}
-use Rattle.lvm_handover.proofs.Entailing.{not_entailed}
+use Rattle.lvm_tie_begins.proofs.Entailing.{not_entailed}
 
 -- the stamp of the last record that was written
 abbrev second : ℕ → Stamp

@@ -23,10 +23,10 @@ use Rattle.lvm_session.specs.Enabled.{first_of, has_buffer, is_status_due, landi
 use Rattle.lvm_session.specs.Owners.{flies, same_owner}
 use Rattle.lvm_session.specs.Sound.{IsGoing, IsOn, IsSound, count_if}
 use Rattle.lvm_core.specs.Settled.{IsSettled}
-use Rattle.lvm_core.specs.Sound.{HasNoneOpen, IsSound as IsSoundBetween}
+use Rattle.lvm_core.specs.Sound.{HasNoneOpen, IsSoundBetween}
 use Rattle.lvm_earlier.specs.passed.Driver.{IsDrained}
 use Rattle.lvm_tie_begins.specs.Begins.{IsResting}
-use Rattle.lvm_handover.specs.Settling.{DrainedRests, MaySettle}
+use Rattle.lvm_handover.specs.Settling.{DrainedRests, MayHandOver}
 use Rattle.lvm_handover.proofs.Between.{buffers_back, none_flown, rest_is_quiet, rest_is_sound}
 use Rattle.lvm_handover.proofs.Statuses.{status_is}
 use Rattle.lvm_keeps.proofs.Votes.{enough_more, more_votes}
@@ -145,11 +145,11 @@ module _ (s : State) (sound : IsSound s) (drained : IsDrained s) (closed : HasNo
   pub rests : IsResting core
   rests = record { requests = closed.requests; copy = closed.copy; flying = flying; in_flight = settled_status.0; committed = settled_status.1; notes = notes }
 
-  pub is_settled : MaySettle s → IsSettled core
+  pub is_settled : MayHandOver s → IsSettled core
   is_settled may = record { power = drained.on; quiet = rest_is_quiet s sound drained.on rests; committed = settled_status.1; epoch = may.epoch; votes = can_write }
 
 -- so it is sound between commands
-pub is_between : (s : State) → IsSound s → MaySettle s → IsSoundBetween s
+pub is_between : (s : State) → IsSound s → MayHandOver s → IsSoundBetween s
 is_between s sound may = rest_is_sound s sound may.drained.on (rests s sound may.drained may.none)
 
 pub drained_rests : DrainedRests

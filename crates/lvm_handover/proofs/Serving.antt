@@ -17,7 +17,7 @@ use Rattle.lvm_disk.proofs.Rising.{rose_after, rose_before}
 use Rattle.lvm_kept.specs.Group.{IsOneOf}
 use Rattle.lvm_mwc.specs.Cache.{Cached, flight_on}
 use Rattle.lvm_mwc.specs.Entries.{pins_of}
-use Rattle.lvm_status.specs.Runs.{IsSound as IsSoundStatus}
+use Rattle.lvm_status.specs.Runs.{IsSoundStatus}
 use Rattle.lvm_status.specs.Update.{is_held, members_there, seen}
 use Rattle.lvm_session.specs.declared.bringing.OpenCopy.{OpenCopy}
 use Rattle.lvm_session.specs.declared.flown.Flown.{Flown}
@@ -38,12 +38,12 @@ use Rattle.lvm_session.specs.Requests.{IsOpenOne}
 use Rattle.lvm_session.specs.Sound.{IsAsked, IsCopy, IsFitting, IsGoing, IsOn, IsSound, IsTold, count_if, hands_with, is_hand, may_be_fresh, pins, stays_fresh, waiting_rows, waits, with_row}
 use Rattle.lvm_session.proofs.Parts.{idle_is_sound}
 use Rattle.lvm_core.specs.Settled.{IsSettled}
-use Rattle.lvm_core.specs.Sound.{IsSound as IsSoundBetween}
+use Rattle.lvm_core.specs.Sound.{IsSoundBetween}
 use Rattle.lvm_keeps.proofs.Lists.{count_cons}
 use Rattle.lvm_earlier.proofs.passed.Tie.{any_one, clash, or_true}
 use Rattle.lvm_volumes.specs.Endings.{HasFresh}
 use Rattle.lvm_handover.specs.Serving.{CommandsServe, GoesOnWith, IsServed, is_gone}
-use Rattle.lvm_handover.proofs.Entailing.{not_entailed, passes}
+use Rattle.lvm_tie_begins.proofs.Entailing.{not_entailed, passes}
 use Rattle.lvm_keeps.proofs.Votes.{enough_more, more_votes}
 use Rattle.lvm_handover.proofs.Votes.{each_row, no_votes, not_enough}
 

@@ -44,7 +44,8 @@ use Rattle.lvm_volumes.proofs.Entering.{many_bound}
 use Rattle.lvm_volumes.proofs.Places.{places_of}
 use Rattle.lvm_handover.specs.Serving.{GoesOnWith, MayServe, MklvServes, RmlvServes, StaysSound}
 use Rattle.lvm_keeps.proofs.Updates.{few_updates}
-use Rattle.lvm_handover.proofs.Entailing.{none_left, passes}
+use Rattle.lvm_tie_begins.proofs.Entailing.{passes}
+use Rattle.lvm_handover.proofs.Entailing.{none_left}
 use Rattle.lvm_handover.proofs.Serving.{commands_serve}
 
 -- ---- rows
@@ -122,8 +123,8 @@ module _ (old : State) (sound : IsSound old) (began : IsSettled old.core) where
     behind_is_missing : (p : Pp) → WasLeftBehind N F old new p → IsTrue (is_missing new.core p.disk)
     behind_is_missing p left =
         let member : is_member old.core.descriptor p.disk ≡ true = ⊎_elim
-        (λ (same : left.group ≡ old.core.descriptor). is_member_of old.core.descriptor p (copy_is_placed old.core.descriptor sound.fitting.valid left.row left.lp p (subst (λ (g : Descriptor). IsOneOf g.lvs left.row) same left.volume) left.one))
-        (λ (next : N left.group). members left.group next left.row left.lp p left.volume left.one)
+        (λ (same : left.group ≡ old.core.descriptor). is_member_of old.core.descriptor p (copy_is_placed old.core.descriptor sound.fitting.valid left.its.row left.its.lp p (subst (λ (g : Descriptor). IsOneOf g.lvs left.its.row) same left.its.volume) left.its.one))
+        (λ (next : N left.group). members left.group next left.its.row left.its.lp p left.its.volume left.its.one)
         left.known in
         not_there (is_member old.core.descriptor p.disk) (is_missing new.core p.disk) member
         (subst (λ (g : Descriptor). IsFalse (members_there g new.core.status.wanted p.disk)) (status.group ∙ sound.fitting.group) left.absent)

@@ -10,7 +10,7 @@ use Rattle.lvm_session.specs.Sound.{IsSound}
 use Rattle.lvm_session_start.specs.Beginning.{AreFaults}
 use Rattle.lvm_core.specs.declared.parts.Room.{Room}
 use Rattle.lvm_core.specs.Settled.{IsSettled}
-use Rattle.lvm_core.specs.Sound.{IsSound as IsSoundBetween}
+use Rattle.lvm_core.specs.Sound.{IsSoundBetween}
 use Rattle.lvm_varyon.specs.Varied.{ComesOn}
 use Rattle.lvm_group.specs.Made.{IsMade}
 use Rattle.lvm_group.specs.NewGroup.{NewGroup}

@@ -19,7 +19,7 @@ use Rattle.lvm_session.specs.Marks.{is_among}
 use Rattle.lvm_session.specs.Sound.{IsSound}
 use Rattle.lvm_core.specs.Leaves.{Leaves, Scope}
 use Rattle.lvm_core.specs.Settled.{IsSettled}
-use Rattle.lvm_core.specs.Sound.{IsSound as IsSoundBetween}
+use Rattle.lvm_core.specs.Sound.{IsSoundBetween}
 use Rattle.lvm_volume_plan.specs.declared.fault.GroupFault.{GroupFault}
 use Rattle.lvm_volume_plan.specs.declared.new_volume.NewVolume.{NewVolume}
 use Rattle.lvm_volumes.specs.Endings.{HasFresh, IfOn, KeepsFresh, StillHeld}

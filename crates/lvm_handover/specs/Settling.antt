@@ -7,7 +7,7 @@ use Rattle.lvm_tie_begins.specs.Begins.{IsResting}
 use Rattle.lvm_earlier.specs.passed.Driver.{IsDrained}
 
 -- Nothing is left to be made of it, neither a request nor a copy is open, and the epoch of its stamps is some moment.
-pub record MaySettle (s : State) : Type 0 where
+pub record MayHandOver (s : State) : Type 0 where
   pub drained : IsDrained s
   pub none : HasNoneOpen s.core
   pub epoch : s.core.status.stamp.epoch ≢ 0

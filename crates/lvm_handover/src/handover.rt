@@ -5,8 +5,8 @@ ghost use Rattle.lvm_status.specs.Members.{HasItsRows};
 ghost use Rattle.lvm_session.specs.State.{state};
 ghost use Rattle.lvm_session.specs.Sound.{IsSound};
 ghost use Rattle.lvm_core.specs.Settled.{IsSettled};
-ghost use Rattle.lvm_core.specs.Sound.{IsSound as IsSoundBetween};
-ghost use Rattle.lvm_handover.specs.Settling.{MaySettle};
+ghost use Rattle.lvm_core.specs.Sound.{IsSoundBetween};
+ghost use Rattle.lvm_handover.specs.Settling.{MayHandOver};
 ghost use Rattle.lvm_handover.specs.Serving.{IsServed, MarksAdded, MarksMissing, MayServe};
 
 use lvm_disk::Shelf;
@@ -17,7 +17,7 @@ use lvm_stale::StaleTable;
 /// A session whose turns have nothing left to make, and of which neither a request nor a copy is open, takes commands on
 /// its group.
 pub fn settle<S: Shelf>(driver: driver::Driver<S>) -> lvm_core::Driver<S>
-    requires may { MaySettle (state (S.device driver.0) driver.1) }
+    requires may { MayHandOver (state (S.device driver.0) driver.1) }
     ensures shelf { result.0 ≡ driver.0 }
     ensures core { result.1 ≡ driver.1 }
     ensures settled { IsSettled driver.1 }

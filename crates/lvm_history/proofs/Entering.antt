@@ -22,7 +22,7 @@ use Rattle.lvm_vol.specs.Log.{Log, open_count, landed_count, plain_fact, cut_log
 use Rattle.lvm_checker.specs.Fitting.{is_bounded}
 use Rattle.lvm_vol.specs.Order.{Follows, Ordered, IsWhole, IsGotOf}
 use Rattle.lvm_checker.specs.Rows.{no_ask, ask_of, is_landing, is_taking}
-use Rattle.lvm_history.specs.Keeping.{ask_at, ask_found, is_open_by, awaited_by, is_answered_by, entry_kept, IsOneOfAsks, asks_from, row_of, IsKept, HasRoom, if_uncut, blocks_first, Kept, log_of, IsSound}
+use Rattle.lvm_history.specs.Keeping.{ask_at, ask_found, is_open_by, awaited_by, is_answered_by, entry_kept, IsOneOfAsks, asks_from, row_of, IsKept, IsRoomy, if_uncut, blocks_first, Kept, log_of, IsSound}
 use Rattle.lvm_vol.proofs.Order.{IdsFrom, stands_last, stands-at, stands_begun, numbered, begun-push, any-push, ordered-push}
 use Rattle.lvm_vol.proofs.Asking.{found_of, and_left, open_of, follows_taken}
 use Rattle.lvm_vol.proofs.Counting.{count_begun}
@@ -48,7 +48,7 @@ enters k new f sound follows run room bytes rows asks blocks needs uncut fits by
     record {
       sound = record {
         its_own = subst (λ (l : List Fact). IsKept new.run l new.rows new.asks new.blocks) (sym is) kept;
-        roomy = subst (λ (l : List Fact). HasRoom l new.room new.need_now new.uncut) (sym is) roomy;
+        roomy = subst (λ (l : List Fact). IsRoomy l new.room new.need_now new.uncut) (sym is) roomy;
         few = let a = sound.few in omega (arith, a, room);
         bytes_fit = bytes_fit;
         rows_fit = let a = sound.rows_fit in omega (arith, a, room, more_rows);
@@ -75,7 +75,7 @@ enters k new f sound follows run room bytes rows asks blocks needs uncut fits by
     is : (log_of new).facts ≡ (log_of k).facts ++ f ∷ []
     is = facts-back new.run ((log_of k).facts ++ f ∷ []) new.rows new.asks new.blocks kept
 
-    roomy : HasRoom ((log_of k).facts ++ f ∷ []) new.room new.need_now new.uncut
+    roomy : IsRoomy ((log_of k).facts ++ f ∷ []) new.room new.need_now new.uncut
     roomy = record {
       counted = needs ∙ ap (λ (n : ℕ). n + need f) sound.roomy.counted ∙ sym (sum_by_push need (log_of k).facts f);
       cuts = uncut ∙ ap (λ (b : Bool). is_uncut_after b f) sound.roomy.cuts ∙ sym (uncut-push false (log_of k).facts f);

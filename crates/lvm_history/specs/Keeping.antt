@@ -45,7 +45,7 @@ pub record IsKept (run : ℕ) (facts : List Fact) (rows : List Row) (asks : List
   pub its_blocks : blocks ≡ blocks_of facts
 
 -- there is room for what the facts need, and for a Cut while there is something to end
-pub record HasRoom (facts : List Fact) (room : ℕ) (need_now : ℕ) (uncut : Bool) : Type 0 where
+pub record IsRoomy (facts : List Fact) (room : ℕ) (need_now : ℕ) (uncut : Bool) : Type 0 where
   pub counted : need_now ≡ needed facts
   pub cuts : uncut ≡ is_uncut facts
   pub fits : need_now + if_uncut uncut ≤ room
@@ -70,7 +70,7 @@ log_of h = record { run = h.run; facts = facts_of h.run h.asks h.blocks h.rows; 
 -- What holds of it: it is what is kept of its facts, and the memory that was made with it is enough.
 pub record IsSound (h : Kept) : Type 0 where
   pub its_own : IsKept h.run (log_of h).facts h.rows h.asks h.blocks
-  pub roomy : HasRoom (log_of h).facts h.room h.need_now h.uncut
+  pub roomy : IsRoomy (log_of h).facts h.room h.need_now h.uncut
   pub few : h.room < 2 ^ 32
   pub bytes_fit : 512 * length h.blocks ≤ h.bytes
   pub rows_fit : h.room ≤ h.rows_room

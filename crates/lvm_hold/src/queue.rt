@@ -1,9 +1,9 @@
 //! What was asked for and has not landed, in order of ids.
-ghost use Rattle.std.specs.Prelude.{◌≡◌, ◌==◌, ◌<◌, ◌≤◌, ◌++◌, [], ◌∷◌, ◌↔◌, ℕ, length, IsTrue, IfOk, IfSome, IsSomeAnd};
+ghost use Rattle.std.specs.Prelude.{◌≡◌, ◌==◌, ◌<◌, ◌≤◌, ◌+◌, ◌++◌, [], ◌∷◌, ◌↔◌, ℕ, length, nat_lt, IsTrue, IfOk, IfSome, IsSomeAnd};
 ghost use Rattle.std.specs.List.{find};
 ghost use Rattle.std.specs.Option.{option_copied};
 ghost use Rattle.lvm_hold.specs.Conflicts.{conflicts, have_common_block, is_write, IsInGroup};
-ghost use Rattle.lvm_hold.specs.Order.{first_conflict};
+ghost use Rattle.lvm_hold.specs.Order.{IsAscending, first_conflict};
 
 use lvm_num::Memory;
 use std::alloc::Global;
@@ -100,11 +100,12 @@ impl Queue {
     }
 }
 
-// The one of this id.
+// The one of this id. It is looked for from the end, since mostly it came last.
 fn row_of(rows: &[Row], id: u64) -> Option<&Row>
+    requires { IsAscending rows.now }
     ensures { option_copied result ≡ find (λ row. row.id == id) rows.now }
 {
-    rows.iter().find(|row| row.id == id)
+    rows.iter().rev().find(|row| row.id == id)
 }
 
 // The first that is earlier than this one and conflicts with it.
@@ -125,9 +126,14 @@ fn conflicts(a: &Held, b: &Held) -> bool
 fn have_common_block(a: &Held, b: &Held) -> bool
     ensures { result ≡ have_common_block a.now b.now }
 {
-    let a_end = u128::from(a.at) + u128::from(a.count);
-    let b_end = u128::from(b.at) + u128::from(b.count);
-    a.lv == b.lv && u128::from(a.at) < b_end && u128::from(b.at) < a_end
+    a.lv == b.lv && is_before_end(a.at, b) && is_before_end(b.at, a)
+}
+
+// Whether a block is before the end of what one asks for.
+fn is_before_end(block: u64, of: &Held) -> bool
+    ensures { result ≡ nat_lt block (of.now.at + of.now.count) }
+{
+    block < of.at || block - of.at < u64::from(of.count)
 }
 
 fn is_write(a: &Held) -> bool

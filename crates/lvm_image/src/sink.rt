@@ -11,7 +11,8 @@ use std::rt::Files;
 use std::{fs, io};
 
 /// A sink for the files `hdisk0.img` and so on of the current folder. Contracts see the number of its
-/// faults, the disk that was chosen, how often one was, and whether that disk had a file already.
+/// faults, the disk that was chosen, how often one was, and what the choice tells of a file that was there
+/// already. When it tells so no clause says.
 ///
 /// It makes no file before a disk is chosen, and none where there is one of that name: what a disk
 /// holds is never written over. Until a disk is chosen, and where its file can't be made, each write
@@ -67,7 +68,8 @@ impl<'a, R: Files> ImageSink<'a, R> {
         self.disk.is_some()
     }
 
-    /// Whether no image was made of the disk that was chosen last, since it has one.
+    /// Whether no image was made of the disk that was chosen last, since it has one, as the system told. Each
+    /// write fails then.
     pub fn is_taken(&self) -> bool
         ensures { result ≡ self.now.taken }
     {

@@ -3,20 +3,20 @@ use Rattle.std.proofs.Common.{◌≡◌, ◌⊎◌, inl, inr, ⊎_elim, ℕ, Boo
 use Rattle.lvm_num.specs.declared.place.Pp.{Pp}
 use Rattle.lvm_num.specs.Geometry.{track_group_of}
 use Rattle.lvm_invariant.proofs.Small.{IsIn}
-use Rattle.lvm_invariant.specs.State.{Queued, State, Started, told}
+use Rattle.lvm_invariant.specs.State.{Queued, ModelState, Started, told}
 use Rattle.lvm_invariant.specs.Sound.{MayDiffer, Agree, Settled, Blocks}
 use Rattle.lvm_invariant.proofs.Claims.{Calmer, keeping_blocks, with_requests}
 use Rattle.lvm_invariant.proofs.SoundLemmas.{keeping_live, keeping_notes, live_same, named_same, each_same}
 
-module _ (old new : State) (calmer : Calmer old new) (blocks : Blocks old) where
+module _ (old new : ModelState) (calmer : Calmer old new) (blocks : Blocks old) where
   same_block : (lv b : ℕ) (c : Pp) → new.media.block lv b c ≡ old.media.block lv b c
-  same_block lv b c = ap (λ (s : State). s.media.block lv b c) (sym calmer.same)
+  same_block lv b c = ap (λ (s : ModelState). s.media.block lv b c) (sym calmer.same)
 
   same_active : (lv : ℕ) → new.is_active lv ≡ old.is_active lv
-  same_active lv = ap (λ (s : State). s.is_active lv) (sym calmer.same)
+  same_active lv = ap (λ (s : ModelState). s.is_active lv) (sym calmer.same)
 
   same_passive : (lv : ℕ) → new.is_passive lv ≡ old.is_passive lv
-  same_passive lv = ap (λ (s : State). s.is_passive lv) (sym calmer.same)
+  same_passive lv = ap (λ (s : ModelState). s.is_passive lv) (sym calmer.same)
 
   allowed_now : (lv b : ℕ) (c : Pp) → IsIn (told old lv b).values (old.media.block lv b c) → IsIn (told new lv b).values (new.media.block lv b c)
   allowed_now lv b c h = subst (IsIn (told new lv b).values) (sym (same_block lv b c)) (subst (λ (m : Option (List (List ℕ))). IsIn m (old.media.block lv b c)) (sym (calmer.may lv b)) h)
@@ -62,19 +62,19 @@ module _ (old new : State) (calmer : Calmer old new) (blocks : Blocks old) where
   }
 
 -- an event of requests alone, by which no write starts or lands
-pub calmer_of : (old new : State) → with_requests old new ≡ new → ((i : ℕ) (r : Queued) → Started new i r → Started old i r) → ((i : ℕ) (r : Queued) → Started old i r → Started new i r)
+pub calmer_of : (old new : ModelState) → with_requests old new ≡ new → ((i : ℕ) (r : Queued) → Started new i r → Started old i r) → ((i : ℕ) (r : Queued) → Started old i r → Started new i r)
     → ((lv b : ℕ) → (told new lv b).values ≡ (told old lv b).values) → ((lv b : ℕ) → (told new lv b).loose ≡ (told old lv b).loose) → Calmer old new
 calmer_of old new same started still values loose =
-    let noted : keeping_notes old new ≡ new = subst (λ (s : State). keeping_notes old s ≡ s) same refl in
+    let noted : keeping_notes old new ≡ new = subst (λ (s : ModelState). keeping_notes old s ≡ s) same refl in
     record {
       started = started;
       started_still = still;
       may = values;
       loose = λ lv b h. loose lv b ∙ h;
-      same = subst (λ (s : State). keeping_blocks old s ≡ s) same refl;
-      live = live_same old new (subst (λ (s : State). keeping_live old s ≡ s) same refl);
-      dirty = λ lv h. ap (λ (s : State). s.committed.value.dirty lv) (sym same) ∙ h;
-      missing_still = λ d h. ap (λ (s : State). s.missing d) (sym same) ∙ h;
+      same = subst (λ (s : ModelState). keeping_blocks old s ≡ s) same refl;
+      live = live_same old new (subst (λ (s : ModelState). keeping_live old s ≡ s) same refl);
+      dirty = λ lv h. ap (λ (s : ModelState). s.committed.value.dirty lv) (sym same) ∙ h;
+      missing_still = λ d h. ap (λ (s : ModelState). s.missing d) (sym same) ∙ h;
       named_missing = λ d lv g gone named. named_same old new noted d lv g named;
       named_started = λ i lv b d r started over on several named. named_same old new noted d lv (track_group_of b) named;
     }

@@ -8,7 +8,7 @@ use Rattle.lvm_disk.specs.Counts.{Rose}
 use Rattle.lvm_vol.specs.declared.entry.Outcome.{Outcome}
 use Rattle.lvm_vol.specs.declared.entry.Outcome.TheVariants as outcome
 use Rattle.lvm_vol.specs.Facts.{Request, Fact, Making, Made, Split, Removing, Removed, Begun, Landed, Taken, Cut, On}
-use Rattle.lvm_invariant.specs.State.{Marks, Badly, Queued, OpenCopy, State}
+use Rattle.lvm_invariant.specs.State.{Marks, Badly, Queued, ModelCopy, ModelState}
 use Rattle.lvm_invariant.specs.Faults.{Faults, HasFailed, SomeFailed, NoneFailed, HasCause}
 use Rattle.lvm_invariant.specs.Caused.{LandingIsCaused, FactIsCaused, Since, Caused}
 use Rattle.lvm_invariant.specs.Why.{asked_at}
@@ -43,19 +43,19 @@ module _ (w : Faults) (now : ℕ → ℕ) (place : Option ℕ) (rises : (d : ℕ
   none_before none d h = none d (fails_still d h)
 
   -- what an event changes
-  pub record Change (s new : State) : Type 0 where
+  pub record Change (s new : ModelState) : Type 0 where
     pub copies : new.is_copy ≡ s.is_copy
     pub missing : (d : ℕ) → IsTrue (new.missing d) → IsTrue (s.missing d) ⊎ HasFailed after d
     pub still_missing : (d : ℕ) → IsTrue (s.missing d) → IsTrue (new.missing d)
     pub committed : (c : Pp) → IsTrue (new.committed.value.stale c) → IsTrue (s.committed.value.stale c) ⊎ HasCause after c
     pub in_flight : (c : Pp) (u : Stamped Marks) → new.in_flight ≡ Some u → IsTrue (u.value.stale c) → (s.in_flight ≡ Some u) ⊎ HasCause after c
     pub wanted : (c : Pp) → IsTrue (new.wanted.stale c) → IsTrue (s.wanted.stale c) ⊎ HasCause after c
-    pub brought_up : (o : OpenCopy) → new.open_copy ≡ Some o → ((p : OpenCopy) × (s.open_copy ≡ Some p) × (p.target ≡ o.target)) ⊎ HasCause after o.target
+    pub brought_up : (o : ModelCopy) → new.open_copy ≡ Some o → ((p : ModelCopy) × (s.open_copy ≡ Some p) × (p.target ≡ o.target)) ⊎ HasCause after o.target
     pub failed : (i : ℕ) (r : Queued) (c : Pp) → new.queue i ≡ Some r → r.targets c ≡ Some Badly
         → ((e : Queued) × (s.queue i ≡ Some e) × (e.targets c ≡ Some Badly) × (asked_at place w i ≡ w.asked i)) ⊎ Rose (asked_at place w i c.disk) (now c.disk)
     pub landed : (new.facts ≡ s.facts) ⊎ ((f : Fact) × (new.facts ≡ s.facts ++ f ∷ []) × FactIsCaused after new f)
 
-  module _ (s new : State) (change : Change s new) (caused : Caused w s) where
+  module _ (s new : ModelState) (change : Change s new) (caused : Caused w s) where
     landing_stays : (q : Request) (how : Outcome) → LandingIsCaused w s q how → LandingIsCaused after new q how
     landing_stays q outcome.Lost h = some_still h
     landing_stays q outcome.ReadFailed h = some_still h
@@ -118,7 +118,7 @@ module _ (w : Faults) (now : ℕ → ℕ) (place : Option ℕ) (rises : (d : ℕ
       in_flight = λ c u flies h. ⊎_elim (λ was. cause_stays c (caused.in_flight c u was h)) (λ k. k) (change.in_flight c u flies h);
       wanted = λ c h. ⊎_elim (λ was. cause_stays c (caused.wanted c was)) (λ k. k) (change.wanted c h);
       brought_up = λ o is. ⊎_elim
-          (λ (was : (p : OpenCopy) × (s.open_copy ≡ Some p) × (p.target ≡ o.target)). subst (HasCause after) was.2 (cause_stays was.0.target (caused.brought_up was.0 was.1)))
+          (λ (was : (p : ModelCopy) × (s.open_copy ≡ Some p) × (p.target ≡ o.target)). subst (HasCause after) was.2 (cause_stays was.0.target (caused.brought_up was.0 was.1)))
           (λ k. k) (change.brought_up o is);
       failed = λ i r c there bad. ⊎_elim
           (λ (was : (e : Queued) × (s.queue i ≡ Some e) × (e.targets c ≡ Some Badly) × (asked_at place w i ≡ w.asked i)).

@@ -4,7 +4,7 @@ use Rattle.std.specs.Prelude.{IsTrue, IsFalse}
 use Rattle.lvm_num.specs.declared.place.Pp.{Pp}
 use Rattle.lvm_num.specs.Geometry.{track_group_of}
 use Rattle.lvm_invariant.proofs.Small.{IsIn, never, false_by, and_left_false}
-use Rattle.lvm_invariant.specs.State.{Marks, OpenCopy, StepWrite, Going, Queued, State, covers, stale_in, is_settled_stale, HasPassed, Live, Started, told}
+use Rattle.lvm_invariant.specs.State.{Marks, ModelCopy, StepWrite, Going, Queued, ModelState, covers, stale_in, is_settled_stale, HasPassed, Live, Started, told}
 use Rattle.lvm_invariant.specs.Sound.{Complete, Statuses, MayDiffer, Agree, Settled, Blocks, Holds, Sound}
 use Rattle.lvm_invariant.proofs.SoundLemmas.{complete_same, live_same, equal_same, recorded_same, each_same}
 use Rattle.lvm_invariant.proofs.Claims.{Quiet, CopyWriteKeepsCore, OpenKeepsCore, ClearKeepsCore}
@@ -15,11 +15,11 @@ use Rattle.lvm_invariant.specs.Updates.{with_block}
 use Rattle.lvm_invariant.specs.Open.{Opens}
 use Rattle.lvm_invariant.specs.Clear.{Clears}
 
-the_copy : (a b : OpenCopy) → Some a ≡ Some b → a ≡ b
+the_copy : (a b : ModelCopy) → Some a ≡ Some b → a ≡ b
 the_copy a b e = cc
 
-module _ (s : State) (i : ℕ) (r : Queued) (value : ℕ → List ℕ) (target : Pp) (open_copy : Option OpenCopy) (step_write : Option StepWrite) (block : ℕ → ℕ → Pp → List ℕ) (step : CopyWrites s i r value target open_copy block) (sound : Sound s) where
-  abbrev new : State
+module _ (s : ModelState) (i : ℕ) (r : Queued) (value : ℕ → List ℕ) (target : Pp) (open_copy : Option ModelCopy) (step_write : Option StepWrite) (block : ℕ → ℕ → Pp → List ℕ) (step : CopyWrites s i r value target open_copy block) (sound : Sound s) where
+  abbrev new : ModelState
   new = record s { media = with_block s.media block; open_copy = open_copy; step_write = step_write }
 
   elsewhere : (j lv b : ℕ) (e : Queued) → Started s j e → IsTrue (covers e lv b) → IsTrue (covers r lv b) → ⊥
@@ -35,13 +35,13 @@ module _ (s : State) (i : ℕ) (r : Queued) (value : ℕ → List ℕ) (target :
       (λ (same : open_copy ≡ s.open_copy). inl (record { copy = live.copy; counts = inr (record { copy = k.copy; is_open = sym same ∙ k.is_open; target = k.target; passed = k.passed }) }))
       (λ (p : Passes s r value target block open_copy).
       let is : p.new ≡ k.copy = the_copy p.new k.copy (sym p.is_now ∙ k.is_open) in
-      let at : p.old.target ≡ c = sym p.same_target ∙ ap (λ (q : OpenCopy). q.target) is ∙ k.target in
+      let at : p.old.target ≡ c = sym p.same_target ∙ ap (λ (q : ModelCopy). q.target) is ∙ k.target in
       ⊎_elim
       (λ (before : IsTrue (p.old.passed lv (track_group_of b))). inl (record { copy = live.copy; counts = inr (record { copy = p.old; is_open = p.is_open; target = at; passed = before }) }))
       (λ (now : IsTrue (s.is_copy lv b p.old.target) → IsTrue (covers r lv b) × (block lv b p.old.target ≡ value b)).
       let h = now (subst (λ (x : Pp). IsTrue (s.is_copy lv b x)) (sym at) live.copy) in
       inr (sym at ∙ p.own, h.0, subst (λ (x : Pp). block lv b x ≡ value b) at h.1))
-      (p.passes lv b (ap (λ (q : OpenCopy). q.passed lv (track_group_of b)) is ∙ k.passed)))
+      (p.passes lv b (ap (λ (q : ModelCopy). q.passed lv (track_group_of b)) is ∙ k.passed)))
       step.open_now)
       live.counts
 
@@ -171,8 +171,8 @@ module _ (s : State) (i : ℕ) (r : Queued) (value : ℕ → List ℕ) (target :
       record {
         copy = p.new;
         is_open = p.is_now;
-        target = p.same_target ∙ ap (λ (q : OpenCopy). q.target) is ∙ k.target;
-        passed = λ lv b copy. p.still lv (track_group_of b) (ap (λ (q : OpenCopy). q.passed lv (track_group_of b)) is ∙ k.passed lv b copy);
+        target = p.same_target ∙ ap (λ (q : ModelCopy). q.target) is ∙ k.target;
+        passed = λ lv b copy. p.still lv (track_group_of b) (ap (λ (q : ModelCopy). q.passed lv (track_group_of b)) is ∙ k.passed lv b copy);
       })
       step.open_now
 
@@ -184,11 +184,11 @@ module _ (s : State) (i : ℕ) (r : Queued) (value : ℕ → List ℕ) (target :
     kept = λ lv b c copy. let k = sound.statuses.kept lv b c copy in (k.0, k.1, record { committed = k.2.committed; flying = k.2.flying; wanted = k.2.wanted });
     open_there = λ m is. ⊎_elim
         (λ (same : open_copy ≡ s.open_copy). sound.statuses.open_there m (sym same ∙ is))
-        (λ (p : Passes s r value target block open_copy). subst (λ (x : Pp). IsFalse (s.missing x.disk)) (sym p.same_target ∙ ap (λ (q : OpenCopy). q.target) (the_copy p.new m (sym p.is_now ∙ is))) (sound.statuses.open_there p.old p.is_open))
+        (λ (p : Passes s r value target block open_copy). subst (λ (x : Pp). IsFalse (s.missing x.disk)) (sym p.same_target ∙ ap (λ (q : ModelCopy). q.target) (the_copy p.new m (sym p.is_now ∙ is))) (sound.statuses.open_there p.old p.is_open))
         step.open_now;
     open_stale = λ m is. ⊎_elim
         (λ (same : open_copy ≡ s.open_copy). sound.statuses.open_stale m (sym same ∙ is))
-        (λ (p : Passes s r value target block open_copy). subst (λ (x : Pp). IsTrue (s.committed.value.stale x) ⊎ IsTrue (s.wanted.stale x)) (sym p.same_target ∙ ap (λ (q : OpenCopy). q.target) (the_copy p.new m (sym p.is_now ∙ is))) (sound.statuses.open_stale p.old p.is_open))
+        (λ (p : Passes s r value target block open_copy). subst (λ (x : Pp). IsTrue (s.committed.value.stale x) ⊎ IsTrue (s.wanted.stale x)) (sym p.same_target ∙ ap (λ (q : ModelCopy). q.target) (the_copy p.new m (sym p.is_now ∙ is))) (sound.statuses.open_stale p.old p.is_open))
         step.open_now;
     dirty_flies = sound.statuses.dirty_flies;
     dirty_is_wanted = sound.statuses.dirty_is_wanted;
@@ -210,14 +210,14 @@ copy_write_keeps s i r value target open_copy step_write block step sound = copy
 
 -- ---- a copy is opened
 
-module _ (s : State) (o : OpenCopy) (step : Opens s o) (sound : Sound s) where
-  abbrev opened : State
+module _ (s : ModelState) (o : ModelCopy) (step : Opens s o) (sound : Sound s) where
+  abbrev opened : ModelState
   opened = record s { open_copy = Some o }
 
-  none_open : {X : Type 0} (k : OpenCopy) → s.open_copy ≡ Some k → X
+  none_open : {X : Type 0} (k : ModelCopy) → s.open_copy ≡ Some k → X
   none_open k is = absurd (two (s.open_copy) step.none is)
     where
-      two : (x : Option OpenCopy) → x ≡ None → x ≡ Some k → ⊥
+      two : (x : Option ModelCopy) → x ≡ None → x ≡ Some k → ⊥
       two x a b = cc
 
   open_core : Sound opened
@@ -225,7 +225,7 @@ module _ (s : State) (o : OpenCopy) (step : Opens s o) (sound : Sound s) where
       let quiet : Quiet s opened = quiet_of s opened refl refl (λ lv b c live. record {
         copy = live.copy;
         counts = ⊎_elim (λ (f : IsFalse (is_settled_stale s c)). inl f)
-            (λ (k : HasPassed opened lv (track_group_of b) c). never (o.passed lv (track_group_of b)) (ap (λ (q : OpenCopy). q.passed lv (track_group_of b)) (the_copy o k.copy k.is_open) ∙ k.passed) (step.passed lv (track_group_of b))) live.counts;
+            (λ (k : HasPassed opened lv (track_group_of b) c). never (o.passed lv (track_group_of b)) (ap (λ (q : ModelCopy). q.passed lv (track_group_of b)) (the_copy o k.copy k.is_open) ∙ k.passed) (step.passed lv (track_group_of b))) live.counts;
       }) (λ lv h. h) (λ d h. h) in
       quiet_sound s opened quiet sound (record {
         home = sound.notes.home;
@@ -234,8 +234,8 @@ module _ (s : State) (o : OpenCopy) (step : Opens s o) (sound : Sound s) where
           stale_is_wanted = λ c stale m. let k = sound.statuses.stale_is_wanted c stale m in none_open k.copy k.is_open;
           flying_is_wanted = λ c u f stale m. let k = sound.statuses.flying_is_wanted c u f stale m in none_open k.copy k.is_open;
           kept = λ lv b c copy. let k = sound.statuses.kept lv b c copy in (k.0, k.1, record { committed = k.2.committed; flying = k.2.flying; wanted = k.2.wanted });
-          open_there = λ m is. subst (λ (q : OpenCopy). IsFalse (s.missing q.target.disk)) (the_copy o m is) step.there;
-          open_stale = λ m is. inl (subst (λ (q : OpenCopy). IsTrue (s.committed.value.stale q.target)) (the_copy o m is) step.stale);
+          open_there = λ m is. subst (λ (q : ModelCopy). IsFalse (s.missing q.target.disk)) (the_copy o m is) step.there;
+          open_stale = λ m is. inl (subst (λ (q : ModelCopy). IsTrue (s.committed.value.stale q.target)) (the_copy o m is) step.stale);
           dirty_flies = sound.statuses.dirty_flies;
           dirty_is_wanted = sound.statuses.dirty_is_wanted;
           dirty_flying_is_wanted = sound.statuses.dirty_flying_is_wanted;
@@ -247,8 +247,8 @@ open_keeps s o step sound = open_core s o step sound
 
 -- ---- its staleness is no longer wanted
 
-module _ (s : State) (wanted : Marks) (c : Pp) (step : Clears s wanted c) (sound : Sound s) where
-  abbrev cleared : State
+module _ (s : ModelState) (wanted : Marks) (c : Pp) (step : Clears s wanted c) (sound : Sound s) where
+  abbrev cleared : ModelState
   cleared = record s { wanted = wanted }
 
   complete_if : (e : Pp) → IsTrue (s.wanted.stale e) → IsFalse (wanted.stale e) → Complete cleared e

@@ -6,7 +6,7 @@ use Rattle.lvm_num.specs.Geometry.{track_group_of}
 use Rattle.lvm_num.specs.Record.{Stamped}
 use Rattle.lvm_vol.specs.Facts.{Request, block_of}
 use Rattle.lvm_vol.specs.May.{Known, cut, is_off, is_some_open}
-use Rattle.lvm_invariant.specs.State.{write_of, Marks, Groups, View, Going, Queued, State, covers, request_of, has_landed, stale_in, Live, Named, Started, told}
+use Rattle.lvm_invariant.specs.State.{write_of, Marks, Groups, View, Going, Queued, ModelState, covers, request_of, has_landed, stale_in, Live, Named, Started, told}
 use Rattle.lvm_invariant.proofs.Small.{IsIn, never, and_right_false, and_left_false, or_left, or_right, in_more, in_added, brought_in, some_open}
 use Rattle.lvm_invariant.specs.Sound.{MayDiffer, Agree, Settled, Busy, Recorded, StaysFresh, Sound}
 use Rattle.lvm_invariant.specs.Crash.{CopyBrings, IsCrash, Fresh, MayDifferAfter, BlockKept, IsPossible, Widens, CoreIsKept}
@@ -20,7 +20,7 @@ the_write_is false over w a b = absurd cc
 pub going_not_landed : (r : Queued) → r.phase ≡ Going → IsFalse (has_landed r.phase)
 going_not_landed r e = ap has_landed e
 
-module _ (s : State) (sound : Sound s) where
+module _ (s : ModelState) (sound : Sound s) where
   pub is_open : (i : ℕ) (r : Queued) (lv b : ℕ) → Started s i r → IsTrue (covers r lv b) → write_of b (told s lv b) (request_of s i) ≡ Some (r.value b)
   is_open i r lv b started over = sound.tied.open_writes i r started.there started.write (going_not_landed r started.going) lv b ∙ the_write_is r.write (covers r lv b) (r.value b) started.write over
 

@@ -36,7 +36,7 @@ use Rattle.lvm_invariant.specs.Open.{OpenKeeps}
 use Rattle.lvm_invariant.specs.LandGot.{LandGotKeeps}
 use Rattle.lvm_invariant.specs.LandLost.{LandLostKeeps}
 use Rattle.lvm_invariant.specs.Submit.{SubmitKeeps}
-use Rattle.lvm_invariant.specs.State.{Phase, Held, WantEntry, Ready, Going, Landed, Queued, State, covers, is_past, has_landed, is_pinning}
+use Rattle.lvm_invariant.specs.State.{ModelPhase, Held, WantEntry, Ready, Going, Landed, Queued, ModelState, covers, is_past, has_landed, is_pinning}
 use Rattle.lvm_invariant.specs.Pin.{PinKeeps}
 use Rattle.lvm_invariant.specs.Good.{Good}
 use Rattle.lvm_invariant.specs.MoveStatus.{MoveStatusKeeps}
@@ -53,18 +53,18 @@ use Rattle.lvm_invariant.proofs.Finding.{status_end_keeps_found, begin_keeps_fou
 use Rattle.lvm_invariant.proofs.CrashLemmas.{core_kept}
 use Rattle.lvm_invariant.specs.Sound.{Sound}
 
-newest_place : (s : State) (i : ℕ) → ((j : ℕ) (e : Queued) → s.queue j ≡ Some e → j < i) → (j : ℕ) (e : Queued) → s.queue j ≡ Some e → IsFalse (j == i)
+newest_place : (s : ModelState) (i : ℕ) → ((j : ℕ) (e : Queued) → s.queue j ≡ Some e → j < i) → (j : ℕ) (e : Queued) → s.queue j ≡ Some e → IsFalse (j == i)
 newest_place s i newest j e at = ⊎_elim (λ (same : IsTrue (j == i)). absurd (not_itself (subst (λ (k : ℕ). k < i) (eqb-true _ _ same) (newest j e at)))) (λ (f : IsFalse (j == i)). f) (decided (j == i))
   where
     not_itself : {k : ℕ} → k < k → ⊥
     not_itself h = omega (arith, h)
 
 -- an event that changes neither what quorums find nor what is told
-good_of : {votes : Votes} (old new : State) → record (keeping_found old new) { queue = old.queue; name = old.name; facts = old.facts } ≡ new → Sound new → Good votes old → Good votes new
+good_of : {votes : Votes} (old new : ModelState) → record (keeping_found old new) { queue = old.queue; name = old.name; facts = old.facts } ≡ new → Sound new → Good votes old → Good votes new
 good_of {votes} old new same sound good = record {
   sound = sound;
-  found = found_same old new (subst (λ (s : State). keeping_found old s ≡ s) same refl) good.found;
-  told = subst (λ (s : State). Told s.queue s.name s.facts) same good.told;
+  found = found_same old new (subst (λ (s : ModelState). keeping_found old s ≡ s) same refl) good.found;
+  told = subst (λ (s : ModelState). Told s.queue s.name s.facts) same good.told;
 }
 
 pub submit_keeps : SubmitKeeps
@@ -95,10 +95,10 @@ admit_keeps votes s i r phase several targets step good = record {
       (λ asked. ⊎_elim (λ (e : phase ≡ WantEntry). ap has_landed e) (λ (e : (phase ≡ Ready) × (IsTrue r.write → IsTrue (s.is_active r.lv) → IsTrue several → ⊥)). ap has_landed e.0) step.phase_now ∙ sym (early_unlanded r step.early));
 }
 
-not_phase : {X : Type 0} (p q : Phase) → p ≡ q → IsFalse (has_landed q) → IsTrue (has_landed p) → X
+not_phase : {X : Type 0} (p q : ModelPhase) → p ≡ q → IsFalse (has_landed q) → IsTrue (has_landed p) → X
 not_phase p q e un h = never (has_landed p) h (ap has_landed e ∙ un)
 
-wait_not_going : {X : Type 0} (p : Phase) → p ≡ WantEntry → p ≡ Going → X
+wait_not_going : {X : Type 0} (p : ModelPhase) → p ≡ WantEntry → p ≡ Going → X
 wait_not_going p a b = let e : ◌≡◌ {A = Bool} false true = ap is_pinning (sym a ∙ b) in absurd cc
 
 pub pin_keeps : PinKeeps
@@ -111,14 +111,14 @@ pin_keeps votes s i r cache step good = record {
   told = told_change s.queue s.name s.facts good.told i r step.there (record r { phase = Ready }) (record { lv = refl; over = λ lv b. refl; write = refl; value = λ b. refl; step = refl }) (λ asked. sym (ap has_landed step.waits));
 }
   where
-    is_ready : Phase → Bool
+    is_ready : ModelPhase → Bool
     is_ready Held = false
     is_ready WantEntry = false
     is_ready Ready = true
     is_ready Going = false
     is_ready Landed = false
 
-    ready_not_going : {X : Type 0} (p : Phase) → p ≡ Ready → p ≡ Going → X
+    ready_not_going : {X : Type 0} (p : ModelPhase) → p ≡ Ready → p ≡ Going → X
     ready_not_going p a b = let e : ◌≡◌ {A = Bool} true false = ap is_ready (sym a ∙ b) in absurd cc
 
 pub read_keeps : ReadKeeps
@@ -194,17 +194,17 @@ land_no_fresh_keeps votes s i r step good = record {
   told = told_landed s.queue s.name s.facts good.told i r step.there step.request unlanded outcome.NoFresh false [] refl tt;
 }
   where
-    is_going : Phase → Bool
+    is_going : ModelPhase → Bool
     is_going Held = false
     is_going WantEntry = false
     is_going Ready = false
     is_going Going = true
     is_going Landed = false
 
-    not_going : {X : Type 0} (p q : Phase) → p ≡ Going → p ≡ q → IsFalse (is_going q) → X
+    not_going : {X : Type 0} (p q : ModelPhase) → p ≡ Going → p ≡ q → IsFalse (is_going q) → X
     not_going p q e k f = never (is_going p) (ap is_going e) (ap is_going k ∙ f)
 
-    unstarted : (p : Phase) → p ≡ Going → (p ≡ Held) ⊎ (IsTrue r.write × ((p ≡ WantEntry) ⊎ (p ≡ Ready))) → ⊥
+    unstarted : (p : ModelPhase) → p ≡ Going → (p ≡ Held) ⊎ (IsTrue r.write × ((p ≡ WantEntry) ⊎ (p ≡ Ready))) → ⊥
     unstarted p e (inl k) = not_going p Held e k refl
     unstarted p e (inr k) = ⊎_elim (λ (w : p ≡ WantEntry). not_going p WantEntry e w refl) (λ (w : p ≡ Ready). not_going p Ready e w refl) k.1
 

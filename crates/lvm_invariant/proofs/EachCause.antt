@@ -6,11 +6,11 @@ use Rattle.lvm_num.specs.Record.{Stamped}
 use Rattle.lvm_disk.specs.Counts.{Rose}
 use Rattle.lvm_vol.specs.declared.entry.Outcome.TheVariants as outcome
 use Rattle.lvm_vol.specs.Facts.{Fact, Begun, Landed as HasLanded, Taken}
-use Rattle.lvm_invariant.specs.State.{Marks, Stage, Todo, Flying, Badly, Queued, OpenCopy, State, covers}
+use Rattle.lvm_invariant.specs.State.{Marks, Stage, Todo, Flying, Badly, Queued, ModelCopy, ModelState, covers}
 use Rattle.lvm_invariant.specs.Found.{Votes}
 use Rattle.lvm_invariant.specs.Good.{Good}
 use Rattle.lvm_invariant.specs.Updates.{put, without, is_pp, staged}
-use Rattle.lvm_invariant.specs.Events.{Event, Submit, EnterStep, Admit, Pin, Read, StartWrite, Transfer, LandDone, LandLost, LandGot, LandReadFailed, LandNoFresh, EndStep, Take, TakeEarlier, Want, BeginUpdate, MoveStatus, CommitUpdate, EndUpdate, StartNote, EndNote, Open, CopyWrite, Clear, Step}
+use Rattle.lvm_invariant.specs.Events.{Event, Submit, EnterStep, Admit, Pin, Read, StartWrite, Transfer, LandDone, LandLost, LandGot, LandReadFailed, LandNoFresh, EndStep, Take, TakeEarlier, Want, BeginUpdate, MoveStatus, CommitUpdate, EndUpdate, StartNote, EndNote, Open, CopyWrite, Clear, ModelStep}
 use Rattle.lvm_invariant.specs.LandNoFresh.{FindsNoFresh}
 use Rattle.lvm_invariant.specs.CopyWrite.{Passes}
 use Rattle.lvm_invariant.specs.Faults.{Faults, HasFailed, SomeFailed, NoneFailed, HasCause}
@@ -57,30 +57,30 @@ not_usable false false h = absurd cc
 not_todo : (stage : Stage) → stage ≡ Todo → stage ≡ Badly → ⊥
 not_todo stage a b = absurd cc
 
-module _ (votes : Votes) (s : State) (w : Faults) (now : ℕ → ℕ) (rises : (d : ℕ) → w.now d ≤ now d) (good : Good votes s) (caused : Caused w s) where
+module _ (votes : Votes) (s : ModelState) (w : Faults) (now : ℕ → ℕ) (rises : (d : ℕ) → w.now d ≤ now d) (good : Good votes s) (caused : Caused w s) where
   abbrev Failed : Option ℕ → (ℕ → Option Queued) → Type 0
   Failed place queue = (i : ℕ) (r : Queued) (c : Pp) → queue i ≡ Some r → r.targets c ≡ Some Badly
       → ((e : Queued) × (s.queue i ≡ Some e) × (e.targets c ≡ Some Badly) × (asked_at place w i ≡ w.asked i)) ⊎ Rose (asked_at place w i c.disk) (now c.disk)
 
-  abbrev LandsAs : Option ℕ → State → Type 0
+  abbrev LandsAs : Option ℕ → ModelState → Type 0
   LandsAs place new = (new.facts ≡ s.facts) ⊎ ((f : Fact) × (new.facts ≡ s.facts ++ f ∷ []) × FactIsCaused (record w { now = now; asked = asked_at place w }) new f)
 
   -- the copy that is brought up is the one that was
-  abbrev IsOneOpen : Option OpenCopy → Type 0
-  IsOneOpen open_copy = (o : OpenCopy) → open_copy ≡ Some o → ((p : OpenCopy) × (s.open_copy ≡ Some p) × (p.target ≡ o.target)) ⊎ HasCause (record w { now = now }) o.target
+  abbrev IsOneOpen : Option ModelCopy → Type 0
+  IsOneOpen open_copy = (o : ModelCopy) → open_copy ≡ Some o → ((p : ModelCopy) × (s.open_copy ≡ Some p) × (p.target ≡ o.target)) ⊎ HasCause (record w { now = now }) o.target
 
-  same_open : (open_copy : Option OpenCopy) → ((o : OpenCopy) → open_copy ≡ Some o → s.open_copy ≡ Some o) → IsOneOpen open_copy
+  same_open : (open_copy : Option ModelCopy) → ((o : ModelCopy) → open_copy ≡ Some o → s.open_copy ≡ Some o) → IsOneOpen open_copy
   same_open open_copy same o is = inl (o, same o is, refl)
 
   -- the statuses that are committed and under way, and the missing disks, are as they were
-  still : (place : Option ℕ) (new : State) → record new { is_copy = s.is_copy; missing = s.missing; committed = s.committed; in_flight = s.in_flight } ≡ new
+  still : (place : Option ℕ) (new : ModelState) → record new { is_copy = s.is_copy; missing = s.missing; committed = s.committed; in_flight = s.in_flight } ≡ new
       → ((c : Pp) → IsTrue (new.wanted.stale c) → IsTrue (s.wanted.stale c) ⊎ HasCause (record w { now = now }) c) → IsOneOpen new.open_copy → Failed place new.queue → LandsAs place new → Change w now place rises s new
   still place new same wanted brought_up failed landed = record {
-    copies = ap (λ (x : State). x.is_copy) (sym same);
-    missing = λ d h. inl (ap (λ (x : State). x.missing d) same ∙ h);
-    still_missing = λ d h. ap (λ (x : State). x.missing d) (sym same) ∙ h;
-    committed = λ c h. inl (ap (λ (x : State). x.committed.value.stale c) same ∙ h);
-    in_flight = λ c u flies h. inl (ap (λ (x : State). x.in_flight) same ∙ flies);
+    copies = ap (λ (x : ModelState). x.is_copy) (sym same);
+    missing = λ d h. inl (ap (λ (x : ModelState). x.missing d) same ∙ h);
+    still_missing = λ d h. ap (λ (x : ModelState). x.missing d) (sym same) ∙ h;
+    committed = λ c h. inl (ap (λ (x : ModelState). x.committed.value.stale c) same ∙ h);
+    in_flight = λ c u flies h. inl (ap (λ (x : ModelState). x.in_flight) same ∙ flies);
     wanted = wanted;
     brought_up = brought_up;
     failed = failed;
@@ -88,9 +88,9 @@ module _ (votes : Votes) (s : State) (w : Faults) (now : ℕ → ℕ) (rises : (
   }
 
   -- nothing is changed of statuses and copies
-  quiet : (place : Option ℕ) (new : State) → keeping_statuses s new ≡ new → Failed place new.queue → LandsAs place new → Change w now place rises s new
-  quiet place new same failed landed = still place new (subst (λ (x : State). record x { is_copy = s.is_copy; missing = s.missing; committed = s.committed; in_flight = s.in_flight } ≡ x) same refl)
-      (λ c h. inl (ap (λ (x : State). x.wanted.stale c) same ∙ h)) (same_open new.open_copy (λ o is. ap (λ (x : State). x.open_copy) same ∙ is)) failed landed
+  quiet : (place : Option ℕ) (new : ModelState) → keeping_statuses s new ≡ new → Failed place new.queue → LandsAs place new → Change w now place rises s new
+  quiet place new same failed landed = still place new (subst (λ (x : ModelState). record x { is_copy = s.is_copy; missing = s.missing; committed = s.committed; in_flight = s.in_flight } ≡ x) same refl)
+      (λ c h. inl (ap (λ (x : ModelState). x.wanted.stale c) same ∙ h)) (same_open new.open_copy (λ o is. ap (λ (x : ModelState). x.open_copy) same ∙ is)) failed landed
 
   -- the queue stays
   same_queue : Failed None s.queue
@@ -165,7 +165,7 @@ module _ (votes : Votes) (s : State) (w : Faults) (now : ℕ → ℕ) (rises : (
   stale_cause : (c : Pp) → HasCause w c → HasCause (record w { now = now }) c
   stale_cause c h = cause_stays w now None rises c h
 
-  no_open : {X : Type 0} (o : OpenCopy) → None ≡ Some o → X
+  no_open : {X : Type 0} (o : ModelCopy) → None ≡ Some o → X
   no_open o e = absurd cc
 
   no_flight : {X : Type 0} (u : Stamped Marks) → None ≡ Some u → X
@@ -187,10 +187,10 @@ module _ (votes : Votes) (s : State) (w : Faults) (now : ℕ → ℕ) (rises : (
 
   -- ---- each event
 
-  abbrev Changes : Event → State → Type 0
+  abbrev Changes : Event → ModelState → Type 0
   Changes event new = Change w now (enters event) rises s new
 
-  pub changes : (event : Event) (new : State) → Step votes event s new → Why event s w.now now → Changes event new
+  pub changes : (event : Event) (new : ModelState) → ModelStep votes event s new → Why event s w.now now → Changes event new
   changes (Submit i q r) new step why = subst (Changes (Submit i q r)) (sym step.1) (quiet (Some i) _ refl (entered i r why) (inr (Begun q, refl, tt)))
   changes (EnterStep i q r) new step why = subst (Changes (EnterStep i q r)) (sym step.1) (quiet (Some i) _ refl (entered i r why) (inl refl))
   changes (Admit i r phase several targets) new step why = subst (Changes (Admit i r phase several targets)) (sym step.1)
@@ -264,11 +264,11 @@ module _ (votes : Votes) (s : State) (w : Faults) (now : ℕ → ℕ) (rises : (
   changes (StartNote flying) new step why = subst (Changes (StartNote flying)) (sym step.1) (quiet None _ refl same_queue (inl refl))
   changes (EndNote d names home flying) new step why = subst (Changes (EndNote d names home flying)) (sym step.1) (quiet None _ refl same_queue (inl refl))
   changes (Open o) new step why = subst (Changes (Open o)) (sym step.1) (still None _ refl (λ c h. inl h)
-      (λ p is. inr (subst (λ (x : OpenCopy). HasCause (record w { now = now }) x.target) (some_is o p is) (stale_cause o.target (caused.committed o.target step.0.stale)))) same_queue (inl refl))
+      (λ p is. inr (subst (λ (x : ModelCopy). HasCause (record w { now = now }) x.target) (some_is o p is) (stale_cause o.target (caused.committed o.target step.0.stale)))) same_queue (inl refl))
   changes (CopyWrite i r value target open_copy step_write block) new step why = subst (Changes (CopyWrite i r value target open_copy step_write block)) (sym step.1) (still None _ refl (λ c h. inl h)
       (λ o is. ⊎_elim
       (λ (same : open_copy ≡ s.open_copy). inl (o, sym same ∙ is, refl))
-      (λ (p : Passes s r value target block open_copy). inl (p.old, p.is_open, sym p.same_target ∙ ap (λ (x : OpenCopy). x.target) (some_is p.new o (sym p.is_now ∙ is))))
+      (λ (p : Passes s r value target block open_copy). inl (p.old, p.is_open, sym p.same_target ∙ ap (λ (x : ModelCopy). x.target) (some_is p.new o (sym p.is_now ∙ is))))
       step.0.open_now) same_queue (inl refl))
   changes (Clear wanted c) new step why = subst (Changes (Clear wanted c)) (sym step.1) (still None _ refl (λ e h. inl (step.0.added e h))
       (same_open s.open_copy (λ o is. is)) same_queue (inl refl))

@@ -15,7 +15,7 @@ use Rattle.lvm_vol.specs.declared.entry.Vol.TheVariants.{Lv}
 use Rattle.lvm_vol.specs.Legal.{lands, Legal, IsOutcomeOf, GotMay}
 use Rattle.lvm_invariant.specs.Off.{OffKeeps}
 use Rattle.lvm_invariant.specs.Told.{Told}
-use Rattle.lvm_invariant.specs.State.{Queued, State, covers, write_of, told, has_landed, Started}
+use Rattle.lvm_invariant.specs.State.{Queued, ModelState, covers, write_of, told, has_landed, Started}
 use Rattle.lvm_invariant.specs.Over.{IsDistinct, IsUnlanded, is_going, AreOpen, landings, IsOver, OverStays}
 use Rattle.lvm_invariant.specs.Sound.{Sound}
 use Rattle.lvm_invariant.specs.Cut.{CutKeeps}
@@ -74,11 +74,11 @@ or_second true b h = refl
 or_second false b h = h
 
 -- what a write that has started brings is allowed
-abbrev IsCared : State → List Fact → ℕ → ℕ → Queued → Type 0
+abbrev IsCared : ModelState → List Fact → ℕ → ℕ → Queued → Type 0
 IsCared s facts lv b r = IsIn (known facts (Lv lv) b).values (r.value b) × (IsFalse (s.is_active lv) → IsFalse (s.is_passive lv) → IsTrue (known facts (Lv lv) b).loose)
 
 -- some of the open requests have landed, and these haven't
-record Way (s : State) (places : List ℕ) (facts : List Fact) : Type 0 where
+record Way (s : ModelState) (places : List ℕ) (facts : List Fact) : Type 0 where
   legal : Legal facts
   old : (lv b : ℕ) (value : List ℕ) → IsIn (told s lv b).values value → IsIn (known facts (Lv lv) b).values value
   some : (lv b : ℕ) → HasValues (told s lv b) → HasValues (known facts (Lv lv) b)
@@ -87,7 +87,7 @@ record Way (s : State) (places : List ℕ) (facts : List Fact) : Type 0 where
   writes : (i lv b : ℕ) (r : Queued) → Started s i r → IsTrue (covers r lv b) → (Stands i places × (write_of b (known facts (Lv lv) b) (s.name i) ≡ Some (r.value b))) ⊎ IsCared s facts lv b r
   waits : (i : ℕ) → Stands i places → Stands (Begun (s.name i)) facts × (list_any (lands (s.name i)) facts ≡ false)
 
-module _ (s : State) (sound : Sound s) (t : Told s.queue s.name s.facts) (how : Outcome) (over : IsFalse (is_calm how)) where
+module _ (s : ModelState) (sound : Sound s) (t : Told s.queue s.name s.facts) (how : Outcome) (over : IsFalse (is_calm how)) where
   module _ (i : ℕ) (places : List ℕ) (facts : List Fact) (started : Bool) (not_again : Stands i places → ⊥) (mine : IsUnlanded s i)
       (open_there : (j : ℕ) → Stands j places → IsUnlanded s j) (begun_data : (r : Queued) → s.queue i ≡ Some r → IsTrue r.write → started ≡ is_going r.phase) (way : Way s (i ∷ places) facts) where
     abbrev q : Request

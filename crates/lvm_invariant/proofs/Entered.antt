@@ -19,7 +19,7 @@ use Rattle.lvm_invariant.specs.Read.{reading}
 use Rattle.lvm_invariant.specs.LandGot.{LandsGot}
 use Rattle.lvm_invariant.specs.LandLost.{LandsLost}
 use Rattle.lvm_invariant.specs.Submit.{Submits}
-use Rattle.lvm_invariant.specs.State.{Groups, Stage, Well, Badly, Phase, Held, WantEntry, Ready, Going, Landed, Queued, State, covers, told, has_landed, is_past, is_pinning}
+use Rattle.lvm_invariant.specs.State.{Groups, Stage, Well, Badly, ModelPhase, Held, WantEntry, Ready, Going, Landed, Queued, ModelState, covers, told, has_landed, is_past, is_pinning}
 use Rattle.lvm_invariant.specs.Sound.{Sound}
 use Rattle.lvm_invariant.proofs.Small.{IsIn, never, in_more, in_added}
 use Rattle.lvm_invariant.proofs.Telling.{apart_back, is_open_if, is_calm, after_landing, landing_mode, landing_tight, landing_others, landing_outside, landing_ended, landing_read, beginning_values, beginning_loose, beginning_mode, beginning_others, beginning_own, beginning_outside, later_apart, not_open}
@@ -35,17 +35,17 @@ and_both true b h k = k
 and_both false b h k = absurd cc
 
 -- a write is no step of a copy
-pub write_asks : (s : State) → Told s.queue s.name s.facts → (j : ℕ) (e : Queued) → s.queue j ≡ Some e → IsTrue e.write → IsFalse e.step
+pub write_asks : (s : ModelState) → Told s.queue s.name s.facts → (j : ℕ) (e : Queued) → s.queue j ≡ Some e → IsTrue e.write → IsFalse e.step
 write_asks s t j e at write = ⊎_elim (λ (step : IsTrue e.step). never e.write write (t.steps_read j e at step)) (λ (f : IsFalse e.step). f) (decided e.step)
 
-pub past_unlanded : (p : Phase) → IsTrue (is_past p) → IsFalse (has_landed p)
+pub past_unlanded : (p : ModelPhase) → IsTrue (is_past p) → IsFalse (has_landed p)
 past_unlanded Held past = absurd cc
 past_unlanded WantEntry past = refl
 past_unlanded Ready past = refl
 past_unlanded Going past = refl
 past_unlanded Landed past = absurd cc
 
-module _ (s : State) (sound : Sound s) (t : Told s.queue s.name s.facts) (i : ℕ) (r : Queued) (there : s.queue i ≡ Some r) (asked : IsFalse r.step) (how : Outcome) (started : Bool) (got : List (List ℕ)) where
+module _ (s : ModelState) (sound : Sound s) (t : Told s.queue s.name s.facts) (i : ℕ) (r : Queued) (there : s.queue i ≡ Some r) (asked : IsFalse r.step) (how : Outcome) (started : Bool) (got : List (List ℕ)) where
   abbrev request : Request
   request = s.name i
 
@@ -83,7 +83,7 @@ module _ (s : State) (sound : Sound s) (t : Told s.queue s.name s.facts) (i : �
 going_unlanded : (r : Queued) → r.phase ≡ Going → IsFalse (has_landed r.phase)
 going_unlanded r e = ap has_landed e
 
-pub done_effect : (s : State) (i : ℕ) (r : Queued) → Sound s → Told s.queue s.name s.facts → LandsDone s i r → DoneEffect s i r (s.facts ++ HasLanded (s.name i) outcome.Done true [] ∷ [])
+pub done_effect : (s : ModelState) (i : ℕ) (r : Queued) → Sound s → Told s.queue s.name s.facts → LandsDone s i r → DoneEffect s i r (s.facts ++ HasLanded (s.name i) outcome.Done true [] ∷ [])
 done_effect s i r sound t step =
     let start = step.started in
     let asked = write_asks s t i r start.there start.write in
@@ -95,7 +95,7 @@ done_effect s i r sound t step =
           ∙ ap (λ (v : List ℕ). Some (v ∷ [])) (brings s sound t i r start.there asked outcome.Done true [] start.write lv b over);
     }
 
-pub lost_effect : (s : State) (i : ℕ) (r : Queued) → Sound s → Told s.queue s.name s.facts → LandsLost s i r → LostEffect s i r (s.facts ++ HasLanded (s.name i) outcome.Lost true [] ∷ [])
+pub lost_effect : (s : ModelState) (i : ℕ) (r : Queued) → Sound s → Told s.queue s.name s.facts → LandsLost s i r → LostEffect s i r (s.facts ++ HasLanded (s.name i) outcome.Lost true [] ∷ [])
 lost_effect s i r sound t step =
     let start = step.started in
     let asked = write_asks s t i r start.there start.write in
@@ -115,7 +115,7 @@ lost_effect s i r sound t step =
 
 -- ---- Got
 
-pub got_effect : (s : State) (i : ℕ) (r : Queued) (got : List (List ℕ)) → Sound s → Told s.queue s.name s.facts → (step : LandsGot s i r got) → GotEffect s i r step.value (s.facts ++ HasLanded (s.name i) outcome.Got true got ∷ [])
+pub got_effect : (s : ModelState) (i : ℕ) (r : Queued) (got : List (List ℕ)) → Sound s → Told s.queue s.name s.facts → (step : LandsGot s i r got) → GotEffect s i r step.value (s.facts ++ HasLanded (s.name i) outcome.Got true got ∷ [])
 got_effect s i r got sound t step = record {
   there = step.there;
   read = step.read;
@@ -137,7 +137,7 @@ in_may None x h = absurd h
 in_may (Some vs) x h = h
 
 -- what it got is allowed
-pub got_may : (s : State) (i : ℕ) (r : Queued) (got : List (List ℕ)) → Sound s → Told s.queue s.name s.facts → LandsGot s i r got → Gets s.facts (s.name i) got
+pub got_may : (s : ModelState) (i : ℕ) (r : Queued) (got : List (List ℕ)) → Sound s → Told s.queue s.name s.facts → LandsGot s i r got → Gets s.facts (s.name i) got
 got_may s i r got sound t step =
     let q : Request = s.name i in
     let is = t.same i r step.there step.request in
@@ -159,7 +159,7 @@ got_may s i r got sound t step =
 
 -- ---- NoFresh and ReadFailed
 
-not_going : {X : Type 0} (p : Phase) → IsTrue (has_landed p) → p ≡ Going → X
+not_going : {X : Type 0} (p : ModelPhase) → IsTrue (has_landed p) → p ≡ Going → X
 not_going p h e = never (has_landed p) h (ap has_landed e)
 
 -- nothing changes of what each block may have
@@ -188,7 +188,7 @@ quiet_values outcome.Off quiet facts q started lv b = absurd cc
 quiet_values outcome.Dark quiet facts q started lv b = absurd cc
 quiet_values outcome.Got quiet facts q started lv b = absurd cc
 
-pub quiet_effect : (s : State) (i : ℕ) (r : Queued) (how : Outcome) (started : Bool) → IsTrue (quiet_landing how) → Sound s → Told s.queue s.name s.facts → s.queue i ≡ Some r → IsFalse r.step
+pub quiet_effect : (s : ModelState) (i : ℕ) (r : Queued) (how : Outcome) (started : Bool) → IsTrue (quiet_landing how) → Sound s → Told s.queue s.name s.facts → s.queue i ≡ Some r → IsFalse r.step
     → (IsTrue r.write → r.phase ≡ Going → ⊥) → ChangeEffect s i r (land r) (s.facts ++ HasLanded (s.name i) how started [] ∷ []) s.cache
 quiet_effect s i r how started quiet sound t there asked calm = record {
   there = there;
@@ -208,7 +208,7 @@ quiet_effect s i r how started quiet sound t there asked calm = record {
 
 -- ---- changes that the history doesn't tell
 
-pub silent_effect : (s : State) (i : ℕ) (r n : Queued) (cache : Groups) → s.queue i ≡ Some r → (IsTrue r.write → r.phase ≡ Going → ⊥) → (IsTrue n.write → n.phase ≡ Going → ⊥)
+pub silent_effect : (s : ModelState) (i : ℕ) (r n : Queued) (cache : Groups) → s.queue i ≡ Some r → (IsTrue r.write → r.phase ≡ Going → ⊥) → (IsTrue n.write → n.phase ≡ Going → ⊥)
     → ((value : ℕ → List ℕ) → n.got ≡ Some value → (r.got ≡ Some value) ⊎ ((lv b : ℕ) → IsTrue (covers n lv b) → (c : Pp) × (x : Stage) × (r.targets c ≡ Some x) × (value b ≡ s.media.block lv b c)))
     → (IsTrue n.write → IsTrue (is_pinning n.phase) → IsTrue (s.is_active n.lv) → IsTrue n.several → IsTrue (is_pinning r.phase) ⊎ IsTrue (cache n.lv (track_group_of n.first)))
     → ((j : ℕ) (e : Queued) → s.queue j ≡ Some e → IsTrue e.write → IsTrue (is_pinning e.phase) → IsTrue (s.is_active e.lv) → IsTrue e.several → IsTrue (s.cache e.lv (track_group_of e.first)) → IsTrue (cache e.lv (track_group_of e.first)))
@@ -235,7 +235,7 @@ read_alike r c stage got past was = alike_by r (reading r c stage got) refl (λ 
 
 -- ---- beginnings
 
-pub begun_effect : (s : State) (i : ℕ) (q : Request) (r : Queued) → Sound s → Told s.queue s.name s.facts → Submits s i q r → JoinEffect s i q r (s.facts ++ Begun q ∷ [])
+pub begun_effect : (s : ModelState) (i : ℕ) (q : Request) (r : Queued) → Sound s → Told s.queue s.name s.facts → Submits s i q r → JoinEffect s i q r (s.facts ++ Begun q ∷ [])
 begun_effect s i q r sound t step =
     let next = step.next in
     let above : count_by (begins_in q.run) s.facts < q.id = omega (arith, next) in
@@ -259,7 +259,7 @@ begun_effect s i q r sound t step =
     no_write true false v off = refl
     no_write false over v off = refl
 
-pub entered_effect : (s : State) (i : ℕ) (q : Request) (r : Queued) → StepEnters s i r → JoinEffect s i q r s.facts
+pub entered_effect : (s : ModelState) (i : ℕ) (q : Request) (r : Queued) → StepEnters s i r → JoinEffect s i q r s.facts
 entered_effect s i q r step = record {
   held = step.held;
   newest = step.newest;

@@ -4,7 +4,7 @@ use Rattle.std.specs.Prelude.{IsTrue}
 use Rattle.std.proofs.lemmas.Bool.Decides.{nat_tests}
 use Rattle.lvm_num.specs.declared.record.Stamp.{Stamp}
 use Rattle.lvm_num.specs.Record.{Stamped, stamp_lt}
-use Rattle.lvm_invariant.specs.State.{Marks, View, State}
+use Rattle.lvm_invariant.specs.State.{Marks, View, ModelState}
 use Rattle.lvm_invariant.specs.Crash.{IsCrash, IsPossible}
 use Rattle.lvm_invariant.proofs.Small.{never}
 use Rattle.lvm_invariant.specs.Found.{Votes, Found, IsNewest, QuorumFinds}
@@ -21,13 +21,13 @@ no_one : {X : Type 0} (a : Stamped Marks) → None ≡ Some a → X
 no_one a e = absurd cc
 
 -- with the statuses that disks show, the committed one and the one under way as they were
-abbrev pub keeping_found : State → State → State
+abbrev pub keeping_found : ModelState → ModelState → ModelState
 keeping_found old new = record new { media = record new.media { status = old.media.status }; committed = old.committed; in_flight = old.in_flight }
 
-pub found_same : {votes : Votes} (old new : State) → keeping_found old new ≡ new → Found votes old → Found votes new
+pub found_same : {votes : Votes} (old new : ModelState) → keeping_found old new ≡ new → Found votes old → Found votes new
 found_same {votes} old new same f = subst (Found votes) same (record { set = f.set; enough = f.enough; have = f.have; only = f.only; newer = f.newer })
 
-module _ (votes : Votes) (s : State) (found : Found votes s) (v : View) (crash : IsCrash s v) (set : ℕ → Bool) (r : Stamped Marks) (newest : IsNewest v set r) where
+module _ (votes : Votes) (s : ModelState) (found : Found votes s) (v : View) (crash : IsCrash s v) (set : ℕ → Bool) (r : Stamped Marks) (newest : IsNewest v set r) where
   -- what a disk of the writers shows after the loss isn't older than the committed status
   shows : (d : ℕ) → IsTrue (found.set d) → (x : Stamped Marks) × (v.status d ≡ Some x) × ((x ≡ s.committed) ⊎ (stamp_lt s.committed.stamp x.stamp ≡ true))
   shows d inside = elim (crash.status d) [

@@ -11,7 +11,7 @@ use Rattle.lvm_invariant.specs.Good.{Good}
 use Rattle.lvm_invariant.specs.Sound.{Sound}
 use Rattle.lvm_invariant.specs.Updates.{is_pp}
 use Rattle.lvm_num.specs.Record.{Stamped}
-use Rattle.lvm_invariant.specs.State.{has_notes, has_mark, Marks, OpenCopy, State}
+use Rattle.lvm_invariant.specs.State.{has_notes, has_mark, Marks, ModelCopy, ModelState}
 use Rattle.lvm_invariant.proofs.Small.{never}
 pub use Rattle.lvm_invariant.proofs.Small.{left_of as left, right_of as right, both_of as both}
 use Rattle.lvm_invariant.proofs.Asking.{told_of_none}
@@ -44,8 +44,8 @@ its_mode Active true h notes mark = absurd cc
 its_mode Passive true h notes mark = absurd cc
 its_mode mode false h notes mark = not_so h
 
-module _ (mode : Mode) (stale : Bool) (open_copy : Option OpenCopy) (brought : (o : OpenCopy) → open_copy ≡ Some o → IsTrue (stale && is_pp o.target second_copy)) where
-  abbrev s : State
+module _ (mode : Mode) (stale : Bool) (open_copy : Option ModelCopy) (brought : (o : ModelCopy) → open_copy ≡ Some o → IsTrue (stale && is_pp o.target second_copy)) where
+  abbrev s : ModelState
   s = record (at_rest mode stale) { open_copy = open_copy }
 
   rest_is_sound : Sound s
@@ -116,7 +116,7 @@ pub first_is_good : FirstIsGood
 first_is_good votes mode stale enough = rest_is_good mode stale None (λ o is. nothing o is) votes enough
 
 pub bringing_up_is_good : BringingUpIsGood
-bringing_up_is_good votes mode passed enough = rest_is_good mode true (bringing_up mode passed).open_copy (λ o is. ap (λ (x : OpenCopy). is_pp x.target second_copy) (same o is)) votes enough
+bringing_up_is_good votes mode passed enough = rest_is_good mode true (bringing_up mode passed).open_copy (λ o is. ap (λ (x : ModelCopy). is_pp x.target second_copy) (same o is)) votes enough
   where
-    same : (o : OpenCopy) → Some (record { target = second_copy; passed = passed }) ≡ Some o → o ≡ record { target = second_copy; passed = passed }
+    same : (o : ModelCopy) → Some (record { target = second_copy; passed = passed }) ≡ Some o → o ≡ record { target = second_copy; passed = passed }
     same o is = cc

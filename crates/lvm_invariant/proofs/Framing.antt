@@ -5,7 +5,7 @@ use Rattle.lvm_num.specs.declared.place.Pp.{Pp}
 use Rattle.lvm_num.specs.Geometry.{track_group_of}
 use Rattle.lvm_vol.specs.May.{is_off}
 use Rattle.lvm_invariant.proofs.Small.{IsIn}
-use Rattle.lvm_invariant.specs.State.{Stage, Queued, State, covers, is_pinning, Live, told}
+use Rattle.lvm_invariant.specs.State.{Stage, Queued, ModelState, covers, is_pinning, Live, told}
 use Rattle.lvm_invariant.specs.Sound.{Conflict, Blocks, Tied, Holds, Nearly, Sound}
 use Rattle.lvm_invariant.proofs.SoundLemmas.{keeping_records, same_statuses, same_behind, same_records, same_home}
 use Rattle.lvm_invariant.proofs.Claims.{Alike, Seen, Frame, FrameKeeps}
@@ -16,15 +16,15 @@ some_if test w = if test then Some w else None
 same_write : (a b c d : Bool) (v w : List ℕ) → a ≡ b → c ≡ d → v ≡ w → some_if (a && c) v ≡ some_if (b && d) w
 same_write a b c d v w p q e = λ t. some_if (p t && q t) (e t)
 
-module _ (old new : State) (frame : Frame old new) (sound : Nearly old) where
+module _ (old new : ModelState) (frame : Frame old new) (sound : Nearly old) where
   same_active : (lv : ℕ) → new.is_active lv ≡ old.is_active lv
-  same_active lv = ap (λ (s : State). s.is_active lv) (sym frame.same)
+  same_active lv = ap (λ (s : ModelState). s.is_active lv) (sym frame.same)
 
   same_passive : (lv : ℕ) → new.is_passive lv ≡ old.is_passive lv
-  same_passive lv = ap (λ (s : State). s.is_passive lv) (sym frame.same)
+  same_passive lv = ap (λ (s : ModelState). s.is_passive lv) (sym frame.same)
 
   same_copies : (lv b : ℕ) → new.is_copy lv b ≡ old.is_copy lv b
-  same_copies lv b = ap (λ (s : State). s.is_copy lv b) (sym frame.same)
+  same_copies lv b = ap (λ (s : ModelState). s.is_copy lv b) (sym frame.same)
 
   conflict_before : (r n e m : Queued) → Alike r n → Alike e m → Conflict m n → Conflict e r
   conflict_before r n e m a c k = record {
@@ -110,7 +110,7 @@ frame_keeps old new frame sound = (
 )
 
 -- an event that leaves the records alone, and of which the blocks are shown
-pub framed : (old new : State) → Frame old new → keeping_records old new ≡ new → Blocks new → Sound old → Sound new
+pub framed : (old new : ModelState) → Frame old new → keeping_records old new ≡ new → Blocks new → Sound old → Sound new
 framed old new frame same blocks sound =
     let f = frame_keeps old new frame (record { blocks = sound.blocks; tied = sound.tied; statuses = sound.statuses; notes = sound.notes; holds = sound.holds }) in
     record {

@@ -4,7 +4,7 @@ use Rattle.std.proofs.Common.{◌≡◌, ◌⊎◌, inl, inr, ⊎_elim, ℕ, ◌
 use Rattle.lvm_num.specs.declared.place.Pp.{Pp}
 use Rattle.lvm_num.specs.Geometry.{track_group_of}
 use Rattle.lvm_vol.specs.May.{Known, is_off, known}
-use Rattle.lvm_invariant.specs.State.{write_of, Phase, Held, Going, Landed, Queued, State, covers, is_past, has_landed, is_pinning, stale_in, Live, Started, told}
+use Rattle.lvm_invariant.specs.State.{write_of, ModelPhase, Held, Going, Landed, Queued, ModelState, covers, is_past, has_landed, is_pinning, stale_in, Live, Started, told}
 use Rattle.lvm_invariant.proofs.Small.{IsIn, never, and_left_false}
 use Rattle.lvm_invariant.specs.Sound.{Settled, Blocks, Tied, Holds, Sound, the_write}
 use Rattle.lvm_invariant.proofs.SoundLemmas.{live_same, same_behind, same_statuses, equal_same, recorded_same, each_same}
@@ -18,8 +18,8 @@ use Rattle.lvm_vol.specs.declared.entry.Vol.TheVariants.{Lv}
 use Rattle.lvm_invariant.specs.Updates.{put, with_name, land, landed}
 use Rattle.lvm_invariant.proofs.Framing.{framed}
 
-module _ (s : State) (i : ℕ) (r : Queued) (value : ℕ → List ℕ) (facts : List Fact) (step : GotEffect s i r value facts) (sound : Sound s) where
-  abbrev new : State
+module _ (s : ModelState) (i : ℕ) (r : Queued) (value : ℕ → List ℕ) (facts : List Fact) (step : GotEffect s i r value facts) (sound : Sound s) where
+  abbrev new : ModelState
   new = landed s i r facts
 
   un : IsFalse (has_landed r.phase)
@@ -52,7 +52,7 @@ module _ (s : State) (i : ℕ) (r : Queued) (value : ℕ → List ℕ) (facts : 
       (λ (other : IsFalse (j == i) × (s.queue j ≡ Some e)). record { there = other.1; write = started.write; going = started.going })
       (put_cases s.queue i j (land r) e started.there)
     where
-      not_going : (p : Phase) → Landed ≡ p → p ≡ Going → ⊥
+      not_going : (p : ModelPhase) → Landed ≡ p → p ≡ Going → ⊥
       not_going p a b = cc
 
   started_still : (j : ℕ) (e : Queued) → Started s j e → Started new j e
@@ -155,8 +155,8 @@ named_at name i j given same = ap (λ (t : Bool). if t then given else name j) (
 pub named_other : (name : ℕ → Request) (i j : ℕ) (given : Request) → IsFalse (j == i) → with_name name i given j ≡ name j
 named_other name i j given other = ap (λ (t : Bool). if t then given else name j) other
 
-module _ (s : State) (i : ℕ) (given : Request) (r : Queued) (facts : List Fact) (step : JoinEffect s i given r facts) (sound : Sound s) where
-  abbrev next : State
+module _ (s : ModelState) (i : ℕ) (given : Request) (r : Queued) (facts : List Fact) (step : JoinEffect s i given r facts) (sound : Sound s) where
+  abbrev next : ModelState
   next = record s { queue = put s.queue i r; facts = facts; name = with_name s.name i given }
 
   not_itself : {k : ℕ} → k < k → ⊥
@@ -168,7 +168,7 @@ module _ (s : State) (i : ℕ) (given : Request) (r : Queued) (facts : List Fact
   fresh_number : (j : ℕ) (e : Queued) → s.queue j ≡ Some e → IsFalse (j == i)
   fresh_number j e there = ⊎_elim (λ (same : IsTrue (j == i)). absurd (not_itself (subst (λ (k : ℕ). k < i) (eqb-true _ _ same) (step.newest j e there)))) (λ (f : IsFalse (j == i)). f) (decided (j == i))
 
-  held_not_past : {X : Type 0} (p : Phase) → p ≡ Held → IsTrue (is_past p) → X
+  held_not_past : {X : Type 0} (p : ModelPhase) → p ≡ Held → IsTrue (is_past p) → X
   held_not_past p e h = never (is_past p) h (ap is_past e)
 
   calmer_next : Calmer s next

@@ -5,7 +5,7 @@ use Rattle.lvm_num.specs.declared.place.Pp.{Pp}
 use Rattle.lvm_num.specs.Geometry.{track_group_of}
 use Rattle.lvm_vol.specs.May.{Known, known}
 use Rattle.lvm_invariant.proofs.Small.{IsIn, never}
-use Rattle.lvm_invariant.specs.State.{Stage, Well, Going, Landed, Phase, Queued, State, covers, is_settled_stale, HasPassed, Live, Started, told}
+use Rattle.lvm_invariant.specs.State.{Stage, Well, Going, Landed, ModelPhase, Queued, ModelState, covers, is_settled_stale, HasPassed, Live, Started, told}
 use Rattle.lvm_invariant.specs.Sound.{Agree, Settled, Blocks, Sound}
 use Rattle.lvm_invariant.proofs.Effects.{ClosesOnly, DoneEffect, LostEffect}
 use Rattle.lvm_invariant.proofs.Requests.{decided, put_cases, put_other, one_write, one_req}
@@ -16,11 +16,11 @@ use Rattle.lvm_invariant.specs.LandDone.{IsDropped}
 use Rattle.lvm_invariant.specs.Updates.{land, landed}
 use Rattle.lvm_invariant.proofs.SoundLemmas.{live_same, equal_same, recorded_same}
 
-not_going : {X : Type 0} (p : Phase) → Landed ≡ p → p ≡ Going → X
+not_going : {X : Type 0} (p : ModelPhase) → Landed ≡ p → p ≡ Going → X
 not_going p a b = absurd cc
 
-module _ (s : State) (sound : Sound s) (i : ℕ) (r : Queued) (facts : List Fact) (started_r : Started s i r) (closes : ClosesOnly s i r facts) where
-  abbrev new : State
+module _ (s : ModelState) (sound : Sound s) (i : ℕ) (r : Queued) (facts : List Fact) (started_r : Started s i r) (closes : ClosesOnly s i r facts) where
+  abbrev new : ModelState
   new = landed s i r facts
 
   started_before : (j : ℕ) (e : Queued) → Started new j e → IsFalse (j == i) × Started s j e
@@ -72,7 +72,7 @@ module _ (s : State) (sound : Sound s) (i : ℕ) (r : Queued) (facts : List Fact
   }
 
 -- a dropped copy isn't live
-dropped_not_live : (s : State) (sound : Sound s) (i : ℕ) (r : Queued) → Started s i r → (lv b : ℕ) → IsTrue (covers r lv b) → (e : Pp) → IsDropped s r e → Live s lv b e → ⊥
+dropped_not_live : (s : ModelState) (sound : Sound s) (i : ℕ) (r : Queued) → Started s i r → (lv b : ℕ) → IsTrue (covers r lv b) → (e : Pp) → IsDropped s r e → Live s lv b e → ⊥
 dropped_not_live s sound i r started lv b over e dropped live =
     let place = sound.tied.place i r started.there lv b over in
     ⊎_elim
@@ -80,7 +80,7 @@ dropped_not_live s sound i r started lv b over e dropped live =
     (λ (k : HasPassed s lv (track_group_of b) e). dropped.uncaught (subst (λ (g : ℕ). HasPassed s r.lv g e) place.1 (subst (λ (v : ℕ). HasPassed s v (track_group_of b) e) place.0 k)))
     live.counts
 
-pub done_blocks : (s : State) (i : ℕ) (r : Queued) (facts : List Fact) → DoneEffect s i r facts → Sound s → Blocks (landed s i r facts)
+pub done_blocks : (s : ModelState) (i : ℕ) (r : Queued) (facts : List Fact) → DoneEffect s i r facts → Sound s → Blocks (landed s i r facts)
 done_blocks s i r facts step sound = landed_blocks s sound i r facts step.started step.closes
     (λ lv b over. (
       (λ e live. subst (λ (m : Option (List (List ℕ))). IsIn m (s.media.block lv b e)) (sym (step.may lv b over)) (inl (sym (holds lv b over e live)))),
@@ -96,7 +96,7 @@ done_blocks s i r facts step sound = landed_blocks s sound i r facts step.starte
         (λ (dropped : IsDropped s r e). absurd (dropped_not_live s sound i r step.started lv b over e dropped live))
         (step.ended e at.0 at.1)
 
-pub lost_blocks : (s : State) (i : ℕ) (r : Queued) (facts : List Fact) → LostEffect s i r facts → Sound s → Blocks (landed s i r facts)
+pub lost_blocks : (s : ModelState) (i : ℕ) (r : Queued) (facts : List Fact) → LostEffect s i r facts → Sound s → Blocks (landed s i r facts)
 lost_blocks s i r facts step sound = landed_blocks s sound i r facts step.started step.closes
     (λ lv b over. (
       (λ e live. let busy = sound.blocks.busy i lv b r step.started over in step.may lv b over (s.media.block lv b e)

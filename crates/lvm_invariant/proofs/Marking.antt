@@ -4,7 +4,7 @@ use Rattle.std.specs.Prelude.{IsTrue, IsFalse}
 use Rattle.lvm_num.specs.declared.place.Pp.{Pp}
 use Rattle.lvm_num.specs.Geometry.{track_group_of}
 use Rattle.lvm_num.specs.Record.{Stamped}
-use Rattle.lvm_invariant.specs.State.{Marks, OpenCopy, State, stale_in, is_settled_stale, HasPassed, Live}
+use Rattle.lvm_invariant.specs.State.{Marks, ModelCopy, ModelState, stale_in, is_settled_stale, HasPassed, Live}
 use Rattle.lvm_invariant.specs.Sound.{Complete, StaysFresh, Statuses, Sound, Nearly}
 use Rattle.lvm_invariant.proofs.SoundLemmas.{complete_same}
 use Rattle.lvm_invariant.proofs.Claims.{Quiet, WantsKeep, BeginKeeps, CommitKeepsCore, UpdateEndKeeps}
@@ -15,7 +15,7 @@ use Rattle.lvm_invariant.specs.LandDone.{done}
 use Rattle.lvm_invariant.specs.Commit.{Commits}
 use Rattle.lvm_invariant.specs.Want.{Replaced, Wants, after_wants}
 
-no_copy : {X : Type 0} (o : Option OpenCopy) (k : OpenCopy) → o ≡ None → o ≡ Some k → X
+no_copy : {X : Type 0} (o : Option ModelCopy) (k : ModelCopy) → o ≡ None → o ≡ Some k → X
 no_copy o k a b = absurd cc
 
 no_update : {X : Type 0} (o : Option (Stamped Marks)) (u : Stamped Marks) → o ≡ None → o ≡ Some u → X
@@ -25,7 +25,7 @@ same_update : (u w : Stamped Marks) → Some u ≡ Some w → u ≡ w
 same_update u w e = cc
 
 -- a fresh copy whose staleness isn't wanted is fresh by all three
-all_three : (s : State) → Statuses s → (e : Pp) → IsFalse (s.committed.value.stale e) → IsFalse (s.wanted.stale e) → StaysFresh s e
+all_three : (s : ModelState) → Statuses s → (e : Pp) → IsFalse (s.committed.value.stale e) → IsFalse (s.wanted.stale e) → StaysFresh s e
 all_three s st e fresh wanted = record {
   committed = fresh;
   flying = λ u flies. ⊎_elim
@@ -40,8 +40,8 @@ all_three s st e fresh wanted = record {
   wanted = wanted;
 }
 
-module _ (s : State) (wanted : Marks) (missing : ℕ → Bool) (open_copy : Option OpenCopy) (step : Wants s wanted missing open_copy) (was : Nearly s) where
-  abbrev new : State
+module _ (s : ModelState) (wanted : Marks) (missing : ℕ → Bool) (open_copy : Option ModelCopy) (step : Wants s wanted missing open_copy) (was : Nearly s) where
+  abbrev new : ModelState
   new = after_wants s wanted missing open_copy
 
   not_before : (c : Pp) → IsFalse (wanted.stale c) → IsFalse (s.wanted.stale c)
@@ -54,7 +54,7 @@ module _ (s : State) (wanted : Marks) (missing : ℕ → Bool) (open_copy : Opti
     passed = k.passed;
     is_open = ⊎_elim
         (λ (same : open_copy ≡ s.open_copy). sym same ∙ k.is_open)
-        (λ (ended : (open_copy ≡ None) × ((o : OpenCopy) → s.open_copy ≡ Some o → IsTrue (wanted.stale o.target))). no_copy open_copy k.copy ended.0 k.is_open)
+        (λ (ended : (open_copy ≡ None) × ((o : ModelCopy) → s.open_copy ≡ Some o → IsTrue (wanted.stale o.target))). no_copy open_copy k.copy ended.0 k.is_open)
         step.open_same;
   }
 
@@ -62,7 +62,7 @@ module _ (s : State) (wanted : Marks) (missing : ℕ → Bool) (open_copy : Opti
   complete_now : (c : Pp) → Complete s c → IsTrue (wanted.stale c) ⊎ Complete new c
   complete_now c k = ⊎_elim
       (λ (same : open_copy ≡ s.open_copy). inr (record { copy = k.copy; is_open = same ∙ k.is_open; target = k.target; passed = k.passed }))
-      (λ (ended : (open_copy ≡ None) × ((o : OpenCopy) → s.open_copy ≡ Some o → IsTrue (wanted.stale o.target))). inl (subst (λ (p : Pp). IsTrue (wanted.stale p)) k.target (ended.1 k.copy k.is_open)))
+      (λ (ended : (open_copy ≡ None) × ((o : ModelCopy) → s.open_copy ≡ Some o → IsTrue (wanted.stale o.target))). inl (subst (λ (p : Pp). IsTrue (wanted.stale p)) k.target (ended.1 k.copy k.is_open)))
       step.open_same
 
   complete_unless : (c : Pp) → IsFalse (wanted.stale c) → Complete s c → Complete new c
@@ -93,7 +93,7 @@ module _ (s : State) (wanted : Marks) (missing : ℕ → Bool) (open_copy : Opti
     open_there = step.open_there;
     open_stale = λ o is. ⊎_elim
         (λ (same : open_copy ≡ s.open_copy). ⊎_elim (λ (c : IsTrue (s.committed.value.stale o.target)). inl c) (λ (w : IsTrue (s.wanted.stale o.target)). inr (step.still o.target w)) (was.statuses.open_stale o (sym same ∙ is)))
-        (λ (ended : (open_copy ≡ None) × ((p : OpenCopy) → s.open_copy ≡ Some p → IsTrue (wanted.stale p.target))). no_copy open_copy o ended.0 is)
+        (λ (ended : (open_copy ≡ None) × ((p : ModelCopy) → s.open_copy ≡ Some p → IsTrue (wanted.stale p.target))). no_copy open_copy o ended.0 is)
         step.open_same;
     dirty_flies = was.statuses.dirty_flies;
     dirty_is_wanted = λ lv h. step.still_dirty lv (was.statuses.dirty_is_wanted lv h);
@@ -114,8 +114,8 @@ module _ (s : State) (wanted : Marks) (missing : ℕ → Bool) (open_copy : Opti
 pub wants_keep : WantsKeep
 wants_keep s wanted missing open_copy step was = wants_core s wanted missing open_copy step was
 
-module _ (s : State) (u : Stamped Marks) (none : s.in_flight ≡ None) (is : u.value ≡ s.wanted) (sound : Sound s) where
-  abbrev begun : State
+module _ (s : ModelState) (u : Stamped Marks) (none : s.in_flight ≡ None) (is : u.value ≡ s.wanted) (sound : Sound s) where
+  abbrev begun : ModelState
   begun = record s { in_flight = Some u }
 
   is_wanted : (w : Stamped Marks) → Some u ≡ Some w → (c : Pp) → w.value.stale c ≡ s.wanted.stale c
@@ -159,8 +159,8 @@ module _ (s : State) (u : Stamped Marks) (none : s.in_flight ≡ None) (is : u.v
 pub begin_keeps : BeginKeeps
 begin_keeps s u none is sound = begun_core s u none is sound
 
-module _ (s : State) (u : Stamped Marks) (open_copy : Option OpenCopy) (step : Commits s u open_copy) (sound : Sound s) where
-  abbrev committed : State
+module _ (s : ModelState) (u : Stamped Marks) (open_copy : Option ModelCopy) (step : Commits s u open_copy) (sound : Sound s) where
+  abbrev committed : ModelState
   committed = record s { committed = u; open_copy = open_copy }
 
   is_u : (w : Stamped Marks) → s.in_flight ≡ Some w → w ≡ u
@@ -213,8 +213,8 @@ module _ (s : State) (u : Stamped Marks) (open_copy : Option OpenCopy) (step : C
 pub commit_keeps : CommitKeepsCore
 commit_keeps s u open_copy step sound = committed_nearly s u open_copy step sound
 
-module _ (s : State) (done : s.in_flight ≡ Some s.committed) (sound : Sound s) where
-  abbrev ended : State
+module _ (s : ModelState) (done : s.in_flight ≡ Some s.committed) (sound : Sound s) where
+  abbrev ended : ModelState
   ended = record s { in_flight = None }
 
   none_some : {X : Type 0} (w : Stamped Marks) → None ≡ Some w → X

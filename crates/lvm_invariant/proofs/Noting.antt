@@ -1,7 +1,7 @@
 -- Notes start and end.
 use Rattle.std.proofs.Common.{◌≡◌, ◌⊎◌, inl, inr, ⊎_elim, ℕ, Option, Some, None, refl, sym, ap, subst, ◌∙◌}
 use Rattle.std.specs.Prelude.{IsTrue, IsFalse}
-use Rattle.lvm_invariant.specs.State.{Groups, State, Named}
+use Rattle.lvm_invariant.specs.State.{Groups, ModelState, Named}
 use Rattle.lvm_invariant.specs.Sound.{Sound}
 use Rattle.lvm_invariant.proofs.SoundLemmas.{live_same, same_statuses, same_behind, keeping_live, keeping_statuses}
 use Rattle.lvm_invariant.proofs.Claims.{Quiet, StartNoteKeepsCore, EndNoteKeepsCore, keeping_requests}
@@ -18,22 +18,22 @@ no_note : {X : Type 0} (o : Option Groups) (n : Groups) → o ≡ None → o ≡
 no_note o n a b = absurd cc
 
 -- an event of notes alone: what missing disks noted, and what is in the cache, stays named
-noted : (s new : State) → keeping_requests s new ≡ new → keeping_statuses s new ≡ new → ((d lv g : ℕ) → IsTrue (s.missing d) ⊎ IsTrue (s.cache lv g) → Named s d lv g → Named new d lv g)
+noted : (s new : ModelState) → keeping_requests s new ≡ new → keeping_statuses s new ≡ new → ((d lv g : ℕ) → IsTrue (s.missing d) ⊎ IsTrue (s.cache lv g) → Named s d lv g → Named new d lv g)
     → ((d lv g : ℕ) → IsFalse (new.missing d) → new.media.names d lv g ≡ new.home_note d lv g) → Sound s → Sound new
 noted s new same statuses named home sound = quiet_sound s new quiet sound (record { statuses = same_statuses s new statuses sound.statuses; home = home }) (same_behind s new statuses sound.behind)
   where
     quiet : Quiet s new
     quiet = record {
       same = same;
-      dirty = λ lv h. ap (λ (x : State). x.committed.value.dirty lv) (sym statuses) ∙ h;
-      live = live_same s new (subst (λ (x : State). keeping_live s x ≡ x) statuses refl);
-      missing_still = λ d h. ap (λ (x : State). x.missing d) (sym statuses) ∙ h;
+      dirty = λ lv h. ap (λ (x : ModelState). x.committed.value.dirty lv) (sym statuses) ∙ h;
+      live = live_same s new (subst (λ (x : ModelState). keeping_live s x ≡ x) statuses refl);
+      missing_still = λ d h. ap (λ (x : ModelState). x.missing d) (sym statuses) ∙ h;
       named_missing = λ d lv g gone. named d lv g (inl gone);
       named_pinned = λ d lv g cached. named d lv g (inr cached);
     }
 
-module _ (s : State) (flying : ℕ → Option Groups) (step : StartsNote s flying) (sound : Sound s) where
-  abbrev new : State
+module _ (s : ModelState) (flying : ℕ → Option Groups) (step : StartsNote s flying) (sound : Sound s) where
+  abbrev new : ModelState
   new = record s { flying_note = flying }
 
   named_then : (d lv g : ℕ) → (d ≡ step.disk → IsTrue (s.cache lv g)) → Named s d lv g → Named new d lv g
@@ -52,8 +52,8 @@ module _ (s : State) (flying : ℕ → Option Groups) (step : StartsNote s flyin
 pub start_note_keeps : StartNoteKeepsCore
 start_note_keeps s flying step sound = noted s (record s { flying_note = flying }) refl refl (named_now s flying step sound) sound.notes.home sound
 
-module _ (s : State) (d : ℕ) (names home : ℕ → Groups) (flying : ℕ → Option Groups) (step : EndsNote s d names home flying) (sound : Sound s) where
-  abbrev after : State
+module _ (s : ModelState) (d : ℕ) (names home : ℕ → Groups) (flying : ℕ → Option Groups) (step : EndsNote s d names home flying) (sound : Sound s) where
+  abbrev after : ModelState
   after = record s { media = with_names s.media names; home_note = home; flying_note = flying }
 
   named_end : (e lv g : ℕ) → Named s e lv g → Named after e lv g

@@ -4,7 +4,7 @@ use Rattle.std.specs.Prelude.{IsTrue, IsFalse, ◌==◌}
 use Rattle.std.proofs.lemmas.Bool.{cases_lt}
 use Rattle.lvm_num.specs.declared.place.Pp.{Pp}
 use Rattle.lvm_num.specs.Geometry.{track_group_of}
-use Rattle.lvm_invariant.specs.State.{write_of, Groups, Stage, Phase, Held, WantEntry, Ready, Going, Queued, State, covers, request_of, is_held, is_past, has_landed, is_pinning, stale_in, Live, Started, told}
+use Rattle.lvm_invariant.specs.State.{write_of, Groups, Stage, ModelPhase, Held, WantEntry, Ready, Going, Queued, ModelState, covers, request_of, is_held, is_past, has_landed, is_pinning, stale_in, Live, Started, told}
 use Rattle.lvm_invariant.proofs.Small.{IsIn, never, and_left_false}
 use Rattle.lvm_invariant.specs.Sound.{Conflict, MayDiffer, Agree, Settled, Tied, Holds, Sound, the_write}
 use Rattle.lvm_invariant.proofs.SoundLemmas.{live_same, same_statuses, same_behind}
@@ -21,10 +21,10 @@ use Rattle.lvm_invariant.proofs.Framing.{framed}
 
 -- ---- a request that isn't a write under way changes, and no block does
 
-module _ (s : State) (i : ℕ) (r n : Queued) (facts : List Fact) (cache : Groups) (there : s.queue i ≡ Some r)
+module _ (s : ModelState) (i : ℕ) (r n : Queued) (facts : List Fact) (cache : Groups) (there : s.queue i ≡ Some r)
     (calm : IsTrue r.write → r.phase ≡ Going → ⊥) (calm_now : IsTrue n.write → n.phase ≡ Going → ⊥)
     (may : (lv b : ℕ) → (known facts (Lv lv) b).values ≡ (told s lv b).values) (loose : (lv b : ℕ) → (known facts (Lv lv) b).loose ≡ (told s lv b).loose) where
-  abbrev pub plain : State
+  abbrev pub plain : ModelState
   plain = record s { queue = put s.queue i n; facts = facts; cache = cache }
 
   started_was : (j : ℕ) (e : Queued) → Started plain j e → Started s j e
@@ -92,7 +92,7 @@ plain_keeps s i r n facts cache step alike sound =
 
 -- ---- a request is admitted
 
-past_unlanded : (p : Phase) → IsTrue (is_past p) → IsFalse (has_landed p)
+past_unlanded : (p : ModelPhase) → IsTrue (is_past p) → IsFalse (has_landed p)
 past_unlanded p h = by (is_held p) (has_landed p) h
   where
     by : (a b : Bool) → IsTrue (not a && not b) → IsFalse b
@@ -106,7 +106,7 @@ early_not_landed r (inr (inl e)) = ap has_landed e
 early_not_landed r (inr (inr (inl e))) = ap has_landed e
 early_not_landed r (inr (inr (inr e))) = past_unlanded r.phase e.1
 
-early_not_going : (p : Phase) → (p ≡ Held) ⊎ (p ≡ WantEntry) ⊎ (p ≡ Ready) → p ≡ Going → ⊥
+early_not_going : (p : ModelPhase) → (p ≡ Held) ⊎ (p ≡ WantEntry) ⊎ (p ≡ Ready) → p ≡ Going → ⊥
 early_not_going p (inl e) g = cc
 early_not_going p (inr (inl e)) g = cc
 early_not_going p (inr (inr e)) g = cc
@@ -122,11 +122,11 @@ usable_parts true missing h = absurd cc
 usable_parts false true h = absurd cc
 usable_parts false false h = (refl, refl)
 
-module _ (s : State) (i : ℕ) (r : Queued) (phase : Phase) (several : Bool) (targets : Pp → Option Stage) (step : Admits s i r phase several targets) (sound : Sound s) where
+module _ (s : ModelState) (i : ℕ) (r : Queued) (phase : ModelPhase) (several : Bool) (targets : Pp → Option Stage) (step : Admits s i r phase several targets) (sound : Sound s) where
   abbrev n : Queued
   n = admitted r phase several targets
 
-  abbrev new : State
+  abbrev new : ModelState
   new = with_req s i n
 
   un : IsFalse (has_landed r.phase)

@@ -4,7 +4,7 @@ use Rattle.std.specs.Prelude.{IsTrue, IsFalse}
 use Rattle.lvm_num.specs.declared.place.Pp.{Pp}
 use Rattle.lvm_num.specs.Geometry.{track_group_of}
 use Rattle.lvm_vol.specs.May.{Known}
-use Rattle.lvm_invariant.specs.State.{write_of, Stage, Queued, State, covers, is_past, has_landed, is_pinning, request_of, Live, Started, told}
+use Rattle.lvm_invariant.specs.State.{write_of, Stage, Queued, ModelState, covers, is_past, has_landed, is_pinning, request_of, Live, Started, told}
 use Rattle.lvm_invariant.proofs.Small.{IsIn}
 use Rattle.lvm_invariant.specs.Sound.{Behind, Sound, Nearly}
 use Rattle.lvm_invariant.proofs.Requests.{one_req}
@@ -38,21 +38,21 @@ alike_by r n same past unlanded landed aimed aimed_still = record {
 pub alike_same : (r : Queued) → Alike r r
 alike_same r = alike_by r r refl (λ h. h) (λ h. h) (λ h. h) (λ c x h. (x, h)) (λ c x h. (x, h))
 
-pub nearly : (s : State) → Sound s → Nearly s
+pub nearly : (s : ModelState) → Sound s → Nearly s
 nearly s sound = record { blocks = sound.blocks; tied = sound.tied; statuses = sound.statuses; notes = sound.notes; holds = sound.holds }
 
-module _ (old new : State) (quiet : Quiet old new) (was : Nearly old) where
+module _ (old new : ModelState) (quiet : Quiet old new) (was : Nearly old) where
   same_queue : (i : ℕ) → new.queue i ≡ old.queue i
-  same_queue i = ap (λ (s : State). s.queue i) (sym quiet.same)
+  same_queue i = ap (λ (s : ModelState). s.queue i) (sym quiet.same)
 
   same_known : (lv b : ℕ) → told new lv b ≡ told old lv b
-  same_known lv b = ap (λ (s : State). told s lv b) (sym quiet.same)
+  same_known lv b = ap (λ (s : ModelState). told s lv b) (sym quiet.same)
 
   same_block : (lv b : ℕ) (c : Pp) → new.media.block lv b c ≡ old.media.block lv b c
-  same_block lv b c = ap (λ (s : State). s.media.block lv b c) (sym quiet.same)
+  same_block lv b c = ap (λ (s : ModelState). s.media.block lv b c) (sym quiet.same)
 
   same_cache : (lv g : ℕ) → new.cache lv g ≡ old.cache lv g
-  same_cache lv g = ap (λ (s : State). s.cache lv g) (sym quiet.same)
+  same_cache lv g = ap (λ (s : ModelState). s.cache lv g) (sym quiet.same)
 
   same_started : (i : ℕ) (r : Queued) → Started new i r → Started old i r
   same_started i r started = record { there = sym (same_queue i) ∙ started.there; write = started.write; going = started.going }
@@ -66,7 +66,7 @@ module _ (old new : State) (quiet : Quiet old new) (was : Nearly old) where
     started_still = still_started;
     may = λ lv b. ap (λ (k : Known). k.values) (same_known lv b);
     loose = λ lv b h. ap (λ (k : Known). k.loose) (same_known lv b) ∙ h;
-    same = subst (λ (s : State). keeping_blocks old s ≡ s) quiet.same refl;
+    same = subst (λ (s : ModelState). keeping_blocks old s ≡ s) quiet.same refl;
     live = quiet.live;
     dirty = quiet.dirty;
     missing_still = quiet.missing_still;
@@ -80,11 +80,11 @@ module _ (old new : State) (quiet : Quiet old new) (was : Nearly old) where
   frame : Frame old new
   frame = record {
     from = λ i n there. (n, sym (same_queue i) ∙ there, alike_same n);
-    writes = λ i n there write unlanded lv b. ap (λ (s : State). write_of b (told s lv b) (request_of s i)) (sym quiet.same);
-    same = subst (λ (s : State). keeping_volumes old s ≡ s) quiet.same refl;
+    writes = λ i n there write unlanded lv b. ap (λ (s : ModelState). write_of b (told s lv b) (request_of s i)) (sym quiet.same);
+    same = subst (λ (s : ModelState). keeping_volumes old s ≡ s) quiet.same refl;
     modes = λ lv b. ap (λ (k : Known). k.mode) (same_known lv b);
-    tight = λ lv b c copy on. ap (λ (k : Known). k.loose) (same_known lv b) ∙ was.tied.tight lv b c (ap (λ (s : State). s.is_copy lv b c) quiet.same ∙ copy)
-        (⊎_elim (λ (a : IsTrue (new.is_active lv)). inl (ap (λ (s : State). s.is_active lv) quiet.same ∙ a)) (λ (a : IsTrue (new.is_passive lv)). inr (ap (λ (s : State). s.is_passive lv) quiet.same ∙ a)) on);
+    tight = λ lv b c copy on. ap (λ (k : Known). k.loose) (same_known lv b) ∙ was.tied.tight lv b c (ap (λ (s : ModelState). s.is_copy lv b c) quiet.same ∙ copy)
+        (⊎_elim (λ (a : IsTrue (new.is_active lv)). inl (ap (λ (s : ModelState). s.is_active lv) quiet.same ∙ a)) (λ (a : IsTrue (new.is_passive lv)). inr (ap (λ (s : ModelState). s.is_passive lv) quiet.same ∙ a)) on);
     seen = λ i lv b r n v seen there past. (
       subst (λ (k : Known). IsIn k.values v) (sym (same_known lv b)) seen.allowed,
       ⊎_elim
@@ -104,7 +104,7 @@ module _ (old new : State) (quiet : Quiet old new) (was : Nearly old) where
       record { blocks = calm_blocks old new calmer was.blocks; tied = f.0; statuses = rest.statuses; notes = record { home = rest.home; pinned = f.2 }; holds = f.1 }
 
 -- an event that leaves the notes alone too
-pub quiet_of : (old new : State) → keeping_requests old new ≡ new → keeping_notes old new ≡ new → ((lv b : ℕ) (c : Pp) → Live new lv b c → Live old lv b c)
+pub quiet_of : (old new : ModelState) → keeping_requests old new ≡ new → keeping_notes old new ≡ new → ((lv b : ℕ) (c : Pp) → Live new lv b c → Live old lv b c)
     → ((lv : ℕ) → IsTrue (old.committed.value.dirty lv) → IsTrue (new.committed.value.dirty lv)) → ((d : ℕ) → IsTrue (old.missing d) → IsTrue (new.missing d)) → Quiet old new
 quiet_of old new same notes live dirty missing = record {
   same = same;
@@ -116,7 +116,7 @@ quiet_of old new same notes live dirty missing = record {
 }
 
 -- and what a missing disk entails is shown apart
-pub quiet_sound : (old new : State) → Quiet old new → Sound old → Rest new → Behind new → Sound new
+pub quiet_sound : (old new : ModelState) → Quiet old new → Sound old → Rest new → Behind new → Sound new
 quiet_sound old new quiet sound rest behind =
     let n = quiet_nearly old new quiet (nearly old sound) rest in
     record { blocks = n.blocks; tied = n.tied; statuses = n.statuses; behind = behind; notes = n.notes; holds = n.holds }

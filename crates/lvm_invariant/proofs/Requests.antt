@@ -3,7 +3,7 @@ use Rattle.std.proofs.Common.{◌≡◌, ◌⊎◌, inl, inr, ⊎_elim, ℕ, ◌
 use Rattle.std.specs.Prelude.{IsTrue, IsFalse, ◌==◌, if◌then◌else◌}
 use Rattle.std.proofs.lemmas.Bool.{cases_lt}
 use Rattle.lvm_num.specs.declared.place.Pp.{Pp}
-use Rattle.lvm_invariant.specs.State.{Stage, Phase, Held, WantEntry, Ready, Going, Landed, Queued, State, covers, is_past, has_landed, Started}
+use Rattle.lvm_invariant.specs.State.{Stage, ModelPhase, Held, WantEntry, Ready, Going, Landed, Queued, ModelState, covers, is_past, has_landed, Started}
 use Rattle.lvm_invariant.specs.Sound.{Conflict, Sound}
 use Rattle.lvm_invariant.specs.Updates.{put, is_pp, staged}
 
@@ -29,7 +29,7 @@ pub put_same : (queue : ℕ → Option Queued) (i : ℕ) (r : Queued) → put qu
 put_same queue i r = ap (λ (t : Bool). if t then Some r else queue i) (eq-eqb i i refl)
 
 -- of the writes that have started now, each is the changed request or had started before
-module _ (s new : State) (i : ℕ) (next : Queued) (same : new.queue ≡ put s.queue i next) where
+module _ (s new : ModelState) (i : ℕ) (next : Queued) (same : new.queue ≡ put s.queue i next) where
   pub started_cases : (j : ℕ) (e : Queued) → Started new j e → ((j ≡ i) × (next ≡ e)) ⊎ (IsFalse (j == i) × Started s j e)
   started_cases j e started = elim (put_cases s.queue i j next e (ap (λ (q : ℕ → Option Queued). q j) (sym same) ∙ started.there)) [
     | inl is ↦ inl is
@@ -93,17 +93,17 @@ staged_is targets c e stage x h = by_test (is_pp e c)
     by_test true = (stage, refl)
     by_test false = (x, h)
 
-pub past_not_landed : (p : Phase) → IsTrue (is_past p) → IsTrue (has_landed p) → ⊥
+pub past_not_landed : (p : ModelPhase) → IsTrue (is_past p) → IsTrue (has_landed p) → ⊥
 past_not_landed Held past l = absurd cc
 past_not_landed WantEntry past l = absurd cc
 past_not_landed Ready past l = absurd cc
 past_not_landed Going past l = absurd cc
 past_not_landed Landed past l = absurd cc
 
-pub past_of : (p q : Phase) → p ≡ q → IsTrue (is_past q) → IsTrue (is_past p)
+pub past_of : (p q : ModelPhase) → p ≡ q → IsTrue (is_past q) → IsTrue (is_past p)
 past_of p q e h = ap is_past e ∙ h
 
-module _ (s : State) (sound : Sound s) where
+module _ (s : ModelState) (sound : Sound s) where
   -- of two requests that conflict one is past Held
   pub alone : (i j : ℕ) (r e : Queued) → s.queue i ≡ Some r → s.queue j ≡ Some e → IsTrue (is_past r.phase) → IsTrue (is_past e.phase) → Conflict r e → i ≡ j
   alone i j r e at_i at_j past_r past_e conflict = ⊎_elim

@@ -4,18 +4,18 @@ use Rattle.std.specs.Prelude.{IsTrue, IsFalse, ◌==◌}
 use Rattle.lvm_num.specs.declared.place.Pp.{Pp}
 use Rattle.lvm_num.specs.Geometry.{track_group_of}
 use Rattle.lvm_invariant.proofs.Small.{IsIn, never}
-use Rattle.lvm_invariant.specs.State.{Stage, Well, Queued, State, covers, Started, told}
+use Rattle.lvm_invariant.specs.State.{Stage, Well, Queued, ModelState, covers, Started, told}
 use Rattle.lvm_invariant.specs.Sound.{Settled, Busy, Recorded, Blocks, Sound}
 use Rattle.lvm_invariant.proofs.Requests.{decided, put_same, put_other, staged_at, staged_was, staged_is, one_write, one_req, started_cases, by_started}
 use Rattle.lvm_invariant.specs.Transfer.{Restages, restaged}
 use Rattle.lvm_invariant.specs.Updates.{staged}
 use Rattle.lvm_invariant.proofs.SoundLemmas.{live_same, named_same, equal_same, recorded_same}
 
-module _ (s : State) (sound : Sound s) (i : ℕ) (r : Queued) (c : Pp) (stage : Stage) (block : ℕ → ℕ → Pp → List ℕ) (step : Restages s i r c stage block) where
+module _ (s : ModelState) (sound : Sound s) (i : ℕ) (r : Queued) (c : Pp) (stage : Stage) (block : ℕ → ℕ → Pp → List ℕ) (step : Restages s i r c stage block) where
   abbrev next : Queued
   next = record r { targets = staged r.targets c stage }
 
-  abbrev new : State
+  abbrev new : ModelState
   new = restaged s i r c stage block
 
   is_started : Started new i next

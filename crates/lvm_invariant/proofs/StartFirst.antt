@@ -5,14 +5,14 @@ use Rattle.lvm_num.specs.declared.place.Pp.{Pp}
 use Rattle.lvm_num.specs.Geometry.{track_group_of}
 use Rattle.lvm_num.specs.Record.{Stamped}
 use Rattle.lvm_invariant.proofs.Small.{IsIn, never}
-use Rattle.lvm_invariant.specs.State.{Marks, Stage, Todo, Flying, Well, Phase, Ready, Going, Queued, State, covers, stale_in, is_settled_stale, is_usable, HasPassed, Live, Named, Started, told}
+use Rattle.lvm_invariant.specs.State.{Marks, Stage, Todo, Flying, Well, ModelPhase, Ready, Going, Queued, ModelState, covers, stale_in, is_settled_stale, is_usable, HasPassed, Live, Named, Started, told}
 use Rattle.lvm_invariant.specs.Sound.{Settled, Busy, Recorded, Blocks, Complete, Sound}
 use Rattle.lvm_invariant.proofs.Requests.{decided, put_same, put_other, staged_cases, staged_was, staged_is, alone, past_of, one_req, started_cases, by_started}
 use Rattle.lvm_invariant.specs.StartWrite.{MayStart, going, started_first}
 use Rattle.lvm_invariant.proofs.SoundLemmas.{live_same, equal_same, recorded_same}
 
 -- a phase isn't two
-pub not_both : {X : Type 0} (p : Phase) → p ≡ Ready → p ≡ Going → X
+pub not_both : {X : Type 0} (p : ModelPhase) → p ≡ Ready → p ≡ Going → X
 not_both p a b = absurd cc
 
 pub known_of : (may : Option (List (List ℕ))) (value : List ℕ) → IsIn may value → (values : List (List ℕ)) × (may ≡ Some values)
@@ -34,8 +34,8 @@ settled_committed : (a b : Bool) → IsTrue (a && b) → IsTrue a
 settled_committed true b h = refl
 settled_committed false b h = absurd cc
 
-module _ (s : State) (sound : Sound s) (i : ℕ) (r : Queued) (c : Pp) (may : MayStart s i r c) where
-  abbrev new : State
+module _ (s : ModelState) (sound : Sound s) (i : ℕ) (r : Queued) (c : Pp) (may : MayStart s i r c) where
+  abbrev new : ModelState
   new = started_first s i r c
 
   abbrev next : Queued

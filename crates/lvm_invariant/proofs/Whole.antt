@@ -3,7 +3,7 @@ use Rattle.std.proofs.Common.{◌≡◌, inl, inr, ⊎_elim, ℕ, Bool, true, fa
 use Rattle.std.specs.Prelude.{IsTrue, IsFalse, ◌==◌, if◌then◌else◌, List}
 use Rattle.lvm_num.specs.declared.place.Pp.{Pp}
 use Rattle.lvm_num.specs.Record.{Stamped}
-use Rattle.lvm_invariant.specs.State.{Marks, Queued, State, has_landed, is_pinning, Live, Started, told, write_of}
+use Rattle.lvm_invariant.specs.State.{Marks, Queued, ModelState, has_landed, is_pinning, Live, Started, told, write_of}
 use Rattle.lvm_invariant.specs.Sound.{Sound}
 use Rattle.lvm_invariant.proofs.SoundLemmas.{live_same, same_behind, same_statuses}
 use Rattle.lvm_invariant.proofs.Claims.{Frame, Calmer}
@@ -20,8 +20,8 @@ use Rattle.lvm_invariant.proofs.Framing.{framed}
 
 -- ---- a status moves
 
-module _ (s : State) (status : ℕ → Option (Stamped Marks)) (flying : ℕ → Bool) (sound : Sound s) where
-  abbrev moved : State
+module _ (s : ModelState) (status : ℕ → Option (Stamped Marks)) (flying : ℕ → Bool) (sound : Sound s) where
+  abbrev moved : ModelState
   moved = record s { media = with_status s.media status; status_flying = flying }
 
   pub moved_core : Sound moved
@@ -31,9 +31,9 @@ module _ (s : State) (status : ℕ → Option (Stamped Marks)) (flying : ℕ →
 -- ---- a request is taken
 
 -- Requests leave the queue that are no writes under way, and the history goes on with what changes nothing that is known of blocks.
-module _ (s : State) (queue : ℕ → Option Queued) (before : (j : ℕ) (e : Queued) → queue j ≡ Some e → s.queue j ≡ Some e) (stays : (j : ℕ) (e : Queued) → Started s j e → queue j ≡ Some e)
+module _ (s : ModelState) (queue : ℕ → Option Queued) (before : (j : ℕ) (e : Queued) → queue j ≡ Some e → s.queue j ≡ Some e) (stays : (j : ℕ) (e : Queued) → Started s j e → queue j ≡ Some e)
     (sound : Sound s) (facts : List Fact) (same_known : (lv b : ℕ) → known facts (Lv lv) b ≡ told s lv b) where
-  abbrev taken : State
+  abbrev taken : ModelState
   taken = record s { queue = queue; facts = facts }
 
   pub left_core : Sound taken
@@ -61,7 +61,7 @@ module _ (s : State) (queue : ℕ → Option Queued) (before : (j : ℕ) (e : Qu
       framed s taken frame refl (calm_blocks s taken calmer sound.blocks) sound
 
 -- a request that has landed leaves the queue
-module _ (s : State) (i : ℕ) (r : Queued) (step : Takes s i r) where
+module _ (s : ModelState) (i : ℕ) (r : Queued) (step : Takes s i r) where
   before : (j : ℕ) (e : Queued) → without s.queue i j ≡ Some e → s.queue j ≡ Some e
   before j e h = by_test (j == i) h
     where
@@ -80,5 +80,5 @@ module _ (s : State) (i : ℕ) (r : Queued) (step : Takes s i r) where
   taken_core sound facts same_known = left_core s (without s.queue i) before stays sound facts same_known
 
 -- the history goes on with what changes nothing that is known of blocks
-pub told_core : (s : State) → Sound s → (facts : List Fact) → ((lv b : ℕ) → known facts (Lv lv) b ≡ told s lv b) → Sound (record s { facts = facts })
+pub told_core : (s : ModelState) → Sound s → (facts : List Fact) → ((lv b : ℕ) → known facts (Lv lv) b ≡ told s lv b) → Sound (record s { facts = facts })
 told_core s sound facts same_known = left_core s s.queue (λ j e h. h) (λ j e started. started.there) sound facts same_known

@@ -5,7 +5,7 @@ use Rattle.std.specs.List.{AllByRecursion}
 use Rattle.lvm_vol.specs.Facts.{Fact, Cut}
 use Rattle.lvm_vol.specs.declared.entry.Outcome.TheVariants as outcome
 use Rattle.lvm_invariant.specs.Over.{landings}
-use Rattle.lvm_invariant.specs.State.{Marks, State}
+use Rattle.lvm_invariant.specs.State.{Marks, ModelState}
 use Rattle.lvm_invariant.specs.Found.{Votes}
 use Rattle.lvm_invariant.specs.Good.{Good}
 use Rattle.lvm_invariant.specs.Events.{Event}
@@ -23,12 +23,12 @@ each_keeps_causes votes event old new before after step good caused =
     (change_keeps before after.now (enters event) step.counts.none_falls old new
     (changes votes old before after.now step.counts.none_falls good caused event new step.step step.why) caused)
 
-steps_keep : (votes : Votes) (events : List Event) (old new : State) (before after : Faults) → CausedSteps votes events old new before after → Good votes old → Caused before old → Caused after new
+steps_keep : (votes : Votes) (events : List Event) (old new : ModelState) (before after : Faults) → CausedSteps votes events old new before after → Good votes old → Caused before old → Caused after new
 steps_keep votes [] old new before after steps good caused = subst (λ (w : Faults). Caused w new) (sym steps.1) (subst (Caused before) (sym steps.0) caused)
 steps_keep votes (event ∷ events) old new before after steps good caused =
     steps_keep votes events steps.0 new steps.1 after steps.3 (each_keeps votes event old steps.0 steps.2.step good) (each_keeps_causes votes event old steps.0 before steps.1 steps.2 good caused)
 
-first_caused : (s : State) (counts : ℕ → ℕ) → IsUnasked s → Caused (at_beginning s counts) s
+first_caused : (s : ModelState) (counts : ℕ → ℕ) → IsUnasked s → Caused (at_beginning s counts) s
 first_caused s counts fresh = record {
   asked_since = λ i d. omega arith;
   asked_before = λ i d. omega arith;
@@ -72,16 +72,16 @@ votes_lost votes s w caused enough lost none =
     both false h k = absurd cc
 
 -- landings of which each has its cause
-all_landings : (s : State) (w : Faults) (started : ℕ → Bool) → (NoneFailed w → ⊥) → (places : List ℕ) → AllByRecursion (FactIsCaused w s) (landings outcome.Off s.name started places)
+all_landings : (s : ModelState) (w : Faults) (started : ℕ → Bool) → (NoneFailed w → ⊥) → (places : List ℕ) → AllByRecursion (FactIsCaused w s) (landings outcome.Off s.name started places)
 all_landings s w started why [] = tt
 all_landings s w started why (i ∷ places) = (why, all_landings s w started why places)
 
-dark_landings : (s : State) (w : Faults) (started : ℕ → Bool) (places : List ℕ) → AllByRecursion (FactIsCaused w s) (landings outcome.Dark s.name started places)
+dark_landings : (s : ModelState) (w : Faults) (started : ℕ → Bool) (places : List ℕ) → AllByRecursion (FactIsCaused w s) (landings outcome.Dark s.name started places)
 dark_landings s w started [] = tt
 dark_landings s w started (i ∷ places) = (tt, dark_landings s w started places)
 
 -- entries that have their cause
-since_more : (w : Faults) (s : State) (facts more : List Fact) → AllByRecursion (FactIsCaused w s) more → Since w s facts → Since w s (facts ++ more)
+since_more : (w : Faults) (s : ModelState) (facts more : List Fact) → AllByRecursion (FactIsCaused w s) more → Since w s facts → Since w s (facts ++ more)
 since_more w s facts more all old = record {
   since = old.since ++ more;
   is = ap (λ (l : List Fact). l ++ more) old.is ∙ append_assoc w.past old.since more;

@@ -6,7 +6,7 @@ use Rattle.lvm_num.specs.declared.place.Pp.{Pp}
 use Rattle.lvm_num.specs.declared.descriptor.Mode.{Mode}
 use Rattle.lvm_num.specs.Geometry.{track_group_of}
 use Rattle.lvm_num.specs.Record.{Stamped, stamp_lt}
-use Rattle.lvm_invariant.specs.State.{Marks, Groups, Stage, Held, Queued, OpenCopy, State}
+use Rattle.lvm_invariant.specs.State.{Marks, Groups, Stage, Held, Queued, ModelCopy, ModelState}
 use Rattle.lvm_invariant.specs.Updates.{put, is_pp}
 use Rattle.lvm_invariant.specs.Found.{Votes}
 use Rattle.lvm_invariant.specs.Good.{Good}
@@ -20,14 +20,14 @@ use Rattle.lvm_invariant.proofs.Small.{never}
 
 -- ---- runs of events
 
-steps : (votes : Votes) (events : List Event) (s : State) → AllowsAll votes events s → Steps votes events s (after_all events s)
+steps : (votes : Votes) (events : List Event) (s : ModelState) → AllowsAll votes events s → Steps votes events s (after_all events s)
 steps votes [] s allowed = refl
 steps votes (event ∷ events) s allowed = (made event s, (allowed.0, refl), steps votes events (made event s) allowed.1)
 
-pub leads : (votes : Votes) (events : List Event) (s : State) → Good votes s → AllowsAll votes events s → Leads votes events s
+pub leads : (votes : Votes) (events : List Event) (s : ModelState) → Good votes s → AllowsAll votes events s → Leads votes events s
 leads votes events s good allowed = record { good = good; allowed = allowed; reached = each_moment votes events s (after_all events s) good (steps votes events s allowed) }
 
-pub allows_append : (votes : Votes) (events more : List Event) (s : State) → AllowsAll votes events s → AllowsAll votes more (after_all events s) → AllowsAll votes (events ++ more) s
+pub allows_append : (votes : Votes) (events more : List Event) (s : ModelState) → AllowsAll votes events s → AllowsAll votes more (after_all events s) → AllowsAll votes (events ++ more) s
 allows_append votes [] more s none rest = rest
 allows_append votes (event ∷ events) more s allowed rest = (allowed.0, allows_append votes events more (made event s) allowed.1 rest)
 
@@ -86,7 +86,7 @@ in_volume b low = grind (arith, nat_tests)
 abbrev pub of_first : (n : ℕ) (write step : Bool) (value : ℕ → List ℕ) → Queued
 of_first n write step value = record { lv = 1; first = 0; count = n; write = write; step = step; value = value; phase = Held; several = false; targets = λ c. None; got = None }
 
-pub placed : (mode : Mode) (stale : Bool) (open_copy : Option OpenCopy) (n : ℕ) (write step : Bool) (value : ℕ → List ℕ) → n ≤ 256
+pub placed : (mode : Mode) (stale : Bool) (open_copy : Option ModelCopy) (n : ℕ) (write step : Bool) (value : ℕ → List ℕ) → n ≤ 256
     → IsPlaced (record (at_rest mode stale) { open_copy = open_copy }) (of_first n write step value)
 placed mode stale open_copy n write step value small = record {
   place = λ lv b over. let at = within n lv b small over in (
@@ -115,9 +115,9 @@ note_ends old new n now still e = by_test (e == n) refl
 shown : (u : Stamped Marks) (d : ℕ) → IsTrue (two_disks d) → on_both u d ≡ Some u
 shown u d is = ap (λ (t : Bool). if t then Some u else None) is
 
-pub update_allowed : (votes : Votes) (s : State) (was : Stamped Marks) (seq : ℕ) (marks : Marks) → IsTrue (votes.writes two_disks)
+pub update_allowed : (votes : Votes) (s : ModelState) (was : Stamped Marks) (seq : ℕ) (marks : Marks) → IsTrue (votes.writes two_disks)
     → s.in_flight ≡ None → s.wanted ≡ marks → stamp_lt s.committed.stamp (stamped seq marks).stamp ≡ true → s.media.status ≡ on_both was → ((d : ℕ) → IsFalse (s.missing d))
-    → ((o : OpenCopy) → s.open_copy ≡ Some o → IsFalse (marks.stale o.target)) → AllowsAll votes (update was seq marks) s
+    → ((o : ModelCopy) → s.open_copy ≡ Some o → IsFalse (marks.stale o.target)) → AllowsAll votes (update was seq marks) s
 update_allowed votes s was seq marks enough none wanted later status there cleared = (
   record { none = none; value = sym wanted; later = later },
   (

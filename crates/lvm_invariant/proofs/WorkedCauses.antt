@@ -3,7 +3,7 @@ use Rattle.std.proofs.Common.{◌≡◌, inr, ⊎_elim, ℕ, ◌≤◌, Bool, tr
 use Rattle.std.specs.Prelude.{if◌then◌else◌}
 use Rattle.lvm_num.specs.declared.place.Pp.{Pp}
 use Rattle.lvm_disk.specs.Counts.{Rose}
-use Rattle.lvm_invariant.specs.State.{State, Stage, Todo, Badly}
+use Rattle.lvm_invariant.specs.State.{ModelState, Stage, Todo, Badly}
 use Rattle.lvm_invariant.specs.Updates.{is_pp}
 use Rattle.lvm_invariant.specs.Found.{Votes}
 use Rattle.lvm_invariant.specs.Events.{Event, Allows, AllowsAll, made, after_all}
@@ -20,11 +20,11 @@ use Rattle.lvm_invariant.specs.WorkedCauses.{none_failed, both_failed, first_fai
 abbrev counted : Event → Faults → (ℕ → ℕ) → Faults
 counted event w now = record w { now = now; asked = asked_at (enters event) w }
 
-caused_step : (votes : Votes) (event : Event) (s : State) (w : Faults) (now : ℕ → ℕ) → Allows votes event s → ((d : ℕ) → w.now d ≤ now d) → Why event s w.now now → CausedStep votes event s (made event s) w (counted event w now)
+caused_step : (votes : Votes) (event : Event) (s : ModelState) (w : Faults) (now : ℕ → ℕ) → Allows votes event s → ((d : ℕ) → w.now d ≤ now d) → Why event s w.now now → CausedStep votes event s (made event s) w (counted event w now)
 caused_step votes event s w now allowed rises why = record { step = (allowed, refl); counts = record { none_falls = rises; rest = refl }; why = why }
 
 -- each event with the counts after it
-abbrev Reasons : Votes → List Event → List (ℕ → ℕ) → State → Faults → Type 0
+abbrev Reasons : Votes → List Event → List (ℕ → ℕ) → ModelState → Faults → Type 0
 Reasons votes [] counts s w = Unit {0}
 Reasons votes (event ∷ events) [] s w = ⊥
 Reasons votes (event ∷ events) (now ∷ counts) s w = ((d : ℕ) → w.now d ≤ now d) × Why event s w.now now × Reasons votes events counts (made event s) (counted event w now)
@@ -34,7 +34,7 @@ counted_all [] counts w = w
 counted_all (event ∷ events) [] w = w
 counted_all (event ∷ events) (now ∷ counts) w = counted_all events counts (counted event w now)
 
-caused_steps : (votes : Votes) (events : List Event) (counts : List (ℕ → ℕ)) (s : State) (w : Faults) → AllowsAll votes events s → Reasons votes events counts s w
+caused_steps : (votes : Votes) (events : List Event) (counts : List (ℕ → ℕ)) (s : ModelState) (w : Faults) → AllowsAll votes events s → Reasons votes events counts s w
     → CausedSteps votes events s (after_all events s) w (counted_all events counts w)
 caused_steps votes [] counts s w allowed reasons = (refl, refl)
 caused_steps votes (event ∷ events) [] s w allowed reasons = absurd reasons

@@ -10,7 +10,7 @@ use Rattle.lvm_num.specs.Geometry.{track_group_of}
 use Rattle.lvm_vol.specs.declared.entry.Vol.TheVariants.{Lv}
 use Rattle.lvm_vol.specs.Facts.{block_of}
 use Rattle.lvm_vol.specs.May.{Known, known}
-use Rattle.lvm_invariant.specs.State.{Stage, Todo, Flying, Well, Badly, Ready, Queued, State, covers, has_landed, is_usable, told}
+use Rattle.lvm_invariant.specs.State.{Stage, Todo, Flying, Well, Badly, Ready, Queued, ModelState, covers, has_landed, is_usable, told}
 use Rattle.lvm_invariant.specs.Updates.{is_pp}
 use Rattle.lvm_invariant.specs.Found.{Votes}
 use Rattle.lvm_invariant.specs.Good.{Good}
@@ -217,7 +217,7 @@ pub none_fresh_allowed : (votes : Votes) (mode : Mode) → AllowsAll votes none_
 none_fresh_allowed votes mode = allows_append votes disks_lost (LandNoFresh 1 held ∷ []) (at_rest mode false) (disks_lost_allowed votes mode) (record { there = refl; request = refl; early = inl refl; none = λ c copy. refl }, tt)
 
 -- the one place of the queue is open
-one_open : (s : State) (r : Queued) (started : Bool) → s.queue 1 ≡ Some r → IsFalse r.step → IsFalse (has_landed r.phase) → ((j : ℕ) (e : Queued) → s.queue j ≡ Some e → (j ≡ 1) × (e ≡ r))
+one_open : (s : ModelState) (r : Queued) (started : Bool) → s.queue 1 ≡ Some r → IsFalse r.step → IsFalse (has_landed r.phase) → ((j : ℕ) (e : Queued) → s.queue j ≡ Some e → (j ≡ 1) × (e ≡ r))
     → started ≡ is_going r.phase → AreOpen s (1 ∷ []) (λ i. started)
 one_open s r started there request unlanded only going = record {
   once = (λ none. none, tt);

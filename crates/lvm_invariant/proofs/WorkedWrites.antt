@@ -6,7 +6,7 @@ use Rattle.lvm_num.specs.declared.descriptor.Mode.{Mode}
 use Rattle.lvm_num.specs.declared.descriptor.Mode.TheVariants.{Active, Passive, Off}
 use Rattle.lvm_num.specs.Buffer.{zero_sector}
 use Rattle.lvm_num.specs.Record.{Stamped}
-use Rattle.lvm_invariant.specs.State.{Marks, Stage, Todo, Flying, Well, Badly, WantEntry, Ready, Queued, State, covers, stale_in, is_usable, Groups}
+use Rattle.lvm_invariant.specs.State.{Marks, Stage, Todo, Flying, Well, Badly, WantEntry, Ready, Queued, ModelState, covers, stale_in, is_usable, Groups}
 use Rattle.lvm_invariant.specs.Updates.{is_pp, land}
 use Rattle.lvm_invariant.specs.Found.{Votes}
 use Rattle.lvm_invariant.specs.Submit.{Submits}
@@ -33,7 +33,7 @@ submits mode = record {
   next = refl;
 }
 
-abbrev submitted : Mode → State
+abbrev submitted : Mode → ModelState
 submitted mode = made (Submit 1 asked held) (at_rest mode false)
 
 pub admits : (mode : Mode) → Admits (submitted mode) 1 held (phase_in mode) true (both_at Todo)
@@ -50,7 +50,7 @@ admits mode = record {
     phase_now Passive = inr (refl, λ write on several. not_so on)
     phase_now Off = inr (refl, λ write on several. not_so on)
 
-abbrev admitted_in : Mode → State
+abbrev admitted_in : Mode → ModelState
 admitted_in mode = made (Admit 1 held (phase_in mode) true (both_at Todo)) (submitted mode)
 
 -- ---- it is recorded
@@ -133,7 +133,7 @@ recorded votes Active enough = (
 
 -- ---- it goes out
 
-abbrev recorded_in : Mode → State
+abbrev recorded_in : Mode → ModelState
 recorded_in mode = after_all (recording mode) (admitted_in mode)
 
 -- its targets are the two copies
@@ -144,7 +144,7 @@ its_target : (e : Pp) → IsTrue (is_either e) → both_at Todo e ≡ Some Todo
 its_target e is = ap (λ (t : Bool). if t then Some Todo else None) is
 
 -- where both copies are usable and none is wanted stale, a write may start its first transfer, given that it is recorded
-may_go : (s : State) → s.queue 1 ≡ Some ready → ((e : Pp) → s.is_copy 1 0 e ≡ is_either e) → ((e : Pp) → IsTrue (is_usable s e)) → ((e : Pp) → IsFalse (s.wanted.stale e))
+may_go : (s : ModelState) → s.queue 1 ≡ Some ready → ((e : Pp) → s.is_copy 1 0 e ≡ is_either e) → ((e : Pp) → IsTrue (is_usable s e)) → ((e : Pp) → IsFalse (s.wanted.stale e))
     → (IsTrue (s.is_active 1) → (e : Pp) → IsTrue (is_either e) → IsTrue (s.home_note e.disk 1 0) × ((n : Groups) → s.flying_note e.disk ≡ Some n → IsTrue (n 1 0)))
     → (IsTrue (s.is_passive 1) → IsTrue (s.committed.value.dirty 1)) → MayStart s 1 ready first_copy
 may_go s there copies usable unwanted named dirty = record {
@@ -204,7 +204,7 @@ pub brought_whole : (lv b : ℕ) → IsTrue (covers held lv b) → written lv b 
 brought_whole lv b over = ap (λ (t : Bool). if t then held.value b else zero_sector) (both (covers held lv b) true over refl)
 
 -- the second copy becomes wanted stale, in whose place is the first
-module _ (s : State) (none_open : s.open_copy ≡ None) (copy_is : (c : Pp) → s.is_copy 1 0 c ≡ is_either c) (none_stale : (c : Pp) → IsFalse (s.committed.value.stale c))
+module _ (s : ModelState) (none_open : s.open_copy ≡ None) (copy_is : (c : Pp) → s.is_copy 1 0 c ≡ is_either c) (none_stale : (c : Pp) → IsFalse (s.committed.value.stale c))
     (none_wanted : s.wanted ≡ marks_with false false) (none_missing : (d : ℕ) → IsFalse (s.missing d)) where
   pub second_wanted : Wants s (marks_with true false) no_disk None
   second_wanted = record {
@@ -225,13 +225,13 @@ module _ (s : State) (none_open : s.open_copy ≡ None) (copy_is : (c : Pp) → 
     behind = λ lv b c e copy fresh gone other usable kept. not_so gone;
   }
 
-dropped : (s : State) (r : Queued) (c : Pp) → s.committed.value ≡ marks_with true false → s.in_flight ≡ None → s.open_copy ≡ None → IsTrue (is_pp c second_copy) → IsDropped s r c
+dropped : (s : ModelState) (r : Queued) (c : Pp) → s.committed.value ≡ marks_with true false → s.in_flight ≡ None → s.open_copy ≡ None → IsTrue (is_pp c second_copy) → IsDropped s r c
 dropped s r c committed in_flight none is = record {
   stale = both (s.committed.value.stale c) (stale_in s.in_flight c) (ap (λ (m : Marks). m.stale c) committed ∙ is) (ap (λ (o : Option (Stamped Marks)). stale_in o c) in_flight);
   uncaught = λ p. nothing p.copy (sym none ∙ p.is_open);
 }
 
-one_ends : (s : State) (r : Queued) (c : Pp) (stage : Stage) → ((x : IsTrue (is_pp c second_copy)) → IsDropped s r c) → one_failed.targets c ≡ Some stage → (stage ≡ Well) ⊎ ((stage ≡ Badly) × IsDropped s r c)
+one_ends : (s : ModelState) (r : Queued) (c : Pp) (stage : Stage) → ((x : IsTrue (is_pp c second_copy)) → IsDropped s r c) → one_failed.targets c ≡ Some stage → (stage ≡ Well) ⊎ ((stage ≡ Badly) × IsDropped s r c)
 one_ends s r c stage drop at = by (is_pp c second_copy) (is_pp c first_copy) refl at
   where
     same : (x : Stage) → Some x ≡ Some stage → stage ≡ x

@@ -4,7 +4,7 @@ use Rattle.std.specs.Prelude.{IsTrue, IsFalse, ◌==◌}
 use Rattle.lvm_num.specs.declared.place.Pp.{Pp}
 use Rattle.lvm_vol.specs.May.{Known}
 use Rattle.lvm_invariant.proofs.Small.{IsIn, never}
-use Rattle.lvm_invariant.specs.State.{Stage, Todo, Flying, Ready, Going, Landed, Queued, State, covers, is_past, has_landed, is_pinning, Live, Started, told}
+use Rattle.lvm_invariant.specs.State.{Stage, Todo, Flying, Ready, Going, Landed, Queued, ModelState, covers, is_past, has_landed, is_pinning, Live, Started, told}
 use Rattle.lvm_invariant.specs.Sound.{Sound, Blocks}
 use Rattle.lvm_invariant.proofs.SoundLemmas.{live_same}
 use Rattle.lvm_invariant.proofs.Effects.{ClosesOnly}
@@ -19,7 +19,7 @@ use Rattle.lvm_invariant.specs.StartWrite.{MayStart, going}
 use Rattle.lvm_invariant.specs.Updates.{put, staged, land, landed}
 use Rattle.lvm_invariant.proofs.Framing.{framed}
 
-module _ (s : State) (sound : Sound s) (i : ℕ) (r n : Queued) (there : s.queue i ≡ Some r) (alike : Alike r n) where
+module _ (s : ModelState) (sound : Sound s) (i : ℕ) (r n : Queued) (there : s.queue i ≡ Some r) (alike : Alike r n) where
   -- the requests afterwards, each with what it was
   pub from_put : (j : ℕ) (m : Queued) → put s.queue i n j ≡ Some m → (e : Queued) × (s.queue j ≡ Some e) × Alike e m
   from_put j m h = ⊎_elim
@@ -54,9 +54,9 @@ staged_alike r c stage x was = alike_by r (record r { targets = staged r.targets
     (λ e y at. staged_was r.targets c e stage y at x was) (λ e y at. staged_is r.targets c e stage y at)
 
 -- the write goes on: where it doesn't go, the blocks are as before
-module _ (s : State) (sound : Sound s) (i : ℕ) (r n : Queued) (block : ℕ → ℕ → Pp → List ℕ) (there : s.queue i ≡ Some r) (alike : Alike r n) (write : IsTrue r.write) (past : IsTrue (is_past r.phase))
+module _ (s : ModelState) (sound : Sound s) (i : ℕ) (r n : Queued) (block : ℕ → ℕ → Pp → List ℕ) (there : s.queue i ≡ Some r) (alike : Alike r n) (write : IsTrue r.write) (past : IsTrue (is_past r.phase))
     (got : n.got ≡ r.got) (pinning : IsTrue (is_pinning r.phase)) (media : (lv b : ℕ) (g : Pp) → (block lv b g ≡ s.media.block lv b g) ⊎ IsTrue (covers r lv b)) where
-  abbrev gone_on : State
+  abbrev gone_on : ModelState
   gone_on = record s { media = record s.media { block = block }; queue = put s.queue i n }
 
   unread : (j lv b : ℕ) (e : Queued) (v : List ℕ) → Seen s j e lv b v → (g : Pp) → block lv b g ≡ s.media.block lv b g
@@ -91,7 +91,7 @@ restaging_keeps s i r c stage block step sound =
     refl (ap is_pinning step.started.going) (λ lv b g. ⊎_elim (λ (k : block lv b g ≡ s.media.block lv b g). inl k) (λ (k : IsTrue (covers r lv b) × (g ≡ c) × (block lv b g ≡ r.value b)). inr k.0) (step.media lv b g))
     (restaged_blocks s sound i r c stage block step)
 
-going_alike : (s : State) (i : ℕ) (r : Queued) (c : Pp) → MayStart s i r c → Alike r (going r c)
+going_alike : (s : ModelState) (i : ℕ) (r : Queued) (c : Pp) → MayStart s i r c → Alike r (going r c)
 going_alike s i r c may = alike_by r (going r c) refl (λ h. past_of r.phase Ready may.ready refl) (λ h. ap has_landed may.ready) (λ h. never (has_landed r.phase) h (ap has_landed may.ready))
     (λ e y at. staged_was r.targets c e Flying y at Todo may.target) (λ e y at. staged_is r.targets c e Flying y at)
 
@@ -107,7 +107,7 @@ land_alike r un = alike_by r (land r) refl (λ h. off h) (λ h. never true refl 
     off : {X : Type 0} → IsTrue (is_past Landed) → X
     off h = absurd cc
 
-module _ (s : State) (sound : Sound s) (i : ℕ) (r : Queued) (facts : List Fact) (started : Started s i r) (closes : ClosesOnly s i r facts) where
+module _ (s : ModelState) (sound : Sound s) (i : ℕ) (r : Queued) (facts : List Fact) (started : Started s i r) (closes : ClosesOnly s i r facts) where
   un : IsFalse (has_landed r.phase)
   un = ap has_landed started.going
 

@@ -12,7 +12,7 @@ use Rattle.lvm_vol.specs.May.{Known, unknown, cut, IsValue}
 use Rattle.std.proofs.lemmas.Bool.Decides.{nat_tests}
 use Rattle.lvm_invariant.specs.Updates.{is_pp}
 use Rattle.lvm_invariant.proofs.Small.{never}
-use Rattle.lvm_invariant.specs.State.{Marks, Groups, View, Flying, State, covers, told, Started}
+use Rattle.lvm_invariant.specs.State.{Marks, Groups, View, Flying, ModelState, covers, told, Started}
 use Rattle.lvm_invariant.specs.Found.{Votes}
 use Rattle.lvm_invariant.specs.Good.{Good}
 use Rattle.lvm_invariant.specs.Crash.{IsCrash, IsPossible, Fresh, MayDifferAfter, EachKept, Brings, CopyBrings}
@@ -30,11 +30,11 @@ ones_differ e = absurd (omega (arith, ap (λ (l : List ℕ). get_or l 0 0) e))
 -- ---- a write that isn't recorded
 
 -- the transfer to the first copy has come there, that to the second hasn't
-abbrev half_there : State → View
+abbrev half_there : ModelState → View
 half_there s = record s.media { block = written }
 
 -- it flies to the first copy
-half_comes : (s : State) → ((lv b : ℕ) (c : Pp) → zero_sector ≡ s.media.block lv b c) → Started s 1 both_out → (lv b : ℕ) (c : Pp)
+half_comes : (s : ModelState) → ((lv b : ℕ) (c : Pp) → zero_sector ≡ s.media.block lv b c) → Started s 1 both_out → (lv b : ℕ) (c : Pp)
     → (written lv b c ≡ s.media.block lv b c) ⊎ Brings s lv b c (written lv b c) ⊎ CopyBrings s lv b c (written lv b c)
 half_comes s zeros started lv b c = ⊎_elim
     (λ (same : written lv b c ≡ zero_sector). inl (same ∙ zeros lv b c))
@@ -72,7 +72,7 @@ starts_unrecorded votes mode on enough = record {
 
 -- ---- a note that lacks an entry
 
-abbrev without_entry : State
+abbrev without_entry : ModelState
 without_entry = after_all going_out (record (after_all (asking Active ++ recording Active) (at_rest Active false)) { flying_note = empty_note })
 
 abbrev unnamed : View
@@ -100,7 +100,7 @@ note_lacks_entry votes enough = record {
 
 -- ---- what stands is not allowed
 
-as_it_stands : (s : State) → IsCrash s s.media
+as_it_stands : (s : ModelState) → IsCrash s s.media
 as_it_stands s = record { block = λ lv b c copy. inl refl; names = λ d. inl refl; status = λ d. inl refl }
 
 pub done_unsettled : DoneUnsettled
@@ -145,7 +145,7 @@ halfway_good votes mode two =
     (leads votes halfway (at_rest mode false) (first_is_good votes mode false (ap (λ (f : (ℕ → Bool) → Bool). f two_disks) two)) (halfway_allowed votes mode)).reached.good
 
 -- what the one disk shows is the newest there
-alone_is_newest : (s : State) (disk : ℕ) (r : Stamped Marks) → s.media.status disk ≡ Some r → stamp_lt r.stamp r.stamp ≡ false → (d : ℕ) (other : Stamped Marks) → d ≡ disk → s.media.status d ≡ Some other
+alone_is_newest : (s : ModelState) (disk : ℕ) (r : Stamped Marks) → s.media.status disk ≡ Some r → stamp_lt r.stamp r.stamp ≡ false → (d : ℕ) (other : Stamped Marks) → d ≡ disk → s.media.status d ≡ Some other
     → stamp_lt r.stamp other.stamp ≡ false
 alone_is_newest s disk r shows same d other is there = ap (λ (o : Option (Stamped Marks)). option_map_or (λ x. stamp_lt r.stamp x.stamp) o false) (sym there ∙ ap s.media.status is ∙ shows) ∙ same
 

@@ -3,15 +3,15 @@ use Rattle.std.specs.Prelude.{◌≡◌, ◌⊎◌, ℕ, ◌<◌, Bool, Option, 
 use Rattle.lvm_num.specs.declared.place.Pp.{Pp}
 use Rattle.lvm_invariant.specs.Found.{Votes}
 use Rattle.lvm_invariant.specs.Updates.{with_req}
-use Rattle.lvm_invariant.specs.State.{Stage, Phase, Held, WantEntry, Ready, Queued, State, has_landed, is_past, is_usable}
+use Rattle.lvm_invariant.specs.State.{Stage, ModelPhase, Held, WantEntry, Ready, Queued, ModelState, has_landed, is_past, is_usable}
 use Rattle.lvm_invariant.specs.Good.{Good}
 use Rattle.lvm_invariant.specs.Sound.{Conflict}
 
-abbrev pub admitted : Queued → Phase → Bool → (Pp → Option Stage) → Queued
+abbrev pub admitted : Queued → ModelPhase → Bool → (Pp → Option Stage) → Queued
 admitted r phase several targets = record r { phase = phase; several = several; targets = targets; got = None }
 
 -- a request that isn't blocked gets its targets, or gets them again
-pub record Admits (s : State) (i : ℕ) (r : Queued) (phase : Phase) (several : Bool) (targets : Pp → Option Stage) : Type 0 where
+pub record Admits (s : ModelState) (i : ℕ) (r : Queued) (phase : ModelPhase) (several : Bool) (targets : Pp → Option Stage) : Type 0 where
   pub there : s.queue i ≡ Some r
   -- or it is a read that has got nothing yet
   pub early : (r.phase ≡ Held) ⊎ (r.phase ≡ WantEntry) ⊎ (r.phase ≡ Ready) ⊎ (IsFalse r.write × IsTrue (is_past r.phase) × (r.got ≡ None))
@@ -20,5 +20,5 @@ pub record Admits (s : State) (i : ℕ) (r : Queued) (phase : Phase) (several : 
   pub usable : IsFalse r.write → (c : Pp) (x : Stage) → targets c ≡ Some x → IsTrue (s.is_copy r.lv r.first c) × IsTrue (is_usable s c)
 
 abbrev pub AdmitKeeps : Type 0
-AdmitKeeps = (votes : Votes) (s : State) (i : ℕ) (r : Queued) (phase : Phase) (several : Bool) (targets : Pp → Option Stage)
+AdmitKeeps = (votes : Votes) (s : ModelState) (i : ℕ) (r : Queued) (phase : ModelPhase) (several : Bool) (targets : Pp → Option Stage)
     → Admits s i r phase several targets → Good votes s → Good votes (with_req s i (admitted r phase several targets))

@@ -2,12 +2,12 @@
 use Rattle.std.specs.Prelude.{◌≡◌, ◌⊎◌, ℕ, IsTrue, IsFalse}
 use Rattle.lvm_num.specs.declared.place.Pp.{Pp}
 use Rattle.lvm_invariant.specs.Found.{Votes}
-use Rattle.lvm_invariant.specs.State.{Marks, State, is_usable}
+use Rattle.lvm_invariant.specs.State.{Marks, ModelState, is_usable}
 use Rattle.lvm_invariant.specs.Good.{Good}
 use Rattle.lvm_invariant.specs.Sound.{Complete}
 
 -- the copy has passed all its track groups: it is no longer wanted stale
-pub record Clears (s : State) (wanted : Marks) (c : Pp) : Type 0 where
+pub record Clears (s : ModelState) (wanted : Marks) (c : Pp) : Type 0 where
   pub complete : Complete s c
   pub stale : IsTrue (s.committed.value.stale c)
   pub still : (e : Pp) → IsTrue (s.wanted.stale e) → IsTrue (wanted.stale e) ⊎ (e ≡ c)
@@ -17,4 +17,4 @@ pub record Clears (s : State) (wanted : Marks) (c : Pp) : Type 0 where
       → IsTrue (s.is_copy lv b e) → IsTrue (is_usable s e) → IsFalse (wanted.stale e) → IsTrue (wanted.stale d)
 
 abbrev pub ClearKeeps : Type 0
-ClearKeeps = (votes : Votes) (s : State) (wanted : Marks) (c : Pp) → Clears s wanted c → Good votes s → Good votes (record s { wanted = wanted })
+ClearKeeps = (votes : Votes) (s : ModelState) (wanted : Marks) (c : Pp) → Clears s wanted c → Good votes s → Good votes (record s { wanted = wanted })

@@ -4,13 +4,13 @@ use Rattle.lvm_num.specs.declared.place.Pp.{Pp}
 use Rattle.lvm_num.specs.Geometry.{track_group_of}
 use Rattle.lvm_invariant.specs.Found.{Votes}
 use Rattle.lvm_invariant.specs.Updates.{with_block}
-use Rattle.lvm_invariant.specs.State.{Queued, OpenCopy, StepWrite, State, covers, is_past}
+use Rattle.lvm_invariant.specs.State.{Queued, ModelCopy, StepWrite, ModelState, covers, is_past}
 use Rattle.lvm_invariant.specs.Good.{Good}
 
 -- the open copy passes track groups whose blocks have been written to it
-pub record Passes (s : State) (r : Queued) (value : ℕ → List ℕ) (target : Pp) (block : ℕ → ℕ → Pp → List ℕ) (open_copy : Option OpenCopy) : Type 0 where
-  pub old : OpenCopy
-  pub new : OpenCopy
+pub record Passes (s : ModelState) (r : Queued) (value : ℕ → List ℕ) (target : Pp) (block : ℕ → ℕ → Pp → List ℕ) (open_copy : Option ModelCopy) : Type 0 where
+  pub old : ModelCopy
+  pub new : ModelCopy
   pub is_open : s.open_copy ≡ Some old
   pub is_now : open_copy ≡ Some new
   pub own : old.target ≡ target
@@ -20,7 +20,7 @@ pub record Passes (s : State) (r : Queued) (value : ℕ → List ℕ) (target : 
       ⊎ (IsTrue (s.is_copy lv b old.target) → IsTrue (covers r lv b) × (block lv b old.target ≡ value b))
 
 -- A copy gets blocks that a step has read: a write of them starts or ends (also where the copy has ended meanwhile).
-pub record CopyWrites (s : State) (i : ℕ) (r : Queued) (value : ℕ → List ℕ) (target : Pp) (open_copy : Option OpenCopy) (block : ℕ → ℕ → Pp → List ℕ) : Type 0 where
+pub record CopyWrites (s : ModelState) (i : ℕ) (r : Queued) (value : ℕ → List ℕ) (target : Pp) (open_copy : Option ModelCopy) (block : ℕ → ℕ → Pp → List ℕ) : Type 0 where
   pub there : s.queue i ≡ Some r
   pub read : IsFalse r.write
   pub past : IsTrue (is_past r.phase)
@@ -28,9 +28,9 @@ pub record CopyWrites (s : State) (i : ℕ) (r : Queued) (value : ℕ → List �
   pub media : (lv b : ℕ) (e : Pp) → (block lv b e ≡ s.media.block lv b e) ⊎ (IsTrue (covers r lv b) × (e ≡ target) × (block lv b e ≡ value b))
   pub open_now : (open_copy ≡ s.open_copy) ⊎ Passes s r value target block open_copy
 
-abbrev pub copied : State → (ℕ → ℕ → Pp → List ℕ) → Option OpenCopy → Option StepWrite → State
+abbrev pub copied : ModelState → (ℕ → ℕ → Pp → List ℕ) → Option ModelCopy → Option StepWrite → ModelState
 copied s block open_copy step_write = record s { media = with_block s.media block; open_copy = open_copy; step_write = step_write }
 
 abbrev pub CopyWriteKeeps : Type 0
-CopyWriteKeeps = (votes : Votes) (s : State) (i : ℕ) (r : Queued) (value : ℕ → List ℕ) (target : Pp) (open_copy : Option OpenCopy) (step_write : Option StepWrite) (block : ℕ → ℕ → Pp → List ℕ)
+CopyWriteKeeps = (votes : Votes) (s : ModelState) (i : ℕ) (r : Queued) (value : ℕ → List ℕ) (target : Pp) (open_copy : Option ModelCopy) (step_write : Option StepWrite) (block : ℕ → ℕ → Pp → List ℕ)
     → CopyWrites s i r value target open_copy block → Good votes s → Good votes (copied s block open_copy step_write)

@@ -24,7 +24,7 @@ use Rattle.lvm_invariant.specs.Open.{Opens}
 use Rattle.lvm_invariant.specs.LandGot.{LandsGot, with_got}
 use Rattle.lvm_invariant.specs.LandLost.{LandsLost, lost}
 use Rattle.lvm_invariant.specs.Submit.{Submits, submitted}
-use Rattle.lvm_invariant.specs.State.{Marks, Groups, Stage, Phase, Queued, OpenCopy, StepWrite, State}
+use Rattle.lvm_invariant.specs.State.{Marks, Groups, Stage, ModelPhase, Queued, ModelCopy, StepWrite, ModelState}
 use Rattle.lvm_invariant.specs.Pin.{Pins, pinned}
 use Rattle.lvm_invariant.specs.Good.{Good}
 use Rattle.lvm_invariant.specs.MoveStatus.{Moves, moved}
@@ -39,7 +39,7 @@ use Rattle.lvm_invariant.specs.Clear.{Clears}
 pub data Event : Type 0 where
   Submit : (i : ℕ) (q : Request) (r : Queued) → Event
   EnterStep : (i : ℕ) (q : Request) (r : Queued) → Event
-  Admit : (i : ℕ) (r : Queued) (phase : Phase) (several : Bool) (targets : Pp → Option Stage) → Event
+  Admit : (i : ℕ) (r : Queued) (phase : ModelPhase) (several : Bool) (targets : Pp → Option Stage) → Event
   Pin : (i : ℕ) (r : Queued) (cache : Groups) → Event
   Read : (i : ℕ) (r : Queued) (c : Pp) (stage : Stage) (got : Option (ℕ → List ℕ)) → Event
   StartWrite : (i : ℕ) (r : Queued) (c : Pp) → Event
@@ -52,19 +52,19 @@ pub data Event : Type 0 where
   EndStep : (i : ℕ) (r : Queued) → Event
   Take : (i : ℕ) (r : Queued) → Event
   TakeEarlier : (q : Request) → Event
-  Want : (wanted : Marks) (missing : ℕ → Bool) (open_copy : Option OpenCopy) → Event
+  Want : (wanted : Marks) (missing : ℕ → Bool) (open_copy : Option ModelCopy) → Event
   BeginUpdate : (u : Stamped Marks) → Event
   MoveStatus : (u : Stamped Marks) (status : ℕ → Option (Stamped Marks)) (flying : ℕ → Bool) → Event
-  CommitUpdate : (u : Stamped Marks) (has_it : ℕ → Bool) (done : Option OpenCopy) (wanted : Marks) (open_copy : Option OpenCopy) → Event
+  CommitUpdate : (u : Stamped Marks) (has_it : ℕ → Bool) (done : Option ModelCopy) (wanted : Marks) (open_copy : Option ModelCopy) → Event
   EndUpdate : Event
   StartNote : (flying : ℕ → Option Groups) → Event
   EndNote : (d : ℕ) (names home : ℕ → Groups) (flying : ℕ → Option Groups) → Event
-  Open : (o : OpenCopy) → Event
-  CopyWrite : (i : ℕ) (r : Queued) (value : ℕ → List ℕ) (target : Pp) (open_copy : Option OpenCopy) (step_write : Option StepWrite) (block : ℕ → ℕ → Pp → List ℕ) → Event
+  Open : (o : ModelCopy) → Event
+  CopyWrite : (i : ℕ) (r : Queued) (value : ℕ → List ℕ) (target : Pp) (open_copy : Option ModelCopy) (step_write : Option StepWrite) (block : ℕ → ℕ → Pp → List ℕ) → Event
   Clear : (wanted : Marks) (c : Pp) → Event
 
 -- it may be made in the state
-abbrev pub Allows : Votes → Event → State → Type 0
+abbrev pub Allows : Votes → Event → ModelState → Type 0
 Allows votes (Submit i q r) s = Submits s i q r
 Allows votes (EnterStep i q r) s = StepEnters s i r
 Allows votes (Admit i r phase several targets) s = Admits s i r phase several targets
@@ -92,7 +92,7 @@ Allows votes (CopyWrite i r value target open_copy step_write block) s = CopyWri
 Allows votes (Clear wanted c) s = Clears s wanted c
 
 -- the state that it makes of it
-abbrev pub made : Event → State → State
+abbrev pub made : Event → ModelState → ModelState
 made (Submit i q r) s = submitted s i q r
 made (EnterStep i q r) s = entered s i q r
 made (Admit i r phase several targets) s = with_req s i (admitted r phase several targets)
@@ -120,33 +120,33 @@ made (CopyWrite i r value target open_copy step_write block) s = copied s block 
 made (Clear wanted c) s = record s { wanted = wanted }
 
 -- it may be made in the state, and makes the new one of it
-abbrev pub Step : Votes → Event → State → State → Type 0
-Step votes event s new = Allows votes event s × (new ≡ made event s)
+abbrev pub ModelStep : Votes → Event → ModelState → ModelState → Type 0
+ModelStep votes event s new = Allows votes event s × (new ≡ made event s)
 
 -- Each event keeps what is true of a session.
 abbrev pub EachEventKeepsGood : Type 0
-EachEventKeepsGood = (votes : Votes) (event : Event) (old new : State) → Step votes event old new → Good votes old → Good votes new
+EachEventKeepsGood = (votes : Votes) (event : Event) (old new : ModelState) → ModelStep votes event old new → Good votes old → Good votes new
 
 -- these events, one after another
-abbrev pub Steps : Votes → List Event → State → State → Type 0
+abbrev pub Steps : Votes → List Event → ModelState → ModelState → Type 0
 Steps votes [] old new = new ≡ old
-Steps votes (event ∷ events) old new = (middle : State) × Step votes event old middle × Steps votes events middle new
+Steps votes (event ∷ events) old new = (middle : ModelState) × ModelStep votes event old middle × Steps votes events middle new
 
 -- the state after these events
-abbrev pub after_all : List Event → State → State
+abbrev pub after_all : List Event → ModelState → ModelState
 after_all [] s = s
 after_all (event ∷ events) s = after_all events (made event s)
 
 -- each of them may be made in the state that those before it leave
-abbrev pub AllowsAll : Votes → List Event → State → Type 0
+abbrev pub AllowsAll : Votes → List Event → ModelState → Type 0
 AllowsAll votes [] s = Unit {0}
 AllowsAll votes (event ∷ events) s = Allows votes event s × AllowsAll votes events (made event s)
 
 -- From a good state on, a list of events leads to a good state, in which each crash image agrees with the history, and the history is legal.
-pub record Reached (votes : Votes) (s : State) : Type 0 where
+pub record Reached (votes : Votes) (s : ModelState) : Type 0 where
   pub good : Good votes s
   pub kept : EachKept s
   pub legal : Legal s.facts
 
 abbrev pub EachMomentIsKept : Type 0
-EachMomentIsKept = (votes : Votes) (events : List Event) (old new : State) → Good votes old → Steps votes events old new → Reached votes new
+EachMomentIsKept = (votes : Votes) (events : List Event) (old new : ModelState) → Good votes old → Steps votes events old new → Reached votes new

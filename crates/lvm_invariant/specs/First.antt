@@ -7,7 +7,7 @@ use Rattle.lvm_num.specs.Buffer.{zero_sector}
 use Rattle.lvm_vol.specs.declared.entry.Vol.TheVariants.{Lv}
 use Rattle.lvm_vol.specs.Facts.{Making, Made}
 use Rattle.lvm_num.specs.Record.{Stamped}
-use Rattle.lvm_invariant.specs.State.{has_notes, has_mark, Marks, Groups, State}
+use Rattle.lvm_invariant.specs.State.{has_notes, has_mark, Marks, Groups, ModelState}
 use Rattle.lvm_invariant.specs.Updates.{is_pp}
 use Rattle.lvm_invariant.specs.Found.{Votes}
 use Rattle.lvm_invariant.specs.Good.{Good}
@@ -40,7 +40,7 @@ abbrev pub on_both : Stamped Marks → ℕ → Option (Stamped Marks)
 on_both r d = if two_disks d then Some r else None
 
 -- at its beginning, the volume being in this mode and its second copy stale or not
-abbrev pub at_rest : Mode → Bool → State
+abbrev pub at_rest : Mode → Bool → ModelState
 at_rest mode stale = record {
   media = record { block = λ lv b c. zero_sector; names = λ d lv g. false; status = on_both (stamped 1 (marks_with stale false)) };
   queue = λ i. None;
@@ -62,11 +62,11 @@ at_rest mode stale = record {
 }
 
 -- one that is active and has nothing stale
-abbrev pub at_first : State
+abbrev pub at_first : ModelState
 at_first = at_rest Active false
 
 -- the second copy is being brought up, and has passed these track groups
-abbrev pub bringing_up : Mode → Groups → State
+abbrev pub bringing_up : Mode → Groups → ModelState
 bringing_up mode passed = record (at_rest mode true) { open_copy = Some (record { target = second_copy; passed = passed }) }
 
 -- Such a session is good, where its two disks have votes enough to write;

@@ -1,7 +1,7 @@
 -- Which status each quorum finds.
 use Rattle.std.specs.Prelude.{◌≡◌, ◌⊎◌, ℕ, Bool, true, false, Some, IsTrue}
 use Rattle.lvm_num.specs.Record.{Stamped, stamp_lt}
-use Rattle.lvm_invariant.specs.State.{Marks, View, State}
+use Rattle.lvm_invariant.specs.State.{Marks, View, ModelState}
 use Rattle.lvm_invariant.specs.Crash.{IsCrash, IsPossible}
 
 -- Sets of members: those with votes enough to read, and those with votes enough to write. Each of the ones meets each of the others.
@@ -11,10 +11,10 @@ pub record Votes : Type 0 where
   pub meet : (a b : ℕ → Bool) → IsTrue (reads a) → IsTrue (writes b) → (d : ℕ) × IsTrue (a d) × IsTrue (b d)
 
 -- the disk has the committed status or the one in flight
-abbrev pub HasIt : State → ℕ → Type 0
+abbrev pub HasIt : ModelState → ℕ → Type 0
 HasIt s d = (s.media.status d ≡ Some s.committed) ⊎ ((u : Stamped Marks) × (s.in_flight ≡ Some u) × (s.media.status d ≡ Some u))
 
-pub record Found (votes : Votes) (s : State) : Type 0 where
+pub record Found (votes : Votes) (s : ModelState) : Type 0 where
   pub set : ℕ → Bool
   pub enough : IsTrue (votes.writes set)
   pub have : (d : ℕ) → IsTrue (set d) → HasIt s d
@@ -29,4 +29,4 @@ pub record IsNewest (v : View) (set : ℕ → Bool) (r : Stamped Marks) : Type 0
   pub last : (d : ℕ) (other : Stamped Marks) → IsTrue (set d) → v.status d ≡ Some other → stamp_lt r.stamp other.stamp ≡ false
 
 abbrev pub QuorumFinds : Type 0
-QuorumFinds = (votes : Votes) (s : State) → Found votes s → (v : View) → IsCrash s v → (set : ℕ → Bool) → IsTrue (votes.reads set) → (r : Stamped Marks) → IsNewest v set r → IsPossible s r.value
+QuorumFinds = (votes : Votes) (s : ModelState) → Found votes s → (v : View) → IsCrash s v → (set : ℕ → Bool) → IsTrue (votes.reads set) → (r : Stamped Marks) → IsNewest v set r → IsPossible s r.value

@@ -5,7 +5,7 @@ use Rattle.lvm_vol.specs.declared.entry.Vol.TheVariants.{Lv}
 use Rattle.lvm_vol.specs.declared.entry.Outcome.{Outcome}
 use Rattle.lvm_vol.specs.May.{known, cut}
 use Rattle.lvm_vol.specs.Legal.{Fits, Legal}
-use Rattle.lvm_invariant.specs.State.{Marks, View, Phase, Held, WantEntry, Ready, Going, Landed, Queued, State, has_landed}
+use Rattle.lvm_invariant.specs.State.{Marks, View, ModelPhase, Held, WantEntry, Ready, Going, Landed, Queued, ModelState, has_landed}
 use Rattle.lvm_invariant.specs.Crash.{IsCrash, BlockKept, IsPossible}
 
 -- no place stands there twice
@@ -14,13 +14,13 @@ IsDistinct [] = Unit {0}
 IsDistinct (i ∷ places) = (Stands i places → ⊥) × IsDistinct places
 
 -- a request of the history that hasn't landed
-pub record IsUnlanded (s : State) (i : ℕ) : Type 0 where
+pub record IsUnlanded (s : ModelState) (i : ℕ) : Type 0 where
   pub req : Queued
   pub there : s.queue i ≡ Some req
   pub request : IsFalse req.step
   pub unlanded : IsFalse (has_landed req.phase)
 
-abbrev pub is_going : Phase → Bool
+abbrev pub is_going : ModelPhase → Bool
 is_going Held = false
 is_going WantEntry = false
 is_going Ready = false
@@ -28,7 +28,7 @@ is_going Going = true
 is_going Landed = false
 
 -- the places of the requests that are open, and which of them have started
-pub record AreOpen (s : State) (places : List ℕ) (started : ℕ → Bool) : Type 0 where
+pub record AreOpen (s : ModelState) (places : List ℕ) (started : ℕ → Bool) : Type 0 where
   pub once : IsDistinct places
   pub each : (i : ℕ) → Stands i places → IsUnlanded s i
   pub all : (i : ℕ) (r : Queued) → s.queue i ≡ Some r → IsFalse r.step → IsFalse (has_landed r.phase) → Stands i places
@@ -40,10 +40,10 @@ landings how name started [] = []
 landings how name started (i ∷ places) = HasLanded (name i) how (started i) [] ∷ landings how name started places
 
 -- the history is legal, and each image that the disks may leave agrees with it
-pub record IsOver (s : State) (facts : List Fact) : Type 0 where
+pub record IsOver (s : ModelState) (facts : List Fact) : Type 0 where
   pub legal : Legal facts
   pub kept : (v : View) (marks : Marks) (lv b : ℕ) → IsCrash s v → IsPossible s marks → BlockKept s v marks (cut b (known facts (Lv lv) b)) lv b
 
 -- and so once an answer is taken
 abbrev pub OverStays : Type 0
-OverStays = (s : State) (facts : List Fact) (q : Request) → Fits facts (Taken q) → IsOver s facts → IsOver s (facts ++ Taken q ∷ [])
+OverStays = (s : ModelState) (facts : List Fact) (q : Request) → Fits facts (Taken q) → IsOver s facts → IsOver s (facts ++ Taken q ∷ [])

@@ -4,11 +4,11 @@ use Rattle.lvm_num.specs.declared.place.Pp.{Pp}
 use Rattle.lvm_num.specs.Geometry.{track_group_of}
 use Rattle.lvm_invariant.specs.Found.{Votes}
 use Rattle.lvm_invariant.specs.Updates.{staged, with_req}
-use Rattle.lvm_invariant.specs.State.{Groups, Stage, Todo, Flying, Ready, Going, Queued, State, is_settled_stale, is_usable, HasPassed}
+use Rattle.lvm_invariant.specs.State.{Groups, Stage, Todo, Flying, Ready, Going, Queued, ModelState, is_settled_stale, is_usable, HasPassed}
 use Rattle.lvm_invariant.specs.Good.{Good}
 
 -- what a write needs for its first transfer
-pub record MayStart (s : State) (i : ℕ) (r : Queued) (c : Pp) : Type 0 where
+pub record MayStart (s : ModelState) (i : ℕ) (r : Queued) (c : Pp) : Type 0 where
   pub there : s.queue i ≡ Some r
   pub write : IsTrue r.write
   pub ready : r.phase ≡ Ready
@@ -32,8 +32,8 @@ pub record MayStart (s : State) (i : ℕ) (r : Queued) (c : Pp) : Type 0 where
 abbrev pub going : Queued → Pp → Queued
 going r c = record r { phase = Going; targets = staged r.targets c Flying }
 
-abbrev pub started_first : State → ℕ → Queued → Pp → State
+abbrev pub started_first : ModelState → ℕ → Queued → Pp → ModelState
 started_first s i r c = with_req s i (going r c)
 
 abbrev pub StartWriteKeeps : Type 0
-StartWriteKeeps = (votes : Votes) (s : State) (i : ℕ) (r : Queued) (c : Pp) → MayStart s i r c → Good votes s → Good votes (started_first s i r c)
+StartWriteKeeps = (votes : Votes) (s : ModelState) (i : ℕ) (r : Queued) (c : Pp) → MayStart s i r c → Good votes s → Good votes (started_first s i r c)

@@ -44,12 +44,12 @@ pub data Stage : Type 0 where
   Badly : Stage
 
 -- Ready: it waits for its record or, where it needs none, for its first transfer. Going: a transfer was started.
-pub data Phase : Type 0 where
-  Held : Phase
-  WantEntry : Phase
-  Ready : Phase
-  Going : Phase
-  Landed : Phase
+pub data ModelPhase : Type 0 where
+  Held : ModelPhase
+  WantEntry : ModelPhase
+  Ready : ModelPhase
+  Going : ModelPhase
+  Landed : ModelPhase
 
 pub record Queued : Type 0 where
   pub lv : ℕ
@@ -59,7 +59,7 @@ pub record Queued : Type 0 where
   -- it is a step of a copy, and no request of the history
   pub step : Bool
   pub value : ℕ → List ℕ
-  pub phase : Phase
+  pub phase : ModelPhase
   -- more than one target
   pub several : Bool
   pub targets : Pp → Option Stage
@@ -67,7 +67,7 @@ pub record Queued : Type 0 where
   pub got : Option (ℕ → List ℕ)
 
 -- the copy that is being brought up, and the track groups of its logical partition that it has passed
-pub record OpenCopy : Type 0 where
+pub record ModelCopy : Type 0 where
   pub target : Pp
   pub passed : Groups
 
@@ -76,7 +76,7 @@ pub record StepWrite : Type 0 where
   pub target : Pp
   pub place : ℕ
 
-pub record State : Type 0 where
+pub record ModelState : Type 0 where
   pub media : View
   pub queue : ℕ → Option Queued
   pub facts : List Fact
@@ -95,7 +95,7 @@ pub record State : Type 0 where
   pub cache : Groups
   pub home_note : ℕ → Groups
   pub flying_note : ℕ → Option Groups
-  pub open_copy : Option OpenCopy
+  pub open_copy : Option ModelCopy
   pub step_write : Option StepWrite
 
 abbrev pub covers : Queued → ℕ → ℕ → Bool
@@ -109,32 +109,32 @@ abbrev pub write_of : ℕ → Known → Request → Option Sector
 write_of b k request = write_in b k.open_writes request
 
 -- what is known of a block of a volume
-abbrev pub told : State → ℕ → ℕ → Known
+abbrev pub told : ModelState → ℕ → ℕ → Known
 told s lv b = known s.facts (Lv lv) b
 
 -- the request of this number in the history
-abbrev pub request_of : State → ℕ → Request
+abbrev pub request_of : ModelState → ℕ → Request
 request_of s i = s.name i
 
-abbrev pub is_held : Phase → Bool
+abbrev pub is_held : ModelPhase → Bool
 is_held Held = true
 is_held WantEntry = false
 is_held Ready = false
 is_held Going = false
 is_held Landed = false
 
-abbrev pub has_landed : Phase → Bool
+abbrev pub has_landed : ModelPhase → Bool
 has_landed Held = false
 has_landed WantEntry = false
 has_landed Ready = false
 has_landed Going = false
 has_landed Landed = true
 
-abbrev pub is_past : Phase → Bool
+abbrev pub is_past : ModelPhase → Bool
 is_past p = not (is_held p) && not (has_landed p)
 
 -- a write that has its entry in the cache pinned
-abbrev pub is_pinning : Phase → Bool
+abbrev pub is_pinning : ModelPhase → Bool
 is_pinning Held = false
 is_pinning WantEntry = false
 is_pinning Ready = true
@@ -146,31 +146,31 @@ abbrev pub stale_in : Option (Stamped Marks) → Pp → Bool
 stale_in None c = true
 stale_in (Some u) c = u.value.stale c
 
-abbrev pub is_settled_stale : State → Pp → Bool
+abbrev pub is_settled_stale : ModelState → Pp → Bool
 is_settled_stale s c = s.committed.value.stale c && stale_in s.in_flight c
 
-abbrev pub is_usable : State → Pp → Bool
+abbrev pub is_usable : ModelState → Pp → Bool
 is_usable s c = not (s.committed.value.stale c) && not (s.missing c.disk)
 
 -- the copy that is being brought up has passed the track group
-pub record HasPassed (s : State) (lv g : ℕ) (c : Pp) : Type 0 where
-  pub copy : OpenCopy
+pub record HasPassed (s : ModelState) (lv g : ℕ) (c : Pp) : Type 0 where
+  pub copy : ModelCopy
   pub is_open : s.open_copy ≡ Some copy
   pub target : copy.target ≡ c
   pub passed : IsTrue (copy.passed lv g)
 
 -- a copy of the block that the committed status, or the one in flight, calls fresh, or that is being brought up and has passed it
-pub record Live (s : State) (lv b : ℕ) (c : Pp) : Type 0 where
+pub record Live (s : ModelState) (lv b : ℕ) (c : Pp) : Type 0 where
   pub copy : IsTrue (s.is_copy lv b c)
   pub counts : IsFalse (is_settled_stale s c) ⊎ HasPassed s lv (track_group_of b) c
 
 -- each note that the disk may have names the track group
-pub record Named (s : State) (d lv g : ℕ) : Type 0 where
+pub record Named (s : ModelState) (d lv g : ℕ) : Type 0 where
   pub home : IsTrue (s.media.names d lv g)
   pub flying : (n : Groups) → s.flying_note d ≡ Some n → IsTrue (n lv g)
 
 -- an open write that has started
-pub record Started (s : State) (i : ℕ) (r : Queued) : Type 0 where
+pub record Started (s : ModelState) (i : ℕ) (r : Queued) : Type 0 where
   pub there : s.queue i ≡ Some r
   pub write : IsTrue r.write
   pub going : r.phase ≡ Going

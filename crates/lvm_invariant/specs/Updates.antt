@@ -3,7 +3,7 @@ use Rattle.std.specs.Prelude.{ℕ, Bool, ◌&&◌, ◌==◌, if◌then◌else◌
 use Rattle.lvm_num.specs.declared.place.Pp.{Pp}
 use Rattle.lvm_num.specs.Record.{Stamped}
 use Rattle.lvm_vol.specs.Facts.{Request, Fact}
-use Rattle.lvm_invariant.specs.State.{Marks, Groups, View, Stage, Landed, Queued, State}
+use Rattle.lvm_invariant.specs.State.{Marks, Groups, View, Stage, Landed, Queued, ModelState}
 
 -- the request of this number is now this one
 abbrev pub put : (ℕ → Option Queued) → ℕ → Queued → ℕ → Option Queued
@@ -24,7 +24,7 @@ is_pp a b = a.disk == b.disk && a.pp == b.pp
 abbrev pub staged : (Pp → Option Stage) → Pp → Stage → Pp → Option Stage
 staged targets c stage e = if is_pp e c then Some stage else targets e
 
-abbrev pub with_req : State → ℕ → Queued → State
+abbrev pub with_req : ModelState → ℕ → Queued → ModelState
 with_req s i r = record s { queue = put s.queue i r }
 
 abbrev pub with_block : View → (ℕ → ℕ → Pp → List ℕ) → View
@@ -41,5 +41,5 @@ abbrev pub land : Queued → Queued
 land r = record r { phase = Landed }
 
 -- and the history says so
-abbrev pub landed : State → ℕ → Queued → List Fact → State
+abbrev pub landed : ModelState → ℕ → Queued → List Fact → ModelState
 landed s i r facts = record s { queue = put s.queue i (land r); facts = facts }

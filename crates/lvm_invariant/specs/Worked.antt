@@ -8,7 +8,7 @@ use Rattle.lvm_num.specs.Record.{Stamped}
 use Rattle.lvm_vol.specs.declared.entry.Vol.TheVariants.{Lv}
 use Rattle.lvm_vol.specs.declared.entry.Outcome.TheVariants as outcome
 use Rattle.lvm_vol.specs.Facts.{Request, Making, Made, Begun, Landed as HasLanded, block_of}
-use Rattle.lvm_invariant.specs.State.{Marks, Groups, Stage, Todo, Flying, Well, Badly, Phase, Held, WantEntry, Ready, Going, Queued, OpenCopy, State, covers}
+use Rattle.lvm_invariant.specs.State.{Marks, Groups, Stage, Todo, Flying, Well, Badly, ModelPhase, Held, WantEntry, Ready, Going, Queued, ModelCopy, ModelState, covers}
 use Rattle.lvm_invariant.specs.Updates.{is_pp, staged, land}
 use Rattle.lvm_invariant.specs.Found.{Votes}
 use Rattle.lvm_invariant.specs.Good.{Good}
@@ -21,7 +21,7 @@ use Rattle.lvm_invariant.specs.Events.{Event, Submit, EnterStep, Admit, Pin, Rea
 use Rattle.lvm_invariant.specs.First.{two_disks, no_disk, first_copy, second_copy, is_either, marks_with, stamped, on_both, at_rest, bringing_up}
 
 -- from a good state on each of these events may be made after those before it, and the state to which they lead is good
-pub record Leads (votes : Votes) (events : List Event) (s : State) : Type 0 where
+pub record Leads (votes : Votes) (events : List Event) (s : ModelState) : Type 0 where
   pub good : Good votes s
   pub allowed : AllowsAll votes events s
   pub reached : Reached votes (after_all events s)
@@ -42,7 +42,7 @@ abbrev pub both_at : Stage → Pp → Option Stage
 both_at stage c = if is_either c then Some stage else None
 
 -- in mode active it waits for its entry in the cache
-abbrev pub phase_in : Mode → Phase
+abbrev pub phase_in : Mode → ModelPhase
 phase_in Active = WantEntry
 phase_in Passive = Ready
 phase_in Off = Ready
@@ -98,7 +98,7 @@ abbrev pub writing_out : Mode → List Event
 writing_out mode = Submit 1 asked held ∷ Admit 1 held (phase_in mode) true (both_at Todo) ∷ (recording mode ++ StartWrite 1 ready first_copy ∷ Transfer 1 one_out second_copy Flying zeros ∷ [])
 
 -- it is out to both copies
-abbrev pub writing : Mode → State
+abbrev pub writing : Mode → ModelState
 writing mode = after_all (writing_out mode) (at_rest mode false)
 
 -- ---- a record is out
@@ -107,14 +107,14 @@ writing mode = after_all (writing_out mode) (at_rest mode false)
 abbrev pub updating_out : List Event
 updating_out = Want (marks_with true false) no_disk None ∷ BeginUpdate (stamped 2 (marks_with true false)) ∷ MoveStatus (stamped 2 (marks_with true false)) (on_both (stamped 1 (marks_with false false))) two_disks ∷ []
 
-abbrev pub updating : Mode → State
+abbrev pub updating : Mode → ModelState
 updating mode = after_all updating_out (at_rest mode false)
 
 -- the note of a write that has pinned its entry is out to the first disk
 abbrev pub noting_out : List Event
 noting_out = Submit 1 asked held ∷ Admit 1 held WantEntry true (both_at Todo) ∷ Pin 1 (waiting Active) first_group ∷ StartNote (note_to 0) ∷ []
 
-abbrev pub noting : State
+abbrev pub noting : ModelState
 noting = after_all noting_out (at_rest Active false)
 
 -- ---- it ends
@@ -203,7 +203,7 @@ read_fails = read_out ++ Read 1 reading_first first_copy Badly None ∷ LandRead
 abbrev pub none_passed : Groups
 none_passed lv g = false
 
-abbrev pub passed_by : Groups → OpenCopy
+abbrev pub passed_by : Groups → ModelCopy
 passed_by passed = record { target = second_copy; passed = passed }
 
 -- a step over the first track group
@@ -225,7 +225,7 @@ step_out =
     Open (passed_by none_passed) ∷ EnterStep 1 asked_read step_held ∷ Admit 1 step_held Ready false (first_at Todo) ∷ Read 1 step_chosen first_copy Flying None
     ∷ Read 1 step_reading first_copy Well (Some zero_blocks) ∷ CopyWrite 1 step_read zero_blocks second_copy (Some (passed_by none_passed)) (Some (record { target = second_copy; place = 1 })) zeros ∷ []
 
-abbrev pub stepping : Mode → State
+abbrev pub stepping : Mode → ModelState
 stepping mode = after_all step_out (at_rest mode true)
 
 -- It ends, and the copy has passed the track group.
@@ -252,19 +252,19 @@ abbrev pub none_fresh : List Event
 none_fresh = disks_lost ++ LandNoFresh 1 held ∷ []
 
 -- or the group goes off.
-abbrev pub after_loss : Mode → State
+abbrev pub after_loss : Mode → ModelState
 after_loss mode = after_all disks_lost (at_rest mode false)
 
 -- ---- an earlier session
 
 -- a read of an earlier session has landed as Off, and its answer wasn't taken
-abbrev pub with_earlier : Mode → State
+abbrev pub with_earlier : Mode → ModelState
 with_earlier mode = record (at_rest mode false) { facts = Making 1 2048 mode ∷ Made 1 ∷ Begun asked_read ∷ HasLanded asked_read outcome.Off false [] ∷ [] }
 
 -- ---- laws
 
 -- In each mode a write comes to be out to both copies;
-pub record IsWriting (s : State) : Type 0 where
+pub record IsWriting (s : ModelState) : Type 0 where
   pub request : Queued
   pub there : s.queue 1 ≡ Some request
   pub write : IsTrue request.write

@@ -1,7 +1,7 @@
 -- Worked causes: sessions whose disks fail, and what has no cause where none does. (That what is asked of an event's causes can be met, and is needed.)
 use Rattle.std.specs.Prelude.{◌≡◌, ℕ, ◌==◌, if◌then◌else◌, true, false, List, None}
 use Rattle.lvm_num.specs.declared.descriptor.Mode.{Mode}
-use Rattle.lvm_invariant.specs.State.{State}
+use Rattle.lvm_invariant.specs.State.{ModelState}
 use Rattle.lvm_invariant.specs.Found.{Votes}
 use Rattle.lvm_invariant.specs.Want.{after_wants}
 use Rattle.lvm_invariant.specs.Events.{Event, after_all}
@@ -22,7 +22,7 @@ abbrev pub first_failed : ℕ → ℕ
 first_failed d = if d == 0 then 1 else 0
 
 -- the events lead from a session's beginning, at which no disk has failed, to these counts, each with its causes
-pub record LeadsWithCauses (votes : Votes) (events : List Event) (s : State) (counts : ℕ → ℕ) : Type 0 where
+pub record LeadsWithCauses (votes : Votes) (events : List Event) (s : ModelState) (counts : ℕ → ℕ) : Type 0 where
   pub after : Faults
   pub now : after.now ≡ counts
   pub steps : CausedSteps votes events s (after_all events s) (at_beginning s none_failed) after

@@ -4,7 +4,7 @@ use Rattle.lvm_num.specs.declared.descriptor.Mode.{Mode}
 use Rattle.lvm_num.specs.declared.descriptor.Mode.TheVariants.{Active, Off}
 use Rattle.lvm_num.specs.Record.{Stamped}
 use Rattle.lvm_vol.specs.Facts.{Making, Made, Begun, Cut}
-use Rattle.lvm_invariant.specs.State.{Marks, Groups, View, Todo, Flying, Well, Badly, Ready, Queued, State}
+use Rattle.lvm_invariant.specs.State.{Marks, Groups, View, Todo, Flying, Well, Badly, Ready, Queued, ModelState}
 use Rattle.lvm_invariant.specs.Admit.{admitted}
 use Rattle.lvm_invariant.specs.StartWrite.{going}
 use Rattle.lvm_invariant.specs.Crash.{IsCrash, IsPossible, EachKept}
@@ -15,12 +15,12 @@ use Rattle.lvm_invariant.specs.First.{two_disks, no_disk, first_copy, second_cop
 use Rattle.lvm_invariant.specs.Worked.{asked, held, first_group, both_at, phase_in, first_at, ready, one_out, both_out, only, update, recording, zeros, writing, written, one_well, one_failed, one_fails, none_passed, all_passed, passed_by, at_stage}
 
 -- The state is good, and after the events a loss of power may leave what the history doesn't allow.
-pub record Breaks (votes : Votes) (s : State) (events : List Event) : Type 0 where
+pub record Breaks (votes : Votes) (s : ModelState) (events : List Event) : Type 0 where
   pub good : Good votes s
   pub broken : EachKept (after_all events s) → ⊥
 
 -- The state is good, and after the events disks with votes enough to read may find a status that isn't the committed one, nor in flight.
-pub record Misleads (votes : Votes) (s : State) (events : List Event) : Type 0 where
+pub record Misleads (votes : Votes) (s : ModelState) (events : List Event) : Type 0 where
   pub good : Good votes s
   pub view : View
   pub crash : IsCrash (after_all events s) view
@@ -99,7 +99,7 @@ NoneFresh = (votes : Votes) (mode : Mode) → IsTrue (votes.writes two_disks) �
 -- ---- names
 
 -- A session in mode active that begins after a cut, at which a write had come to the first copy alone; the notes name its track group, or don't.
-abbrev pub differing : Bool → State
+abbrev pub differing : Bool → ModelState
 differing named = record (at_rest Active false) {
   media = record (at_rest Active false).media { block = written; names = λ d lv g. named && first_group lv g };
   facts = Making 1 2048 Active ∷ Made 1 ∷ Begun asked ∷ Cut ∷ [];

@@ -2,7 +2,7 @@
 use Rattle.std.specs.Prelude.{◌≡◌, ◌≤◌, ◌<◌, ◌+◌, ◌-◌, ◌++◌, [], ◌∷◌, ℕ, List, Option, Some, None, Result, Ok, Err, false, length}
 use Rattle.lvm_num.specs.declared.Memory.{Memory}
 use Rattle.lvm_io.specs.Stream.{WhereTold}
-use Rattle.lvm_io.specs.Lines.{lines_of, has_feed}
+use Rattle.lvm_io.specs.Lines.{TakesFirst, has_feed}
 use Rattle.lvm_io.specs.declared.stream.Got.{Got}
 use Rattle.lvm_io.specs.declared.stream.Got.TheVariants as got
 use Rattle.lvm_io.specs.declared.lines.NextLine.{NextLine}
@@ -21,11 +21,19 @@ to_come reading (Some left) = Some (reading.front ++ (reading.block ++ left))
 
 -- the first line of the bytes that are to come, or nothing is taken of them; memory is wanted only where there are some
 abbrev pub NextGives : Option (List ℕ) → Option (List ℕ) → NextLine → Type 0
-NextGives old new (next.Line line) = WhereTold old new (λ a b. lines_of a ≡ line ∷ lines_of b)
+NextGives old new (next.Line line) = WhereTold old new (TakesFirst line)
 NextGives old new next.End = WhereTold old new (λ a b. (a ≡ []) × (b ≡ []))
 NextGives old new next.Failed = WhereTold old new (λ a b. b ≡ a)
 NextGives old new next.TooLong = WhereTold old new (λ a b. b ≡ a)
 NextGives old new next.Memory = WhereTold old new (λ a b. (b ≡ a) × (a ≡ [] → ⊥))
+
+-- where a read failed, nothing is left of what was read but the front of a line; where too much was read or no memory was found, that and at most what the last read gave
+abbrev pub LeavesFront : Reading → NextLine → Type 0
+LeavesFront new (next.Line line) = Unit {0}
+LeavesFront new next.End = Unit {0}
+LeavesFront new next.Failed = (has_feed new.front ≡ false) × (new.block ≡ [])
+LeavesFront new next.TooLong = (has_feed new.front ≡ false) × (length new.block ≤ 65536)
+LeavesFront new next.Memory = (has_feed new.front ≡ false) × (length new.block ≤ 65536)
 
 -- a line that has begun counts once
 abbrev pub begun : List ℕ → ℕ

@@ -1,8 +1,8 @@
 //! Lines of a source, one at a time, and whole texts to a sink.
-ghost use Rattle.std.specs.Prelude.{◌≡◌, ◌<◌, ◌≤◌, ◌++◌, ◌↔◌, [], length, position, IfOk, OnOk, OnErr};
+ghost use Rattle.std.specs.Prelude.{◌≡◌, ◌<◌, ◌≤◌, ◌++◌, ◌↔◌, [], false, length, position, IfOk, OnOk, OnErr};
 ghost use Rattle.lvm_io.specs.Count.{Rose};
 ghost use Rattle.lvm_io.specs.Stream.{WhereTold, WritesFront};
-ghost use Rattle.lvm_io.specs.Lines.{is_feed, LinesLaw};
+ghost use Rattle.lvm_io.specs.Lines.{has_feed, is_feed, LinesLaw};
 
 use crate::stream::{Got, Put, Sink, Source};
 use lvm_num::{Memory, Rows};
@@ -56,7 +56,7 @@ impl Model for Lines {
 }
 
 impl Lines {
-    ghost use Rattle.lvm_io.specs.Reading.{to_come, NextGives, CountsGiven, LeavesFewer, TakesLine, Refills, TakesLast};
+    ghost use Rattle.lvm_io.specs.Reading.{to_come, NextGives, LeavesFront, CountsGiven, LeavesFewer, TakesLine, Refills, TakesLast};
 
     /// The lines of a source of which nothing was read.
     pub fn new(alloc: Global) -> Result<Lines, Memory>
@@ -77,6 +77,7 @@ impl Lines {
     /// The next line. The limit is judged at each read of the source, before the lines of that read.
     pub fn next_line<I: Source>(&mut self, alloc: Global, input: &mut I) -> NextLine
         ensures line { NextGives (to_come self.old (I.left input.old)) (to_come self.new (I.left input.new)) result }
+        ensures front { LeavesFront self.new result }
         // Of any source only so many lines come.
         ensures fewer { LeavesFewer self.old self.new result }
         ensures given { CountsGiven self.old self.new (I.left input.old) (I.left input.new) }
@@ -85,7 +86,7 @@ impl Lines {
         ensures cause { result ≡ NextLine.Failed → Rose (I.faults input.old) (I.faults input.new) }
         ensures well { (result ≡ NextLine.Failed → ⊥) → I.faults input.new ≡ I.faults input.old }
     {
-        while self.given <= MOST_BYTES {
+        while self.given() <= MOST_BYTES {
             match self.take_line(alloc) {
                 Ok(Some(line)) => return NextLine::Line(line),
                 Ok(None) => {}
@@ -98,6 +99,15 @@ impl Lines {
             }
         }
         NextLine::TooLong
+    }
+
+    // How many bytes the source gave. No line is whole before the block, and a read gives at most so many bytes.
+    fn given(&self) -> u64
+        ensures given { result ≡ self.now.given }
+        ensures clean { has_feed self.now.front ≡ false }
+        ensures block { length self.now.block ≤ 65536 }
+    {
+        self.given
     }
 
     // Takes the line that ends in the block, or puts the block behind the front where none does.

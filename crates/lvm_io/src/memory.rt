@@ -174,7 +174,7 @@ impl Images for MemSink {
         ensures image { self.new.chosen ≡ Some disk }
         ensures once { self.new.choices ≡ next_count self.old.choices }
         ensures empty { self.new.bytes ≡ [] }
-        ensures later { self.old.faults ≤ self.new.faults }
+        ensures well { self.new.faults ≡ self.old.faults }
         ensures after { self.new ≡ record self.old { bytes = []; chosen = Some disk; choices = next_count self.old.choices } }
     {
         self.bytes.clear();

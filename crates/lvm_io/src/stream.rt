@@ -76,7 +76,7 @@ pub trait Images: Sink {
         ensures image { Self.chosen self.new ≡ Some disk }
         ensures once { Self.choices self.new ≡ next_count (Self.choices self.old) }
         ensures empty { WhereTold (Self.held self.old) (Self.held self.new) (λ a b. b ≡ []) }
-        ensures later { Self.faults self.old ≤ Self.faults self.new };
+        ensures well { Self.faults self.new ≡ Self.faults self.old };
 }
 
 /// Moments, which rise.

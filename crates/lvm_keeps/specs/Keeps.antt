@@ -25,49 +25,49 @@ use Rattle.lvm_session.specs.Sound.{IsSound}
 use Rattle.lvm_session.specs.Asking.{IsAsking, IsAwake}
 
 -- an event of a session that is on leaves it sound
-abbrev pub Keeps : (State → State → Type 0) → Type 0
-Keeps Event = (old new : State) → IsSound old → old.core.power ≡ power.On → Event old new → IsSound new
+abbrev pub KeepsSound : (State → State → Type 0) → Type 0
+KeepsSound Event = (old new : State) → IsSound old → old.core.power ≡ power.On → Event old new → IsSound new
 
 -- ---- the events of a turn
 
 abbrev pub LandingKeeps : Type 0
-LandingKeeps = (place : ℕ) (how : Outcome) → Keeps (λ old new. Lands old new place how)
+LandingKeeps = (place : ℕ) (how : Outcome) → KeepsSound (λ old new. Lands old new place how)
 
 abbrev pub AdmissionKeeps : Type 0
-AdmissionKeeps = (place : ℕ) → Keeps (λ old new. Admits old new place)
+AdmissionKeeps = (place : ℕ) → KeepsSound (λ old new. Admits old new place)
 
 abbrev pub PinKeeps : Type 0
-PinKeeps = (place : ℕ) → Keeps (λ old new. Pins old new place)
+PinKeeps = (place : ℕ) → KeepsSound (λ old new. Pins old new place)
 
 abbrev pub StatusStartKeeps : Type 0
-StatusStartKeeps = Keeps StartsStatus
+StatusStartKeeps = KeepsSound StartsStatus
 
 abbrev pub NoteStartKeeps : Type 0
-NoteStartKeeps = (place disk : ℕ) → Keeps (λ old new. StartsNote old new place disk)
+NoteStartKeeps = (place disk : ℕ) → KeepsSound (λ old new. StartsNote old new place disk)
 
 abbrev pub DataStartKeeps : Type 0
-DataStartKeeps = (place target : ℕ) → Keeps (λ old new. StartsData old new place target)
+DataStartKeeps = (place target : ℕ) → KeepsSound (λ old new. StartsData old new place target)
 
 abbrev pub CopyReadKeeps : Type 0
-CopyReadKeeps = Keeps ReadsCopy
+CopyReadKeeps = KeepsSound ReadsCopy
 
 abbrev pub CopyWriteKeeps : Type 0
-CopyWriteKeeps = Keeps WritesCopy
+CopyWriteKeeps = KeepsSound WritesCopy
 
 abbrev pub EndKeeps : Type 0
-EndKeeps = (at : ℕ) → Keeps (λ old new. Ends old new at)
+EndKeeps = (at : ℕ) → KeepsSound (λ old new. Ends old new at)
 
 -- nothing has ended
 abbrev pub WaitKeeps : Type 0
-WaitKeeps = Keeps Finds
+WaitKeeps = KeepsSound Finds
 
 -- ---- the end of a session
 
 abbrev pub CutKeeps : Type 0
-CutKeeps = Keeps Darkens
+CutKeeps = KeepsSound Darkens
 
 abbrev pub OffKeeps : Type 0
-OffKeeps = Keeps GoesOff
+OffKeeps = KeepsSound GoesOff
 
 -- ---- the calls of a client, also of a session that is over
 

@@ -29,7 +29,7 @@ use Rattle.lvm_session.specs.Dark.{hand_of_copy}
 use Rattle.lvm_session.specs.Marks.{Reviews, WantsStale, is_entailed}
 use Rattle.lvm_session.specs.Causes.{IsChosenSince, is_held_stale}
 use Rattle.lvm_session.specs.Left.{copy_left, copy_updates, is_brought_up, step_left, tried_of, update_work}
-use Rattle.lvm_session.specs.Owners.{IsCopyOf, IsStepOf, flies}
+use Rattle.lvm_session.specs.Owners.{IsCopyStepOf, IsStepOf, flies}
 use Rattle.lvm_session.specs.Sound.{IsCopy, IsReadFrom, count_if, is_clearing, is_hand, rows_of, waiting_rows, with_row}
 use Rattle.lvm_keeps.proofs.Ending.{back, back_long}
 use Rattle.lvm_keeps.proofs.Lists.{all_on}
@@ -55,7 +55,7 @@ pub record Brings (e : Ending) (r : Reviewed e) : Type 0 where
   pub reviewed : copy_ends (now e r) ≡ None
   pub clearings : (p : Pp) → is_held_stale (now e r) p ≡ true → is_wanted_stale (now e r) p ≡ false → is_clearing (now e r) p ≡ true
   pub out : flies (now e r) owner.Copy ≡ flies e.core owner.Copy
-  pub step : (f : Flight) → IsCopyOf e.core f → IsCopyOf (now e r) f
+  pub step : (f : Flight) → IsCopyStepOf e.core f → IsCopyStepOf (now e r) f
   pub long : length r.pool ≡ length e.pool
   pub hands : (n : ℕ) → count_if (is_hand n (hand_of_copy e.core.copy)) ≤ count_if (slice_index_or e.pool n false)
       → count_if (slice_index_or r.pool n false) + count_if (is_hand n (hand_of_copy e.core.copy)) ≡ count_if (slice_index_or e.pool n false) + count_if (is_hand n (hand_of_copy r.copy))

@@ -12,7 +12,7 @@ use Rattle.lvm_disk.specs.Steps.{EndsDone}
 use Rattle.lvm_hold.specs.Waiting.{Waiting, without}
 use Rattle.lvm_status.proofs.Sound.{steps_stay_sound}
 use Rattle.lvm_status.specs.Calls.{BecomesFresh, closed}
-use Rattle.lvm_status.specs.Runs.{IsSound as IsSoundStatus, Want}
+use Rattle.lvm_status.specs.Runs.{IsSoundStatus, Want}
 use Rattle.lvm_status.specs.Update.{is_held, is_owed, seen, Stored, Updates}
 use Rattle.lvm_status.specs.declared.change.Change.TheVariants as change
 use Rattle.lvm_status.specs.declared.writes.Writes.{Writes}

@@ -33,7 +33,7 @@ use Rattle.lvm_session.specs.Bringing.{copy_ends, marked_by_end, end_by_sources,
 use Rattle.lvm_session.specs.Dark.{hand_of_copy}
 use Rattle.lvm_session.specs.Ends.{EndsAs, after_quit}
 use Rattle.lvm_session.specs.Left.{copy_updates}
-use Rattle.lvm_session.specs.Owners.{AreOwned, AreRows, IsCopyOf, IsRowOf, IsStepOf, IsTransferOf, flies, same_owner}
+use Rattle.lvm_session.specs.Owners.{AreOwned, AreRows, IsCopyStepOf, IsRowOf, IsStepOf, IsTransferOf, flies, same_owner}
 use Rattle.lvm_session.specs.Requests.{IsOpenOne}
 use Rattle.lvm_session.specs.Causes.{AreCaused, AreCounted, HaveSourcesFailed, IsAnswered, IsCaused, IsChosenSince, IsCopyCaused, IsCounted, IsLandedFor, IsTrueToOrigin, faults_at_opening, is_over}
 use Rattle.lvm_session.specs.Sound.{IsCopy, IsFitting, IsGoing, IsOn, IsSound, IsTold, count_if, has_number, is_clearing, is_dark, is_hand, out_with, waiting_rows, with_row}
@@ -57,7 +57,7 @@ faulted core c p write f old new its (inr fault) = subst (λ d. Rose (old.faults
 pub step_out : (core : Core) (c : OpenCopy) (row : Flown) (f : Flight) → core.copy ≡ Some c → row.owner ≡ owner.Copy → IsRowOf core row f → IsStepOf c.step core c f
 step_out core c row f is own of = by (subst (λ who. IsTransferOf core who f) own of.own)
   where
-    by : IsCopyOf core f → IsStepOf c.step core c f
+    by : IsCopyStepOf core f → IsStepOf c.step core c f
     by its = subst (λ (d : OpenCopy). IsStepOf d.step core d f) (let e : Some its.0 ≡ Some c = sym its.1 ∙ is in cc e) its.2
 
 pub copy_write_fail_keeps : CopyWriteFailKeeps

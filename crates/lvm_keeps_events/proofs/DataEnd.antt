@@ -15,7 +15,7 @@ use Rattle.lvm_path.specs.Asks.{is_write}
 use Rattle.lvm_path.specs.Targets.{are_over, is_begun}
 use Rattle.lvm_path.specs.declared.request.Request.{Request}
 use Rattle.lvm_path.specs.declared.target.Target.{Target}
-use Rattle.lvm_status.specs.Runs.{IsSound as IsSoundStatus}
+use Rattle.lvm_status.specs.Runs.{IsSoundStatus}
 use Rattle.lvm_status.specs.Update.{seen, Stored}
 use Rattle.lvm_session.specs.Bringing.{after_copy_end, ends_if, hand_of, is_out, is_whole, marked_by_end, with_back, with_copy_end, with_end}
 use Rattle.lvm_session.specs.Enabled.{same_status}

@@ -23,7 +23,7 @@ use Rattle.lvm_session.specs.declared.flown.Owner.{Owner}
 use Rattle.lvm_session.specs.declared.flown.Owner.TheVariants as owner
 use Rattle.lvm_session.specs.declared.open.Open.{Open}
 use Rattle.lvm_session.specs.Dark.{hand_of_copy}
-use Rattle.lvm_session.specs.Owners.{AreRows, IsCopyOf, IsStepOf, IsTransferOf}
+use Rattle.lvm_session.specs.Owners.{AreRows, IsCopyStepOf, IsStepOf, IsTransferOf}
 use Rattle.lvm_session.specs.Requests.{IsOpenOne}
 use Rattle.lvm_session.specs.Sound.{count_if, is_hand, IsCopy, IsGoing, IsReadFrom, rows_of, waiting_rows, with_row}
 use Rattle.lvm_keeps.proofs.Ending.{back, back_long}
@@ -49,7 +49,7 @@ pub record Leaves (core : Core) (queue : Waiting) (copy : Option OpenCopy) (pool
   pub bring : IfSome copy (IsCopy (parted core queue copy pool))
   pub rows : queue.rows ≡ rows_of (parted core queue copy pool)
   pub out : option_map_or (λ (k : OpenCopy). is_out k.step) copy false ≡ option_map_or (λ (k : OpenCopy). is_out k.step) core.copy false
-  pub steps : (f : Flight) → IsCopyOf core f → IsCopyOf (parted core queue copy pool) f
+  pub steps : (f : Flight) → IsCopyStepOf core f → IsCopyStepOf (parted core queue copy pool) f
   pub hands : (n : ℕ) → count_if (slice_index_or pool n false) + count_if (is_hand n (hand_of_copy core.copy)) ≡ count_if (slice_index_or core.pool n false) + count_if (is_hand n (hand_of_copy copy))
 
 -- ---- it stays

@@ -19,7 +19,7 @@ use Rattle.lvm_path.specs.Targets.{are_over, end_state, is_done, is_failed, is_o
 use Rattle.lvm_path.specs.declared.ask.Ask.{Ask}
 use Rattle.lvm_path.specs.declared.request.Phase.TheVariants as phase
 use Rattle.lvm_path.specs.declared.target.Target.{Target}
-use Rattle.lvm_status.specs.Runs.{IsSound as IsSoundStatus}
+use Rattle.lvm_status.specs.Runs.{IsSoundStatus}
 use Rattle.lvm_status.specs.Update.{seen}
 use Rattle.lvm_status.specs.declared.writes.Writes.{Writes}
 use Rattle.lvm_session.specs.Bringing.{copy_ends, end_of, has_row, is_whole, step_row, with_back, with_copy_end}

@@ -26,7 +26,7 @@ use Rattle.lvm_status.specs.declared.change.Change.TheVariants as change
 use Rattle.lvm_status.specs.declared.writes.Writes.{Writes}
 use Rattle.lvm_status.specs.Update.{Stored, Updates, is_held, is_owed, seen}
 use Rattle.lvm_status.specs.Calls.{BecomesDirty, closed}
-use Rattle.lvm_status.specs.Runs.{Want, IsSound as IsSoundStatus}
+use Rattle.lvm_status.specs.Runs.{Want, IsSoundStatus}
 use Rattle.lvm_status.proofs.Sound.{steps_stay_sound}
 use Rattle.lvm_session.specs.declared.bringing.CopyEnd.TheVariants as ending
 use Rattle.lvm_session.specs.declared.bringing.OpenCopy.{OpenCopy}

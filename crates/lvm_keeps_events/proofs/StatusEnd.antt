@@ -14,7 +14,7 @@ use Rattle.lvm_disk.specs.Device.{Device, Flight}
 use Rattle.lvm_mwc.specs.Cache.{flight_on}
 use Rattle.lvm_status.specs.Update.{Stored, Updates, is_held, seen}
 use Rattle.lvm_status.specs.Calls.{WantsAtEnd, after_end, closed, comes_held, with_commit, with_end}
-use Rattle.lvm_status.specs.Runs.{Ended, IsSound as IsSoundStatus}
+use Rattle.lvm_status.specs.Runs.{Ended, IsSoundStatus}
 use Rattle.lvm_status.proofs.Sound.{steps_stay_sound}
 use Rattle.lvm_homes.specs.declared.homes.Homes.{Homes}
 use Rattle.lvm_homes.specs.Homes.{next_slot}

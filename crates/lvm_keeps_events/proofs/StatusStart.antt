@@ -32,7 +32,7 @@ use Rattle.lvm_path.specs.Targets.{is_failed}
 use Rattle.lvm_status.specs.declared.writes.Writes.{Writes}
 use Rattle.lvm_status.specs.Update.{Stored, Updates, members_there, seen}
 use Rattle.lvm_status.specs.Calls.{with_update, with_start as with_write_start}
-use Rattle.lvm_status.specs.Runs.{NextWrite, Start, IsSound as IsSoundStatus}
+use Rattle.lvm_status.specs.Runs.{NextWrite, Start, IsSoundStatus}
 use Rattle.lvm_status.proofs.Sound.{steps_stay_sound}
 use Rattle.lvm_session.specs.declared.bringing.CopyEnd.TheVariants as ending
 use Rattle.lvm_session.specs.declared.bringing.OpenCopy.{OpenCopy}

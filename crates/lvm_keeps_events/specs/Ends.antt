@@ -11,7 +11,7 @@ use Rattle.lvm_session.specs.declared.flown.Owner.TheVariants as owner
 use Rattle.lvm_session.specs.State.{State, state}
 use Rattle.lvm_session.specs.Judging.{is_running}
 use Rattle.lvm_session.specs.Ends.{FailsCopy, MissesSource, NoteLearns, Returns, after_quit, after_read}
-use Rattle.lvm_keeps.specs.Keeps.{Keeps}
+use Rattle.lvm_keeps.specs.Keeps.{KeepsSound}
 use Rattle.lvm_session.specs.Sound.{IsSound}
 
 -- Whatever stands on the media, and however many transfers have failed since.
@@ -27,7 +27,7 @@ pub record EndsNote (old new : State) (at disk : ℕ) : Type 0 where
   pub learns : NoteLearns old.core at disk true buf new.core
 
 abbrev pub NoteEndKeeps : Type 0
-NoteEndKeeps = (at disk : ℕ) → Keeps (λ old new. EndsNote old new at disk)
+NoteEndKeeps = (at disk : ℕ) → KeepsSound (λ old new. EndsNote old new at disk)
 
 -- the read of the copy that is being brought up has ended well: it has the blocks in hand
 pub record EndsRead (old new : State) (at : ℕ) : Type 0 where
@@ -43,7 +43,7 @@ pub record EndsRead (old new : State) (at : ℕ) : Type 0 where
   pub is : new.core ≡ after_read old.core at copy buf
 
 abbrev pub CopyReadEndKeeps : Type 0
-CopyReadEndKeeps = (at : ℕ) → Keeps (λ old new. EndsRead old new at)
+CopyReadEndKeeps = (at : ℕ) → KeepsSound (λ old new. EndsRead old new at)
 
 -- a transfer of a copy has ended, well or badly, that had ended before
 pub record EndsQuit (old new : State) (at : ℕ) (ok : Bool) : Type 0 where
@@ -57,7 +57,7 @@ pub record EndsQuit (old new : State) (at : ℕ) (ok : Bool) : Type 0 where
   pub is : new.core ≡ after_quit old.core at copy buf
 
 abbrev pub CopyQuitKeeps : Type 0
-CopyQuitKeeps = (at : ℕ) (ok : Bool) → Keeps (λ old new. EndsQuit old new at ok)
+CopyQuitKeeps = (at : ℕ) (ok : Bool) → KeepsSound (λ old new. EndsQuit old new at ok)
 
 -- the write of the copy that is being brought up has failed, and the copy with it
 pub record EndsWrite (old new : State) (at : ℕ) : Type 0 where
@@ -72,7 +72,7 @@ pub record EndsWrite (old new : State) (at : ℕ) : Type 0 where
   pub fails : FailsCopy old.core at copy buf new.core
 
 abbrev pub CopyWriteFailKeeps : Type 0
-CopyWriteFailKeeps = (at : ℕ) → Keeps (λ old new. EndsWrite old new at)
+CopyWriteFailKeeps = (at : ℕ) → KeepsSound (λ old new. EndsWrite old new at)
 
 -- the read of the copy that is being brought up has failed, and its source is tried in vain
 pub record EndsMiss (old new : State) (at : ℕ) : Type 0 where
@@ -88,4 +88,4 @@ pub record EndsMiss (old new : State) (at : ℕ) : Type 0 where
   pub misses : MissesSource old.core at copy source buf new.core
 
 abbrev pub CopyReadFailKeeps : Type 0
-CopyReadFailKeeps = (at : ℕ) → Keeps (λ old new. EndsMiss old new at)
+CopyReadFailKeeps = (at : ℕ) → KeepsSound (λ old new. EndsMiss old new at)

@@ -5,7 +5,7 @@ use Rattle.lvm_session.specs.declared.flown.Flown.{Flown}
 use Rattle.lvm_session.specs.declared.flown.Owner.TheVariants as owner
 use Rattle.lvm_session.specs.State.{State}
 use Rattle.lvm_session.specs.Ends.{DataLearns, Returns}
-use Rattle.lvm_keeps.specs.Keeps.{Keeps}
+use Rattle.lvm_keeps.specs.Keeps.{KeepsSound}
 
 -- the transfer of a target of a request has ended, well or badly
 pub record EndsData (old new : State) (at id target : ℕ) (ok : Bool) : Type 0 where
@@ -16,4 +16,4 @@ pub record EndsData (old new : State) (at id target : ℕ) (ok : Bool) : Type 0 
   pub learns : DataLearns old.core at id target ok buf new.core
 
 abbrev pub DataEndKeeps : Type 0
-DataEndKeeps = (at id target : ℕ) (ok : Bool) → Keeps (λ old new. EndsData old new at id target ok)
+DataEndKeeps = (at id target : ℕ) (ok : Bool) → KeepsSound (λ old new. EndsData old new at id target ok)

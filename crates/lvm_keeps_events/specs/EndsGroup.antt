@@ -8,7 +8,7 @@ use Rattle.lvm_session.specs.declared.flown.Owner.TheVariants as owner
 use Rattle.lvm_session.specs.Judging.{is_running}
 use Rattle.lvm_session.specs.State.{State}
 use Rattle.lvm_session.specs.Ends.{PassesGroup, Returns}
-use Rattle.lvm_keeps.specs.Keeps.{Keeps}
+use Rattle.lvm_keeps.specs.Keeps.{KeepsSound}
 
 -- the write of the copy that is being brought up has ended well: its next track group follows, or its clearing is wanted
 pub record EndsGroup (old new : State) (at : ℕ) : Type 0 where
@@ -23,4 +23,4 @@ pub record EndsGroup (old new : State) (at : ℕ) : Type 0 where
   pub passes : PassesGroup old.core at copy buf new.core
 
 abbrev pub CopyWriteEndKeeps : Type 0
-CopyWriteEndKeeps = (at : ℕ) → Keeps (λ old new. EndsGroup old new at)
+CopyWriteEndKeeps = (at : ℕ) → KeepsSound (λ old new. EndsGroup old new at)

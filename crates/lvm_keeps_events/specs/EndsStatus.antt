@@ -8,7 +8,7 @@ use Rattle.lvm_session.specs.State.{State}
 use Rattle.lvm_session.specs.Ends.{NoteLearns, Returns, StatusLearns}
 use Rattle.lvm_session.specs.Left.{left_of}
 use Rattle.lvm_session.specs.Sound.{IsSound}
-use Rattle.lvm_keeps.specs.Keeps.{Keeps}
+use Rattle.lvm_keeps.specs.Keeps.{KeepsSound}
 use Rattle.lvm_keeps_events.specs.Ends.{EndsNote}
 
 -- the write of a note has failed, and its disk is missing
@@ -20,7 +20,7 @@ pub record FailsNote (old new : State) (at disk : ℕ) : Type 0 where
   pub learns : NoteLearns old.core at disk false buf new.core
 
 abbrev pub NoteFailKeeps : Type 0
-NoteFailKeeps = (at disk : ℕ) → Keeps (λ old new. FailsNote old new at disk)
+NoteFailKeeps = (at disk : ℕ) → KeepsSound (λ old new. FailsNote old new at disk)
 
 -- a write of the update in flight has ended, well or badly
 pub record EndsStatus (old new : State) (at disk : ℕ) (ok : Bool) : Type 0 where
@@ -31,7 +31,7 @@ pub record EndsStatus (old new : State) (at disk : ℕ) (ok : Bool) : Type 0 whe
   pub learns : StatusLearns old.core at disk ok buf new.core
 
 abbrev pub StatusEndKeeps : Type 0
-StatusEndKeeps = (at disk : ℕ) (ok : Bool) → Keeps (λ old new. EndsStatus old new at disk ok)
+StatusEndKeeps = (at disk : ℕ) (ok : Bool) → KeepsSound (λ old new. EndsStatus old new at disk ok)
 
 -- ---- the work that is left
 

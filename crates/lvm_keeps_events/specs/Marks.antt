@@ -1,7 +1,7 @@
 -- What marks of staleness, and the end of the copy that is open, leave of a request.
 use Rattle.std.specs.Prelude.{◌≡◌, Bool, Some}
 use Rattle.lvm_num.specs.declared.place.Pp.{Pp}
-use Rattle.lvm_status.specs.Runs.{IsSound as IsSoundStatus}
+use Rattle.lvm_status.specs.Runs.{IsSoundStatus}
 use Rattle.lvm_status.specs.Update.{Stored, seen}
 use Rattle.lvm_session.specs.declared.bringing.CopyEnd.{CopyEnd}
 use Rattle.lvm_session.specs.declared.bringing.OpenCopy.{OpenCopy}

@@ -9,7 +9,8 @@ use Rattle.lvm_vol.specs.declared.entry.Vol.TheVariants.{Disk}
 use Rattle.lvm_vol.specs.declared.entry.Outcome.{Outcome}
 use Rattle.lvm_vol.specs.declared.entry.Outcome.TheVariants as outcome
 use Rattle.lvm_vol.specs.Facts.{Request, Fact, Begun, Landed, Taken, Cut, is_over, block_of}
-use Rattle.lvm_vol.specs.May.{Known, known, change, source, May, ended, landed, is_open_in, without, cut}
+use Rattle.lvm_vol.specs.May.{Known, known, change, source, May, ended, landed, is_open_in, cut}
+use Rattle.lvm_vol.proofs.Knowing.{ended_open}
 use Rattle.lvm_kept.specs.Raw.{RawKept}
 use Rattle.lvm_num.specs.Geometry.{data_start}
 use Rattle.lvm_kept.specs.Moments.{Calm}
@@ -134,23 +135,12 @@ module _ (run id disk at count : ℕ) (blocks : List Sector) (f : Flight) (carri
       still : (b : ℕ) (k : Known) (x : Sector) → Among (Rattle.lvm_vol.specs.May.also (block_of blocks at b ∷ []) k.values) x → May (cut b (ended it outcome.Lost true (block_of blocks at b) (record k { open_writes = it ∷ k.open_writes }))) x
       still b k x may = also_adds _ (Rattle.lvm_vol.specs.May.also (block_of blocks at b ∷ []) k.values) x may
 
-  ended_open : (how : Outcome) (started : Bool) (v : Sector) (k : Known) → (ended it how started v k).open_writes ≡ without it k.open_writes
-  ended_open outcome.Done started v k = refl
-  ended_open outcome.Got started v k = refl
-  ended_open outcome.Lost started v k = refl
-  ended_open outcome.ReadFailed started v k = refl
-  ended_open outcome.NoFresh started v k = refl
-  ended_open outcome.Off true v k = refl
-  ended_open outcome.Off false v k = refl
-  ended_open outcome.Dark true v k = refl
-  ended_open outcome.Dark false v k = refl
-
   landed_open : (how : Outcome) (started : Bool) (b : ℕ) (k : Known) (t : Bool) → k.open_writes ≡ []
       → (if t then landed it how started (block_of blocks at b) (block_of [] at b) (if t then record k { open_writes = it ∷ k.open_writes } else k) else (if t then record k { open_writes = it ∷ k.open_writes } else k)).open_writes ≡ []
   landed_open how started b k true none =
       let now = record k { open_writes = it ∷ k.open_writes } in
       ap (λ (o : Bool). (if o then ended it how started (block_of blocks at b) now else now).open_writes) (open_now it k.open_writes)
-      ∙ ended_open how started (block_of blocks at b) now ∙ closes it k.open_writes none
+      ∙ ended_open it how started (block_of blocks at b) now ∙ closes it k.open_writes none
   landed_open how started b k false none = none
 
   pub landed_calm : (how : Outcome) (started : Bool) (facts : List Fact) → Calm facts → Calm ((facts ++ Begun it ∷ []) ++ Landed it how started [] ∷ [])

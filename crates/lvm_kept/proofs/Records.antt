@@ -14,7 +14,7 @@ use Rattle.lvm_num.specs.StatusBytes.{status_of}
 use Rattle.lvm_num.specs.Record.{Frames, frame, record_sectors, slot_start, slot_size, stamp_lt}
 use Rattle.lvm_num.specs.Torn.{Sectors, AllBefore, stamp_of}
 use Rattle.lvm_num.proofs.Torn.{sectors-fit}
-use Rattle.lvm_rec.specs.Slots.{newest_on, IsOfRecord as IsOfSlot, IsTornWrite}
+use Rattle.lvm_rec.specs.Slots.{newest_on, IsOfSlot, IsTornWrite}
 use Rattle.lvm_rec.proofs.SlotLaws.{slots-apart, newest_stays_or_is_new, whole_is_newest, keeps_before}
 use Rattle.lvm_disk.specs.Device.{Image}
 use Rattle.lvm_kept.specs.Contents.{newest_at, descriptor_on, status_on, note_on, note_sector, data_at}

@@ -23,7 +23,7 @@ use Rattle.lvm_vol.specs.declared.entry.Vol.TheVariants.{Lv}
 use Rattle.lvm_vol.specs.Facts.{Fact, Cut}
 use Rattle.lvm_vol.specs.May.{Known, known, IsValue}
 use Rattle.lvm_kept.specs.Contents.{Contents}
-use Rattle.lvm_kept.specs.Group.{if_passes, passes, is_of, is_status_of, has_room, descriptor_among, is_voter, status_among, Finds, IsFound, members_in, status_by, Reads, ReadsBy, is_stale_by, fresh_on, block_at, is_named, IsSome, HoldOne}
+use Rattle.lvm_kept.specs.Group.{IsOneOf, if_passes, passes, is_of, is_status_of, has_room, descriptor_among, is_voter, status_among, Finds, IsFound, members_in, status_by, Reads, ReadsBy, is_stale_by, fresh_on, block_at, is_named, IsSome, HoldOne}
 use Rattle.lvm_kept.specs.Kept.{HasStatus, MayDiffer, BlocksKept, IsSettledIn, IsAvailable, Kept}
 use Rattle.lvm_kept.specs.Committed.{IsWithinDisks}
 use Rattle.lvm_kept.specs.Changes.{RestampingKeeps}
@@ -46,10 +46,10 @@ among_all : (in_set own room : Bool) → in_set && own && room ≡ true → true
 among_all true own room e = e
 among_all false own room e = absurd cc
 
--- what holds of all that pass one test holds of all that pass a narrower one
-pub narrower : {X : Type 0} (P : X → Type 0) (p q : X → Bool) → ((x : X) → q x ≡ true → p x ≡ true) → (xs : List X) → AllByRecursion P (filter p xs) → AllByRecursion P (filter q xs)
-narrower P p q more [] all = tt
-narrower P p q more (x ∷ xs) all = by_tests (p x) (q x) (more x) (narrower P p q more xs) all
+-- what holds of all that pass one test holds of all that pass another one which is narrower on them
+pub narrower_on : {X : Type 0} (P : X → Type 0) (p q : X → Bool) (xs : List X) → ((x : X) → IsOneOf xs x → q x ≡ true → p x ≡ true) → AllByRecursion P (filter p xs) → AllByRecursion P (filter q xs)
+narrower_on P p q [] more all = tt
+narrower_on P p q (x ∷ xs) more all = by_tests (p x) (q x) (more x (inl refl)) (narrower_on P p q xs (λ y one. more y (inr one))) all
   where
     by_tests : (s t : Bool) → (t ≡ true → s ≡ true) → (AllByRecursion P (filter p xs) → AllByRecursion P (filter q xs))
         → AllByRecursion P (if s then x ∷ filter p xs else filter p xs) → AllByRecursion P (if t then x ∷ filter q xs else filter q xs)
@@ -57,6 +57,10 @@ narrower P p q more (x ∷ xs) all = by_tests (p x) (q x) (more x) (narrower P p
     by_tests true false m rest all = rest all.1
     by_tests false true m rest all = absurd (let e = m refl in cc)
     by_tests false false m rest all = rest all
+
+-- or of which it is narrower everywhere
+pub narrower : {X : Type 0} (P : X → Type 0) (p q : X → Bool) → ((x : X) → q x ≡ true → p x ≡ true) → (xs : List X) → AllByRecursion P (filter p xs) → AllByRecursion P (filter q xs)
+narrower P p q more xs = narrower_on P p q xs (λ x one. more x)
 
 module _ (c : Contents) (small big : Disks) (more : (d : ℕ) → IsTrue (small d) → IsTrue (big d)) where
   fewer_copies : (P : Pp → Type 0) (status : Option (Stamped Status)) (row : LvRow) (lp : ℕ) → AllByRecursion P (fresh_on big status row lp) → AllByRecursion P (fresh_on small status row lp)

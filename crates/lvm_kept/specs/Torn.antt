@@ -13,7 +13,7 @@ use Rattle.lvm_num.specs.StatusBytes.{status_of}
 use Rattle.lvm_num.specs.Note.{Noted, note_in}
 use Rattle.lvm_num.specs.Record.{Frames, Stamped, frame, record_sectors, slot_start, slot_size, stamp_lt}
 use Rattle.lvm_num.specs.Torn.{Sectors, AllBefore}
-use Rattle.lvm_rec.specs.Slots.{RecordWrite as SlotWrite, IsOfRecord as IsOfSlot, StandsOn as StandsIn, MayWrite, BothBefore}
+use Rattle.lvm_rec.specs.Slots.{SlotWrite, IsOfSlot, StandsIn, MayWrite, BothBefore}
 use Rattle.lvm_disk.specs.Device.{Media, Image, Device, image_of, written as flown, IsInFlight, MayLeave}
 use Rattle.lvm_disk.specs.Steps.{EndsDone}
 use Rattle.lvm_disk.specs.Paths.{DeviceStep}

@@ -14,12 +14,12 @@ pub record MayReturn (core : Core) (at number : ℕ) : Type 0 where
   pub out : IsOut core.pool number
 
 -- The note's buffer is back and the disk's notes know how it ended; a disk whose note failed is wanted missing.
-abbrev pub NoteEnds : Bool → Core → ℕ → ℕ → Buffer → Core → Type 0
-NoteEnds true old at disk buf new = new ≡ record (with_return old at buf) { cache = after_note_end old.cache disk true }
-NoteEnds false old at disk buf new = LosesDisk disk old.status new.status × (new ≡ record (with_return old at buf) { cache = after_note_end old.cache disk false; status = new.status })
+abbrev pub NoteWriteEnds : Bool → Core → ℕ → ℕ → Buffer → Core → Type 0
+NoteWriteEnds true old at disk buf new = new ≡ record (with_return old at buf) { cache = after_note_end old.cache disk true }
+NoteWriteEnds false old at disk buf new = LosesDisk disk old.status new.status × (new ≡ record (with_return old at buf) { cache = after_note_end old.cache disk false; status = new.status })
 
 -- The buffer of the update's write is back, the update knows how it ended, and the next status goes to the other slot where this one was written.
-pub record StatusEnds (ok : Bool) (old : Core) (at disk : ℕ) (buf : Buffer) (new : Core) : Type 0 where
+pub record StatusWriteEnds (ok : Bool) (old : Core) (at disk : ℕ) (buf : Buffer) (new : Core) : Type 0 where
   pub wants : WantsAtEnd disk ok old.status.wanted new.status.wanted
   pub ended : seen new.status ≡ after_end (seen old.status) disk ok new.status.wanted
   pub flips : FlipsIf ok disk old.homes new.homes

@@ -8,7 +8,7 @@ ghost use Rattle.lvm_status.specs.Calls.{MayChange};
 ghost use Rattle.lvm_session.specs.Fields.{core_of};
 ghost use Rattle.lvm_session.specs.Rooms.{SameRooms};
 ghost use Rattle.lvm_session.specs.Ends.{FlipsIf};
-ghost use Rattle.lvm_learn.specs.Learning.{MayReturn, NoteEnds, StatusEnds};
+ghost use Rattle.lvm_learn.specs.Learning.{MayReturn, NoteWriteEnds, StatusWriteEnds};
 
 use lvm_homes::Homes;
 use lvm_num::{Kind, Pbuf};
@@ -22,7 +22,7 @@ pub fn learn_note(session: &mut Session, at: usize, disk: u16, ok: bool, buf: Pb
     requires may { MayReturn (core_of session.old) at buf.number }
     requires flies { IsSome (flight_on session.old.cache disk) }
     requires row { MayChange (change.Missing disk) session.old.updater.wanted }
-    ensures core { NoteEnds ok (core_of session.old) at disk buf (core_of session.new) }
+    ensures core { NoteWriteEnds ok (core_of session.old) at disk buf (core_of session.new) }
     ensures rooms { SameRooms session.old session.new }
 {
     return_flight(session, at, buf);
@@ -48,7 +48,7 @@ pub fn learn_status(session: &mut Session, at: usize, disk: u16, ok: bool, buf: 
     requires may { MayReturn (core_of session.old) at buf.number }
     requires flies { IsTrue (has session.old.updater.writes.started disk) }
     requires member { disk < 128 }
-    ensures core { StatusEnds ok (core_of session.old) at disk buf (core_of session.new) }
+    ensures core { StatusWriteEnds ok (core_of session.old) at disk buf (core_of session.new) }
     ensures rooms { SameRooms session.old session.new }
 {
     return_flight(session, at, buf);

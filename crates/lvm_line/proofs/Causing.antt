@@ -48,6 +48,7 @@ use Rattle.lvm_copy_lines.proofs.Giving.{mklvcopy_facts, rmlvcopy_facts}
 use Rattle.lvm_line.proofs.Faulting.{known_group, undrained}
 use Rattle.lvm_line.proofs.Knowing.{IsOther, Known, by_reply, easy, has_by}
 use Rattle.lvm_line.proofs.Requesting.{rd_told, wr_told, post_told, wait_told, step_told, sync_group_told, sync_volume_told}
+use Rattle.lvm_line.proofs.Sources.{range_line_cause, rd_lacks, wr_lacks}
 
 -- ---- groups
 
@@ -271,8 +272,8 @@ known log room (Ok (Some (command.Rmlvcopy name copies))) why old new between (R
 known log room (Ok (Some (command.Rmlvcopy name copies))) why old new between (RmlvcopyFails core left mid lv reason some drains its done is) =
     by_reply _ why (refusal_for reason) old new is
     (known_group (Ok (Some (command.Rmlvcopy name copies))) tt (λ d a b rose. rose) reason old new core left mid done.left some drains (rmlvcopy_facts lv copies left mid done.left drains.settled.power (Err reason) done.gives) done.leaves)
-known log room (Ok (Some (command.Rd name at count))) why old new between does = (let told = rd_told old new between name at count why does in record { cause = told.cause; off = told.off; unwritten = λ h t is. absurd (told.counted h t is) })
-known log room (Ok (Some (command.Wr name at count word))) why old new between does = (let told = wr_told old new between name at count word why does in record { cause = told.cause; off = told.off; unwritten = λ h t is. absurd (told.counted h t is) })
+known log room (Ok (Some (command.Rd name at count))) why old new between does = (let told = rd_told old new between name at count why does in record { cause = range_line_cause name old new why told.cause (λ lp is. rd_lacks old new name lp at count why is does); off = told.off; unwritten = λ h t is. absurd (told.counted h t is) })
+known log room (Ok (Some (command.Wr name at count word))) why old new between does = (let told = wr_told old new between name at count word why does in record { cause = range_line_cause name old new why told.cause (λ lp is. wr_lacks old new name lp at count word why is does); off = told.off; unwritten = λ h t is. absurd (told.counted h t is) })
 known log room (Ok (Some (command.Post name at count word))) why old new between does = (let told = post_told old new between name at count word why does in record { cause = told.cause; off = told.off; unwritten = λ h t is. absurd (told.counted h t is) })
 known log room (Ok (Some command.Wait)) why old new between does = (let told = wait_told old new between why does in record { cause = told.cause; off = told.off; unwritten = λ h t is. absurd (told.counted h t is) })
 known log room (Ok (Some (command.SyncVolume name))) why old new between does = (let told = sync_volume_told old new between name why does in record { cause = told.cause; off = told.off; unwritten = λ h t is. absurd (told.counted h t is) })

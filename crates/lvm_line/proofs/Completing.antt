@@ -1,5 +1,5 @@
 -- Lines in which nothing failed.
-use Rattle.std.proofs.Common.{ℕ, Option, Some, None, Result, Ok, inl, inr, subst}
+use Rattle.std.proofs.Common.{ℕ, List, Option, Some, None, Result, Ok, inl, inr, subst}
 use Rattle.std.specs.Prelude.{IfSome}
 use Rattle.lvm_parse.specs.declared.command.Command.{Command}
 use Rattle.lvm_parse.specs.declared.command.Command.TheVariants as command
@@ -8,8 +8,9 @@ use Rattle.lvm_session.specs.State.{Core, state}
 use Rattle.lvm_copy_lines.specs.passed.Resync.{AnyFails}
 use Rattle.lvm_copy_lines.specs.passed.Stage.{Refusal, State}
 use Rattle.lvm_copy_lines.specs.passed.RefusalVariants as refusal
-use Rattle.lvm_line.specs.Causes.{CauseOf, HasCause, HasFailed, RoseOn, TurnCause, disk_of}
-use Rattle.lvm_line.specs.Complete.{CompleteLaw, IsOwn, NothingFailed}
+use Rattle.lvm_turn_losses.specs.Losing.{LostForFaults}
+use Rattle.lvm_line.specs.Causes.{CauseOf, HasCause, HasFailed, HasFailedInSession, RangeLineCause, RoseOn, TurnCause, WereLost, disk_of}
+use Rattle.lvm_line.specs.Complete.{CompleteLaw, HasLostVotes, IsOwn, NothingFailed}
 use Rattle.lvm_line.proofs.Causing.{has_cause}
 
 module _ (old new : State) where
@@ -25,20 +26,32 @@ module _ (old new : State) where
     on_none None rose = rose
     on_none (Some disk) rose = nothing.none.faults disk rose
 
-    own_of : (why : Refusal) → CauseOf read why old new → IsOwn why
+    -- so the votes that are lost were lost before
+    had_lost : HasFailedInSession old new → HasLostVotes old
+    had_lost it = by it.lost
+      where
+        by : LostForFaults (state old.moment.device it.core) (state new.moment.device it.core) → HasLostVotes old
+        by (inl was) = record { core = it.core; on = it.on; lost = was }
+        by (inr failed) = absurd (nothing.none.faults failed.0 failed.1)
+
+    were_lost : (why : Refusal) → WereLost why old new → HasLostVotes old
+    were_lost why (inl lost) = absurd (nothing.none.faults lost.disk lost.failed)
+    were_lost why (inr undrained) = had_lost undrained.1
+
+    own_of : (why : Refusal) → CauseOf read why old new → IsOwn old why
     own_of refusal.Lost cause = on_none (disk_of read) cause
     own_of refusal.ReadFailed cause = on_none (disk_of read) cause
-    own_of (refusal.WentOff have total) cause = cause.0
+    own_of (refusal.WentOff have total) cause = (cause.0, were_lost (refusal.WentOff have total) cause.1)
     own_of refusal.Dark cause = nothing.none.cuts cause
     own_of refusal.Stuck cause = nothing.none.waits cause
     own_of (refusal.DiskFailed disk) cause = none_failed read nothing disk cause
     own_of (refusal.SyncFailed disk) cause = cause
     own_of other cause = tt
 
-    turn_own : (why : Refusal) → TurnCause why old new → IsOwn why
+    turn_own : (why : Refusal) → TurnCause why old new → IsOwn old why
     turn_own refusal.Lost cause = nothing.none.faults cause.0 cause.1
     turn_own refusal.ReadFailed cause = nothing.none.faults cause.0 cause.1
-    turn_own (refusal.WentOff have total) cause = cause.0
+    turn_own (refusal.WentOff have total) cause = (cause.0, had_lost cause.1)
     turn_own refusal.Dark cause = nothing.none.cuts cause
     turn_own refusal.Stuck cause = nothing.none.waits cause
     turn_own (refusal.DiskFailed disk) cause = cause
@@ -48,9 +61,13 @@ module _ (old new : State) where
         unseen cause.failed
     turn_own other cause = tt
 
-  is_own : (read : Result (Option Command) Misfit) → NothingFailed read old new → (why : Refusal) → HasCause read why old new → IsOwn why
-  is_own (Ok (Some (command.Rd name at count))) nothing why cause = turn_own _ nothing why cause
-  is_own (Ok (Some (command.Wr name at count word))) nothing why cause = turn_own _ nothing why cause
+    range_own : (name : List ℕ) (why : Refusal) → RangeLineCause name why old new → IsOwn old why
+    range_own name (refusal.NoFresh lp) cause = tt
+    range_own name why cause = turn_own why cause
+
+  is_own : (read : Result (Option Command) Misfit) → NothingFailed read old new → (why : Refusal) → HasCause read why old new → IsOwn old why
+  is_own (Ok (Some (command.Rd name at count))) nothing why cause = range_own _ nothing name why cause
+  is_own (Ok (Some (command.Wr name at count word))) nothing why cause = range_own _ nothing name why cause
   is_own (Ok (Some (command.Post name at count word))) nothing why cause = turn_own _ nothing why cause
   is_own (Ok (Some command.Wait)) nothing why cause = turn_own _ nothing why cause
   is_own (Ok (Some (command.SyncVolume name))) nothing why cause = turn_own _ nothing why cause

@@ -13,7 +13,8 @@ use Rattle.lvm_operands.specs.declared.rest.Misfit.{Misfit}
 use Rattle.lvm_status.specs.Update.{Stored}
 use Rattle.lvm_commit.specs.Settling.{HasLostQuorum, there}
 use Rattle.lvm_session.specs.State.{Core, State as Session}
-use Rattle.lvm_line.specs.Causes.{HasCause, HasFailed, HasLost, IsDrained}
+use Rattle.lvm_session.specs.Judging.{is_missing}
+use Rattle.lvm_line.specs.Causes.{HasCause, HasFailed, HasLostMember}
 use Rattle.lvm_write.proofs.Transfers.{rose_then}
 use Rattle.lvm_disk.proofs.Rising.{rose_before}
 use Rattle.lvm_copy_lines.specs.passed.Driver.{DrainFault}
@@ -58,7 +59,7 @@ module _ (read : Result (Option Command) Misfit) (old new : State) (core : Core)
   why_undrained (drain_fault.WentOff have total) ends =
       let votes = off_votes ends.end ends.sound ends.fails.power_is in
       let few : 2 * have ≤ total = subst (λ (n : ℕ). 2 * have ≤ n) (sym ends.fails.total_is) (subst (λ (n : ℕ). 2 * n ≤ total_votes ends.end.core.descriptor) (sym ends.fails.have_is) votes.0) in
-      let since = off_cause old new core ends.end between ends.runs.leaves ends.sound (ap (λ (d : Device). d.counts) ends.over.lit) have total some (few, votes.1) in
+      let since = off_cause old new core ends.end between ends.runs.leaves ends.sound (ap (λ (d : Device). d.counts) ends.over.lit) have total some (few, votes.1) (ends.votes (ends.sound.off ends.fails.power_is)) in
       has_by read (refusal.WentOff have total) old new other (since.0, inr (record { core = core; fault = drain_fault.WentOff have total; on = some; ends = ends }, since.1))
   why_undrained drain_fault.Stuck ends =
       has_by read refusal.Stuck old new other (stuck_cause old new core ends.end between ends.runs.leaves ends.sound (ap (λ (d : Device). d.counts) ends.over.lit) ends.left ends.fails ends.waited)
@@ -78,9 +79,6 @@ rose_in_line left a b c few before later =
 
 module _ (read : Result (Option Command) Misfit) (other : IsOther read) (failed : (d : ℕ) (a b : Counts) → Rose (a.faults d) (b.faults d) → HasFailed read d a b) where
   module _ (old new : State) (core : Core) (patience : ℕ) (mid left : Session) (some : old.session ≡ Some core) (drains : Drains core old patience mid) where
-    drained : IsDrained old core mid.core
-    drained = record { on = some; descriptor = drains.runs.leaves.keeps.descriptor; still = λ rests. ap (λ (s : Session). s.core) (drains.still rests) }
-
     faults_since : (disk : ℕ) (n : Counts) → Rose (mid.device.counts.faults disk) (n.faults disk) → Rose (old.moment.device.counts.faults disk) (n.faults disk)
     faults_since disk n rose = rose_before (drains.runs.leaves.keeps.counts.faults disk) rose
 
@@ -93,16 +91,28 @@ module _ (read : Result (Option Command) Misfit) (other : IsOther read) (failed 
         first true b is = refl
         first false b is = is
 
-    lost : (have total : ℕ) (last : Stored) → HasLostQuorum mid.core.status last mid.device left.device have total → new.moment.device.counts ≡ left.device.counts → (2 * have ≤ total) × HasLost old new.moment.device.counts
+    -- and wasn't missing before
+    was_there : (disk : ℕ) → there mid.core.status disk ≡ true → is_missing core disk ≡ false
+    was_there disk was = by (is_missing core disk) refl
+      where
+        second : (a b : Bool) → a && not b ≡ true → b ≡ false
+        second true true is = absurd (cc is)
+        second true false is = refl
+        second false b is = absurd (cc is)
+
+        by : (b : Bool) → is_missing core disk ≡ b → b ≡ false
+        by true is = let gone = sym (drains.missing disk is) ∙ second (is_member mid.core.status.group disk) (calls_missing mid.core.status.wanted disk) was in absurd (cc gone)
+        by false is = refl
+
+    lost : (have total : ℕ) (last : Stored) → HasLostQuorum mid.core.status last mid.device left.device have total → new.moment.device.counts ≡ left.device.counts → (2 * have ≤ total) × HasLostMember old new.moment.device.counts
     lost have total last it same = (
       subst (λ (n : ℕ). 2 * have ≤ n) (sym it.total_is) (at_most_half last.group have it.few),
       record {
         core = core;
-        mid = mid.core;
-        drained = drained;
+        on = some;
         disk = it.disk;
         member = member_of it.disk it.was;
-        was = it.was;
+        was = was_there it.disk it.was;
         failed = subst (λ (n : Counts). Rose (old.moment.device.counts.faults it.disk) (n.faults it.disk)) (sym same) (faults_since it.disk left.device.counts it.failed);
       },
     )

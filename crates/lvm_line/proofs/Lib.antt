@@ -6,5 +6,7 @@ pub mod Turns
 pub mod Faulting
 pub mod Causing
 pub mod Requesting
+pub mod Sources
 pub mod Completing
+pub mod Worked
 pub mod Staying

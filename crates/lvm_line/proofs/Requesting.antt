@@ -8,6 +8,7 @@ use Rattle.lvm_session.specs.declared.answers.Turned.{Turned}
 use Rattle.lvm_session.specs.declared.answers.Turned.TheVariants as turned
 use Rattle.lvm_session.specs.Calls.{has_numbers}
 use Rattle.lvm_session.specs.State.{Core, State as Session, votes_there}
+use Rattle.lvm_turn_losses.proofs.Votes.{votes_go}
 use Rattle.lvm_posts.specs.declared.asked.Asked.{Asked}
 use Rattle.lvm_posts.specs.declared.fault.RangeFault.{RangeFault}
 use Rattle.lvm_posts.specs.declared.fault.RangeFault.TheVariants as fault
@@ -68,14 +69,14 @@ module _ (old new : State) (between : IsBetween old.moment old.session old.posts
         counts : LeavesBy end.core.power end old.posts old.last new → new.moment.device.counts ≡ end.device.counts
         counts left = leaves_counts end old.posts old.last new left
 
-        by : (w : RangeFault) → RangeCause its.left old.moment.device end w → FailsBy w end old.posts old.last new → Told (range_refusal w) old new
+        by : (w : RangeFault) → RangeCause lv its.left (session_over old core) end w → FailsBy w end old.posts old.last new → Told (range_refusal w) old new
         by fault.Dark dark left = told_easy _ old new (dark_cause old new core end between its.runs.leaves its.sound (counts left) dark) (λ e. cc) (λ h t e. cc)
         by fault.Stuck none over = record {
           cause = stuck_cause old new core end between its.runs.leaves its.sound (over_counts end old.posts old.last new over) its.left none its.waited;
           off = λ is. over.session;
           counted = λ h t e. cc;
         }
-        by (fault.WentOff have total) lost left = told_easy _ old new (off_cause old new core end between its.runs.leaves its.sound (counts left) have total some lost) (λ e. cc) (λ h t e. cc)
+        by (fault.WentOff have total) lost left = told_easy _ old new (off_cause old new core end between its.runs.leaves its.sound (counts left) have total some (lost.0, lost.1) lost.2) (λ e. cc) (λ h t e. cc)
         by fault.Lost lost left = told_easy _ old new (failed_cause old new core end between its.runs.leaves its.sound (counts left) lost) (λ e. cc) (λ h t e. cc)
         by fault.ReadFailed lost left = told_easy _ old new (failed_cause old new core end between its.runs.leaves its.sound (counts left) lost) (λ e. cc) (λ h t e. cc)
         by (fault.NoFresh lp) none left = told_easy _ old new tt (λ e. cc) (λ h t e. cc)
@@ -143,7 +144,8 @@ module _ (old new : State) (between : IsBetween old.moment old.session old.posts
       by (Ok made) caused is = absurd (cc (is))
       by (Err sync.Dark) dark is = told_by why refusal.Dark old new is (told_easy refusal.Dark old new (dark_cause old new core end between its.beside.leaves its.sound counts dark) (λ e. cc) (λ h t e. cc))
       by (Err sync.Off) off is = told_by why _ old new is (told_easy (refusal.WentOff (votes_there end.core) (total_votes end.core.descriptor)) old new
-          (off_cause old new core end between its.beside.leaves its.sound counts (votes_there end.core) (total_votes end.core.descriptor) some (off_votes end its.sound off)) (λ e. cc) (λ h t e. cc))
+          (off_cause old new core end between its.beside.leaves its.sound counts (votes_there end.core) (total_votes end.core.descriptor) some (off_votes end its.sound off)
+          (votes_go (session_over old core) end its.beside.leaves.keeps.descriptor its.beside.loses (its.sound.off off))) (λ e. cc) (λ h t e. cc))
       by (Err sync.Stuck) none is = told_by why refusal.Stuck old new is
           (record { cause = stuck_cause old new core end between its.beside.leaves its.sound counts its.left none its.beside.waited; off = λ stuck. unheard (ap is_unheard is); counted = λ h t e. cc })
       by (Err sync.Busy) caused is = told_by why refusal.Busy old new is (told_easy refusal.Busy old new tt (λ e. cc) (λ h t e. cc))
@@ -190,4 +192,5 @@ module _ (old new : State) (between : IsBetween old.moment old.session old.posts
       by turned.Idle stops is = absurd (cc (is))
       by turned.Dark dark is = told_by why refusal.Dark old new is (told_easy refusal.Dark old new (dark_cause old new core end between stepped.runs.leaves stepped.sound counts dark) (λ e. cc) (λ h t e. cc))
       by turned.Off off is = told_by why _ old new is (told_easy (refusal.WentOff (votes_there end.core) (total_votes end.core.descriptor)) old new
-          (off_cause old new core end between stepped.runs.leaves stepped.sound counts (votes_there end.core) (total_votes end.core.descriptor) some (off_votes end stepped.sound off)) (λ e. cc) (λ h t e. cc))
+          (off_cause old new core end between stepped.runs.leaves stepped.sound counts (votes_there end.core) (total_votes end.core.descriptor) some (off_votes end stepped.sound off)
+          (stepped.votes (stepped.sound.off off))) (λ e. cc) (λ h t e. cc))

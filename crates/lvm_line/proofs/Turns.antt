@@ -1,5 +1,5 @@
 -- What has happened where a line of requests is refused, by the session that it leaves.
-use Rattle.std.proofs.Common.{◌≡◌, ◌*◌, ◌-◌, ◌≤◌, ℕ, Bool, true, false, List, Some, sym, ap, subst}
+use Rattle.std.proofs.Common.{◌≡◌, inl, inr, ◌*◌, ◌-◌, ◌≤◌, ℕ, Bool, true, false, List, Some, sym, ap, subst}
 use Rattle.std.specs.Prelude.{slice_index_or}
 use Rattle.lvm_disk.specs.Counts.{Counts, Rose, RoseBy}
 use Rattle.lvm_disk.specs.Device.{Device}
@@ -10,6 +10,7 @@ use Rattle.lvm_session.specs.declared.open.Power.TheVariants as power
 use Rattle.lvm_session.specs.Causes.{AnyFailedSince}
 use Rattle.lvm_session.specs.Sound.{IsSound, is_dark}
 use Rattle.lvm_session.specs.State.{Core, State as Session, state}
+use Rattle.lvm_turn_losses.specs.Losing.{LostForFaults}
 use Rattle.lvm_copy_lines.specs.passed.Ranges.{AnyFailed}
 use Rattle.lvm_copy_lines.specs.passed.RangeLines.{FailsIf, IsOverWith, LeavesBy}
 use Rattle.lvm_copy_lines.specs.passed.Running.{LeavesSession}
@@ -53,8 +54,15 @@ module _ (old new : State) (core : Core) (end : Session) (between : IsBetween ol
   stuck_cause left none waited =
       subst (λ (n : Counts). RoseBy patience_of_line old.moment.device.counts.waits n.waits) (sym counts) (subst (λ (n : ℕ). RoseBy (patience_of_line - n) old.moment.device.counts.waits end.device.counts.waits) none waited)
 
-  pub off_cause : (have total : ℕ) → old.session ≡ Some core → (2 * have ≤ total) × AnyFailedSince end → (2 * have ≤ total) × HasFailedInSession old new
-  off_cause have total some is = (
+  pub failed_cause : AnyFailed old.moment.device end.device → AnyFailed old.moment.device new.moment.device
+  failed_cause failed = (failed.0, subst (λ (n : Counts). Rose (old.moment.device.counts.faults failed.0) (n.faults failed.0)) (sym counts) failed.1)
+
+  lost_cause : LostForFaults (state old.moment.device core) end → LostForFaults (state old.moment.device core) (state new.moment.device core)
+  lost_cause (inl was) = inl was
+  lost_cause (inr failed) = inr (failed_cause failed)
+
+  pub off_cause : (have total : ℕ) → old.session ≡ Some core → (2 * have ≤ total) × AnyFailedSince end → LostForFaults (state old.moment.device core) end → (2 * have ≤ total) × HasFailedInSession old new
+  off_cause have total some is lost = (
     is.0,
     record {
       core = core;
@@ -64,8 +72,6 @@ module _ (old new : State) (core : Core) (end : Session) (between : IsBetween ol
         subst (λ (n : Counts). Rose (slice_index_or core.origin.faults is.1.0 0) (n.faults is.1.0)) (sym counts)
             (subst (λ (o : Origin). Rose (slice_index_or o.faults is.1.0 0) (end.device.counts.faults is.1.0)) leaves.keeps.origin is.1.1),
       );
+      lost = lost_cause lost;
     },
   )
-
-  pub failed_cause : AnyFailed old.moment.device end.device → AnyFailed old.moment.device new.moment.device
-  failed_cause failed = (failed.0, subst (λ (n : Counts). Rose (old.moment.device.counts.faults failed.0) (n.faults failed.0)) (sym counts) failed.1)

@@ -1,15 +1,18 @@
 -- What has happened where a line is refused for it.
-use Rattle.std.specs.Prelude.{◌≡◌, ◌⊎◌, ◌≤◌, ◌*◌, ℕ, List, Option, Some, None, Result, Ok, IsTrue}
+use Rattle.std.specs.Prelude.{◌≡◌, ◌⊎◌, ◌≤◌, ◌*◌, ℕ, false, List, Option, Some, None, Result, Ok, IsTrue}
+use Rattle.std.specs.List.{list_any}
 use Rattle.lvm_disk.specs.Counts.{Counts, Rose, RoseBy}
 use Rattle.lvm_parse.specs.declared.command.Command.{Command}
 use Rattle.lvm_parse.specs.declared.command.Command.TheVariants as command
 use Rattle.lvm_operands.specs.declared.rest.Misfit.{Misfit}
 use Rattle.lvm_parse.specs.Grammar.{line_of}
 use Rattle.lvm_vol.specs.Log.{Log}
-use Rattle.lvm_commit.specs.Settling.{there}
 use Rattle.lvm_core.specs.declared.parts.Room.{Room}
-use Rattle.lvm_session.specs.Causes.{AnyFailedSince}
+use Rattle.lvm_core.specs.Looking.{IsNumberOf}
+use Rattle.lvm_session.specs.Causes.{AnyFailedSince, was_usable}
+use Rattle.lvm_session.specs.Judging.{copies_in, is_missing}
 use Rattle.lvm_session.specs.State.{Core, state}
+use Rattle.lvm_turn_losses.specs.Losing.{LostForFaults}
 use Rattle.lvm_num.specs.declared.descriptor.Descriptor.{Descriptor}
 use Rattle.lvm_num.specs.Descriptor.{is_member}
 use Rattle.lvm_disk.specs.Device.{Device}
@@ -20,7 +23,7 @@ use Rattle.lvm_copy_lines.specs.passed.Driver.{DrainFault}
 use Rattle.lvm_copy_lines.specs.passed.Ranges.{AnyFailed}
 use Rattle.lvm_copy_lines.specs.passed.Resync.{AnyFails}
 use Rattle.lvm_copy_lines.specs.passed.VolumeLines.{IsUndrained}
-use Rattle.lvm_copy_lines.specs.passed.Stage.{patience_of_line, IsAtRest, State, IsTimely, Refusal}
+use Rattle.lvm_copy_lines.specs.passed.Stage.{patience_of_line, State, IsTimely, Refusal}
 use Rattle.lvm_line.specs.Lines.{IsLine}
 use Rattle.lvm_copy_lines.specs.passed.RefusalVariants as refusal
 use Rattle.lvm_copy_lines.specs.passed.ReplyVariants as reply
@@ -43,20 +46,13 @@ HasFailed (Ok (Some (command.RawRd on at count))) disk old new = Rose (old.misse
 HasFailed (Ok (Some (command.RawWr on at count word))) disk old new = Rose (old.misses disk) (new.misses disk)
 HasFailed other disk old new = Rose (old.faults disk) (new.faults disk)
 
--- The session on whose group a command was made: that which was on, after the turns by which what was under way in it was ended; none where nothing was.
-pub record IsDrained (old : State) (core mid : Core) : Type 0 where
-  pub on : old.session ≡ Some core
-  pub descriptor : mid.descriptor ≡ core.descriptor
-  pub still : IsAtRest old → mid ≡ core
-
--- a transfer of a member has failed since that wasn't missing then
-pub record HasLost (old : State) (new : Counts) : Type 0 where
+-- a transfer has failed since of a member of the group that was on, which wasn't missing then
+pub record HasLostMember (old : State) (new : Counts) : Type 0 where
   pub core : Core
-  pub mid : Core
-  pub drained : IsDrained old core mid
+  pub on : old.session ≡ Some core
   pub disk : ℕ
   pub member : IsTrue (is_member core.descriptor disk)
-  pub was : IsTrue (there mid.status disk)
+  pub was : is_missing core disk ≡ false
   pub failed : Rose (old.moment.device.counts.faults disk) (new.faults disk)
 
 -- The turns before the command ended for that.
@@ -66,15 +62,16 @@ pub record WasUndrained (why : Refusal) (old new : State) : Type 0 where
   pub on : old.session ≡ Some core
   pub ends : IsUndrained core old new fault (reply.Refused why)
 
--- a transfer has failed since the session began that was on
+-- a transfer has failed since the session began that was on, and its votes were lost before the line, or one has failed in it
 pub record HasFailedInSession (old new : State) : Type 0 where
   pub core : Core
   pub on : old.session ≡ Some core
   pub failed : AnyFailedSince (state new.moment.device core)
+  pub lost : LostForFaults (state old.moment.device core) (state new.moment.device core)
 
--- the votes were lost with a transfer that failed in the line, or by the turns before the command, and a transfer has failed since the session began
+-- the votes were lost with a transfer that failed in the line, or the turns before the command ended for them, which were lost before the line or so
 abbrev pub WereLost : Refusal → State → State → Type 0
-WereLost why old new = HasLost old new.moment.device.counts ⊎ (WasUndrained why old new × HasFailedInSession old new)
+WereLost why old new = HasLostMember old new.moment.device.counts ⊎ (WasUndrained why old new × HasFailedInSession old new)
 
 -- a transfer has failed in the line; of a disk that isn't on the shelf, which a session can't count, since the session began that was on
 pub record HasFailedAsCounted (old new : State) : Type 0 where
@@ -82,9 +79,9 @@ pub record HasFailedAsCounted (old new : State) : Type 0 where
   pub on : old.session ≡ Some core
   pub failed : AnyFails (state old.moment.device core) (state new.moment.device core)
 
--- Transfers of the line's disk have failed; the votes that are left are at most half, and a transfer of a member has failed, or one has since the session began
--- where the turns before the command ended for that; the power was cut; the shelf waited a million times; transfers of the disk that is named have failed; or
--- the clock's moment isn't later than the one that is told. For the other refusals nothing has to have happened.
+-- Transfers of the line's disk have failed; the votes that are left are at most half, and a transfer of a member has failed, or, where the turns before the command
+-- ended for that, they were lost before, or some transfer has failed; the power was cut; the shelf waited a million times; transfers of the disk that is named have
+-- failed; or the clock's moment isn't later than the one that is told. For the other refusals nothing has to have happened.
 abbrev pub CauseOf : Result (Option Command) Misfit → Refusal → State → State → Type 0
 CauseOf read refusal.Lost old new = RoseOn (disk_of read) old.moment.device.counts.faults new.moment.device.counts.faults
 CauseOf read refusal.ReadFailed old new = RoseOn (disk_of read) old.moment.device.counts.faults new.moment.device.counts.faults
@@ -96,8 +93,8 @@ CauseOf read (refusal.SyncFailed disk) old new = ⊥
 CauseOf read (refusal.ClockBack seen) old new = new.last ≤ seen
 CauseOf read other old new = Unit {0}
 
--- What a line of requests is refused for: the power was cut; the shelf waited a million times; the votes that are left are at most half, and a transfer has failed
--- since the session began; or a transfer has failed in the line. For the other refusals nothing has to have happened.
+-- What a line of requests is refused for: the power was cut; the shelf waited a million times; the votes that are left are at most half, and were lost before the
+-- line, or a transfer has failed in it; or a transfer has failed in the line. For the other refusals nothing has to have happened.
 abbrev pub TurnCause : Refusal → State → State → Type 0
 TurnCause refusal.Dark old new = Rose old.moment.device.counts.cuts new.moment.device.counts.cuts
 TurnCause refusal.Stuck old new = RoseBy patience_of_line old.moment.device.counts.waits new.moment.device.counts.waits
@@ -108,10 +105,23 @@ TurnCause (refusal.SyncFailed disk) old new = HasFailedAsCounted old new
 TurnCause (refusal.DiskFailed disk) old new = ⊥
 TurnCause other old new = Unit {0}
 
--- so it is of a line that makes requests or turns, and of each other as above
+-- in the session that was on a transfer has failed since it began, or no copy of the logical partition of the volume of this name could be used then
+pub record LackedSource (name : List ℕ) (lp : ℕ) (old new : State) : Type 0 where
+  pub core : Core
+  pub on : old.session ≡ Some core
+  pub lv : ℕ
+  pub named : IsNumberOf core.descriptor.lvs name lv
+  pub lacks : AnyFailedSince (state new.moment.device core) ⊎ (list_any (was_usable core) (copies_in core.descriptor lv lp) ≡ false)
+
+-- So it is of a line that reads or writes the volume of this name, which is refused for want of a source where that was lacking.
+abbrev pub RangeLineCause : List ℕ → Refusal → State → State → Type 0
+RangeLineCause name (refusal.NoFresh lp) old new = LackedSource name lp old new
+RangeLineCause name why old new = TurnCause why old new
+
+-- so it is of each line that makes requests or turns, and of each other as above
 abbrev pub HasCause : Result (Option Command) Misfit → Refusal → State → State → Type 0
-HasCause (Ok (Some (command.Rd name at count))) why old new = TurnCause why old new
-HasCause (Ok (Some (command.Wr name at count word))) why old new = TurnCause why old new
+HasCause (Ok (Some (command.Rd name at count))) why old new = RangeLineCause name why old new
+HasCause (Ok (Some (command.Wr name at count word))) why old new = RangeLineCause name why old new
 HasCause (Ok (Some (command.Post name at count word))) why old new = TurnCause why old new
 HasCause (Ok (Some command.Wait)) why old new = TurnCause why old new
 HasCause (Ok (Some (command.SyncVolume name))) why old new = TurnCause why old new

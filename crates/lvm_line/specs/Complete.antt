@@ -1,5 +1,5 @@
 -- What is left to refuse a line where nothing goes wrong.
-use Rattle.std.specs.Prelude.{◌≤◌, ◌*◌, ℕ, List, Option, Some, Result, Ok, IfSome}
+use Rattle.std.specs.Prelude.{◌≡◌, ◌≤◌, ◌*◌, ℕ, true, List, Option, Some, Result, Ok, IfSome}
 use Rattle.lvm_disk.specs.Counts.{Counts, Rose, RoseBy}
 use Rattle.lvm_vol.specs.Log.{Log}
 use Rattle.lvm_parse.specs.declared.command.Command.{Command}
@@ -7,6 +7,7 @@ use Rattle.lvm_parse.specs.declared.command.Command.TheVariants as command
 use Rattle.lvm_operands.specs.declared.rest.Misfit.{Misfit}
 use Rattle.lvm_parse.specs.Grammar.{line_of}
 use Rattle.lvm_core.specs.declared.parts.Room.{Room}
+use Rattle.lvm_session.specs.Enabled.{is_lost}
 use Rattle.lvm_session.specs.State.{Core, state}
 use Rattle.lvm_copy_lines.specs.passed.Resync.{AnyFails}
 use Rattle.lvm_copy_lines.specs.passed.Stage.{Refusal, State, patience_of_line}
@@ -34,19 +35,30 @@ pub record NothingFailed (read : Result (Option Command) Misfit) (old new : Stat
   pub misses : TellsOfReads read → (disk : ℕ) → Rose (old.moment.device.counts.misses disk) (new.moment.device.counts.misses disk) → ⊥
   pub seen : IfSome old.session (λ (core : Core). AnyFails (state old.moment.device core) (state new.moment.device core) → ⊥)
 
--- A refusal by what is asked for, by the records and the session that are there, or for want of memory, and for nothing that a shelf did; so it counts here
--- that the votes are lost, those that are left being at most half.
-abbrev pub IsOwn : Refusal → Type 0
-IsOwn refusal.Dark = ⊥
-IsOwn refusal.Stuck = ⊥
-IsOwn refusal.Lost = ⊥
-IsOwn refusal.ReadFailed = ⊥
-IsOwn (refusal.DiskFailed disk) = ⊥
-IsOwn (refusal.SyncFailed disk) = ⊥
-IsOwn (refusal.WentOff have total) = 2 * have ≤ total
-IsOwn other = Unit {0}
+-- the votes of the session that is on are lost
+pub record HasLostVotes (s : State) : Type 0 where
+  pub core : Core
+  pub on : s.session ≡ Some core
+  pub lost : is_lost core ≡ true
+
+-- A refusal by what is asked for, by the records and the session that are there, or for want of memory, and for nothing that a shelf did in the line; so it counts
+-- here that the votes were lost before, those that are left being at most half.
+abbrev pub IsOwn : State → Refusal → Type 0
+IsOwn old refusal.Dark = ⊥
+IsOwn old refusal.Stuck = ⊥
+IsOwn old refusal.Lost = ⊥
+IsOwn old refusal.ReadFailed = ⊥
+IsOwn old (refusal.DiskFailed disk) = ⊥
+IsOwn old (refusal.SyncFailed disk) = ⊥
+IsOwn old (refusal.WentOff have total) = (2 * have ≤ total) × HasLostVotes old
+IsOwn old other = Unit {0}
 
 -- Each line in which nothing failed is refused so alone, if it is.
 abbrev pub CompleteLaw : Type 0
 CompleteLaw = (log : Log) (room : Room) (line : List ℕ) (why : Refusal) (old new : State) → IsLine log room line (reply.Refused why) old new
-    → NothingFailed (line_of line) old new → IsOwn why
+    → NothingFailed (line_of line) old new → IsOwn old why
+
+-- And some line is refused in which nothing failed.
+abbrev pub NothingMayFail : Type 0
+NothingMayFail =
+    (log : Log) (room : Room) → (line : List ℕ) × (why : Refusal) × (old : State) × (new : State) × IsLine log room line (reply.Refused why) old new × NothingFailed (line_of line) old new

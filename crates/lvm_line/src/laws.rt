@@ -1,6 +1,6 @@
 //! Laws of lines. Each call does nothing: its contract is the law.
 ghost use Rattle.lvm_line.specs.Causes.{CauseLaw, VaryonLaw, NoQuorumLaw};
-ghost use Rattle.lvm_line.specs.Complete.{CompleteLaw};
+ghost use Rattle.lvm_line.specs.Complete.{CompleteLaw, NothingMayFail};
 
 /// A line is refused for what its shelf or the clock did only where that has happened.
 pub fn refusals_have_causes()
@@ -8,9 +8,11 @@ pub fn refusals_have_causes()
 {}
 
 /// A line in which no transfer failed, the power wasn't cut and the shelf didn't wait a million times is refused, if it is, by a
-/// rule of its own, for want of memory, or since the votes are lost.
+/// rule of its own, for want of memory, or since the votes were lost before it.
 pub fn lines_are_complete()
-    ensures { CompleteLaw }
+    ensures complete { CompleteLaw }
+    // There is such a line.
+    ensures met { NothingMayFail }
 {}
 
 /// What a `varyonvg` leaves that is answered `ok`, and that one which lacks its quorum has written nothing.

@@ -1,5 +1,5 @@
 -- The marks of the partitions that volumes use.
-use Rattle.std.proofs.Common.{◌≡◌, ◌≢◌, inl, inr, ℕ, zero, suc, ◌*◌, ◌+◌, ◌<◌, ◌≤◌, Bool, true, false, cond, ◌||◌, not, List, [], ◌∷◌, ◌++◌, map, get_or, refl, sym, ap, subst, ◌∙◌, arith}
+use Rattle.std.proofs.Common.{◌≡◌, ◌≢◌, inl, inr, ℕ, zero, suc, ◌*◌, ◌+◌, ◌<◌, ◌≤◌, Bool, true, false, cond, ◌||◌, not, List, [], ◌∷◌, ◌++◌, map, get_or, refl, sym, ap, ◌∙◌, arith}
 use Rattle.std.specs.Prelude.{◌==◌, All, filter}
 use Rattle.std.specs.List.{list_any, range_with_len}
 use Rattle.std.proofs.lemmas.Bool.{cases_Bool, eqb-true}
@@ -11,21 +11,13 @@ use Rattle.lvm_num.specs.declared.descriptor.PvRow.{PvRow}
 use Rattle.lvm_num.specs.declared.descriptor.LvRow.{LvRow}
 use Rattle.lvm_num.specs.declared.descriptor.Descriptor.{Descriptor}
 use Rattle.lvm_num.specs.Bits.{has_bit}
-use Rattle.lvm_num.specs.Descriptor.{IsMember, IsPartitionOf, IsValid, partitions_in, partitions_used}
+use Rattle.lvm_num.specs.Descriptor.{IsPartitionOf, IsValid, partitions_in, partitions_used}
 use Rattle.lvm_num.specs.Marks.{spot}
-use Rattle.lvm_num.proofs.MapsLemmas.{find-Some}
 use Rattle.lvm_num.proofs.Pairs.{All-left, All-right}
+use Rattle.lvm_num.proofs.Spots.{bounded}
 use Rattle.lvm_map.specs.FirstFit.{is_among, partitions_of, free_of}
 use Rattle.lvm_map.specs.Room.{IsBounded}
 use Rattle.lvm_map.proofs.FreeLists.{is_pp, is_pp-same, is_pp-apart, filter_same, partitions-at, partitions-size}
-
-bounded : (d : Descriptor) → IsValid d → (pp : Pp) → IsPartitionOf d pp → IsBounded pp
-bounded d valid pp of =
-    let row = of.0 in
-    let found = find-Some (λ (r : PvRow). r.disk == pp.disk) d.pvs row of.1 in
-    let member : IsMember row = subst IsMember (found.1.2 row) (valid.members.each found.1.0 row found.1.1) in
-    let same : row.disk ≡ pp.disk = eqb-true row.disk pp.disk found.0 in
-    record { disk = omega (arith, member.disk, same); number = omega (arith, of.2, member.partitions) }
 
 -- the partitions that volumes use are of disks of the shelf
 pub used_bounded : (d : Descriptor) → IsValid d → All IsBounded (partitions_used d)

@@ -262,7 +262,8 @@ maps_are d valid usable asked row front back all used laid front-laid back-laid 
           (from_old_or_new d valid usable asked row.map all (partitions_in front) (partitions_in back) used));
     }
 
-with_volumes : (d : Descriptor) (lvs : List LvRow) → IsValid d → AreVolumes d.big lvs → length lvs ≤ most_volumes d.big → AreMaps (record d { lvs = lvs }) → IsValid (record d { lvs = lvs })
+-- other volumes keep a group valid, where they and their maps are
+pub with_volumes : (d : Descriptor) (lvs : List LvRow) → IsValid d → AreVolumes d.big lvs → length lvs ≤ most_volumes d.big → AreMaps (record d { lvs = lvs }) → IsValid (record d { lvs = lvs })
 with_volumes d lvs valid volumes count maps = record {
   head = record {
     some_id = valid.head.some_id;

@@ -1,9 +1,10 @@
 -- The free partitions of members, as first fit takes them.
 use Rattle.std.specs.Bool.{MatchBool}
-use Rattle.std.specs.Prelude.{◌≡◌, ℕ, ◌%◌, ◌<◌, nat_lt, not, Bool, false, List, [], ◌∷◌, length, map, filter, position, Option, Some, None, MatchOption, slice_get, slice_set}
+use Rattle.std.specs.Prelude.{◌≡◌, ℕ, ◌%◌, nat_lt, not, Bool, false, List, [], ◌∷◌, length, map, filter, position, Option, Some, None, MatchOption, slice_get, slice_set}
 use Rattle.lvm_num.specs.declared.place.Pp.{Pp}
 use Rattle.lvm_num.specs.declared.descriptor.Descriptor.{Descriptor}
 use Rattle.lvm_num.specs.Disks.{Disks}
+pub use Rattle.lvm_num.specs.Marks.{IsBounded}
 use Rattle.lvm_map.specs.FirstFit.{is_on, free_of, may_take, Asked, kept_next, others_in}
 
 -- the free partitions of each member that may take copies, with these used
@@ -31,8 +32,3 @@ Takes others old new taken = MatchOption taken ((position (is_open others) old �
 abbrev pub TakesNext : Asked → List Pp → List (List Pp) → List (List Pp) → Option Pp → Type 0
 TakesNext asked front old new next =
     MatchBool (nat_lt (length front % asked.copies) asked.kept) ((next ≡ kept_next asked front) × (new ≡ old)) (Takes (others_in asked front) old new next)
-
--- a partition of a disk of the shelf, of 1,016 at most
-pub record IsBounded (pp : Pp) : Type 0 where
-  pub disk : pp.disk < 128
-  pub number : pp.pp < 1016

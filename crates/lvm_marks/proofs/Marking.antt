@@ -11,7 +11,7 @@ use Rattle.lvm_stale.specs.Table.{is_pp, SameMissing}
 use Rattle.lvm_status.specs.declared.change.Change.TheVariants as change
 use Rattle.lvm_status.specs.Update.{Updates, Stored, seen, is_held, is_owed}
 use Rattle.lvm_status.specs.Calls.{IsMarkable, with_wanted}
-use Rattle.lvm_status.specs.Runs.{IsSound}
+use Rattle.lvm_status.specs.Runs.{IsSoundStatus}
 use Rattle.lvm_path.specs.declared.target.Target.{Target}
 use Rattle.lvm_session.specs.Judging.{pps_of}
 use Rattle.lvm_session.specs.Marks.{WantsStale, HasSameRows, is_among}
@@ -21,14 +21,14 @@ use Rattle.std.proofs.lemmas.List.{length-drop, take_all}
 use Rattle.std.proofs.lemmas.List.Elements.{All-drop}
 
 -- an update that is sound doesn't end by what is wanted
-never_held : (u : Updates) → u.in_flight ≡ None → IsSound u → is_held u ≡ false
+never_held : (u : Updates) → u.in_flight ≡ None → IsSoundStatus u → is_held u ≡ false
 never_held u idle sound = by_test (is_held u) refl
   where
     by_test : (b : Bool) → is_held u ≡ b → b ≡ false
     by_test false is = refl
     by_test true is = absurd (cc (sound.held is, idle))
 
-open_still : (u : Updates) → IsSound u → (is_held u && not (is_owed u)) ≡ false
+open_still : (u : Updates) → IsSoundStatus u → (is_held u && not (is_owed u)) ≡ false
 open_still u sound = by_flight u.in_flight refl
   where
     none_owed : (a b : Bool) → a ≡ false → (a && not b) ≡ false
@@ -42,7 +42,7 @@ open_still u sound = by_flight u.in_flight refl
     by_flight None is = none_owed (is_held u) (is_owed u) (never_held u is sound)
     by_flight (Some t) is = ⊎_elim (λ owed. all_owed (is_held u) (is_owed u) owed) (λ held. none_owed (is_held u) (is_owed u) held) (sound.open_still t is)
 
-pub mark_stays : (old : Stored) (pp : Pp) (wanted : Status) → IsSound (seen old) → with_wanted (seen old) (change.Stale pp) wanted ≡ record (seen old) { wanted = wanted }
+pub mark_stays : (old : Stored) (pp : Pp) (wanted : Status) → IsSoundStatus (seen old) → with_wanted (seen old) (change.Stale pp) wanted ≡ record (seen old) { wanted = wanted }
 mark_stays old pp wanted sound = ap (λ (b : Bool). if b then record (seen old) { wanted = wanted; in_flight = None; unstarted = Rattle.lvm_status.specs.Update.no_disks; started = Rattle.lvm_status.specs.Update.no_disks; written = Rattle.lvm_status.specs.Update.no_disks; failed = Rattle.lvm_status.specs.Update.no_disks } else record (seen old) { wanted = wanted }) (open_still (seen old) sound)
 
 -- nothing is marked where it was so
@@ -106,7 +106,7 @@ markable_on old new p rows may = record {
   partition = may.partition;
 }
 
-pub sound_on : (u : Updates) (wanted : Status) → SameMissing u.wanted wanted → IsSound u → IsSound (record u { wanted = wanted })
+pub sound_on : (u : Updates) (wanted : Status) → SameMissing u.wanted wanted → IsSoundStatus u → IsSoundStatus (record u { wanted = wanted })
 sound_on u wanted missing sound = record {
   unstarted = λ d is. let it = sound.unstarted d is in (there d ∙ it.0, it.1, it.2, it.3);
   started = sound.started;
@@ -122,8 +122,8 @@ sound_on u wanted missing sound = record {
     there : (d : ℕ) → (is_member u.group d && not (calls_missing wanted d)) ≡ (is_member u.group d && not (calls_missing u.wanted d))
     there d = ap (λ t. is_member u.group d && not t) (missing d)
 
-pub sound_after : (due : Pp → Bool) (old new : Stored) → WantsStale due old new → IsSound (seen old) → IsSound (seen new)
-sound_after due old new marks sound = subst IsSound (sym marks.rest) (sound_on (seen old) new.wanted marks.missing sound)
+pub sound_after : (due : Pp → Bool) (old new : Stored) → WantsStale due old new → IsSoundStatus (seen old) → IsSoundStatus (seen new)
+sound_after due old new marks sound = subst IsSoundStatus (sym marks.rest) (sound_on (seen old) new.wanted marks.missing sound)
 
 -- ---- one target more
 

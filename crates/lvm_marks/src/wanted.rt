@@ -4,7 +4,7 @@ ghost use Rattle.lvm_num.specs.declared.place.Pp.{Pp};
 ghost use Rattle.lvm_stale.specs.Table.{is_pp};
 ghost use Rattle.lvm_status.specs.Calls.{IsMarkable};
 ghost use Rattle.lvm_status.specs.Update.{seen};
-ghost use Rattle.lvm_status.specs.Runs.{IsSound as IsSoundStatus};
+ghost use Rattle.lvm_status.specs.Runs.{IsSoundStatus};
 ghost use Rattle.lvm_path.specs.declared.target.Target.{Target};
 ghost use Rattle.lvm_session.specs.Judging.{pps_of};
 ghost use Rattle.lvm_session.specs.Marks.{WantsStale, is_among};

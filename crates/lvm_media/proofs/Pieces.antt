@@ -1,6 +1,6 @@
 -- Sectors in pieces, of which only the front is kept.
-use Rattle.std.proofs.Common.{◌≡◌, ◌+◌, ◌*◌, ◌-◌, ◌<◌, ◌≤◌, ◌^◌, ◌++◌, [], ◌∷◌, ℕ, zero, suc, List, slice_index_or, slice_set, length, map, take, drop, replicate, refl, sym, ◌∙◌, ap, subst, arith, length-append, length-set, true}
-use Rattle.std.proofs.lemmas.List.{append-nil, append_assoc, length-replicate, replicate-append-replicate}
+use Rattle.std.proofs.Common.{◌≡◌, ◌+◌, ◌*◌, ◌-◌, ◌<◌, ◌≤◌, ◌^◌, ◌++◌, [], ◌∷◌, ℕ, zero, suc, List, slice_index_or, slice_set, length, replicate, refl, sym, ◌∙◌, ap, subst, arith, length-append, length-set}
+use Rattle.std.proofs.lemmas.List.{append-nil, append_assoc, length-replicate, replicate-append-replicate, set_at}
 use Rattle.lvm_num.specs.Buffer.{Sector, zero_sector}
 use Rattle.lvm_media.specs.Media.{sizes_of, AllSectors}
 use Rattle.lvm_media.proofs.Putting.{zeros_are_sectors}
@@ -108,6 +108,12 @@ set_filled count at front x below within =
     ∙ ap (λ (l : List Sector). slice_set l at x)
     (append_assoc front (replicate a zero_sector) (replicate b zero_sector)
     ∙ ap (λ (l : List Sector). front ++ l) (replicate-append-replicate a b zero_sector ∙ ap (λ (n : ℕ). replicate n zero_sector) both))
+
+-- one is put behind those that are kept
+pub pushed : (front : List Sector) (at : ℕ) (x : Sector) → at ≡ length front → front ++ x ∷ [] ≡ slice_set (front ++ replicate (at + 1 - length front) zero_sector) at x
+pushed front at x is =
+    let one : at + 1 - length front ≡ 1 = omega (arith, is) in
+    sym (ap (λ (n : ℕ). slice_set (front ++ replicate n zero_sector) at x) one ∙ set_at front zero_sector [] x at (sym is))
 
 -- a disk of zeros, cut into pieces
 pub zeros_cut :

@@ -1,5 +1,5 @@
 -- One sector more is put on a disk.
-use Rattle.std.proofs.Common.{◌≡◌, ◌<◌, ◌≤◌, [], ℕ, zero, suc, List, Bool, slice_index, slice_index_or, slice_set, length, length-set, ap, sym, ◌∙◌, subst, refl, ◌∷◌, ◌+◌, take, drop, ◌++◌, replicate, arith}
+use Rattle.std.proofs.Common.{◌≡◌, ◌<◌, ◌≤◌, [], ℕ, zero, suc, List, Bool, slice_index, slice_index_or, slice_set, length, length-set, ap, sym, ◌∙◌, subst, ◌∷◌, ◌+◌, take, drop, ◌++◌, replicate, arith}
 use Rattle.std.proofs.lemmas.List.{append_assoc, length-replicate, replicate-append-replicate}
 use Rattle.lvm_num.specs.Buffer.{Sector, zero_sector, IsSector}
 use Rattle.lvm_media.specs.Media.{sizes_of, put_by, AllSectors}

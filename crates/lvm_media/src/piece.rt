@@ -51,6 +51,23 @@ fn reach(sectors: &mut Vec<[u8; 512]>, count: u64)
     add_zeros(sectors, count.saturating_sub(kept));
 }
 
+// Keeps a sector at `at`, and all before it.
+fn keep(sectors: &mut Vec<[u8; 512]>, at: u64, sector: &[u8; 512])
+    requires { at < vec_capacity sectors.old }
+    ensures items { sectors.new.items ≡ slice_set (sectors.old.items ++ replicate (at + 1 - length sectors.old.items) zero_sector) at sector.now }
+    ensures capacity { vec_capacity sectors.old ≤ vec_capacity sectors.new }
+{
+    if at == sectors.len() as u64 {
+        match sectors.push(*sector) {
+            Ok(()) => {}
+            Err(_) => unreachable!(),
+        }
+    } else {
+        reach(sectors, at + 1);
+        sectors[at as usize] = *sector;
+    }
+}
+
 impl Piece {
     /// So many sectors of zeros.
     pub(crate) fn blank(alloc: Global, count: u64) -> Result<Piece, Memory>
@@ -79,7 +96,6 @@ impl Piece {
         ensures set { self.new ≡ slice_set self.old at sector.now }
         ensures whole { IsSector sector.now }
     {
-        reach(&mut self.front, at + 1);
-        self.front[at as usize] = *sector;
+        keep(&mut self.front, at, sector);
     }
 }

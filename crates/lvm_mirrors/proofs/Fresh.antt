@@ -11,7 +11,7 @@ use Rattle.lvm_num.specs.Descriptor.{IsLaidOut, IsValid, copies_of, volume_of}
 use Rattle.lvm_num.specs.Status.{calls_stale}
 use Rattle.lvm_kept.specs.Group.{IsOneOf}
 use Rattle.lvm_steps.specs.Committing.{DiffersInVolume}
-use Rattle.lvm_commit.specs.Settling.{IsPassed, MarksLeft}
+use Rattle.lvm_commit.specs.Settling.{IsPassedOver, MarksLeft}
 use Rattle.lvm_commit.proofs.Copies.{contains, one_place}
 use Rattle.lvm_session.specs.Judging.{copies_in}
 use Rattle.lvm_session.specs.State.{State}
@@ -45,7 +45,7 @@ module _ (lv copies : ℕ) (row : LvRow) (pps : List Pp) (a b : State) (volume :
   places : HasOnePlaceEach next
   places r other lp at p = one_place next r other lp at p valid
 
-  only : (r : LvRow) (lp : ℕ) (p : Pp) → IsOneOf next.lvs r → IsOneOf (copies_of r lp) p → IsTrue (calls_stale b.core.status.wanted p) → IsTrue (calls_stale a.core.status.wanted p) ⊎ IsPassed next a.core.status b.core.status p
+  only : (r : LvRow) (lp : ℕ) (p : Pp) → IsOneOf next.lvs r → IsOneOf (copies_of r lp) p → IsTrue (calls_stale b.core.status.wanted p) → IsTrue (calls_stale a.core.status.wanted p) ⊎ IsPassedOver next a.core.status b.core.status p
   only r lp p one copy stale = left.only p stale
 
   -- where one of the volume's copies was fresh, one of those is that it has now

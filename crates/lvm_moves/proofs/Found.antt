@@ -1,5 +1,5 @@
 -- What the first event of a part is.
-use Rattle.std.proofs.Common.{◌≡◌, ◌<◌, ◌+◌, ℕ, zero, suc, Bool, true, false, List, [], ◌∷◌, Option, Some, None, length, slice_get, if◌then◌else◌, refl, sym, ◌∙◌, ap, subst, arith}
+use Rattle.std.proofs.Common.{◌≡◌, ◌<◌, ◌+◌, ℕ, zero, suc, Bool, true, false, List, [], ◌∷◌, Option, Some, None, length, length-set, slice_get, if◌then◌else◌, refl, sym, ◌∙◌, ap, arith}
 use Rattle.std.specs.Option.{option_map, option_map_or}
 use Rattle.std.proofs.lemmas.Option.{slice_get_within}
 use Rattle.lvm_disk.specs.Device.{Device}
@@ -9,12 +9,10 @@ use Rattle.lvm_path.specs.declared.facts.Next.TheVariants as next
 use Rattle.lvm_session.specs.declared.event.Event.{Event}
 use Rattle.lvm_session.specs.declared.event.Event.TheVariants as event
 use Rattle.lvm_session.specs.declared.open.Open.{Open}
-use Rattle.lvm_session.specs.declared.session.Session.{Session}
-use Rattle.lvm_session.specs.Rooms.{SameRooms}
-use Rattle.lvm_session.specs.State.{Core, state}
-use Rattle.lvm_session.specs.Judging.{next_for}
-use Rattle.lvm_session.specs.Enabled.{Part, admission, admission_at, first_from, first_of, is_admit, landing, landing_at, or_next, outcome_next, parts_to_settle, pinning}
-use Rattle.lvm_session.specs.Turns.{Makes}
+use Rattle.lvm_session.specs.State.{Core, State}
+use Rattle.lvm_session.specs.Judging.{mode_of, next_for, policy_of}
+use Rattle.lvm_session.specs.Enabled.{admission, admission_at, first_from, first_of, is_admit, landing, landing_at, or_next, outcome_next, parts_to_settle, pinning}
+use Rattle.lvm_session.specs.Events.{Admits, Lands, admitted_as, landed_as}
 use Rattle.lvm_pins.specs.Pinning.{PinGives}
 use Rattle.lvm_moves.specs.Moving.{FirstGives}
 
@@ -96,7 +94,7 @@ module _ (device : Device) (old new : Core) where
 -- ---- what the code finds of them
 
 -- the request at a place lands so next, and is the first that lands
-pub record IsDue (core : Core) (place : ℕ) (how : Outcome) : Type 0 where
+pub record IsFirstToLand (core : Core) (place : ℕ) (how : Outcome) : Type 0 where
   pub first : landing core ≡ Some (event.Land place how)
   pub request : Open
   pub there : slice_get core.requests place ≡ Some request
@@ -104,10 +102,10 @@ pub record IsDue (core : Core) (place : ℕ) (how : Outcome) : Type 0 where
 
 module _ (core : Core) (found : Option Event) (result : Option (ℕ × Outcome)) (is : found ≡ landing core) (some : (p : ℕ) (h : Outcome) → found ≡ Some (event.Land p h) → ◌≡◌ {A = Option (ℕ × Outcome)} result (Some (p, h)))
     (none : found ≡ None → ◌≡◌ {A = Option (ℕ × Outcome)} result None) where
-  pub due_landing : (place : ℕ) (how : Outcome) → ◌≡◌ {A = Option (ℕ × Outcome)} result (Some (place, how)) → IsDue core place how
+  pub due_landing : (place : ℕ) (how : Outcome) → ◌≡◌ {A = Option (ℕ × Outcome)} result (Some (place, how)) → IsFirstToLand core place how
   due_landing place how got = by_found found refl
     where
-      by_found : (f : Option Event) → found ≡ f → IsDue core place how
+      by_found : (f : Option Event) → found ≡ f → IsFirstToLand core place how
       by_found None at = absurd (let e : ◌≡◌ {A = Option (ℕ × Outcome)} None (Some (place, how)) = sym (none at) ∙ got in cc e)
       by_found (Some it) at =
           let l = landing_found core it (sym is ∙ at) in
@@ -131,17 +129,17 @@ module _ (core : Core) (found : Option Event) (result : Option (ℕ × Outcome))
           absurd (let e : ◌≡◌ {A = Option (ℕ × Outcome)} (Some (l.place, l.how)) None = sym (some l.place l.how (at ∙ ap Some l.is)) ∙ got in cc e)
 
 -- the request at a place is admitted next, and is the first that is
-pub record IsNext (core : Core) (place : ℕ) : Type 0 where
+pub record IsFirstToBeAdmitted (core : Core) (place : ℕ) : Type 0 where
   pub first : admission core ≡ Some (event.Admit place)
   pub request : Open
   pub there : slice_get core.requests place ≡ Some request
   pub admits : next_for core request ≡ next.Admit
 
 module _ (core : Core) (found : Option Event) (result : Option ℕ) (is : found ≡ admission core) (some : (p : ℕ) → found ≡ Some (event.Admit p) → result ≡ Some p) (none : found ≡ None → result ≡ None) where
-  pub next_admission : (place : ℕ) → result ≡ Some place → IsNext core place
+  pub next_admission : (place : ℕ) → result ≡ Some place → IsFirstToBeAdmitted core place
   next_admission place got = by_found found refl
     where
-      by_found : (f : Option Event) → found ≡ f → IsNext core place
+      by_found : (f : Option Event) → found ≡ f → IsFirstToBeAdmitted core place
       by_found None at = absurd (let e : ◌≡◌ {A = Option ℕ} None (Some place) = sym (none at) ∙ got in cc e)
       by_found (Some it) at =
           let l = admission_found core it (sym is ∙ at) in
@@ -158,18 +156,18 @@ module _ (core : Core) (found : Option Event) (result : Option ℕ) (is : found 
           let l = admission_found core it (sym is ∙ at) in
           absurd (let e : ◌≡◌ {A = Option ℕ} (Some l.place) None = sym (some l.place (at ∙ ap Some l.is)) ∙ got in cc e)
 
-pub rooms_on : (a b c : Session) → SameRooms a b → SameRooms b c → SameRooms a c
-rooms_on a b c one two = record { requests = two.requests ∙ one.requests; flying = two.flying ∙ one.flying; bytes = two.bytes ∙ one.bytes }
+-- ---- the table is as long as it was
 
--- the last two parts of three, where nothing came of the first
-pub record HasStayed (part : Part) (old now : Core) : Type 0 where
-  pub none : part old ≡ None
-  pub same : now ≡ old
+pub landed_there : (old new : State) (place : ℕ) (how : Outcome) → Lands old new place how → place < length new.core.requests
+landed_there old new place how lands =
+    let os = old.core.requests in
+    let within : place < length os = slice_get_within os place lands.request lands.there in
+    let is : length new.core.requests ≡ length os = ap (λ (s : State). length s.core.requests) lands.is ∙ length-set os place (landed_as how lands.request) in
+    omega (arith, within, is)
 
-pub stayed : (part : Part) (device : Device) (old now : Core) (answer : Bool) → answer ≡ false → FirstGives part device old now answer → HasStayed part old now
-stayed part device old now false is gives = record { none = gives.0; same = gives.1 }
-stayed part device old now true is gives = absurd (cc is)
-
-pub made_by : (part : Part) (device : Device) (old now : Core) (answer : Bool) → answer ≡ true → FirstGives part device old now answer → FirstGives part device old now true
-made_by part device old now true is gives = gives
-made_by part device old now false is gives = absurd (cc is)
+pub admitted_there : (old new : State) (place : ℕ) → Admits old new place → place < length new.core.requests
+admitted_there old new place admits =
+    let os = old.core.requests in
+    let within : place < length os = slice_get_within os place admits.request admits.there in
+    let is : length new.core.requests ≡ length os = ap (λ (s : State). length s.core.requests) admits.is ∙ length-set os place (admitted_as (policy_of old.core admits.request.request.ask) (mode_of old.core admits.request.request.ask) admits.targets admits.request) in
+    omega (arith, within, is)

@@ -7,11 +7,13 @@ ghost use Rattle.lvm_session.specs.Enabled.{admission, first_of, landing, parts_
 ghost use Rattle.lvm_session.specs.Fields.{core_of};
 ghost use Rattle.lvm_session.specs.Rooms.{SameRooms};
 ghost use Rattle.lvm_session.specs.Sound.{IsGoing};
+ghost use Rattle.lvm_due.specs.Due.{IsDue};
 ghost use Rattle.lvm_admit.specs.Choosing.{MayChoose};
 ghost use Rattle.lvm_moves.specs.Moving.{FirstGives};
 
 use lvm_admit::admit_at;
 use lvm_disk::Shelf;
+use lvm_due::{Due, is_quiet};
 use lvm_firsts::{first_admission, first_landing};
 use lvm_land::land_at;
 use lvm_pins::pin_first;
@@ -42,30 +44,37 @@ fn admission_of(found: Option<Event>) -> Option<usize>
 
 /// The first request that may land does: all that a turn makes of requests once the votes are lost. Answers whether
 /// there is one; where there is none nothing changes.
-pub fn land_first(session: &mut Session) -> bool
+pub fn land_first(session: &mut Session, due: &mut Due) -> bool
     requires going { IsGoing (core_of session.old) }
     requires room { 131072 ≤ length session.old.bytes.items }
+    requires due { IsDue (core_of session.old) due.old }
     ensures gives { (device : Device) → FirstGives landing device (core_of session.old) (core_of session.new) result }
     ensures rooms { SameRooms session.old session.new }
+    ensures due { IsDue (core_of session.new) due.new }
 {
-    match landing_of(first_landing(session)) {
+    match landing_of(first_landing(session, &mut due.landing)) {
         None => false,
         Some((place, outcome)) => {
             land_at(session, place, outcome);
+            due.landed(session, place);
             true
         }
     }
 }
 
-fn admit_first<S: Shelf>(session: &mut Session, shelf: &S) -> bool
-    requires { MayChoose (S.device shelf.now) (core_of session.old) }
+fn admit_first<S: Shelf>(session: &mut Session, shelf: &S, due: &mut Due) -> bool
+    requires may { MayChoose (S.device shelf.now) (core_of session.old) }
+    requires due { IsDue (core_of session.old) due.old }
     ensures gives { FirstGives admission (S.device shelf.now) (core_of session.old) (core_of session.new) result }
     ensures rooms { SameRooms session.old session.new }
+    ensures due { IsDue (core_of session.new) due.new }
 {
-    match admission_of(first_admission(session)) {
+    match admission_of(first_admission(session, &mut due.admission)) {
         None => false,
         Some(place) => {
+            let quiet = is_quiet(session, place);
             admit_at(session, shelf, place);
+            due.admitted(session, place, quiet);
             true
         }
     }
@@ -73,17 +82,19 @@ fn admit_first<S: Shelf>(session: &mut Session, shelf: &S) -> bool
 
 /// The first event that may be made and starts no transfer is made: a request lands, is admitted, or pins its
 /// track group. Answers whether there is one; where there is none nothing changes.
-pub fn move_first<S: Shelf>(session: &mut Session, shelf: &S) -> bool
+pub fn move_first<S: Shelf>(session: &mut Session, shelf: &S, due: &mut Due) -> bool
     requires may { MayChoose (S.device shelf.now) (core_of session.old) }
     requires room { 131072 ≤ length session.old.bytes.items }
+    requires due { IsDue (core_of session.old) due.old }
     ensures gives { FirstGives (first_of parts_to_settle) (S.device shelf.now) (core_of session.old) (core_of session.new) result }
     ensures rooms { SameRooms session.old session.new }
+    ensures due { IsDue (core_of session.new) due.new }
 {
-    if land_first(session) {
+    if land_first(session, due) {
         return true;
     }
-    if admit_first(session, shelf) {
+    if admit_first(session, shelf, due) {
         return true;
     }
-    pin_first(session)
+    pin_first(session, due)
 }

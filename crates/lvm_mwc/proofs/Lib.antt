@@ -3,3 +3,4 @@ pub mod EntriesLemmas
 pub mod NotesLemmas
 pub mod PinsLemmas
 pub mod NamedLemmas
+pub mod FiltersLemmas

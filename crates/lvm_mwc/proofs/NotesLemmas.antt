@@ -14,7 +14,7 @@ use Rattle.lvm_mwc.specs.Entries.{note_of}
 use Rattle.std.proofs.lemmas.List.{length-take}
 use Rattle.std.proofs.lemmas.List.Sums.{length-filter, count_by-le-length}
 use Rattle.lvm_mwc.specs.Notes.{is_on, both_name, names_group, common}
-use Rattle.lvm_mwc.specs.Cache.{Cached, is_named, after_start, after_end, started, ended, ended_as, no_notes, IsNew}
+use Rattle.lvm_mwc.specs.Cache.{Cached, is_named, after_start, after_end, started, ended, no_notes, IsNew}
 use Rattle.lvm_mwc.proofs.FirstsLemmas.{first_at, none_at}
 
 abbrev pub cached : List CacheEntry → List DiskNotes → Cached
@@ -33,7 +33,7 @@ named_at s disk lv group k d at = ap (λ (o : Option DiskNotes). option_map_or (
 
 -- ---- one disk's notes change
 
-changed_at : (s : Cached) (es : List CacheEntry) (ns : List DiskNotes) (disk k : ℕ) (f : DiskNotes → DiskNotes) (row d : DiskNotes) → cached es ns ≡ s → position (is_on disk) ns ≡ Some k → row ≡ f (get_or ns k d) → cached es (set ns k row) ≡ record s { notes = with_first (is_on disk) f s.notes }
+pub changed_at : (s : Cached) (es : List CacheEntry) (ns : List DiskNotes) (disk k : ℕ) (f : DiskNotes → DiskNotes) (row d : DiskNotes) → cached es ns ≡ s → position (is_on disk) ns ≡ Some k → row ≡ f (get_or ns k d) → cached es (set ns k row) ≡ record s { notes = with_first (is_on disk) f s.notes }
 changed_at s es ns disk k f row d seen at is = rw (← seen) (rw is (ap (cached es) ((first_at (is_on disk) ns d k at).changed f)))
 
 pub started_at : (s : Cached) (es : List CacheEntry) (ns : List DiskNotes) (disk k : ℕ) (r : DiskNotes) (note : ArrayVec NoteEntry) → cached es ns ≡ s → position (is_on disk) ns ≡ Some k → r ≡ get_or ns k r → note.items ≡ note_of es
@@ -48,23 +48,6 @@ not_started s disk at = ap (cached s.entries) (sym ((none_at (is_on disk) s.note
 
 pub not_ended : (s : Cached) (disk : ℕ) (ok : Bool) → position (is_on disk) s.notes ≡ None → s ≡ after_end s disk ok
 not_ended s disk ok at = ap (cached s.entries) (sym ((none_at (is_on disk) s.notes at).changed (ended ok)))
-
-none_flies : (ok : Bool) (disk : ℕ) (written : ArrayVec NoteEntry) (flight left : Option (ArrayVec NoteEntry)) → flight ≡ None → left ≡ None → notes_of disk written left ≡ ended ok (notes_of disk written flight)
-none_flies ok disk written flight left none none_left = rw (none, none_left) refl
-
-one_flew : (ok : Bool) (disk : ℕ) (written new f : ArrayVec NoteEntry) (flight left : Option (ArrayVec NoteEntry)) → flight ≡ Some f → left ≡ None → new.items ≡ ended_as ok written.items f.items → notes_of disk new left ≡ ended ok (notes_of disk written flight)
-one_flew ok disk written new f flight left some none_left is =
-    rw (some, none_left) (ap (λ (items : List NoteEntry). notes_of disk (record { items = items }) None) is)
-
-pub ended_at : (s : Cached) (es : List CacheEntry) (ns : List DiskNotes) (disk k : ℕ) (ok : Bool) (r : DiskNotes) (new f : ArrayVec NoteEntry) (left : Option (ArrayVec NoteEntry)) → cached es ns ≡ s → position (is_on disk) ns ≡ Some k
-    → r ≡ get_or ns k r → r.flight ≡ Some f → left ≡ None → new.items ≡ ended_as ok r.written.items f.items → cached es (set ns k (notes_of r.disk new left)) ≡ after_end s disk ok
-ended_at s es ns disk k ok r new f left seen at there some none_left is =
-    changed_at s es ns disk k (ended ok) (notes_of r.disk new left) r seen at (one_flew ok r.disk r.written new f r.flight left some none_left is ∙ ap (ended ok) there)
-
-pub none_ended_at : (s : Cached) (es : List CacheEntry) (ns : List DiskNotes) (disk k : ℕ) (ok : Bool) (r : DiskNotes) (left : Option (ArrayVec NoteEntry)) → cached es ns ≡ s → position (is_on disk) ns ≡ Some k
-    → r ≡ get_or ns k r → r.flight ≡ None → left ≡ None → cached es (set ns k (notes_of r.disk r.written left)) ≡ after_end s disk ok
-none_ended_at s es ns disk k ok r left seen at there none none_left =
-    changed_at s es ns disk k (ended ok) (notes_of r.disk r.written left) r seen at (none_flies ok r.disk r.written r.flight left none none_left ∙ ap (ended ok) there)
 
 -- ---- the disks of a new cache
 

@@ -1,9 +1,11 @@
 //! The cache of track groups.
-ghost use Rattle.std.specs.Prelude.{◌≡◌, ◌≢◌, ◌+◌, ◌<◌, ◌^◌, if◌then◌else◌, position, IsTrue, IfOk, IsSome, IsNone, is_some, All};
+ghost use Rattle.std.specs.Prelude.{◌≡◌, ◌≢◌, ◌+◌, ◌<◌, ◌^◌, false, if◌then◌else◌, position, IsTrue, IfOk, IsSome, IsNone, is_some, All, replicate};
 ghost use Rattle.lvm_num.specs.Note.{IsEntry};
 
 use crate::entries::{CacheEntry, entry_of, make_room, note_of, place_of};
-use crate::notes::{self, DiskNotes, both_name, common, is_in_flight, row_of};
+use crate::notes::{
+    self, DiskNotes, FILTER, both_name, end_flight, filter_of, is_in_flight, passes, row_of,
+};
 use arrayvec::ArrayVec;
 use lvm_num::{DiskSet, Memory, NoteEntry};
 use std::alloc::Global;
@@ -24,17 +26,29 @@ pub enum Pin {
 pub struct Cache {
     entries: ArrayVec<CacheEntry, 62>,
     notes: Vec<DiskNotes>,
+    // for each of these what the note may name that was written there
+    filters: Vec<[bool; FILTER]>,
 }
 
 impl Model for Cache {
     ghost use Rattle.lvm_mwc.specs.Cache.{Cached};
     ghost use Rattle.lvm_mwc.specs.Entries.{AreEntries};
+    ghost use Rattle.lvm_mwc.specs.Filters.{AreFilters};
 
     ghost Value = { Cached };
 
     ghost view = { λ c. record { entries = c.entries.items; notes = c.notes.items } };
 
-    ghost invariant = { λ c. AreEntries c.entries.items };
+    ghost invariant = { λ c. AreEntries c.entries.items × AreFilters c.notes.items c.filters.items };
+}
+
+// So many filters that pass nothing.
+fn closed_filters(alloc: Global, count: usize) -> Result<Vec<[bool; FILTER]>, Memory>
+    ensures { IfOk result (λ filters. filters.items ≡ replicate count (replicate 512 false)) }
+{
+    let mut filters = Vec::new(alloc);
+    filters.resize(count, [false; FILTER])?;
+    Ok(filters)
 }
 
 impl Cache {
@@ -56,9 +70,11 @@ impl Cache {
                 })?;
             }
         }
+        let filters = closed_filters(alloc, notes.len())?;
         Ok(Cache {
             entries: ArrayVec::new(),
             notes,
+            filters,
         })
     }
 
@@ -152,14 +168,8 @@ impl Cache {
         ensures { self.new ≡ after_end self.old disk ok }
     {
         if let Some(place) = notes::place_of(&self.notes, disk) {
-            let row = &mut self.notes[place];
-            if let Some(flight) = row.flight.take() {
-                row.written = if ok {
-                    flight
-                } else {
-                    common(&row.written, &flight)
-                };
-            }
+            end_flight(&mut self.notes[place], ok);
+            self.filters[place] = filter_of(&self.notes[place].written);
         }
     }
 
@@ -168,9 +178,11 @@ impl Cache {
     pub fn is_named(&self, disk: u16, lv: u16, group: u32) -> bool
         ensures { result ≡ is_named self.now disk lv group }
     {
-        match row_of(&self.notes, disk) {
+        match notes::place_of(&self.notes, disk) {
             None => false,
-            Some(row) => both_name(row, lv, group),
+            Some(place) => {
+                passes(&self.filters[place], group) && both_name(&self.notes[place], lv, group)
+            }
         }
     }
 

@@ -1,6 +1,8 @@
 //! The consistency records of the disks, as they are written.
 ghost use Rattle.std.specs.Prelude.{◌≡◌, find, position};
 ghost use Rattle.std.specs.Option.{option_copied};
+ghost use Rattle.lvm_mwc.specs.Cache.{ended};
+ghost use Rattle.lvm_mwc.specs.Filters.{PassesAll, passes};
 ghost use Rattle.lvm_mwc.specs.Notes.{is_on, names_group, both_name, is_in_flight, common};
 
 use arrayvec::ArrayVec;
@@ -60,7 +62,7 @@ pub fn is_in_flight(notes: &DiskNotes, lv: u16, group: u32) -> bool
 }
 
 // What both notes have.
-pub fn common(written: &ArrayVec<NoteEntry, 62>, flight: &[NoteEntry]) -> ArrayVec<NoteEntry, 62>
+fn common(written: &ArrayVec<NoteEntry, 62>, flight: &[NoteEntry]) -> ArrayVec<NoteEntry, 62>
     ensures { result.items ≡ common written.now.items flight.now }
 {
     let mut both = ArrayVec::new();
@@ -70,4 +72,38 @@ pub fn common(written: &ArrayVec<NoteEntry, 62>, flight: &[NoteEntry]) -> ArrayV
         }
     }
     both
+}
+
+// The note in flight, if any, ends well or by a fault.
+pub fn end_flight(notes: &mut DiskNotes, ok: bool)
+    ensures { notes.new ≡ ended ok notes.old }
+{
+    if let Some(flight) = notes.flight.take() {
+        notes.written = if ok {
+            flight
+        } else {
+            common(&notes.written, &flight)
+        };
+    }
+}
+
+/// How many numbers of track groups a filter tells apart.
+pub(crate) const FILTER: usize = 512;
+
+// A filter that passes what a note names.
+pub fn filter_of(note: &[NoteEntry]) -> [bool; FILTER]
+    ensures { PassesAll result note.now }
+{
+    let mut filter = [false; FILTER];
+    for entry in note {
+        filter[entry.group as usize % FILTER] = true;
+    }
+    filter
+}
+
+// Whether a filter passes a track group.
+pub fn passes(filter: &[bool; FILTER], group: u32) -> bool
+    ensures { result ≡ passes filter.now group }
+{
+    filter[group as usize % FILTER]
 }

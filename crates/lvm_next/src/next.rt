@@ -3,7 +3,6 @@ ghost use Rattle.std.specs.Prelude.{◌≡◌, ◌≤◌, ◌&&◌, ◌==◌, �
 ghost use Rattle.std.specs.List.{list_any};
 ghost use Rattle.std.specs.Option.{option_copied};
 ghost use Rattle.lvm_num.specs.declared.descriptor.LvRow.{LvRow};
-ghost use Rattle.lvm_num.specs.declared.descriptor.PvRow.{PvRow};
 ghost use Rattle.lvm_num.specs.declared.record.Stamp.{Stamp};
 ghost use Rattle.lvm_num.specs.Bits.{has_bit};
 ghost use Rattle.lvm_num.specs.Descriptor.{IsValid};
@@ -14,7 +13,8 @@ ghost use Rattle.lvm_next.specs.Rows.{AreMemberRows};
 
 use lvm_left::mark_volumes;
 use lvm_num::{
-    DISKS, Descriptor, DiskSet, LvRow, Memory, Mode, PvRow, Rows, Status, StatusRow, VolumeNumbers,
+    DISKS, Descriptor, DiskSet, LvRow, Memory, Mode, Rows, Status, StatusRow, VolumeNumbers,
+    has_member,
 };
 use lvm_stale::StaleTable;
 use std::alloc::Global;
@@ -59,7 +59,7 @@ fn member_rows(
 {
     let mut rows = Vec::new(alloc);
     for disk in 0..DISKS {
-        if is_member(group.pvs.as_slice(), disk) {
+        if has_member(group.pvs.as_slice(), disk) {
             let row = row_of(was, disk, !answering.has(disk));
             if rows.push(row).is_err() {
                 return Err(Memory);
@@ -67,12 +67,6 @@ fn member_rows(
         }
     }
     Ok(rows)
-}
-
-fn is_member(members: &[PvRow], disk: u16) -> bool
-    ensures { result ≡ list_any (λ (row : PvRow). row.disk == disk) members.now }
-{
-    members.iter().any(|row| row.disk == disk)
 }
 
 // The row of a disk, with the stale marks that it has in a status, none where it has no row there.

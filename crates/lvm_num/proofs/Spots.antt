@@ -12,14 +12,9 @@ use Rattle.lvm_num.specs.declared.place.Pp.{Pp}
 use Rattle.lvm_num.specs.declared.descriptor.PvRow.{PvRow}
 use Rattle.lvm_num.specs.declared.descriptor.Descriptor.{Descriptor}
 use Rattle.lvm_num.specs.Descriptor.{IsMember, IsPartitionOf, IsValid}
-use Rattle.lvm_num.specs.Marks.{spot}
+use Rattle.lvm_num.specs.Marks.{IsBounded, spot}
 use Rattle.lvm_num.proofs.MapsLemmas.{find-Some}
 use Rattle.lvm_num.proofs.Pairs.{AllPairs-right}
-
--- a partition of a disk of the shelf, of 1,016 at most
-pub record IsBounded (pp : Pp) : Type 0 where
-  pub disk : pp.disk < 128
-  pub number : pp.pp < 1016
 
 pub bounded : (d : Descriptor) → IsValid d → (pp : Pp) → IsPartitionOf d pp → IsBounded pp
 bounded d valid pp of =

@@ -11,6 +11,11 @@ pub record AreCounts (rows : List PvRow) (counts : List ℕ) : Type 0 where
   pub members : All (λ (row : PvRow). slice_index counts row.disk ≡ row.pps) rows
   pub others : (disk : ℕ) → All (λ (row : PvRow). row.disk ≢ disk) rows → slice_index counts disk ≡ 0
 
+-- a partition of a disk of the shelf, of 1,016 at most
+pub record IsBounded (pp : Pp) : Type 0 where
+  pub disk : pp.disk < 128
+  pub number : pp.pp < 1016
+
 -- a partition that its disk has by these counts
 pub record IsWithin (counts : List ℕ) (pp : Pp) : Type 0 where
   pub disk : pp.disk < 128

@@ -22,7 +22,7 @@ mod word;
 pub use bits::{clear_bit, has_bit, set_bit};
 pub use descriptor::{Descriptor, LvRow, Mode, Policy, PvRow};
 pub use disks::{DISKS, DiskSet};
-pub use listed::{copies_of, is_on, volume_of};
+pub use listed::{copies_of, has_member, is_on, volume_of};
 pub use name::Name;
 pub use numbers::VolumeNumbers;
 pub use pbuf::Pbuf;

@@ -3,16 +3,24 @@ ghost use Rattle.std.specs.Prelude.{◌≡◌, ◌==◌, ◌<◌};
 ghost use Rattle.std.specs.List.{find, list_any};
 ghost use Rattle.std.specs.Option.{option_copied};
 ghost use Rattle.lvm_num.specs.declared.descriptor.LvRow.{LvRow};
+ghost use Rattle.lvm_num.specs.declared.descriptor.PvRow.{PvRow};
 ghost use Rattle.lvm_num.specs.declared.place.Pp.{Pp};
 ghost use Rattle.lvm_num.specs.Descriptor.{IsLaidOut, copies_of};
 
-use crate::{LvRow, Pp};
+use crate::{LvRow, Pp, PvRow};
 
 /// The volume of a number.
 pub fn volume_of(lvs: &[LvRow], number: u16) -> Option<&LvRow>
     ensures { option_copied result ≡ find (λ (row : LvRow). row.number == number) lvs.now }
 {
     lvs.iter().find(|row| row.number == number)
+}
+
+/// Whether one of the members is on the disk.
+pub fn has_member(members: &[PvRow], disk: u16) -> bool
+    ensures { result ≡ list_any (λ (row : PvRow). row.disk == disk) members.now }
+{
+    members.iter().any(|row| row.disk == disk)
 }
 
 /// Whether one of the partitions is on the disk.

@@ -8,7 +8,7 @@ use Rattle.std.proofs.lemmas.List.Folds.{list_any-append, find-append}
 use Rattle.std.specs.Option.{option_or}
 use Rattle.lvm_steps.proofs.Spans.{later_append}
 use Rattle.lvm_piece.specs.Asking.{TakesRoom}
-use Rattle.lvm_piece.specs.Keeping.{HaveLanded, NoneComesOn}
+use Rattle.lvm_piece.specs.Keeping.{HaveAllLanded, NoneComesOn}
 use Rattle.lvm_num.specs.Buffer.{Sector}
 use Rattle.lvm_vol.specs.declared.entry.Outcome.{Outcome}
 use Rattle.lvm_vol.specs.Facts.{Request, Fact, Begun, Landed, Taken, Cut, begun, begun_by}
@@ -212,28 +212,28 @@ landing_closes facts began r how started got id ask land closed =
     either false false true is = refl
     either false false false is = refl
 
-answered_closes : (facts : List Fact) (r : Request) (how : Outcome) (got : List Sector) → HaveLanded facts → HaveLanded (landing_ends (facts ++ Begun r ∷ []) r (Landed r how true got))
+answered_closes : (facts : List Fact) (r : Request) (how : Outcome) (got : List Sector) → HaveAllLanded facts → HaveAllLanded (landing_ends (facts ++ Begun r ∷ []) r (Landed r how true got))
 answered_closes facts r how got closed id = landing_closes facts (facts ++ Begun r ∷ []) r how true got id (asked_begun facts r id) (landed_more facts (Begun r) id ∙ or_none (list_any (lands_id id) facts)) (closed id)
 
-darkened_closes : (facts : List Fact) (r : Request) (started : Bool) → HaveLanded facts → HaveLanded (cut_ends (facts ++ Begun r ∷ []) r started)
+darkened_closes : (facts : List Fact) (r : Request) (started : Bool) → HaveAllLanded facts → HaveAllLanded (cut_ends (facts ++ Begun r ∷ []) r started)
 darkened_closes facts r started closed id =
     let began = facts ++ Begun r ∷ [] in
     landing_closes facts (began ++ Cut ∷ []) r outcome.Dark started [] id (ap is_some (asked_more began Cut id refl) ∙ asked_begun facts r id)
     (landed_more began Cut id ∙ or_none (list_any (lands_id id) began) ∙ landed_more facts (Begun r) id ∙ or_none (list_any (lands_id id) facts)) (closed id)
 
-pub write_lands : (facts : List Fact) (r : Request) (how : Moved) → IsHeard how → HaveLanded facts → HaveLanded (write_ends (facts ++ Begun r ∷ []) r how)
+pub write_lands : (facts : List Fact) (r : Request) (how : Moved) → IsHeard how → HaveAllLanded facts → HaveAllLanded (write_ends (facts ++ Begun r ∷ []) r how)
 write_lands facts r (moved.Done back) heard = answered_closes facts r outcome.Done []
 write_lands facts r (moved.Failed back) heard = answered_closes facts r outcome.Lost []
 write_lands facts r (moved.Dark started) heard = darkened_closes facts r started
 write_lands facts r moved.Stuck heard = absurd heard
 
-pub read_lands : (facts : List Fact) (r : Request) (how : Moved) → IsHeard how → HaveLanded facts → HaveLanded (read_ends (facts ++ Begun r ∷ []) r how)
+pub read_lands : (facts : List Fact) (r : Request) (how : Moved) → IsHeard how → HaveAllLanded facts → HaveAllLanded (read_ends (facts ++ Begun r ∷ []) r how)
 read_lands facts r (moved.Done back) heard = answered_closes facts r outcome.Got (take r.count back.sectors)
 read_lands facts r (moved.Failed back) heard = answered_closes facts r outcome.ReadFailed []
 read_lands facts r (moved.Dark started) heard = darkened_closes facts r started
 read_lands facts r moved.Stuck heard = absurd heard
 
-pub cut_lands : (facts : List Fact) → HaveLanded facts → HaveLanded (facts ++ Cut ∷ [])
+pub cut_lands : (facts : List Fact) → HaveAllLanded facts → HaveAllLanded (facts ++ Cut ∷ [])
 cut_lands facts closed id = open_cut facts id ∙ closed id
 
 -- no group comes on in a request

@@ -4,7 +4,7 @@ use Rattle.lvm_disk.specs.Counts.{Rose, RoseAt, RoseBy, Counts}
 use Rattle.lvm_disk.specs.Device.{Device, IsReady}
 use Rattle.lvm_vol.specs.Facts.{Fact}
 use Rattle.lvm_vol.specs.Legal.{IsLater}
-use Rattle.lvm_vol.specs.Log.{is_open}
+pub use Rattle.lvm_vol.specs.Log.{HaveAllLanded}
 use Rattle.lvm_kept.specs.Moments.{Moment, StaysCalm}
 use Rattle.lvm_steps.specs.Moments.{Keeps}
 use Rattle.lvm_steps.specs.Requests.{IsInNoGroup}
@@ -24,10 +24,6 @@ pub record KeepsArrangements (before after : ℕ) (old new : Device) : Type 0 wh
 -- what stood on the disks from before a moment still does
 abbrev pub KeepsOlder : Device → Device → Type 0
 KeepsOlder old new = (m : ℕ) → IsBehind m old → IsBehind m new
-
--- each request that has begun has landed
-abbrev pub HaveLanded : List Fact → Type 0
-HaveLanded facts = (id : ℕ) → is_open facts id ≡ false
 
 -- no group is varied on
 abbrev pub NoneComesOn : List Fact → List Fact → Type 0
@@ -49,6 +45,6 @@ pub record PieceKeeps (run disk before after : ℕ) (old new : Moment) (how : Mo
   pub shelf : KeepsArrangements before after old.device new.device
   pub power : new.device.power ≡ true
   pub ready : IsHeard how → IsReady new.device
-  pub landed : IsHeard how → HaveLanded old.facts → HaveLanded new.facts
+  pub landed : IsHeard how → HaveAllLanded old.facts → HaveAllLanded new.facts
   pub later : NoneComesOn old.facts new.facts
   pub cause : MoveRose disk before old.device.counts new.device.counts how

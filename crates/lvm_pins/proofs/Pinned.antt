@@ -1,5 +1,5 @@
 -- What a pin makes of a session.
-use Rattle.std.proofs.Common.{◌≡◌, ◌==◌, ◌≤◌, ◌<◌, ◌+◌, ◌^◌, ◌&&◌, ℕ, Bool, true, false, not, if◌then◌else◌, Option, Some, None, length, drop, slice_get, slice_set, refl, sym, ◌∙◌, ap, subst, arith}
+use Rattle.std.proofs.Common.{◌≡◌, ◌==◌, ◌≤◌, ◌<◌, ◌+◌, ◌^◌, ◌&&◌, ℕ, Bool, true, false, not, if◌then◌else◌, Option, Some, None, length, length-set, slice_get, slice_set, refl, sym, ◌∙◌, ap, subst, arith}
 use Rattle.std.proofs.lemmas.Bool.{eqb-true}
 use Rattle.std.proofs.lemmas.List.Sums.{count_by-le-length}
 use Rattle.lvm_num.specs.declared.descriptor.LvRow.{LvRow}
@@ -20,13 +20,15 @@ use Rattle.lvm_session.specs.declared.event.Event.TheVariants as event
 use Rattle.lvm_session.specs.declared.open.Open.{Open}
 use Rattle.lvm_session.specs.declared.session.Session.{Session}
 use Rattle.lvm_session.specs.Rooms.{SameRooms}
-use Rattle.lvm_session.specs.State.{Core, state}
+use Rattle.lvm_session.specs.State.{Core, State, state}
 use Rattle.lvm_session.specs.Judging.{group_of, next_for}
-use Rattle.lvm_session.specs.Enabled.{can_pin, first_from, is_pin, may_pin, pinning, pinning_at}
+use Rattle.lvm_session.specs.Enabled.{can_pin, is_pin, may_pin, pinning, pinning_at}
 use Rattle.lvm_session.specs.Events.{Pins}
 use Rattle.lvm_session.specs.Sound.{IsGoing, pins}
 use Rattle.lvm_session.specs.Worked.{faultless}
-use Rattle.lvm_firsts.proofs.Finding.{first_here, first_later, some_there}
+use Rattle.lvm_firsts.proofs.Spans.{first_due, narrowed, none_due}
+use Rattle.lvm_due.specs.declared.due.Due.{Due}
+use Rattle.lvm_due.specs.Due.{IsDue}
 use Rattle.lvm_pins.specs.Pinning.{PinGives, PinsAt}
 
 -- volumes are numbered from 1
@@ -89,23 +91,53 @@ other_waits core o n is none = ap (λ m. is_pin m && can_pin core.cache o.reques
 
 -- ---- one request after the other
 
-abbrev made_by : ℕ → Bool → Option Event
-made_by place may = if may then Some (event.Pin place) else None
+-- what the first request that may be asked makes
+module _ (first core new : Core) (same : core ≡ first) (due : Due) (are_due : IsDue core due) (test : due.pinning.from < due.pinning.to) where
+  abbrev place : ℕ
+  place = due.pinning.from
 
-module _ (first core new : Core) (place : ℕ) (same : core ≡ first) (search : first_from (pinning_at first) place (drop place first.requests) ≡ pinning first) where
-  -- the first that may has its pin
+  -- it has its pin, and is the first
   pub first_pins : PinsAt core new place true → PinGives first new true
   first_pins pins =
-      let at : PinsAt first new place true = subst (λ (c : Core). PinsAt c new place true) same pins in
-      let one = at faultless in
-      (place, sym search ∙ first_here (pinning_at first) first.requests place one.request (Some (event.Pin place)) (event.Pin place) one.there (sym (ap (made_by place) one.pins)) refl, at)
+      let one = pins faultless in
+      let made : (o : Open) → slice_get core.requests place ≡ Some o → ◌≡◌ {A = Option Event} (Some (event.Pin place)) (pinning_at core place o) = λ o there.
+      let its : one.request ≡ o = cc (one.there, there) in
+      sym (ap (λ (b : Bool). if b then Some (event.Pin place) else None) (ap (may_pin core) (sym its) ∙ one.pins)) in
+      let it : pinning core ≡ Some (event.Pin place) = first_due (pinning_at core) core.requests due.pinning are_due.pinning test made (event.Pin place) refl in
+      let P : Core → Type 0 = λ c. PinGives c new true in
+      subst P same (place, it, pins)
 
-  -- one that may not leaves the session as it was
-  pub none_pins : place < length first.requests → PinsAt core new place false → (new ≡ first) × (first_from (pinning_at first) (place + 1) (drop (place + 1) first.requests) ≡ pinning first)
-  none_pins within stays =
-      let at : PinsAt first new place false = subst (λ (c : Core). PinsAt c new place false) same stays in
-      let it = some_there first.requests place within in
-      (at.0, sym (first_later (pinning_at first) first.requests place it.0 None it.1 (sym (ap (made_by place) (at.1 it.0 it.1))) refl) ∙ search)
+  -- the place is one of the table
+  pub is_place : place < length core.requests
+  is_place = let within = are_due.pinning.within in omega (arith, test, within)
+
+  -- or it has none, and the session is as it was
+  pub none_pins : PinsAt core new place false → (new ≡ first) × IsDue new (record due { pinning = record due.pinning { from = place + 1 } })
+  none_pins stays =
+      let made : (o : Open) → slice_get core.requests place ≡ Some o → ◌≡◌ {A = Option Event} None (pinning_at core place o) = λ o there.
+      sym (ap (λ (b : Bool). if b then Some (event.Pin place) else None) (stays.1 o there)) in
+      let narrow : IsDue core (record due { pinning = record due.pinning { from = place + 1 } }) = record {
+        landing = are_due.landing;
+        admission = are_due.admission;
+        pinning = narrowed (pinning_at core) core.requests due.pinning are_due.pinning test made refl;
+        note = are_due.note;
+        «data» = are_due.data;
+      } in
+      let P : Core → Type 0 = λ c. IsDue c (record due { pinning = record due.pinning { from = place + 1 } }) in
+      (stays.0 ∙ same, subst P (sym stays.0) narrow)
+
+-- none is left
+pub none_left : (first core : Core) (due : Due) → core ≡ first → IsDue core due → due.pinning.to ≤ due.pinning.from → PinGives first core false
+none_left first core due same are_due test =
+    (ap pinning (sym same) ∙ none_due (pinning_at core) core.requests due.pinning are_due.pinning test, same)
+
+-- the table is as long as it was
+pub as_long : (core new : Core) (place : ℕ) → PinsAt core new place true → place < length core.requests → place < length new.requests
+as_long core new place pins within =
+    let it = pins faultless in
+    let os = core.requests in
+    let is : length new.requests ≡ length os = ap (λ (s : State). length s.core.requests) it.is ∙ length-set os place (record it.request { request = with_pin it.request.request }) in
+    omega (arith, within, is)
 
 pub rooms_on : (a b c : Session) → SameRooms a b → SameRooms b c → SameRooms a c
 rooms_on a b c one two = record { requests = two.requests ∙ one.requests; flying = two.flying ∙ one.flying; bytes = two.bytes ∙ one.bytes }

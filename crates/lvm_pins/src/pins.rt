@@ -7,9 +7,11 @@ ghost use Rattle.lvm_session.specs.Fields.{core_of};
 ghost use Rattle.lvm_session.specs.Judging.{next_for};
 ghost use Rattle.lvm_session.specs.Rooms.{SameRooms};
 ghost use Rattle.lvm_session.specs.Sound.{IsGoing};
+ghost use Rattle.lvm_due.specs.Due.{IsDue};
 ghost use Rattle.lvm_pins.specs.Pinning.{PinGives, PinsAt};
 
 use lvm_copies::group_of;
+use lvm_due::Due;
 use lvm_firsts::{might_pin, next_at};
 use lvm_mwc::Pin;
 use lvm_path::Next;
@@ -58,15 +60,20 @@ fn pin_at(session: &mut Session, place: usize) -> bool
 
 /// The first request whose track group may be pinned pins it. Answers whether there is one; where there is
 /// none nothing changes.
-pub fn pin_first(session: &mut Session) -> bool
-    requires { IsGoing (core_of session.old) }
+pub fn pin_first(session: &mut Session, due: &mut Due) -> bool
+    requires going { IsGoing (core_of session.old) }
+    requires due { IsDue (core_of session.old) due.old }
     ensures gives { PinGives (core_of session.old) (core_of session.new) result }
     ensures rooms { SameRooms session.old session.new }
+    ensures due { IsDue (core_of session.new) due.new }
 {
-    for place in 0..session.requests.len() {
+    while due.pinning.from < due.pinning.to {
+        let place = due.pinning.from;
         if pin_at(session, place) {
+            due.pinned(session, place);
             return true;
         }
+        due.pinning.from += 1;
     }
     false
 }

@@ -150,3 +150,4 @@ pub record IsImaged (disk mib : ℕ) (status : ExitStatus) (chosen : Option ℕ)
   pub whole : status ≡ ended.Well → WhereTold image.before.content image.after.content (λ a b. b ≡ blank_image mib)
   pub front : status ≡ ended.SinkFault → WhereTold image.before.content image.after.content (λ a b. WritesFront (blank_image mib) [] b)
   pub cause : status ≡ ended.SinkFault → Rose image.before.faults image.after.faults
+  pub well : status ≡ ended.Well → image.after.faults ≡ image.before.faults

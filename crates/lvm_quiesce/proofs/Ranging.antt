@@ -18,7 +18,7 @@ use Rattle.lvm_write.proofs.Transfers.{rose_then, spends_then}
 use Rattle.lvm_core.proofs.Dark.{cut_landed}
 use Rattle.lvm_core.proofs.LeavesLemmas.{keeps_cut as entries_keep_cut}
 use Rattle.lvm_group.proofs.Entries.{keeps_cut, calm_cut}
-use Rattle.lvm_piece.specs.Keeping.{HaveLanded, NoneComesOn}
+use Rattle.lvm_piece.specs.Keeping.{HaveAllLanded, NoneComesOn}
 use Rattle.lvm_raw.specs.declared.fault.RawFault.{RawFault}
 use Rattle.lvm_raw.specs.declared.fault.RawFault.TheVariants as fault
 use Rattle.lvm_raw.specs.Asking.{IsRejected}
@@ -79,7 +79,7 @@ module _ {X : Type 0} (run disk at count : ℕ) (old : Device) (was : Log) where
           waited = spends.waits;
         };
         power = ap (λ (d : Device). d.power) cut.lit;
-        landed = λ unstuck closed. subst (λ (l : Log). HaveLanded l.facts) (sym entered) (cut_landed was closed);
+        landed = λ unstuck closed. subst (λ (l : Log). HaveAllLanded l.facts) (sym entered) (cut_landed was closed);
         later = subst (λ (l : Log). NoneComesOn was.facts l.facts) (sym entered) (entries_keep_cut was).later;
         cause = subst (λ (r : Result X RawFault). AnswerHasCause disk before old.counts new.counts r) (sym dark)
             (let rose = rose_before (ends_only cut.cut.ends).counts.cuts cut.cut.cuts.cuts in let same = ap (λ (d : Device). d.counts.cuts) cut.lit in record { later = omega (arith, rose.later, same); risen = omega (arith, rose.risen, same) });

@@ -9,7 +9,7 @@ use Rattle.lvm_steps.specs.Requests.{at as moment_of}
 use Rattle.lvm_stamps.specs.Behind.{IsBehind}
 use Rattle.lvm_transfer.specs.Transfer.{Relights}
 use Rattle.lvm_write.specs.Parts.{Spends}
-use Rattle.lvm_piece.specs.Keeping.{KeepsArrangements, HaveLanded, NoneComesOn}
+use Rattle.lvm_piece.specs.Keeping.{KeepsArrangements, HaveAllLanded, NoneComesOn}
 use Rattle.lvm_raw.specs.declared.fault.RawFault.{RawFault}
 use Rattle.lvm_raw.specs.declared.fault.RawFault.TheVariants as fault
 use Rattle.lvm_raw.specs.Asking.{IsRejected, MayAsk}
@@ -97,6 +97,6 @@ pub record RangeKeepsEach {X : Type 0} (run disk before after : ℕ) (old new : 
   pub rests : IsUnstuck given → (new ≡ old) ⊎ IsReady new.device
   pub shelf : KeepsArrangements before after old.device new.device
   pub power : new.device.power ≡ true
-  pub landed : IsUnstuck given → HaveLanded old.facts → HaveLanded new.facts
+  pub landed : IsUnstuck given → HaveAllLanded old.facts → HaveAllLanded new.facts
   pub later : NoneComesOn old.facts new.facts
   pub cause : AnswerHasCause disk before old.device.counts new.device.counts given

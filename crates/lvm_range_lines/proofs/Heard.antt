@@ -3,7 +3,7 @@ use Rattle.std.proofs.Common.{◌≡◌, ℕ, Bool, true, false, List, Option, r
 use Rattle.std.specs.Prelude.{Result, Ok, Err, IfOk}
 use Rattle.std.specs.Global.{Vec}
 use Rattle.lvm_disk.specs.Device.{Device}
-use Rattle.lvm_session.specs.State.{Core, State as Session}
+use Rattle.lvm_session.specs.State.{Core, State}
 use Rattle.lvm_posts.specs.declared.asked.Asked.{Asked}
 use Rattle.lvm_posts.specs.declared.fault.RangeFault.{RangeFault}
 use Rattle.lvm_posts.specs.declared.fault.RangeFault.TheVariants as fault
@@ -39,7 +39,7 @@ not_asked_heard name write at count old new why (Refuses lv fault named gives sa
 not_asked_heard name write at count old new why (Takes lv asked named gives says) = absurd (cc says)
 
 -- the lines of blocks
-pub blocks_heard : (at : ℕ) (end : Session) (asked : Asked) (answer : Reply) → ShowsBlocks at end asked answer → is_unheard answer ≡ false
+pub blocks_heard : (at : ℕ) (end : State) (asked : Asked) (answer : Reply) → ShowsBlocks at end asked answer → is_unheard answer ≡ false
 blocks_heard at end asked answer (NoMemory is) = ap is_unheard is
 blocks_heard at end asked answer (ShowsThem shows) = by shows.shows
   where

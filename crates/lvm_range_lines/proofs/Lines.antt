@@ -58,7 +58,7 @@ ends_heard facts asked have total (FirstFails k why less before fails is) =
 
 -- then some piece hasn't landed,
 stuck_unfinished : (asked : Asked) (left : ℕ) (old new : Session) → FinishGives asked left old new (Err fault.Stuck) → IsUnfinished asked new
-stuck_unfinished asked left old new (Finished mid path table takes) = absurd (ends_heard new.core.history.facts asked (votes_there mid.core) (total_votes mid.core.descriptor) takes.ends)
+stuck_unfinished asked left old new (Finished mid path table votes takes) = absurd (ends_heard new.core.history.facts asked (votes_there mid.core) (total_votes mid.core.descriptor) takes.ends)
 stuck_unfinished asked left old new (WasStuck path table unfinished none is) = unfinished
 
 -- and the session is on
@@ -105,7 +105,7 @@ module _ {S : Type 0} (device : S → Device) (first : S × Core) (posts : Vec P
   posted = others_posted mid.1 posts.items asked (kept posts.items between.posted) (asked_behind first.1 write count mid.1 asked posts.items between.session.sound.told.requests between.posted its) end.1 others
 
   -- why it ended otherwise than well
-  caused_so : (left lv : ℕ) (done : Ending) → AskRangeGives write lv at count first.1 mid.1 (Ok asked) → FinishGives asked left (state_of device mid) (state_of device end) done → IfErr done (RangeCause left (device first.0) (state_of device end))
+  caused_so : (left lv : ℕ) (done : Ending) → AskRangeGives write lv at count first.1 mid.1 (Ok asked) → FinishGives asked left (state_of device mid) (state_of device end) done → IfErr done (RangeCause lv left (state_of device first) (state_of device end))
   caused_so left lv (Ok well) gives finishes = tt
   caused_so left lv (Err why) gives finishes = range_cause write lv at count (device first.0) first.1 mid.1 asked left (state_of device end) why between.session.sound.told gives
       (subst (λ (s : S). FinishGives asked left (state (device s) mid.1) (state_of device end) (Err why)) shelf finishes) sound

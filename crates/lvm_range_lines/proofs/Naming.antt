@@ -2,14 +2,14 @@
 use Rattle.std.proofs.Common.{◌≡◌, ℕ, List, [], Option, Some, None, ap, subst, arith}
 use Rattle.std.specs.Prelude.{Contains, MatchOption, Result, Ok, Err}
 use Rattle.lvm_num.specs.declared.descriptor.LvRow.{LvRow}
-use Rattle.lvm_core.specs.Looking.{HasNoVolume, IsNumberOf}
+use Rattle.lvm_core.specs.Looking.{HasNoVolumeNamed, IsNumberOf}
 use Rattle.lvm_session.specs.State.{Core}
 use Rattle.lvm_posts.specs.declared.asked.Asked.{Asked}
 use Rattle.lvm_group_lines.specs.passed.Ranges.{AskRangeFault, AskRangeGives, Asks, range_fault}
 use Rattle.lvm_range_lines.specs.Requests.{AsksByName, HasNone, Refuses, Takes}
 
 -- where there is no volume none has the name
-pub none_named : (lvs : List LvRow) (name : List ℕ) → lvs ≡ [] → HasNoVolume lvs name
+pub none_named : (lvs : List LvRow) (name : List ℕ) → lvs ≡ [] → HasNoVolumeNamed lvs name
 none_named lvs name none row among = absurd (none_in row (subst (λ (rows : List LvRow). Contains rows row) none among))
   where
     none_in : (row : LvRow) → Contains [] row → ⊥

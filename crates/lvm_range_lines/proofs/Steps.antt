@@ -2,20 +2,20 @@
 use Rattle.std.proofs.Common.{◌≤◌, ℕ, arith}
 use Rattle.lvm_session.specs.declared.answers.Turned.{Turned}
 use Rattle.lvm_session.specs.declared.answers.Turned.TheVariants as turned
-use Rattle.lvm_session.specs.State.{State as Session}
+use Rattle.lvm_session.specs.State.{State}
 use Rattle.lvm_group_lines.specs.passed.Ranges.{AllMoved, LastEnded, StepEnds}
 use Rattle.lvm_group_lines.specs.passed.Stage.{most_refusals}
 use Rattle.lvm_range_lines.specs.Stepping.{StopsAs, step_reply}
 
 -- it is one refusal at most
-pub step_few : (moved : ℕ) (end : Session) (how : Turned) → most_refusals (step_reply moved end how) ≤ 1
+pub step_few : (moved : ℕ) (end : State) (how : Turned) → most_refusals (step_reply moved end how) ≤ 1
 step_few moved end turned.Moved = omega arith
 step_few moved end turned.Idle = omega arith
 step_few moved end turned.Dark = omega arith
 step_few moved end turned.Off = omega arith
 
 -- and the last turn tells of a session that is over
-pub step_stops : (turns moved : ℕ) (old end : Session) (how : Turned) → StepEnds turns old end moved how → StopsAs how end.core.power
+pub step_stops : (turns moved : ℕ) (old end : State) (how : Turned) → StepEnds turns old end moved how → StopsAs how end.core.power
 step_stops turns moved old end turned.Moved ends = tt
 step_stops turns moved old end turned.Idle ends = tt
 step_stops turns moved old end turned.Dark (AllMoved all is moves) = absurd (cc is)

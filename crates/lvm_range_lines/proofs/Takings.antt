@@ -9,11 +9,11 @@ use Rattle.lvm_vol.specs.Log.{Log, is_answered, request_of, taken_fact}
 use Rattle.lvm_vol.proofs.Asking.{follows_taken}
 use Rattle.lvm_history.proofs.Staying.{answered_stays}
 use Rattle.lvm_stamps.proofs.Clock.{later_joins}
-use Rattle.lvm_session.specs.State.{Core, State as Session, state}
+use Rattle.lvm_session.specs.State.{Core, State, state}
 use Rattle.lvm_posts.specs.declared.asked.Asked.{Asked}
 use Rattle.lvm_posts.specs.declared.posts.Post.{Post}
 use Rattle.lvm_posts.specs.Posts.{AreAnswered, takings}
-use Rattle.lvm_group_lines.specs.passed.Ranges.{AreApart, KeepsOthers, HaveLanded}
+use Rattle.lvm_group_lines.specs.passed.Ranges.{AreApart, KeepsOthers, HavePiecesLanded}
 use Rattle.lvm_group_lines.specs.passed.Earlier.{AreGone, with_taken}
 use Rattle.lvm_group_lines.proofs.passed.Earlier.{open_with}
 use Rattle.lvm_group_lines.specs.passed.Stage.{ArePosted, IsPosted}
@@ -101,20 +101,20 @@ module _ (facts : List Fact) (range other : Asked) (its : AreAnswered facts rang
 
 -- ---- what is entered
 
-pub enters_none : (s : Session) → Enters s s
+pub enters_none : (s : State) → Enters s s
 enters_none s = record { is = refl; keeps = λ began device span. span; later = record { opens = λ id. refl; later = λ moment later. later } }
 
-pub enters_then : (a b c : Session) → Enters a b → Enters b c → Enters a c
+pub enters_then : (a b c : State) → Enters a b → Enters b c → Enters a c
 enters_then a b c one two = record {
-  is = two.is ∙ ap (λ (s : Session). state s.device (with_entries s.core c.core.history.facts)) one.is;
+  is = two.is ∙ ap (λ (s : State). state s.device (with_entries s.core c.core.history.facts)) one.is;
   keeps = λ began device span. subst (λ n. Keeps n began (at device c.core.history.facts)) run_is (two.keeps began device (subst (λ n. Keeps n began (at device b.core.history.facts)) (sym run_is) (one.keeps began device span)));
   later = later_then a.core.history.facts b.core.history.facts c.core.history.facts one.later two.later;
 }
   where
     run_is : b.core.history.run ≡ a.core.history.run
-    run_is = ap (λ (s : Session). s.core.history.run) one.is
+    run_is = ap (λ (s : State). s.core.history.run) one.is
 
-pub enters_taken : (old new : Session) (range : Asked) → new ≡ state old.device (with_taken range old.core) → StaysKept old.core.history new.core.history → Enters old new
+pub enters_taken : (old new : State) (range : Asked) → new ≡ state old.device (with_taken range old.core) → StaysKept old.core.history new.core.history → Enters old new
 enters_taken old new range is kept = record {
   is = is ∙ ap (λ (fs : List Fact). state old.device (with_entries old.core fs)) (sym facts_are);
   keeps = kept;
@@ -122,7 +122,7 @@ enters_taken old new range is kept = record {
 }
   where
     facts_are : new.core.history.facts ≡ old.core.history.facts ++ takings old.core.history.facts range.first range.pieces
-    facts_are = ap (λ (s : Session). s.core.history.facts) is
+    facts_are = ap (λ (s : State). s.core.history.facts) is
 
 -- ---- what a post's answers leave of others
 
@@ -174,7 +174,7 @@ gone_rest core p none its = by p.ended refl
     by (Some votes) is = record { votes = votes; ended = is; answered = answered_of core.history.facts (Some core) p votes is its }
 
 -- so none has to land
-pub none_own : (core : Core) (posts : List Post) (s : Session) → core.requests ≡ [] → ArePosted core.history.facts (Some core) posts → AllHaveLanded posts s
+pub none_own : (core : Core) (posts : List Post) (s : State) → core.requests ≡ [] → ArePosted core.history.facts (Some core) posts → AllHaveLanded posts s
 none_own core posts s none its post among own =
     let p : IsPosted core.history.facts (Some core) post = subst (IsPosted core.history.facts (Some core)) among.2 (its.each among.0 post among.1) in
     let gone = gone_rest core post none p in
@@ -186,7 +186,7 @@ pub few_refused : (endings : List Ending) (a : Answers) (i most : ℕ) → Gathe
 few_refused endings a i most gathers long less few = let same = gathers.refused in let low = refusals_most endings in omega (arith, same, low, long, less, few)
 
 -- so far, while a session is on
-pub record TakenOn (first now : Session) (posts : List Post) (i : ℕ) (a : Answers) : Type 0 where
+pub record TakenOn (first now : State) (posts : List Post) (i : ℕ) (a : Answers) : Type 0 where
   pub endings : List Ending
   pub takes : TakesPosts first (take i posts) now endings
   pub gathers : Gathers endings a
@@ -196,7 +196,7 @@ pub record TakenOn (first now : Session) (posts : List Post) (i : ℕ) (a : Answ
   pub runs : RunsOn first now
   pub on : now.core.power ≡ power.On
 
-pub on_first : (first : Session) (posts : List Post) (a : Answers) → Gathers [] a → ArePosted first.core.history.facts (Some first.core) posts → AllHaveLanded posts first → first.core.power ≡ power.On → TakenOn first first posts 0 a
+pub on_first : (first : State) (posts : List Post) (a : Answers) → Gathers [] a → ArePosted first.core.history.facts (Some first.core) posts → AllHaveLanded posts first → first.core.power ≡ power.On → TakenOn first first posts 0 a
 on_first first posts a gathers posted landed on = record {
   endings = [];
   takes = subst (λ (ps : List Post). TakesPosts first ps first []) (sym (take_zero posts)) NoPost;
@@ -208,7 +208,7 @@ on_first first posts a gathers posted landed on = record {
   on = on;
 }
 
-module _ (first old : Session) (posts : List Post) (i : ℕ) (a : Answers) (d : Post) (within : i < length posts) (so_far : TakenOn first old posts i a) where
+module _ (first old : State) (posts : List Post) (i : ℕ) (a : Answers) (d : Post) (within : i < length posts) (so_far : TakenOn first old posts i a) where
   abbrev post : Post
   post = get_or posts i d
 
@@ -224,10 +224,10 @@ module _ (first old : Session) (posts : List Post) (i : ℕ) (a : Answers) (d : 
   pub posted_next : IsPosted old.core.history.facts (Some old.core) post
   posted_next = all_left.each 0 d (omega arith)
 
-  pub landed_next : post.ended ≡ None → HaveLanded post.asked old
+  pub landed_next : post.ended ≡ None → HavePiecesLanded post.asked old
   landed_next own = all_landed post (0, omega arith, refl) own
 
-  pub on_more : (new : Session) (answer : Ending) (b : Answers) → TakesPost post old new answer → LeavesOthers post.asked old.core new.core → RunsOn old new → new.core.power ≡ power.On
+  pub on_more : (new : State) (answer : Ending) (b : Answers) → TakesPost post old new answer → LeavesOthers post.asked old.core new.core → RunsOn old new → new.core.power ≡ power.On
       → ((endings : List Ending) → Gathers endings a → Gathers (endings ++ answer ∷ []) b) → TakenOn first new posts (i + 1) b
   on_more new answer b takes leaves runs on gathers = subst (λ n. TakenOn first new posts n b) next (record {
     endings = so_far.endings ++ answer ∷ [];
@@ -243,7 +243,7 @@ module _ (first old : Session) (posts : List Post) (i : ℕ) (a : Answers) (d : 
       next : suc i ≡ i + 1
       next = omega arith
 
-pub on_all : (first now : Session) (posts : List Post) (i : ℕ) (a : Answers) → length posts ≤ i → TakenOn first now posts i a → GathersPosts first posts now a
+pub on_all : (first now : State) (posts : List Post) (i : ℕ) (a : Answers) → length posts ≤ i → TakenOn first now posts i a → GathersPosts first posts now a
 on_all first now posts i a over so_far = record {
   endings = so_far.endings;
   takes = subst (λ (ps : List Post). TakesPosts first ps now so_far.endings) (take_whole posts i over) so_far.takes;

@@ -1,7 +1,7 @@
 -- What a line does that asks for a range of a volume.
 use Rattle.std.specs.Prelude.{◌≡◌, ◌∷◌, ◌++◌, ℕ, [], List, Option, Some, None, Result, Ok, Err, IfErr}
 use Rattle.lvm_num.specs.Buffer.{Sector}
-use Rattle.lvm_core.specs.Looking.{IsNumberOf, HasNoVolume}
+use Rattle.lvm_core.specs.Looking.{IsNumberOf, HasNoVolumeNamed}
 use Rattle.lvm_session.specs.Sound.{IsSound}
 use Rattle.lvm_session.specs.State.{Core, State as Session}
 use Rattle.lvm_group_lines.specs.passed.DiskLines.{blocks_text}
@@ -19,12 +19,12 @@ use Rattle.lvm_range_lines.specs.Refusals.{ask_refusal, range_refusal}
 -- The line is refused where no group is on, or has no volume of this name; else this happens to the session and the volume of that number.
 pub data OnVolume (name : List ℕ) (Happens : Core → ℕ → Type 0) (old new : State) (answer : Reply) : Type 0 where
   WhileOff : old.session ≡ None → IsRefused refusal.NoGroup answer old new → OnVolume name Happens old new answer
-  NotThere : (core : Core) → old.session ≡ Some core → HasNoVolume core.descriptor.lvs name → IsRefused refusal.NoVolume answer old new → OnVolume name Happens old new answer
+  NotThere : (core : Core) → old.session ≡ Some core → HasNoVolumeNamed core.descriptor.lvs name → IsRefused refusal.NoVolume answer old new → OnVolume name Happens old new answer
   There : (core : Core) (lv : ℕ) → old.session ≡ Some core → IsNumberOf core.descriptor.lvs name lv → Happens core lv → OnVolume name Happens old new answer
 
 -- A range of the volume of this name is asked for; or there is none, or something is against it, and nothing changes.
 pub data AsksByName (name : List ℕ) (write : Option ℕ) (at count : ℕ) (old new : Core) (answer : Result Asked Refusal) : Type 0 where
-  HasNone : HasNoVolume old.descriptor.lvs name → new ≡ old → answer ≡ Err refusal.NoVolume → AsksByName name write at count old new answer
+  HasNone : HasNoVolumeNamed old.descriptor.lvs name → new ≡ old → answer ≡ Err refusal.NoVolume → AsksByName name write at count old new answer
   Refuses : (lv : ℕ) (why : AskRangeFault) → IsNumberOf old.descriptor.lvs name lv → AskRangeGives write lv at count old new (Err why) → new ≡ old → answer ≡ Err (ask_refusal why)
       → AsksByName name write at count old new answer
   Takes : (lv : ℕ) (asked : Asked) → IsNumberOf old.descriptor.lvs name lv → AskRangeGives write lv at count old new (Ok asked) → answer ≡ Ok asked → AsksByName name write at count old new answer
@@ -59,14 +59,14 @@ PostDoes name at count word old new answer = OnVolume name (λ core lv. Posts lv
 
 -- ---- wr and rd
 
--- It is asked for and waited for, and its answers are taken; so much patience is left. Where it ended otherwise than well, that has its cause since it was asked for.
+-- It is asked for and waited for, and its answers are taken; so much patience is left. Where it ended otherwise than well, that has its cause.
 pub record IsFinished (write : Option ℕ) (lv at count : ℕ) (core : Core) (old new : State) (end : Session) (asked : Asked) (done : Result (Unit {0}) RangeFault) : Type 0 where
   pub begun : Core
   pub gives : AskRangeGives write lv at count core begun (Ok asked)
   pub left : ℕ
   pub finishes : FinishGives asked left (session_over old begun) end done
   pub waited : Waited left (session_over old begun) end
-  pub caused : IfErr done (RangeCause left old.moment.device end)
+  pub caused : IfErr done (RangeCause lv left (session_over old core) end)
   pub runs : RunsOn (session_over old core) end
   pub sound : IsSound end
   pub ends : EndsBy done end old.posts old.last new

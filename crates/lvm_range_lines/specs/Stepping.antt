@@ -7,6 +7,7 @@ use Rattle.lvm_session.specs.declared.open.Power.{Power}
 use Rattle.lvm_session.specs.declared.open.Power.TheVariants as power
 use Rattle.lvm_session.specs.Sound.{IsSound}
 use Rattle.lvm_session.specs.State.{Core, State as Session, votes_there}
+use Rattle.lvm_turn_losses.specs.Losing.{LosesVotesByFaults}
 use Rattle.lvm_group_lines.specs.passed.Running.{RunsOn}
 use Rattle.lvm_group_lines.specs.passed.Ranges.{StepEnds}
 use Rattle.lvm_group_lines.specs.passed.Stage.{State, IsRefused, Reply}
@@ -28,13 +29,14 @@ StopsAs turned.Idle left = Unit {0}
 StopsAs turned.Dark left = left ≡ power.Dark
 StopsAs turned.Off left = left ≡ power.Off
 
--- the turns of a session are made
+-- the turns of a session are made, and lose the votes by faults alone
 pub record IsStepped (turns : ℕ) (core : Core) (old new : State) (answer : Reply) : Type 0 where
   pub end : Session
   pub moved : ℕ
   pub how : Turned
   pub ends : StepEnds turns (session_over old core) end moved how
   pub stops : StopsAs how end.core.power
+  pub votes : LosesVotesByFaults (session_over old core) end
   pub runs : RunsOn (session_over old core) end
   pub sound : IsSound end
   pub leaves : Leaves end old.posts old.last new

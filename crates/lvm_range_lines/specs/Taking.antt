@@ -12,12 +12,12 @@ use Rattle.lvm_steps.specs.Requests.{at}
 use Rattle.lvm_session.specs.declared.open.Power.{Power}
 use Rattle.lvm_session.specs.declared.open.Power.TheVariants as power
 use Rattle.lvm_session.specs.Sound.{IsSound}
-use Rattle.lvm_session.specs.State.{Core, State as Session, state}
+use Rattle.lvm_session.specs.State.{Core, State, state}
 use Rattle.lvm_group_lines.specs.passed.Driver.{state_of, IsAny}
 use Rattle.lvm_posts.specs.declared.asked.Asked.{Asked}
 use Rattle.lvm_posts.specs.declared.posts.Post.{Post}
 use Rattle.lvm_posts.specs.Posts.{AreAnswered, AreHeld}
-use Rattle.lvm_group_lines.specs.passed.Ranges.{Stuck, AreApart, HaveLanded, IsUnfinished, TurnsFor}
+use Rattle.lvm_group_lines.specs.passed.Ranges.{Stuck, AreApart, HavePiecesLanded, IsUnfinished, TurnsFor}
 use Rattle.lvm_group_lines.specs.passed.Earlier.{AreGone}
 use Rattle.lvm_group_lines.specs.passed.Running.{RunsOn}
 use Rattle.lvm_group_lines.specs.passed.Stage.{Reply, Stage, IsEnded, history_in, session_in, shelf_in}
@@ -30,17 +30,17 @@ use Rattle.lvm_range_lines.specs.Waiting.{AllHaveLanded, IsAwaited, TakesGone, T
 -- ---- turns
 
 -- a post of the session has landed, or hasn't and no patience is left; one of a session that is gone isn't waited for
-pub data AwaitsPost (post : Post) (left : ℕ) (old new : Session) (answer : Result (Unit {0}) Stuck) : Type 0 where
+pub data AwaitsPost (post : Post) (left : ℕ) (old new : State) (answer : Result (Unit {0}) Stuck) : Type 0 where
   IsGone : (votes : ℕ × ℕ) → post.ended ≡ Some votes → new ≡ old → answer ≡ Ok tt → AwaitsPost post left old new answer
-  HasLanded : post.ended ≡ None → Path (TurnsFor post.asked) IsAny old new → HaveLanded post.asked new → answer ≡ Ok tt → AwaitsPost post left old new answer
+  HasLanded : post.ended ≡ None → Path (TurnsFor post.asked) IsAny old new → HavePiecesLanded post.asked new → answer ≡ Ok tt → AwaitsPost post left old new answer
   IsInVain : post.ended ≡ None → Path (TurnsFor post.asked) IsAny old new → IsUnfinished post.asked new → left ≡ 0 → (why : Stuck) → answer ≡ Err why → AwaitsPost post left old new answer
 
 -- so it is of all
-abbrev pub EndsAwaiting : List Post → ℕ → Session → Result (Unit {0}) Stuck → Type 0
+abbrev pub EndsAwaiting : List Post → ℕ → State → Result (Unit {0}) Stuck → Type 0
 EndsAwaiting posts left new (Ok done) = AllHaveLanded posts new
 EndsAwaiting posts left new (Err stuck) = IsAwaited posts new × (left ≡ 0)
 
-pub record AwaitsPosts (posts : List Post) (left : ℕ) (old new : Session) (answer : Result (Unit {0}) Stuck) : Type 0 where
+pub record AwaitsPosts (posts : List Post) (left : ℕ) (old new : State) (answer : Result (Unit {0}) Stuck) : Type 0 where
   pub turns : Path (TurnsForPosts posts) IsAny old new
   pub ends : EndsAwaiting posts left new answer
 
@@ -58,7 +58,7 @@ pub record GathersGone (old : List Fact) (posts : List Post) (new : List Fact) (
   pub gathers : Gathers endings answers
 
 -- or while a session is on
-pub record GathersPosts (old : Session) (posts : List Post) (new : Session) (answers : Answers) : Type 0 where
+pub record GathersPosts (old : State) (posts : List Post) (new : State) (answers : Answers) : Type 0 where
   pub endings : List Ending
   pub takes : TakesPosts old posts new endings
   pub gathers : Gathers endings answers
@@ -72,7 +72,7 @@ abbrev pub with_entries : Core → List Fact → Core
 with_entries core facts = record core { history = record core.history { facts = facts } }
 
 -- something is entered in it by which all stays kept, and nothing else changes
-pub record Enters (old new : Session) : Type 0 where
+pub record Enters (old new : State) : Type 0 where
   pub is : new ≡ state old.device (with_entries old.core new.core.history.facts)
   pub keeps : StaysKept old.core.history new.core.history
   pub later : KeepsLater old.core.history.facts new.core.history.facts

@@ -11,7 +11,7 @@ use Rattle.lvm_group_lines.specs.passed.Driver.{IsCausedFor, IsAny, IsTurn}
 use Rattle.lvm_posts.specs.declared.posts.Post.{Post}
 use Rattle.lvm_posts.specs.Deciding.{RangeEnds}
 use Rattle.lvm_posts.specs.Posts.{takings}
-use Rattle.lvm_group_lines.specs.passed.Ranges.{HaveLanded, IsUnfinished, TakesRange}
+use Rattle.lvm_group_lines.specs.passed.Ranges.{HavePiecesLanded, IsUnfinished, TakesRange}
 use Rattle.lvm_group_lines.specs.passed.Earlier.{with_taken}
 use Rattle.lvm_group_lines.specs.passed.Stage.{State, Reply}
 use Rattle.lvm_group_lines.specs.passed.RefusalVariants as refusal
@@ -52,7 +52,7 @@ pub record IsAwaited (posts : List Post) (s : Session) : Type 0 where
 
 -- all have
 abbrev pub AllHaveLanded : List Post → Session → Type 0
-AllHaveLanded posts s = (post : Post) → Contains posts post → post.ended ≡ None → HaveLanded post.asked s
+AllHaveLanded posts s = (post : Post) → Contains posts post → post.ended ≡ None → HavePiecesLanded post.asked s
 
 -- a turn that is made while some hasn't: a path of these makes no turn more once all have
 abbrev pub TurnsForPosts : List Post → Session → Session → Type 0

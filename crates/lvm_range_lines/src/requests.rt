@@ -1,7 +1,6 @@
 //! The lines that read or write a range of a volume.
 ghost use Rattle.std.specs.Prelude.{◌≡◌, ◌≤◌, ◌<◌, ◌++◌, ◌∷◌, ℕ, [], Some, None, vec_capacity, vec_len, IfOk};
 ghost use Rattle.lvm_session.specs.declared.open.Power.TheVariants as power;
-ghost use Rattle.lvm_session.specs.Sound.{IsSound};
 ghost use Rattle.lvm_group_lines.specs.passed.Driver.{state_of};
 ghost use Rattle.lvm_posts.specs.Pieces.{IsLaidOut};
 ghost use Rattle.lvm_posts.specs.Posts.{AreHeld};
@@ -85,7 +84,7 @@ fn post_on<S: Shelf>(
 {
     match ask(driver, name, at, count, Some(word), bytes) {
         Ok(asked) => {
-            is_sound(driver);
+            driver.is_sound();
             add(posts, Post { asked, ended: None });
             Reply::Posted
         }
@@ -121,13 +120,6 @@ pub fn do_post<S: Shelf>(stage: &mut Stage<S>, name: Name, at: u64, count: u32, 
 }
 
 // ---- wr and rd
-
-// The session is sound at every moment.
-fn is_sound<S: Shelf>(driver: &Driver<S>)
-    ensures { IsSound (state_of S.device driver.now) }
-{
-    let _ = driver.power();
-}
 
 // The reply after a range was waited for.
 fn finished(done: Result<Reply, RangeFault>) -> Reply
@@ -174,7 +166,7 @@ fn wr_on<S: Shelf>(
     match ask(driver, name, at, count, Some(word), bytes) {
         Ok(asked) => {
             let done = write_reply(driver, &asked);
-            is_sound(driver);
+            driver.is_sound();
             finished(done)
         }
         Err(why) => Reply::Refused(why),
@@ -253,7 +245,7 @@ fn rd_on<S: Shelf>(
     match ask(driver, name, at, count, None, bytes) {
         Ok(asked) => {
             let done = read_reply(alloc, driver, &asked, count);
-            is_sound(driver);
+            driver.is_sound();
             finished(done)
         }
         Err(why) => Reply::Refused(why),

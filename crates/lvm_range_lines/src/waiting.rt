@@ -14,7 +14,7 @@ ghost use Rattle.lvm_posts.specs.Deciding.{RangeEnds};
 ghost use Rattle.lvm_posts.specs.Pieces.{IsLaidOut};
 ghost use Rattle.lvm_posts.specs.Posts.{AreAnswered};
 ghost use Rattle.lvm_group_lines.specs.passed.Earlier.{with_taken};
-ghost use Rattle.lvm_group_lines.specs.passed.Ranges.{KeepsTable, HaveLanded};
+ghost use Rattle.lvm_group_lines.specs.passed.Ranges.{KeepsTable, HavePiecesLanded};
 ghost use Rattle.lvm_group_lines.specs.passed.Running.{RunsOn};
 ghost use Rattle.lvm_group_lines.specs.passed.Stage.{EndsUnasked, OfRequests, IsBetweenStage, IsFitting, history_in, session_in, ArePosted, IsPosted};
 ghost use Rattle.lvm_vol.specs.Order.{Ordered};
@@ -172,13 +172,13 @@ fn take_at_rest<S: Shelf>(
 fn take_one<S: Shelf>(driver: Driver<S>, post: &Post) -> (Driver<S>, Result<(), RangeFault>)
     requires on { driver.1.power ≡ power.On }
     requires posted { IsPosted driver.1.history.facts (Some driver.1) post.now }
-    requires landed { post.now.ended ≡ None → HaveLanded post.now.asked (state_of S.device driver) }
+    requires landed { post.now.ended ≡ None → HavePiecesLanded post.now.asked (state_of S.device driver) }
     ensures takes { TakesPost post.now (state_of S.device driver) (state_of S.device result.0) result.1 }
     ensures left { LeavesOthers post.now.asked driver.1 result.0.1 }
     ensures runs { RunsOn (state_of S.device driver) (state_of S.device result.0) }
     ensures on { result.0.1.power ≡ power.On }
 {
-    is_sound(&driver);
+    driver.is_sound();
     match post.ended {
         Some((have, total)) => take_earlier(driver, &post.asked, have, total),
         None => {
@@ -207,15 +207,8 @@ fn take_on<S: Shelf>(alloc: Global, driver: Driver<S>, posts: &[Post]) -> (Drive
         driver = next;
         answers = answers.with(answer);
     }
-    is_sound(&driver);
+    driver.is_sound();
     (driver, answers)
-}
-
-// The session is sound at every moment.
-fn is_sound<S: Shelf>(driver: &Driver<S>)
-    ensures { IsSound (state_of S.device driver.now) }
-{
-    let _ = driver.power();
 }
 
 // ---- the line
@@ -256,7 +249,7 @@ fn wait_landed<S: Shelf>(
     ensures fits { IsFitting result.stage }
     ensures sound { IsSound (state_of S.device driver) }
 {
-    is_sound(&driver);
+    driver.is_sound();
     match driver.power() {
         Power::On => {
             let (driver, answers) = take_on(alloc, driver, &posts);
@@ -292,7 +285,7 @@ fn wait_on<S: Shelf>(
     match await_posts(&mut driver, &posts, &mut patience) {
         Ok(()) => wait_landed(alloc, driver, posts, bytes),
         Err(Stuck) => {
-            is_sound(&driver);
+            driver.is_sound();
             Stage::ended(driver, posts, bytes).refused(Refusal::Stuck)
         }
     }

@@ -33,7 +33,7 @@ use Rattle.lvm_posts.specs.declared.fault.RangeFault.{RangeFault}
 use Rattle.lvm_posts.specs.Posts.{AreHeld}
 use Rattle.lvm_ranges.specs.Keeping.{AreApart, KeepsOthers}
 use Rattle.lvm_ranges.specs.Finishing.{HasLandedSo, TakesRange}
-use Rattle.lvm_ranges.specs.Landing.{HaveLanded}
+use Rattle.lvm_ranges.specs.Landing.{HavePiecesLanded}
 use Rattle.lvm_posts.specs.Pieces.{piece_lp}
 use Rattle.lvm_posts.specs.Deciding.{EndsWith, RangeEnds, fault_by}
 use Rattle.lvm_posts.proofs.Deciding.{DecidesSoFar, decides_more, none_yet}
@@ -158,14 +158,14 @@ pub record TakingSoFar (first now : State) (asked : Asked) (have total n : ℕ) 
   pub takes : Takes asked.first first.core n now.core
   pub decides : DecidesSoFar now.core.history.facts asked have total n fault
   pub held : (k : ℕ) → n ≤ k → k < asked.pieces → list_any (is_asked 1 (asked.first + k)) now.core.requests ≡ true
-  pub landed : HaveLanded asked now
+  pub landed : HavePiecesLanded asked now
   pub fewer : length now.core.requests + n ≡ length first.core.requests
   pub others : KeepsOthers asked first.core now.core
   pub power_is : now.core.power ≡ first.core.power
   pub outcomes : (id : ℕ) → outcome_in now.core.history.facts id ≡ outcome_in first.core.history.facts id
   pub runs : RunsOn first now
 
-pub takes_none : (first : State) (asked : Asked) (have total : ℕ) → AreHeld first.core asked → HaveLanded asked first → TakingSoFar first first asked have total 0 None
+pub takes_none : (first : State) (asked : Asked) (have total : ℕ) → AreHeld first.core asked → HavePiecesLanded asked first → TakingSoFar first first asked have total 0 None
 takes_none first asked have total held landed = record {
   shelf = refl;
   takes = NoTake;
@@ -321,7 +321,7 @@ landed_for s id how sound held told = record { request = o; found = one.1; lande
 
 -- ---- all of them
 
-pub takes_all : (first now : State) (asked : Asked) (have total n : ℕ) (fault : Option RangeFault) (answer : Result (Unit {0}) RangeFault) → IsSound first → AreHeld first.core asked → HaveLanded asked first → have ≡ votes_there first.core → total ≡ total_votes first.core.descriptor
+pub takes_all : (first now : State) (asked : Asked) (have total n : ℕ) (fault : Option RangeFault) (answer : Result (Unit {0}) RangeFault) → IsSound first → AreHeld first.core asked → HavePiecesLanded asked first → have ≡ votes_there first.core → total ≡ total_votes first.core.descriptor
     → n ≡ asked.pieces → TakingSoFar first now asked have total n fault → RangeEnds now.core.history.facts asked have total answer → TakesRange asked first now answer
 takes_all first now asked have total n fault answer sound held landed have_is total_is last so_far ends = record {
   landed = landed;

@@ -34,5 +34,5 @@ others_then asked old mid new table others = record {
 
 -- a range that is answered Ok has ended well
 pub ended_well : (asked : Asked) (left : ℕ) (old new : State) → FinishGives asked left old new (Ok tt) → HasEndedWell new.core.history.facts asked
-ended_well asked left old new (Finished mid path table takes) = (votes_there mid.core, total_votes mid.core.descriptor, takes.ends)
+ended_well asked left old new (Finished mid path table votes takes) = (votes_there mid.core, total_votes mid.core.descriptor, takes.ends)
 ended_well asked left old new (WasStuck path table unfinished none is) = absurd (cc is)

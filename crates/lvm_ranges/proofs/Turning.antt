@@ -22,11 +22,14 @@ use Rattle.lvm_keeps_events.proofs.Standing.{never_stands_still}
 use Rattle.lvm_running.specs.Running.{RunsOn}
 use Rattle.lvm_running.proofs.Running.{runs_both, runs_none}
 use Rattle.lvm_turn_answers.specs.Telling.{TurnTells, power_by}
+use Rattle.lvm_turn_losses.specs.Losing.{LosesByFaults, LosesVotesByFaults}
+use Rattle.lvm_turn_losses.proofs.Losing.{loses_both, loses_none, turn_loses}
+use Rattle.lvm_turn_losses.proofs.Votes.{votes_go}
 use Rattle.lvm_driver.specs.Drains.{IsAny, LastTurn, NoTurn, ThenMoves, ThenWaits, TurnsWhile}
 use Rattle.lvm_turn_answers.proofs.Stepping.{turn_counts}
 use Rattle.lvm_posts.specs.declared.asked.Asked.{Asked}
 use Rattle.lvm_ranges.specs.Keeping.{KeepsTable}
-use Rattle.lvm_ranges.specs.Landing.{AwaitCosts, HaveLanded, IsUnfinished, TurnsFor}
+use Rattle.lvm_ranges.specs.Landing.{AwaitCosts, HavePiecesLanded, IsUnfinished, TurnsFor, TurnsLeave}
 use Rattle.lvm_ranges.proofs.Tables.{table_same, table_then, turn_table}
 
 -- what goes on over turns, and over each call
@@ -34,9 +37,10 @@ pub record GoesWith (first now : State) : Type 0 where
   pub table : KeepsTable first.core now.core
   pub unstuck : now.core.power ≡ power.Stuck → ⊥
   pub runs : RunsOn first now
+  pub loses : LosesByFaults first now
 
 pub at_first : (first : State) → (first.core.power ≡ power.Stuck → ⊥) → GoesWith first first
-at_first first unstuck = record { table = table_same first.core; unstuck = unstuck; runs = runs_none first }
+at_first first unstuck = record { table = table_same first.core; unstuck = unstuck; runs = runs_none first; loses = loses_none first }
 
 -- no turn leaves a session stuck
 not_stuck : (answer : Turned) → power_by answer ≡ power.Stuck → ⊥
@@ -50,7 +54,15 @@ with_turn first old new answer so_far sound made tells runs = record {
   table = table_then first.core old.core new.core so_far.table (turn_table old new answer sound made);
   unstuck = λ stuck. not_stuck answer (sym tells.power_is ∙ stuck);
   runs = runs_both first old new so_far.runs runs;
+  loses = loses_both first old new so_far.runs.leaves.keeps.counts runs.leaves.keeps.counts so_far.loses (turn_loses old new answer sound made);
 }
+
+-- so the votes go by faults alone
+pub votes_with : (first now : State) → GoesWith first now → LosesVotesByFaults first now
+votes_with first now on = votes_go first now on.runs.leaves.keeps.descriptor on.loses
+
+pub turns_leave : (first now : State) → GoesWith first now → TurnsLeave first now
+turns_leave first now on = record { table = on.table; runs = on.runs; votes = votes_with first now on }
 
 -- So far turns were made while some piece hadn't landed, and the patience that is gone went with answers that nothing has ended.
 pub record Goes (asked : Asked) (first now : State) (patience left : ℕ) : Type 0 where
@@ -88,7 +100,7 @@ none_waits (o ∷ os) id all = by (is_waiting o) all.0.landed (none_waits os id 
     by false is rest = rest
 
 -- once a session is over each range has landed
-over_landed : (asked : Asked) (s : State) → IsSound s → IsOver s → HaveLanded asked s
+over_landed : (asked : Asked) (s : State) → IsSound s → IsOver s → HavePiecesLanded asked s
 over_landed asked s sound over k less = sound.told.each (asked.first + k) ∙ none_waits s.core.requests (asked.first + k) over.landed
 
 ends_so : (answer : Turned) → (answer ≡ turned.Dark) ⊎ (answer ≡ turned.Off) → is_last answer ≡ true
@@ -105,7 +117,7 @@ module _ (asked : Asked) (first old new : State) (patience left : ℕ) (so_far :
   pub goes : IsSound old → (answer : Turned) → TurnMakes old new answer → TurnTells old new answer → RunsOn old new → Goes asked first new patience left
   goes sound answer made tells runs = record { turns = path answer made; on = with_turn first old new answer so_far.on sound made tells runs; fewer = so_far.fewer; waited = waited_on answer made }
 
-  pub landed_at_end : IsSound old → (answer : Turned) → TurnMakes old new answer → TurnTells old new answer → (answer ≡ turned.Dark) ⊎ (answer ≡ turned.Off) → HaveLanded asked new
+  pub landed_at_end : IsSound old → (answer : Turned) → TurnMakes old new answer → TurnTells old new answer → (answer ≡ turned.Dark) ⊎ (answer ≡ turned.Off) → HavePiecesLanded asked new
   landed_at_end sound answer made tells ended = let last = ends_so answer ended in over_landed asked new (turn_ends old new answer sound made last).0 (tells.over last)
 
   -- while a piece hasn't landed some transfer is out

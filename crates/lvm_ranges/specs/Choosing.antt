@@ -15,7 +15,7 @@ AreSince faults o = AllByRecursion (λ (t : Target). faults t.pp.disk ≤ t.faul
 abbrev pub AreAllSince : (ℕ → ℕ) → ℕ → Core → Type 0
 AreAllSince faults from core = AllByRecursion (λ (o : Open). from ≤ o.request.id → AreSince faults o) core.requests
 
--- A turn chooses targets by the faults that their disks have then: where none was chosen before faults that the disks had at first, none is behind it.
+-- A turn chooses targets by no fewer faults than their disks had before it: where none was chosen before faults that the disks had at first, none is behind it.
 abbrev pub TurnChoosesSince : Type 0
 TurnChoosesSince = (old new : State) (answer : Turned) → TurnMakes old new answer
     → (faults : ℕ → ℕ) (from : ℕ) → ((disk : ℕ) → faults disk ≤ old.device.counts.faults disk) → AreAllSince faults from old.core → AreAllSince faults from new.core

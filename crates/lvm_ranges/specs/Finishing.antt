@@ -1,5 +1,6 @@
 -- A range is waited for, and its answers are taken.
-use Rattle.std.specs.Prelude.{◌≡◌, ◌<◌, ◌≤◌, ◌+◌, ◌*◌, ℕ, Some, Result, Ok, Err, find, length}
+use Rattle.std.specs.Prelude.{◌≡◌, ◌⊎◌, ◌<◌, ◌≤◌, ◌+◌, ◌*◌, ℕ, false, Some, Result, Ok, Err, find, length}
+use Rattle.std.specs.List.{list_any}
 use Rattle.lvm_disk.specs.Counts.{Rose}
 use Rattle.lvm_disk.specs.Device.{Device}
 use Rattle.lvm_disk.specs.Paths.{Path}
@@ -8,15 +9,17 @@ use Rattle.lvm_vol.specs.declared.entry.Outcome.{Outcome}
 use Rattle.lvm_session.specs.declared.open.Open.{Open}
 use Rattle.lvm_session.specs.declared.open.Power.TheVariants as power
 use Rattle.lvm_session.specs.Calls.{is_asked}
-use Rattle.lvm_session.specs.Causes.{AnyFailedSince, IsLandedFor}
+use Rattle.lvm_session.specs.Causes.{AnyFailedSince, IsLandedFor, was_usable}
+use Rattle.lvm_session.specs.Judging.{copies_in}
 use Rattle.lvm_session.specs.Sound.{outcome_in}
-use Rattle.lvm_session.specs.State.{State, votes_there}
+use Rattle.lvm_session.specs.State.{Core, State, state, votes_there}
+use Rattle.lvm_turn_losses.specs.Losing.{LosesVotesByFaults, LostForFaults}
 use Rattle.lvm_driver.specs.Drains.{IsAny, TurnsWhile}
 use Rattle.lvm_posts.specs.declared.asked.Asked.{Asked}
 use Rattle.lvm_posts.specs.declared.fault.RangeFault.{RangeFault}
 use Rattle.lvm_posts.specs.declared.fault.RangeFault.TheVariants as fault
 use Rattle.lvm_ranges.specs.Keeping.{KeepsTable}
-use Rattle.lvm_ranges.specs.Landing.{AwaitCosts, HaveLanded, IsUnfinished, TurnsFor}
+use Rattle.lvm_ranges.specs.Landing.{AwaitCosts, HavePiecesLanded, IsUnfinished, TurnsFor}
 use Rattle.lvm_posts.specs.Deciding.{RangeEnds}
 use Rattle.lvm_ranges.specs.Taking.{Takes}
 
@@ -29,7 +32,7 @@ pub record HasLandedSo (s : State) (id : ℕ) (how : Outcome) : Type 0 where
 
 -- The answers of a range that has landed are taken, and the first that isn't well decides its own; each has its cause.
 pub record TakesRange (asked : Asked) (old new : State) (answer : Result (Unit {0}) RangeFault) : Type 0 where
-  pub landed : HaveLanded asked old
+  pub landed : HavePiecesLanded asked old
   pub shelf : new.device ≡ old.device
   pub takes : Takes asked.first old.core asked.pieces new.core
   pub fewer : length new.core.requests + asked.pieces ≡ length old.core.requests
@@ -38,9 +41,10 @@ pub record TakesRange (asked : Asked) (old new : State) (answer : Result (Unit {
   -- why each piece landed as the history tells
   pub caused : (k : ℕ) (how : Outcome) → k < asked.pieces → outcome_in new.core.history.facts (asked.first + k) ≡ Some how → HasLandedSo old (asked.first + k) how
 
--- Turns are made until the first moment at which each piece has landed, and its answers are taken; or the patience has run out before.
+-- Turns are made until the first moment at which each piece has landed, and its answers are taken; or the patience has run out before. The turns lose the votes
+-- by faults alone.
 pub data FinishGives (asked : Asked) (left : ℕ) (old new : State) (answer : Result (Unit {0}) RangeFault) : Type 0 where
-  Finished : (mid : State) → Path (TurnsFor asked) IsAny old mid → KeepsTable old.core mid.core → TakesRange asked mid new answer → FinishGives asked left old new answer
+  Finished : (mid : State) → Path (TurnsFor asked) IsAny old mid → KeepsTable old.core mid.core → LosesVotesByFaults old mid → TakesRange asked mid new answer → FinishGives asked left old new answer
   WasStuck : Path (TurnsFor asked) IsAny old new → KeepsTable old.core new.core → IsUnfinished asked new → left ≡ 0 → answer ≡ Err fault.Stuck → FinishGives asked left old new answer
 
 -- The turns before the answers are taken cost what the waiting does; or it has cost all of the patience.
@@ -54,12 +58,17 @@ pub data FinishCosts (asked : Asked) (patience left : ℕ) (old new : State) (an
 abbrev pub AnyFailed : Device → Device → Type 0
 AnyFailed old new = (disk : ℕ) × Rose (old.counts.faults disk) (new.counts.faults disk)
 
--- What a range that was asked for on this shelf, and waited for with so much patience left, ended for: the power is off; nothing was heard any more; the votes
--- are lost, and a transfer has failed since the session began; or a transfer has failed since the range was asked for.
-abbrev pub RangeCause : ℕ → Device → State → RangeFault → Type 0
-RangeCause left first end fault.Dark = end.core.power ≡ power.Dark
-RangeCause left first end fault.Stuck = left ≡ 0
-RangeCause left first end (fault.WentOff have total) = (2 * have ≤ total) × AnyFailedSince end
-RangeCause left first end fault.Lost = AnyFailed first end.device
-RangeCause left first end fault.ReadFailed = AnyFailed first end.device
-RangeCause left first end (fault.NoFresh lp) = Unit {0}
+-- a transfer has failed on the shelf since the session began, or no copy of the logical partition of a volume could be used then
+abbrev pub LacksSource : Core → Device → ℕ → ℕ → Type 0
+LacksSource core device lv lp = AnyFailedSince (state device core) ⊎ (list_any (was_usable core) (copies_in core.descriptor lv lp) ≡ false)
+
+-- What a range of a volume that was asked for in this state, and waited for with so much patience left, ended for: the power is off; nothing was heard any more; the votes
+-- are lost, with a transfer that failed since the session began, and were lost then, or with one that failed since; a transfer has failed since then; or a logical
+-- partition of it lacks a source.
+abbrev pub RangeCause : ℕ → ℕ → State → State → RangeFault → Type 0
+RangeCause lv left first end fault.Dark = end.core.power ≡ power.Dark
+RangeCause lv left first end fault.Stuck = left ≡ 0
+RangeCause lv left first end (fault.WentOff have total) = (2 * have ≤ total) × AnyFailedSince end × LostForFaults first end
+RangeCause lv left first end fault.Lost = AnyFailed first.device end.device
+RangeCause lv left first end fault.ReadFailed = AnyFailed first.device end.device
+RangeCause lv left first end (fault.NoFresh lp) = LacksSource first.core end.device lv lp

@@ -11,7 +11,6 @@ ghost use Rattle.lvm_raw.specs.Pieces.{piece_count};
 ghost use Rattle.lvm_ranges.specs.Pieces.{Submits, piece_ask, with_piece};
 
 use crate::refusal::AskRangeFault;
-use crate::sound::is_sound;
 use lvm_copies::{partition_blocks, volume_of};
 use lvm_disk::Shelf;
 use lvm_driver::Driver;
@@ -192,7 +191,7 @@ fn ask_whole<S: Shelf>(
     ensures leaves { StaysServing S.device driver.old driver.new }
     ensures room { 131072 ≤ vec_capacity bytes.new }
 {
-    is_sound(driver);
+    driver.is_sound();
     let mib = driver.descriptor().mib;
     let place = driver.history().block_count();
     let pieces = piece_count(at, count);

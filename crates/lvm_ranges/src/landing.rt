@@ -3,14 +3,11 @@ ghost use Rattle.std.specs.Prelude.{◌≡◌, ◌≤◌, ◌<◌, ◌+◌, ◌-
 ghost use Rattle.lvm_disk.specs.Paths.{Path};
 ghost use Rattle.lvm_write.specs.Parts.{Spends};
 ghost use Rattle.lvm_session.specs.declared.open.Power.TheVariants as power;
-ghost use Rattle.lvm_running.specs.Running.{RunsOn};
 ghost use Rattle.lvm_driver.specs.Answers.{state_of};
 ghost use Rattle.lvm_driver.specs.Drains.{IsAny};
 ghost use Rattle.lvm_posts.specs.Pieces.{IsLaidOut};
-ghost use Rattle.lvm_ranges.specs.Keeping.{KeepsTable};
-ghost use Rattle.lvm_ranges.specs.Landing.{AwaitCosts, AwaitEnds, HaveLanded, IsUnfinished, TurnsFor};
+ghost use Rattle.lvm_ranges.specs.Landing.{AwaitCosts, AwaitEnds, HavePiecesLanded, IsUnfinished, TurnsFor, TurnsLeave};
 
-use crate::sound::is_sound;
 use lvm_disk::Shelf;
 use lvm_driver::Driver;
 use lvm_posts::Asked;
@@ -25,7 +22,7 @@ pub struct Stuck;
 fn is_unfinished<S: Shelf>(driver: &Driver<S>, asked: &Asked) -> bool
     requires laid { IsLaidOut asked.now }
     ensures open { result ≡ true → IsUnfinished asked.now (state_of S.device driver.now) }
-    ensures landed { result ≡ false → HaveLanded asked.now (state_of S.device driver.now) }
+    ensures landed { result ≡ false → HavePiecesLanded asked.now (state_of S.device driver.now) }
 {
     for piece in 0..asked.pieces {
         if driver.is_open(asked.first + u64::from(piece)) {
@@ -49,8 +46,8 @@ pub fn await_range<S: Shelf>(
     requires laid { IsLaidOut asked.now }
     ensures turns { Path (TurnsFor asked.now) IsAny (state_of S.device driver.old) (state_of S.device driver.new) }
     ensures ends { AwaitEnds asked.now patience.new.left (state_of S.device driver.new) result }
-    ensures table { KeepsTable driver.old.1 driver.new.1 }
-    ensures runs { RunsOn (state_of S.device driver.old) (state_of S.device driver.new) }
+    // The votes go by faults alone.
+    ensures leaves { TurnsLeave (state_of S.device driver.old) (state_of S.device driver.new) }
     ensures spends { Spends patience.old.left patience.new.left (S.device driver.old.0) (S.device driver.new.0) }
     // Each turn that waits costs one of the patience.
     ensures costs { AwaitCosts asked.now patience.old.left patience.new.left (state_of S.device driver.old) (state_of S.device driver.new) result }
@@ -59,7 +56,7 @@ pub fn await_range<S: Shelf>(
         if patience.left == 0 {
             return Err(Stuck);
         }
-        is_sound(driver);
+        driver.is_sound();
         match driver.turn() {
             Turned::Moved => {}
             Turned::Idle => patience.left -= 1,

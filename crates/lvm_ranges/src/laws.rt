@@ -7,7 +7,7 @@ pub fn turns_keep_table()
     ensures { TurnKeepsTable }
 {}
 
-/// A turn chooses the targets of requests by the faults that their disks have then.
+/// A turn chooses the targets of requests by no fewer faults than their disks had before it.
 pub fn turns_choose_since()
     ensures { TurnChoosesSince }
 {}

@@ -7,7 +7,6 @@ mod landing;
 pub mod laws;
 mod reading;
 mod refusal;
-mod sound;
 mod taking;
 mod turns;
 

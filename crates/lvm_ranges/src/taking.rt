@@ -8,11 +8,10 @@ ghost use Rattle.lvm_posts.specs.Posts.{AreHeld};
 ghost use Rattle.lvm_posts.specs.Pieces.{IsLaidOut};
 ghost use Rattle.lvm_ranges.specs.Finishing.{FinishCosts, FinishGives, TakesRange};
 ghost use Rattle.lvm_ranges.specs.Keeping.{KeepsOthers};
-ghost use Rattle.lvm_ranges.specs.Landing.{HaveLanded};
+ghost use Rattle.lvm_ranges.specs.Landing.{HavePiecesLanded};
 ghost use Rattle.lvm_ranges.specs.Taking.{fault_taken};
 
 use crate::landing::await_range;
-use crate::sound::is_sound;
 use lvm_disk::Shelf;
 use lvm_driver::Driver;
 use lvm_posts::{Asked, RangeFault, first_fault, piece_lp};
@@ -43,17 +42,17 @@ fn fault_taken(taken: Taken, lp: u32, have: u32, total: u32) -> Option<RangeFaul
 /// The first piece that didn't end well decides; all answers are taken all the same.
 pub fn take_range<S: Shelf>(driver: &mut Driver<S>, asked: &Asked) -> Result<(), RangeFault>
     requires held { AreHeld driver.old.1 asked.now }
-    requires landed { HaveLanded asked.now (state_of S.device driver.old) }
+    requires landed { HavePiecesLanded asked.now (state_of S.device driver.old) }
     requires laid { IsLaidOut asked.now }
     ensures gives { TakesRange asked.now (state_of S.device driver.old) (state_of S.device driver.new) result }
     ensures others { KeepsOthers asked.now driver.old.1 driver.new.1 }
     ensures runs { RunsOn (state_of S.device driver.old) (state_of S.device driver.new) }
 {
-    is_sound(driver);
+    driver.is_sound();
     let (have, total) = driver.votes();
     let mut fault = None;
     for piece in 0..asked.pieces {
-        is_sound(driver);
+        driver.is_sound();
         let taken = driver.take(CLIENT, asked.first + u64::from(piece));
         let failed = fault_taken(taken, piece_lp(asked, piece), have, total);
         fault = first_fault(fault, failed);

@@ -3,10 +3,10 @@ ghost use Rattle.std.specs.Prelude.{◌≡◌, ◌≤◌, ℕ, List};
 ghost use Rattle.lvm_session.specs.declared.open.Power.TheVariants as power;
 ghost use Rattle.lvm_running.specs.Running.{RunsOn};
 ghost use Rattle.lvm_driver.specs.Answers.{state_of};
+ghost use Rattle.lvm_turn_losses.specs.Losing.{LosesVotesByFaults};
 ghost use Rattle.lvm_ranges.specs.Keeping.{KeepsTable};
 ghost use Rattle.lvm_ranges.specs.Stepping.{StepEnds};
 
-use crate::sound::is_sound;
 use lvm_disk::Shelf;
 use lvm_driver::Driver;
 use lvm_session::Turned;
@@ -18,9 +18,11 @@ pub fn step<S: Shelf>(driver: &mut Driver<S>, turns: u32) -> (u32, Turned)
     ensures ends { StepEnds turns (state_of S.device driver.old) (state_of S.device driver.new) result.0 result.1 }
     ensures table { KeepsTable driver.old.1 driver.new.1 }
     ensures runs { RunsOn (state_of S.device driver.old) (state_of S.device driver.new) }
+    // The votes go by faults alone.
+    ensures votes { LosesVotesByFaults (state_of S.device driver.old) (state_of S.device driver.new) }
 {
     for moved in 0..turns {
-        is_sound(driver);
+        driver.is_sound();
         match driver.turn() {
             Turned::Moved => {}
             how => return (moved, how),

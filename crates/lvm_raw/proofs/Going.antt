@@ -13,7 +13,7 @@ use Rattle.lvm_transfer.specs.declared.moves.Moved.TheVariants as moved
 use Rattle.lvm_raw.specs.declared.fault.RawFault.{RawFault}
 use Rattle.lvm_raw.specs.declared.fault.RawFault.TheVariants as fault
 use Rattle.lvm_piece.specs.Requests.{WasAnswered, HasFront, IsHeard}
-use Rattle.lvm_piece.specs.Keeping.{KeepsArrangements, KeepsOlder, HaveLanded, NoneComesOn, MoveRose, PieceKeeps}
+use Rattle.lvm_piece.specs.Keeping.{KeepsArrangements, KeepsOlder, HaveAllLanded, NoneComesOn, MoveRose, PieceKeeps}
 use Rattle.lvm_raw.specs.Keeping.{AnswerHasCause, IsUnstuck, RangeKeeps}
 use Rattle.lvm_raw.specs.Pieces.{piece_end, answer_after, answer_of, grown, with_front, SettlesPiece, PiecesGo, NoPiece, OnePiece, RangeGoes, WentThrough, WasBroken}
 
@@ -187,7 +187,7 @@ module _ {X : Type 0} (Piece : ℕ → ℕ → ℕ → Moment → Moment → Mov
     pub behind : KeepsOlder first.device now.device
     pub shelf : KeepsArrangements whole left first.device now.device
     pub ready : IsReady now.device
-    pub landed : HaveLanded first.facts → HaveLanded now.facts
+    pub landed : HaveAllLanded first.facts → HaveAllLanded now.facts
     pub later : NoneComesOn first.facts now.facts
     pub cause : Noted failed disk first.device.counts now.device.counts noted
 

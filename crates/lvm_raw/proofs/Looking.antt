@@ -23,7 +23,7 @@ use Rattle.lvm_raw.specs.declared.fault.RawFault.TheVariants as fault
 use Rattle.lvm_vol.specs.Legal.{IsLater}
 use Rattle.lvm_steps.proofs.Spans.{later_append}
 use Rattle.lvm_piece.proofs.Logs.{cut_lands}
-use Rattle.lvm_piece.specs.Keeping.{HaveLanded, NoneComesOn, KeepsArrangements, KeepsOlder}
+use Rattle.lvm_piece.specs.Keeping.{HaveAllLanded, NoneComesOn, KeepsArrangements, KeepsOlder}
 use Rattle.lvm_raw.specs.Keeping.{AnswerHasCause, IsUnstuck, RangeKeeps}
 use Rattle.lvm_raw.specs.Looking.{ShowsDescriptor, FindsNone, LookFails, look_ends}
 use Rattle.lvm_raw.specs.Raw.{WasServed}
@@ -91,10 +91,10 @@ cut_calm first device log calm = go (is_uncut log.facts)
     go true = calm_goes_on first device log.facts Cut calm tt
     go false = calm
 
-cut_landed : (log : Log) → HaveLanded log.facts → HaveLanded (cut_log log).facts
+cut_landed : (log : Log) → HaveAllLanded log.facts → HaveAllLanded (cut_log log).facts
 cut_landed log closed = go (is_uncut log.facts)
   where
-    go : (b : Bool) → HaveLanded (if b then record log { facts = log.facts ++ Cut ∷ [] } else log).facts
+    go : (b : Bool) → HaveAllLanded (if b then record log { facts = log.facts ++ Cut ∷ [] } else log).facts
     go true = cut_lands log.facts closed
     go false = closed
 

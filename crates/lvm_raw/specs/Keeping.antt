@@ -4,7 +4,7 @@ use Rattle.lvm_disk.specs.Counts.{Rose, RoseBy, Counts}
 use Rattle.lvm_disk.specs.Device.{IsReady}
 use Rattle.lvm_kept.specs.Moments.{Moment, StaysCalm}
 use Rattle.lvm_steps.specs.Moments.{Keeps}
-use Rattle.lvm_piece.specs.Keeping.{KeepsArrangements, KeepsOlder, HaveLanded, NoneComesOn}
+use Rattle.lvm_piece.specs.Keeping.{KeepsArrangements, KeepsOlder, HaveAllLanded, NoneComesOn}
 use Rattle.lvm_raw.specs.declared.fault.RawFault.{RawFault}
 use Rattle.lvm_raw.specs.declared.fault.RawFault.TheVariants as fault
 
@@ -32,6 +32,6 @@ pub record RangeKeeps {X : Type 0} (run disk before after : ℕ) (old new : Mome
   pub shelf : KeepsArrangements before after old.device new.device
   pub power : new.device.power ≡ true
   pub ready : IsUnstuck given → IsReady new.device
-  pub landed : IsUnstuck given → HaveLanded old.facts → HaveLanded new.facts
+  pub landed : IsUnstuck given → HaveAllLanded old.facts → HaveAllLanded new.facts
   pub later : NoneComesOn old.facts new.facts
   pub cause : AnswerHasCause disk before old.device.counts new.device.counts given

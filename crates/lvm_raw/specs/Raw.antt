@@ -1,9 +1,9 @@
 -- What the reading and the writing of a range of a disk does, by its answer.
-use Rattle.std.specs.Prelude.{◌≡◌, ◌⊎◌, ℕ, List, [], Result, Ok, Err}
+use Rattle.std.specs.Prelude.{◌≡◌, ◌⊎◌, ℕ, List, Result, Ok, Err}
 use Rattle.lvm_num.specs.Buffer.{Sector}
 use Rattle.lvm_disk.specs.Device.{Device}
 use Rattle.lvm_vol.specs.Log.{Log}
-use Rattle.lvm_vol.specs.Facts.{Fact}
+pub use Rattle.lvm_vol.specs.Log.{log_with, without_facts}
 use Rattle.lvm_kept.specs.Moments.{Moment}
 use Rattle.lvm_steps.specs.Requests.{at as moment_of}
 use Rattle.lvm_raw.specs.declared.fault.RawFault.{RawFault}
@@ -11,14 +11,6 @@ use Rattle.lvm_raw.specs.declared.fault.RawFault.TheVariants as fault
 use Rattle.lvm_raw.specs.Asking.{IsRejected, MayAsk}
 use Rattle.lvm_raw.specs.Looking.{FindsNone, LookFails, look_ends}
 use Rattle.lvm_raw.specs.Pieces.{WritesGo, ReadsGo}
-
--- the history with these entries
-abbrev pub log_with : Log → List Fact → Log
-log_with log facts = record log { facts = facts }
-
--- the history's run and rooms alone
-abbrev pub without_facts : Log → Log
-without_facts log = record log { facts = [] }
 
 -- No request is made of a range: it is rejected, and nothing happens; or its disk's slots are read, and this comes of it.
 abbrev pub IsNotAsked : ℕ → ℕ → ℕ → ℕ → Log → Device → Log → Device → RawFault → Type 0

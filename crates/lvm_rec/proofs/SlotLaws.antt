@@ -15,7 +15,7 @@ use Rattle.lvm_num.proofs.Torn.{torn_is, whole_is_read, sectors-fit, frame-carri
 use Rattle.lvm_num.proofs.Fresh.{carried, before_is_fresh, before_is_older}
 use Rattle.lvm_num.proofs.Newest.{of_two}
 use Rattle.lvm_num.proofs.Notes.{written_is_read}
-use Rattle.lvm_rec.specs.Slots.{SlotHoldsOne, FramesAreRead, read_under, held, slot_of, slot_to_write, RecordWrite, IsOfRecord, IsTornWrite, StandsOn, MayWrite, written_as, NewestStaysOrIsNew, WholeIsNewest, TornKeepsOthers, BeforeMayWrite, TornKeepsBefore, NoteStaysOrIsNew}
+use Rattle.lvm_rec.specs.Slots.{SlotHoldsOne, FramesAreRead, read_under, held, slot_of, slot_to_write, SlotWrite, IsOfSlot, IsTornWrite, StandsIn, MayWrite, written_as, NewestStaysOrIsNew, WholeIsNewest, TornKeepsOthers, BeforeMayWrite, TornKeepsBefore, NoteStaysOrIsNew}
 use Rattle.lvm_rec.proofs.SlotLemmas.{length-record}
 
 -- ---- one slot
@@ -45,17 +45,17 @@ slot-above : (kind : Kind) (slot k : ℕ) → 8 < slot_start kind slot + k
 slot-above Descriptor slot k = omega arith
 slot-above Status slot k = omega arith
 
-module _ (w : RecordWrite) (old new : Sectors) (torn : IsTornWrite w old new) where
+module _ (w : SlotWrite) (old new : Sectors) (torn : IsTornWrite w old new) where
   -- the slot that is written
   pub torn-slot : IsTorn w.kind w.framed (slot_start w.kind w.slot) old new
   torn-slot = record {
     within = λ k lt. ⊎_elim
         (λ (h : new (slot_start w.kind w.slot + k) ≡ old (slot_start w.kind w.slot + k)). inl h)
-        (λ (of : IsOfRecord w (slot_start w.kind w.slot + k) (new (slot_start w.kind w.slot + k))). inr (of.is ∙ ap (frame w.kind w.framed.stamp w.framed.content) (omega (arith, of.place))))
+        (λ (of : IsOfSlot w (slot_start w.kind w.slot + k) (new (slot_start w.kind w.slot + k))). inr (of.is ∙ ap (frame w.kind w.framed.stamp w.framed.content) (omega (arith, of.place))))
         (torn (slot_start w.kind w.slot + k));
     behind = λ k ge lt. ⊎_elim
         (λ (h : new (slot_start w.kind w.slot + k) ≡ old (slot_start w.kind w.slot + k)). h)
-        (λ (of : IsOfRecord w (slot_start w.kind w.slot + k) (new (slot_start w.kind w.slot + k))). absurd (omega (arith, of.place, of.inside)))
+        (λ (of : IsOfSlot w (slot_start w.kind w.slot + k) (new (slot_start w.kind w.slot + k))). absurd (omega (arith, of.place, of.inside)))
         (torn (slot_start w.kind w.slot + k));
   }
 
@@ -64,7 +64,7 @@ module _ (w : RecordWrite) (old new : Sectors) (torn : IsTornWrite w old new) wh
     pub sector-kept : (s : ℕ) → ((part : ℕ) → part < slot_size w.kind → s ≡ slot_start w.kind w.slot + part → ⊥) → new s ≡ old s
     sector-kept s apart = ⊎_elim
         (λ (h : new s ≡ old s). h)
-        (λ (of : IsOfRecord w s (new s)). absurd (apart of.part (omega (arith, of.inside, sectors-fit w.kind (length w.framed.content) frames.content)) of.place))
+        (λ (of : IsOfSlot w s (new s)). absurd (apart of.part (omega (arith, of.inside, sectors-fit w.kind (length w.framed.content) frames.content)) of.place))
         (torn s)
 
     pub slot-kept : (kind : Kind) (slot : ℕ) → ((k part : ℕ) → k < slot_size kind → part < slot_size w.kind → slot_start kind slot + k ≡ slot_start w.kind w.slot + part → ⊥)
@@ -145,7 +145,7 @@ after-1 a b now n P one later (inr (inr e)) = inr (ap (newer a) e.0 ∙ over-0 a
 
 -- ---- one disk
 
-module _ (X : Type 0) (content_of : List ℕ → Result X ℕ) (w : RecordWrite) (x : X) (old new : Sectors) (may : MayWrite X content_of w x old) (torn : IsTornWrite w old new) where
+module _ (X : Type 0) (content_of : List ℕ → Result X ℕ) (w : SlotWrite) (x : X) (old new : Sectors) (may : MayWrite X content_of w x old) (torn : IsTornWrite w old new) where
   -- what a slot holds, before and after
   abbrev was : ℕ → Option (Stamped X)
   was slot = held content_of w.kind (slot_of w.kind slot old)
@@ -157,12 +157,12 @@ module _ (X : Type 0) (content_of : List ℕ → Result X ℕ) (w : RecordWrite)
   held-new : record_in w.kind (slot_of w.kind w.slot new) ≡ Some w.framed → now w.slot ≡ Some (written_as w x)
   held-new e = ap (option_and_then (λ (r : Framed). read_under r.stamp (content_of r.content))) e ∙ ap (read_under w.framed.stamp) may.reads
 
-  held-after : OldOrNoneOrNew (now w.slot) (was w.slot) (written_as w x) (StandsOn w new)
+  held-after : OldOrNoneOrNew (now w.slot) (was w.slot) (written_as w x) (StandsIn w new)
   held-after = ⊎_elim
       (λ (e : record_in w.kind (slot_of w.kind w.slot new) ≡ record_in w.kind (slot_of w.kind w.slot old)). inl (ap read e))
       (⊎_elim
       (λ (e : record_in w.kind (slot_of w.kind w.slot new) ≡ None). inr (inl (ap read e)))
-      (λ (e : (record_in w.kind (slot_of w.kind w.slot new) ≡ Some w.framed) × StandsOn w new). inr (inr (held-new e.0, e.1))))
+      (λ (e : (record_in w.kind (slot_of w.kind w.slot new) ≡ Some w.framed) × StandsIn w new). inr (inr (held-new e.0, e.1))))
       (torn_is w.kind w.framed (slot_start w.kind w.slot) old new may.frames may.whole may.fresh (torn-slot w old new torn))
     where
       read : Option Framed → Option (Stamped X)
@@ -171,21 +171,21 @@ module _ (X : Type 0) (content_of : List ℕ → Result X ℕ) (w : RecordWrite)
   other-slot : (slot : ℕ) → slot < 2 → w.slot < 2 → (slot ≡ w.slot → ⊥) → now slot ≡ was slot
   other-slot slot ls lw ne = ap (held content_of w.kind) (slot-kept w old new torn may.frames w.kind slot (λ k part lk lp e. slots-apart w.kind w.kind slot w.slot k part ls lw lk lp (inr ne) e))
 
-  old-or-new : (newer (now 0) (now 1) ≡ newer (was 0) (was 1)) ⊎ ((newer (now 0) (now 1) ≡ Some (written_as w x)) × StandsOn w new)
+  old-or-new : (newer (now 0) (now 1) ≡ newer (was 0) (was 1)) ⊎ ((newer (now 0) (now 1) ≡ Some (written_as w x)) × StandsIn w new)
   old-or-new = ⊎_elim
       (λ (zero : slot_to_write (was 0) (was 1) ≡ 0).
       let slot : w.slot ≡ 0 = may.slot ∙ zero in
       let other : now 1 ≡ was 1 = other-slot 1 (omega arith) (omega (arith, slot)) (λ e. absurd (omega (arith, e, slot))) in
-      subst (λ (o : Option (Stamped X)). (newer (now 0) o ≡ newer (was 0) (was 1)) ⊎ ((newer (now 0) o ≡ Some (written_as w x)) × StandsOn w new)) (sym other)
-      (after-0 (was 0) (was 1) (now 0) (written_as w x) (StandsOn w new) zero may.later (subst (λ s. OldOrNoneOrNew (now s) (was s) (written_as w x) (StandsOn w new)) slot held-after)))
+      subst (λ (o : Option (Stamped X)). (newer (now 0) o ≡ newer (was 0) (was 1)) ⊎ ((newer (now 0) o ≡ Some (written_as w x)) × StandsIn w new)) (sym other)
+      (after-0 (was 0) (was 1) (now 0) (written_as w x) (StandsIn w new) zero may.later (subst (λ s. OldOrNoneOrNew (now s) (was s) (written_as w x) (StandsIn w new)) slot held-after)))
       (λ (one : slot_to_write (was 0) (was 1) ≡ 1).
       let slot : w.slot ≡ 1 = may.slot ∙ one in
       let other : now 0 ≡ was 0 = other-slot 0 (omega arith) (omega (arith, slot)) (λ e. absurd (omega (arith, e, slot))) in
-      subst (λ (o : Option (Stamped X)). (newer o (now 1) ≡ newer (was 0) (was 1)) ⊎ ((newer o (now 1) ≡ Some (written_as w x)) × StandsOn w new)) (sym other)
-      (after-1 (was 0) (was 1) (now 1) (written_as w x) (StandsOn w new) one may.later (subst (λ s. OldOrNoneOrNew (now s) (was s) (written_as w x) (StandsOn w new)) slot held-after)))
+      subst (λ (o : Option (Stamped X)). (newer o (now 1) ≡ newer (was 0) (was 1)) ⊎ ((newer o (now 1) ≡ Some (written_as w x)) × StandsIn w new)) (sym other)
+      (after-1 (was 0) (was 1) (now 1) (written_as w x) (StandsIn w new) one may.later (subst (λ s. OldOrNoneOrNew (now s) (was s) (written_as w x) (StandsIn w new)) slot held-after)))
       (slot-is (was 0) (was 1))
 
-  whole-new : StandsOn w new → newer (now 0) (now 1) ≡ Some (written_as w x)
+  whole-new : StandsIn w new → newer (now 0) (now 1) ≡ Some (written_as w x)
   whole-new stands =
       let here : now w.slot ≡ Some (written_as w x) = held-new (whole_is_read w.kind w.framed (slot_start w.kind w.slot) new may.frames stands) in
       ⊎_elim
@@ -213,7 +213,7 @@ pub keeps_before : TornKeepsBefore
 keeps_before w stamp old new frames torn lower kind slot before k lt magic = ⊎_elim
     (λ (h : new (slot_start kind slot + k) ≡ old (slot_start kind slot + k)).
     ap (λ (x : List ℕ). stamp_lt (stamp_of x) stamp) h ∙ before k lt (ap (take 2) (sym h) ∙ magic))
-    (λ (of : IsOfRecord w (slot_start kind slot + k) (new (slot_start kind slot + k))).
+    (λ (of : IsOfSlot w (slot_start kind slot + k) (new (slot_start kind slot + k))).
     ap (λ (s : Stamp). stamp_lt s stamp) (ap stamp_of of.is ∙ carried w.kind w.framed (frame w.kind w.framed.stamp w.framed.content of.part) frames (frame-carries w.kind w.framed.stamp w.framed.content of.part)) ∙ lower)
     (torn (slot_start kind slot + k))
 

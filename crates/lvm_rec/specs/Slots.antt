@@ -46,29 +46,29 @@ slot_for content_of kind sectors = slot_to_write (held content_of kind (slot_of 
 -- ---- a write of a record
 
 -- one record, and the slot of the disk that it goes to
-pub record RecordWrite : Type 0 where
+pub record SlotWrite : Type 0 where
   pub kind : Kind
   pub framed : Framed
   pub slot : ℕ
 
 -- this is the value of one of the record's sectors, at that sector's place in the slot
-pub record IsOfRecord (w : RecordWrite) (s : ℕ) (value : List ℕ) : Type 0 where
+pub record IsOfSlot (w : SlotWrite) (s : ℕ) (value : List ℕ) : Type 0 where
   pub part : ℕ
   pub inside : part < record_sectors (length w.framed.content)
   pub place : s ≡ slot_start w.kind w.slot + part
   pub is : value ≡ frame w.kind w.framed.stamp w.framed.content part
 
 -- Each sector of the disk is the old one, or the record's.
-abbrev pub IsTornWrite : RecordWrite → Sectors → Sectors → Type 0
-IsTornWrite w old new = (s : ℕ) → (new s ≡ old s) ⊎ IsOfRecord w s (new s)
+abbrev pub IsTornWrite : SlotWrite → Sectors → Sectors → Type 0
+IsTornWrite w old new = (s : ℕ) → (new s ≡ old s) ⊎ IsOfSlot w s (new s)
 
 -- all of the record stands on the disk
-abbrev pub StandsOn : RecordWrite → Sectors → Type 0
-StandsOn w sectors = IsWhole w.kind w.framed (slot_start w.kind w.slot) sectors
+abbrev pub StandsIn : SlotWrite → Sectors → Type 0
+StandsIn w sectors = IsWhole w.kind w.framed (slot_start w.kind w.slot) sectors
 
 -- Where a write of a record may go: the content reads as x, the slot is that which doesn't hold the newest record,
 -- the stamp is new in that slot, and later than the newest record's.
-pub record MayWrite (X : Type 0) (content_of : List ℕ → Result X ℕ) (w : RecordWrite) (x : X) (sectors : Sectors) : Type 0 where
+pub record MayWrite (X : Type 0) (content_of : List ℕ → Result X ℕ) (w : SlotWrite) (x : X) (sectors : Sectors) : Type 0 where
   pub frames : Frames w.kind w.framed
   pub reads : content_of w.framed.content ≡ Ok x
   pub slot : w.slot ≡ slot_for content_of w.kind sectors
@@ -77,48 +77,48 @@ pub record MayWrite (X : Type 0) (content_of : List ℕ → Result X ℕ) (w : R
   pub later : (y : Stamped X) → newest_on content_of w.kind sectors ≡ Some y → stamp_lt y.stamp w.framed.stamp ≡ true
 
 -- the record as it is read
-abbrev pub written_as : {X : Type 0} → RecordWrite → X → Stamped X
+abbrev pub written_as : {X : Type 0} → SlotWrite → X → Stamped X
 written_as w x = record { stamp = w.framed.stamp; value = x }
 
 -- After any part of the write the newest record is what it was, or the new one, and the new one only where all of it stands there.
 abbrev pub NewestStaysOrIsNew : Type 0 → Type 0
 NewestStaysOrIsNew X =
-    (content_of : List ℕ → Result X ℕ) (w : RecordWrite) (x : X) (old new : Sectors) → MayWrite X content_of w x old → IsTornWrite w old new
+    (content_of : List ℕ → Result X ℕ) (w : SlotWrite) (x : X) (old new : Sectors) → MayWrite X content_of w x old → IsTornWrite w old new
     → (newest_on content_of w.kind new ≡ newest_on content_of w.kind old)
-    ⊎ ((newest_on content_of w.kind new ≡ Some (written_as w x)) × StandsOn w new)
+    ⊎ ((newest_on content_of w.kind new ≡ Some (written_as w x)) × StandsIn w new)
 
 -- Where all of it stands there, it is the new one.
 abbrev pub WholeIsNewest : Type 0 → Type 0
 WholeIsNewest X =
-    (content_of : List ℕ → Result X ℕ) (w : RecordWrite) (x : X) (old new : Sectors) → MayWrite X content_of w x old → IsTornWrite w old new → StandsOn w new
+    (content_of : List ℕ → Result X ℕ) (w : SlotWrite) (x : X) (old new : Sectors) → MayWrite X content_of w x old → IsTornWrite w old new → StandsIn w new
     → newest_on content_of w.kind new ≡ Some (written_as w x)
 
 -- The records of the other kind, the note and the data are what they were.
-pub record OthersKept (X : Type 0) (w : RecordWrite) (old new : Sectors) : Type 0 where
+pub record OthersKept (X : Type 0) (w : SlotWrite) (old new : Sectors) : Type 0 where
   pub kinds : (content_of : List ℕ → Result X ℕ) (kind : Kind) → (kind ≡ w.kind → ⊥) → newest_on content_of kind new ≡ newest_on content_of kind old
   pub note : new 8 ≡ old 8
   pub blocks : (s : ℕ) → 4096 ≤ s → new s ≡ old s
 
 abbrev pub TornKeepsOthers : Type 0 → Type 0
-TornKeepsOthers X = (w : RecordWrite) (old new : Sectors) → Frames w.kind w.framed → w.slot < 2 → IsTornWrite w old new → OthersKept X w old new
+TornKeepsOthers X = (w : SlotWrite) (old new : Sectors) → Frames w.kind w.framed → w.slot < 2 → IsTornWrite w old new → OthersKept X w old new
 
 -- ---- when a record may be written
 
 -- all sectors of both slots of the kind have stamps before the record's
-pub record BothBefore (w : RecordWrite) (sectors : Sectors) : Type 0 where
+pub record BothBefore (w : SlotWrite) (sectors : Sectors) : Type 0 where
   pub whole : (slot : ℕ) → slot < 2 → AreSectors w.kind (slot_start w.kind slot) sectors
   pub before : (slot : ℕ) → slot < 2 → AllBefore w.kind w.framed.stamp (slot_start w.kind slot) sectors
 
 abbrev pub BeforeMayWrite : Type 0 → Type 0
 BeforeMayWrite X =
-    (content_of : List ℕ → Result X ℕ) (w : RecordWrite) (x : X) (sectors : Sectors)
+    (content_of : List ℕ → Result X ℕ) (w : SlotWrite) (x : X) (sectors : Sectors)
     → Frames w.kind w.framed → content_of w.framed.content ≡ Ok x → w.slot ≡ slot_for content_of w.kind sectors → BothBefore w sectors
     → MayWrite X content_of w x sectors
 
 -- a write under an earlier stamp leaves all of them before this one
 abbrev pub TornKeepsBefore : Type 0
 TornKeepsBefore =
-    (w : RecordWrite) (stamp : Stamp) (old new : Sectors) → Frames w.kind w.framed → IsTornWrite w old new → stamp_lt w.framed.stamp stamp ≡ true
+    (w : SlotWrite) (stamp : Stamp) (old new : Sectors) → Frames w.kind w.framed → IsTornWrite w old new → stamp_lt w.framed.stamp stamp ≡ true
     → (kind : Kind) (slot : ℕ) → AllBefore kind stamp (slot_start kind slot) old → AllBefore kind stamp (slot_start kind slot) new
 
 -- ---- the note

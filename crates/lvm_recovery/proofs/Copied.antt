@@ -17,7 +17,7 @@ use Rattle.lvm_begin.specs.Ends.{HasNoFault}
 use Rattle.lvm_write.specs.Writes.{DiskWritesLeave, IsBack}
 use Rattle.lvm_recovery.specs.declared.copying.Recopy.{Recopy}
 use Rattle.lvm_recovery.proofs.Logged.{in_run, just_first, only_planned, only_then}
-use Rattle.lvm_recovery.specs.Copying.{IsInRun, LogsJust, LogsOnly, StopsInCopy, run_at, IsLeftOut, HasFailed, IsOfStep, HoldsRun, RunHolds, StepGives, is_of_copy, IsOfCopy, CopyGives}
+use Rattle.lvm_recovery.specs.Copying.{IsInRun, LogsJust, LogsOnly, StopsInCopy, run_at, IsLeftOut, HasFailedAlone, IsOfStep, HoldsRun, RunHolds, StepGives, is_of_copy, IsOfCopy, CopyGives}
 
 -- ---- what is done is done by more, too
 
@@ -62,7 +62,7 @@ module _ (number : ℕ) (old mid : Device) (buf : Buffer) (back : IsBack number 
   pub well_then : (new : Device) → HasNoFault mid new → HasNoFault old new
   well_then new two d = two d ∙ well d
 
-  pub failed_then : (new : Device) (disk : ℕ) (last : Buffer) → HasFailed buf.number mid new disk last → HasFailed number old new disk last
+  pub failed_then : (new : Device) (disk : ℕ) (last : Buffer) → HasFailedAlone buf.number mid new disk last → HasFailedAlone number old new disk last
   failed_then new disk last two = record {
     back = back_then new last two.back;
     rose = subst (λ (n : ℕ). Rose n (new.counts.faults disk)) (well disk) two.rose;

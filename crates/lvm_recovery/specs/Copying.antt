@@ -43,7 +43,7 @@ pub record IsLeftOut (number patience : ℕ) (old new : Device) : Type 0 where
   pub waited : RoseBy patience old.counts.waits new.counts.waits
 
 -- a transfer of this disk failed, and no other; the buffer is back
-pub record HasFailed (number : ℕ) (old new : Device) (disk : ℕ) (buf : Buffer) : Type 0 where
+pub record HasFailedAlone (number : ℕ) (old new : Device) (disk : ℕ) (buf : Buffer) : Type 0 where
   pub back : IsBack number old new buf
   pub rose : Rose (old.counts.faults disk) (new.counts.faults disk)
   pub alone : (d : ℕ) → (d ≡ disk → ⊥) → new.counts.faults d ≡ old.counts.faults d
@@ -109,7 +109,7 @@ pub record StepWell (write : Bool) (place : Place) (buf : Buffer) (old new : Dev
 
 abbrev pub HowStep : Bool → Place → Buffer → ℕ → Device → Device → Begun → Type 0
 HowStep write place buf before old new (begun.Ended back) = StepWell write place buf old new back
-HowStep write place buf before old new (begun.DiskFailed disk back) = (disk ≡ place.disk) × HasFailed buf.number old new disk back
+HowStep write place buf before old new (begun.DiskFailed disk back) = (disk ≡ place.disk) × HasFailedAlone buf.number old new disk back
 HowStep write place buf before old new begun.Dark = IsCutOff old new
 HowStep write place buf before old new begun.Stuck = IsLeftOut buf.number before old new
 
@@ -152,7 +152,7 @@ pub record CopyWell (one : Recopy) (number : ℕ) (old new : Device) (buf : Buff
 
 abbrev pub HowCopy : Recopy → ℕ → ℕ → Device → Device → Begun → Type 0
 HowCopy one number before old new (begun.Ended buf) = CopyWell one number old new buf
-HowCopy one number before old new (begun.DiskFailed disk buf) = IsTrue (is_of_copy one disk) × HasFailed number old new disk buf
+HowCopy one number before old new (begun.DiskFailed disk buf) = IsTrue (is_of_copy one disk) × HasFailedAlone number old new disk buf
 HowCopy one number before old new begun.Dark = IsCutOff old new
 HowCopy one number before old new begun.Stuck = IsLeftOut number before old new
 
@@ -202,7 +202,7 @@ pub record AllWell (copies : List Recopy) (number : ℕ) (old new : Device) (buf
 
 abbrev pub HowAll : List Recopy → ℕ → ℕ → Device → Device → Begun → Type 0
 HowAll copies number before old new (begun.Ended buf) = AllWell copies number old new buf
-HowAll copies number before old new (begun.DiskFailed disk buf) = IsTrue (sources_and_targets copies disk) × HasFailed number old new disk buf
+HowAll copies number before old new (begun.DiskFailed disk buf) = IsTrue (sources_and_targets copies disk) × HasFailedAlone number old new disk buf
 HowAll copies number before old new begun.Dark = IsCutOff old new
 HowAll copies number before old new begun.Stuck = IsLeftOut number before old new
 

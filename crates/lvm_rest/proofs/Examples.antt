@@ -32,7 +32,7 @@ use Rattle.lvm_kept.specs.Group.{is_stale_by, block_at, names_if, IsOneOf, has_r
 use Rattle.lvm_kept.specs.Kept.{StandsAs, IsBlockKept, Kept}
 use Rattle.lvm_kept.specs.Committed.{IsWithinDisks}
 use Rattle.lvm_commit.specs.Committed.{IsAlike, Began, ShowsCommitted}
-use Rattle.lvm_invariant.specs.State.{State}
+use Rattle.lvm_invariant.specs.State.{ModelState}
 use Rattle.lvm_invariant.specs.Found.{Votes}
 use Rattle.lvm_invariant.specs.Good.{Good}
 use Rattle.lvm_crash.specs.Session.{AreVotesOf, Describes}
@@ -248,7 +248,7 @@ zeros_even mode dirty lost note set row lp b one on inside = (
 
 -- a session begins there
 good_of : (x : Pair) (facts : List Fact) → ((d s : ℕ) → s < 4096 → x.stands d s ≡ zero_sector) → AreClosed facts (two x.mode) → IsAtRest (shown_by x) facts (two x.mode) (Some (status_of x)) (there_by x)
-    → (votes : Votes) → AreVotesOf (two x.mode) votes → (s : State) × (s.facts ≡ facts) × Good votes s × Matches s s.facts (two x.mode) None (device_of x) (media_of x)
+    → (votes : Votes) → AreVotesOf (two x.mode) votes → (s : ModelState) × (s.facts ≡ facts) × Good votes s × Matches s s.facts (two x.mode) None (device_of x) (media_of x)
 good_of x facts below is_closed rests votes are =
     let seen = rest_is_seen facts (two x.mode) (status_of x) (there_by x) (shown_by x) (valid x.mode) in
     let both = rest_is_good votes seen.0 (two x.mode) (status_of x).value (there_by x) (shown_by x) are (valid x.mode) (within x) (enough x) (shows x) seen.2 seen.3

@@ -25,11 +25,11 @@ use Rattle.lvm_kept.specs.Committed.{IsWithinDisks}
 use Rattle.lvm_kept.proofs.Finding.{some_same, finding_reads, images_within}
 use Rattle.lvm_commit.specs.Committed.{ShowsCommitted}
 use Rattle.lvm_commit.proofs.Found.{only_found, status_read}
-use Rattle.lvm_invariant.specs.State.{has_notes, has_mark, Marks, Queued, OpenCopy, State, Live, stale_in, told}
+use Rattle.lvm_invariant.specs.State.{has_notes, has_mark, Marks, Queued, ModelCopy, ModelState, Live, stale_in, told}
 use Rattle.lvm_invariant.specs.Sound.{MayDiffer, Agree, Settled, Sound}
 use Rattle.lvm_invariant.specs.Found.{Votes, Found}
 use Rattle.lvm_invariant.specs.Good.{Good}
-use Rattle.lvm_crash.specs.Session.{as_marks, marks_shown, AreVotesOf, members_there, GroupStands, HasVolumes, Describes}
+use Rattle.lvm_crash.specs.Session.{as_marks, marks_shown, AreVotesOf, members_showing, GroupStands, HasVolumes, Describes}
 use Rattle.lvm_crash.proofs.Loose.{loose_is_off}
 use Rattle.lvm_crash.proofs.Lists.{left_of, right_of, both_of, not_so, so_not}
 use Rattle.lvm_rest.specs.Rest.{IsIdle, SeesThat, AreClosed, IsAtRest}
@@ -93,14 +93,14 @@ its_shape mib IsMade shape row stands = stands
 its_shape mib Open shape row stands = stands
 its_shape mib Absent shape row stands = absurd stands
 
-module _ (votes : Votes) (s : State) (group : Descriptor) (status : Status) (there : Disks) (c : Contents) (are : AreVotesOf group votes) (valid : IsValid group) (within : IsWithinDisks c)
+module _ (votes : Votes) (s : ModelState) (group : Descriptor) (status : Status) (there : Disks) (c : Contents) (are : AreVotesOf group votes) (valid : IsValid group) (within : IsWithinDisks c)
     (enough : CanWrite group there) (shows : ShowsCommitted c group status there) (idle : IsIdle s) (sees : SeesThat s group shows.stands there c) (closed : AreClosed s.facts group)
     (rest : IsAtRest c s.facts group (Some shows.stands) there) where
   abbrev stands : Stamped Status
   stands = shows.stands
 
   abbrev members : Disks
-  members = members_there c group
+  members = members_showing c group
 
   abbrev usable : Disks → Pp → Bool
   usable set p = set p.disk && not (is_stale_by (Some stands) p)
@@ -164,7 +164,7 @@ module _ (votes : Votes) (s : State) (group : Descriptor) (status : Status) (the
   no_request : {X : Type 0} (i : ℕ) (r : Queued) → s.queue i ≡ Some r → X
   no_request i r is = nothing r (sym (idle.queue i) ∙ is)
 
-  no_open : {X : Type 0} (o : OpenCopy) → s.open_copy ≡ Some o → X
+  no_open : {X : Type 0} (o : ModelCopy) → s.open_copy ≡ Some o → X
   no_open o is = nothing o (sym idle.no_copy ∙ is)
 
   -- ---- live copies

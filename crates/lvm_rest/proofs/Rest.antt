@@ -19,12 +19,12 @@ use Rattle.lvm_kept.specs.Committed.{IsWithinDisks}
 use Rattle.lvm_commit.specs.Committed.{ShowsCommitted}
 use Rattle.lvm_commit.proofs.Found.{shows_group}
 use Rattle.lvm_steps.proofs.Members.{member_of_parts}
-use Rattle.lvm_invariant.specs.State.{has_notes, has_mark, Marks, State, Live, stale_in, told}
+use Rattle.lvm_invariant.specs.State.{has_notes, has_mark, Marks, ModelState, Live, stale_in, told}
 use Rattle.lvm_invariant.specs.Sound.{MayDiffer, Agree}
 use Rattle.lvm_invariant.specs.Found.{Votes}
 use Rattle.lvm_invariant.specs.Good.{Good}
 use Rattle.lvm_invariant.proofs.CrashLemmas.{core_kept}
-use Rattle.lvm_crash.specs.Session.{AreVotesOf, members_there, Describes}
+use Rattle.lvm_crash.specs.Session.{AreVotesOf, members_showing, Describes}
 use Rattle.lvm_crash.proofs.Blocks.{block_of}
 use Rattle.lvm_crash.proofs.Lists.{left_of, right_of, both_of, not_so, so_not, of_passing}
 use Rattle.lvm_crash.proofs.Remaining.{remains_kept}
@@ -37,7 +37,7 @@ not_both : (a b : Bool) → IsFalse a → IsFalse (a && b)
 not_both true b h = absurd cc
 not_both false b h = refl
 
-module _ (votes : Votes) (s : State) (group : Descriptor) (status : Status) (there : Disks) (c : Contents) (are : AreVotesOf group votes) (valid : IsValid group) (within : IsWithinDisks c)
+module _ (votes : Votes) (s : ModelState) (group : Descriptor) (status : Status) (there : Disks) (c : Contents) (are : AreVotesOf group votes) (valid : IsValid group) (within : IsWithinDisks c)
     (shows : ShowsCommitted c group status there) (idle : IsIdle s) (sees : SeesThat s group shows.stands there c) (good : Good votes s) (describes : Describes s s.facts group None c) where
   abbrev stands : Stamped Status
   stands = shows.stands
@@ -59,7 +59,7 @@ module _ (votes : Votes) (s : State) (group : Descriptor) (status : Status) (the
   committed_stale p = ap (λ (m : Stamped Marks). m.value.stale p) sees.committed
 
   -- a member that isn't missing is one among all disks
-  is_member : (d : ℕ) → IsTrue (there d) → IsTrue (members_there c group d)
+  is_member : (d : ℕ) → IsTrue (there d) → IsTrue (members_showing c group d)
   is_member d is = member_of_parts c all_disks group.id group d refl (shows_group c group status there shows d is) (shows.room d is)
 
   isnt_missing : (d : ℕ) → IsTrue (there d) → IsFalse (s.missing d)
@@ -103,7 +103,7 @@ module _ (votes : Votes) (s : State) (group : Descriptor) (status : Status) (the
           clash (s.missing p.disk) (dirty.missing p (live_of row lp b p one inside copy use_)) (isnt_missing p.disk (left_of (there p.disk) (not (is_stale_by (Some stands) p)) use_)))
       by Off is false notes (inr differ) = absurd (on is)
 
-  behind : (row : LvRow) (lp : ℕ) (p : Pp) → IsOneOf group.lvs row → lp < row.lps → IsOneOf (copies_of row lp) p → IsTrue (members_there c group p.disk) → IsFalse (there p.disk) → IsFalse (is_stale_by (Some stands) p)
+  behind : (row : LvRow) (lp : ℕ) (p : Pp) → IsOneOf group.lvs row → lp < row.lps → IsOneOf (copies_of row lp) p → IsTrue (members_showing c group p.disk) → IsFalse (there p.disk) → IsFalse (is_stale_by (Some stands) p)
       → fresh_on there (Some stands) row lp ≡ []
   behind row lp p one low copy member gone fresh = elim (none_passing usable (copies_of row lp)) [
     | inl none ↦ none

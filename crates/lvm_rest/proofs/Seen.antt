@@ -17,8 +17,8 @@ use Rattle.lvm_vol.specs.Facts.{Fact}
 use Rattle.lvm_kept.specs.Contents.{Contents}
 use Rattle.lvm_kept.specs.Group.{is_named, IsBlockOf, IsOneOf}
 use Rattle.lvm_kept.proofs.Finding.{some_same}
-use Rattle.lvm_invariant.specs.State.{has_notes, has_mark, State}
-use Rattle.lvm_crash.specs.Session.{as_marks, marks_of, view_of, members_there, IsBlockIn}
+use Rattle.lvm_invariant.specs.State.{has_notes, has_mark, ModelState}
+use Rattle.lvm_crash.specs.Session.{as_marks, marks_of, view_of, members_showing, IsBlockIn}
 use Rattle.lvm_crash.proofs.Lists.{left_of, right_of, both_of}
 use Rattle.lvm_rest.specs.Good.{RestIsSeen}
 use Rattle.lvm_rest.proofs.Rows.{row_is_volume}
@@ -85,13 +85,13 @@ row_of (r ∷ rs) lv row is = by (r.number == lv) refl (λ rest. row_of rs lv ro
 
 module _ (facts : List Fact) (group : Descriptor) (stands : Stamped Status) (there : Disks) (c : Contents) (valid : IsValid group) where
   -- the state, of which nothing is under way
-  abbrev seen : State
+  abbrev seen : ModelState
   seen = record {
     media = view_of group c;
     queue = λ i. None;
     facts = facts;
     name = λ i. record { run = 0; id = i; client = 0; vol = Lv 0; at = 0; count = 0; write = false; blocks = [] };
-    is_copy = λ lv b p. is_copy_by (volume_of group lv) group.mib (members_there c group) b p;
+    is_copy = λ lv b p. is_copy_by (volume_of group lv) group.mib (members_showing c group) b p;
     is_active = λ lv. notes_by (volume_of group lv);
     is_passive = λ lv. mark_by (volume_of group lv);
     committed = as_marks stands;
@@ -106,16 +106,16 @@ module _ (facts : List Fact) (group : Descriptor) (stands : Stamped Status) (the
     step_write = None;
   }
 
-  copies : (row : LvRow) (lp b : ℕ) (p : Pp) → IsOneOf group.lvs row → IsBlockOf group.mib row lp b → IsTrue (seen.is_copy row.number b p) ↔ (IsOneOf (copies_of row lp) p × IsTrue (members_there c group p.disk))
+  copies : (row : LvRow) (lp b : ℕ) (p : Pp) → IsOneOf group.lvs row → IsBlockOf group.mib row lp b → IsTrue (seen.is_copy row.number b p) ↔ (IsOneOf (copies_of row lp) p × IsTrue (members_showing c group p.disk))
   copies row lp b p one inside =
-      subst (λ (o : Option LvRow). IsTrue (is_copy_by o group.mib (members_there c group) b p) ↔ (IsOneOf (copies_of row lp) p × IsTrue (members_there c group p.disk))) (sym (row_is_volume group row valid one))
-      (subst (λ (n : ℕ). IsTrue (is_copy_by (Some row) group.mib (members_there c group) b p) ↔ (IsOneOf (copies_of row n) p × IsTrue (members_there c group p.disk))) inside.partition (
-        λ is. let rest = right_of (nat_lt (partition_of group.mib b) row.lps) (list_any (is_same p) (copies_of row (partition_of group.mib b)) && members_there c group p.disk) is in (
-          is_among (copies_of row (partition_of group.mib b)) p (left_of (list_any (is_same p) (copies_of row (partition_of group.mib b))) (members_there c group p.disk) rest),
-          right_of (list_any (is_same p) (copies_of row (partition_of group.mib b))) (members_there c group p.disk) rest,
+      subst (λ (o : Option LvRow). IsTrue (is_copy_by o group.mib (members_showing c group) b p) ↔ (IsOneOf (copies_of row lp) p × IsTrue (members_showing c group p.disk))) (sym (row_is_volume group row valid one))
+      (subst (λ (n : ℕ). IsTrue (is_copy_by (Some row) group.mib (members_showing c group) b p) ↔ (IsOneOf (copies_of row n) p × IsTrue (members_showing c group p.disk))) inside.partition (
+        λ is. let rest = right_of (nat_lt (partition_of group.mib b) row.lps) (list_any (is_same p) (copies_of row (partition_of group.mib b)) && members_showing c group p.disk) is in (
+          is_among (copies_of row (partition_of group.mib b)) p (left_of (list_any (is_same p) (copies_of row (partition_of group.mib b))) (members_showing c group p.disk) rest),
+          right_of (list_any (is_same p) (copies_of row (partition_of group.mib b))) (members_showing c group p.disk) rest,
         ),
-        λ is. both_of (nat_lt (partition_of group.mib b) row.lps) (list_any (is_same p) (copies_of row (partition_of group.mib b)) && members_there c group p.disk) low
-            (both_of (list_any (is_same p) (copies_of row (partition_of group.mib b))) (members_there c group p.disk) (among_is (copies_of row (partition_of group.mib b)) p is.0) is.1),
+        λ is. both_of (nat_lt (partition_of group.mib b) row.lps) (list_any (is_same p) (copies_of row (partition_of group.mib b)) && members_showing c group p.disk) low
+            (both_of (list_any (is_same p) (copies_of row (partition_of group.mib b))) (members_showing c group p.disk) (among_is (copies_of row (partition_of group.mib b)) p is.0) is.1),
       ))
     where
       low : IsTrue (nat_lt (partition_of group.mib b) row.lps)
@@ -127,11 +127,11 @@ module _ (facts : List Fact) (group : Descriptor) (stands : Stamped Status) (the
   block_in : (lv b : ℕ) (p : Pp) → IsTrue (seen.is_copy lv b p) → IsBlockIn group lv b
   block_in lv b p copy = by (volume_of group lv) refl copy
     where
-      by : (o : Option LvRow) → volume_of group lv ≡ o → IsTrue (is_copy_by o group.mib (members_there c group) b p) → IsBlockIn group lv b
+      by : (o : Option LvRow) → volume_of group lv ≡ o → IsTrue (is_copy_by o group.mib (members_showing c group) b p) → IsBlockIn group lv b
       by None e is = absurd cc
       by (Some row) e is =
           let of = row_of group.lvs lv row e in
-          let low = left_of (nat_lt (partition_of group.mib b) row.lps) (list_any (is_same p) (copies_of row (partition_of group.mib b)) && members_there c group p.disk) is in
+          let low = left_of (nat_lt (partition_of group.mib b) row.lps) (list_any (is_same p) (copies_of row (partition_of group.mib b)) && members_showing c group p.disk) is in
           record { row = row; lp = partition_of group.mib b; volume = of.one; number = of.number; inside = record { inside = below (partition_of group.mib b) row.lps low; partition = refl } }
         where
           below : (a n : ℕ) → IsTrue (nat_lt a n) → a < n

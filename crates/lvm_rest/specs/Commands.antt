@@ -19,7 +19,7 @@ use Rattle.lvm_kept.specs.Torn.{StatusesChange}
 use Rattle.lvm_steps.specs.Committing.{IsServed}
 use Rattle.lvm_commit.specs.Committed.{ShowsCommitted}
 use Rattle.lvm_commit.specs.Laws.{IsLaterStatus}
-use Rattle.lvm_crash.specs.Session.{members_there}
+use Rattle.lvm_crash.specs.Session.{members_showing}
 use Rattle.lvm_commit.specs.LawsOfData.{IsFree, IsSectorOf}
 use Rattle.lvm_rest.specs.Rest.{IsEven, NoneIsBehind}
 
@@ -61,7 +61,7 @@ FreeKeepsEven = (old new : Contents) (group : Descriptor) (was is : Option (Stam
 -- None is left behind where no mark on a copy goes, and each fresh copy of a member that becomes missing has no other usable one.
 abbrev pub BehindStays : Type 0
 BehindStays = (old new : Contents) (group : Descriptor) (was is : Option (Stamped Status)) (before after : Disks)
-    → ((d : ℕ) → members_there new group d ≡ members_there old group d) → ((d : ℕ) → IsTrue (after d) → IsTrue (before d))
+    → ((d : ℕ) → members_showing new group d ≡ members_showing old group d) → ((d : ℕ) → IsTrue (after d) → IsTrue (before d))
     → ((row : LvRow) (lp : ℕ) (p : Pp) → IsOneOf group.lvs row → IsOneOf (copies_of row lp) p → IsFalse (is_stale_by is p) → IsFalse (is_stale_by was p))
     → ((row : LvRow) (lp : ℕ) (p : Pp) → IsOneOf group.lvs row → lp < row.lps → IsOneOf (copies_of row lp) p → IsTrue (before p.disk) → IsFalse (after p.disk) → IsFalse (is_stale_by is p) → fresh_on after is row lp ≡ [])
     → NoneIsBehind old group was before → NoneIsBehind new group is after
@@ -77,7 +77,7 @@ pub record HasCopiesOf (c : Contents) (group : Descriptor) (status : Status) (ro
   pub mode : row.mode ≡ from.mode
   pub lps : row.lps ≡ from.lps
   pub copies : (lp : ℕ) (p : Pp) → IsOneOf (copies_of row lp) p → IsFalse (calls_stale status p) → IsOneOf (copies_of from lp) p
-  pub some : (lp : ℕ) → lp < row.lps → (p : Pp) × IsOneOf (copies_of row lp) p × IsFalse (calls_stale status p) × IsTrue (members_there c group p.disk)
+  pub some : (lp : ℕ) → lp < row.lps → (p : Pp) × IsOneOf (copies_of row lp) p × IsFalse (calls_stale status p) × IsTrue (members_showing c group p.disk)
 
 -- So its blocks are served, and the descriptor with it may be committed.
 abbrev pub CopiesServe : Type 0

@@ -20,7 +20,7 @@ use Rattle.lvm_disk.specs.Device.{Media, Device, image_of}
 use Rattle.lvm_kept.specs.Contents.{note_sector, Contents, contents_of}
 use Rattle.lvm_kept.specs.Examples.{stamped, row_of, status_of_rows, zeros, only, either_of, two, ones, torn_mirror}
 use Rattle.lvm_commit.specs.Committed.{ShowsCommitted}
-use Rattle.lvm_invariant.specs.State.{State}
+use Rattle.lvm_invariant.specs.State.{ModelState}
 use Rattle.lvm_invariant.specs.Found.{Votes}
 use Rattle.lvm_invariant.specs.Good.{Good}
 use Rattle.lvm_crash.specs.Session.{AreVotesOf}
@@ -137,7 +137,7 @@ pub record IsRestingPair (pair : Pair) (facts : List Fact) : Type 0 where
   pub shows : ShowsCommitted (shown_by pair) (two pair.mode) (status_of pair).value (there_by pair)
   pub closed : AreClosed facts (two pair.mode)
   pub at_rest : IsAtRest (shown_by pair) facts (two pair.mode) (Some shows.stands) (there_by pair)
-  pub good : (votes : Votes) → AreVotesOf (two pair.mode) votes → (s : State) × (s.facts ≡ facts) × Good votes s × Matches s s.facts (two pair.mode) None (device_of pair) (media_of pair)
+  pub good : (votes : Votes) → AreVotesOf (two pair.mode) votes → (s : ModelState) × (s.facts ≡ facts) × Good votes s × Matches s s.facts (two pair.mode) None (device_of pair) (media_of pair)
 
 -- So it is in each mode: active with a note at home and without, passive and clean or dirty, and off; also where a member is lost, and after a cut while
 -- its first block was written; and in mode off also where the copies differ there.

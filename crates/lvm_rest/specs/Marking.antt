@@ -10,13 +10,13 @@ use Rattle.lvm_left.specs.Marking.{Marks, IsLeftIn}
 use Rattle.lvm_status.specs.Update.{Stored}
 use Rattle.lvm_commit.specs.Committed.{MayMark}
 use Rattle.lvm_commit.specs.Settling.{there as not_missing, NoneIsLeft}
-use Rattle.lvm_crash.specs.Session.{members_there}
+use Rattle.lvm_crash.specs.Session.{members_showing}
 use Rattle.lvm_rest.specs.Rest.{NoneIsBehind}
 
 -- It may follow, whoever has become missing, and leaves no fresh copy behind.
 abbrev pub MarkedMayFollow : Type 0
 MarkedMayFollow = (c : Contents) (group : Descriptor) (there : Disks) (was next : Status)
-    → IsValid group → ((d : ℕ) → IsTrue (there d) → IsTrue (members_there c group d)) → Marks there (IsLeftIn there was group.lvs) was next → MayMark c group was next
+    → IsValid group → ((d : ℕ) → IsTrue (there d) → IsTrue (members_showing c group d)) → Marks there (IsLeftIn there was group.lvs) was next → MayMark c group was next
 
 abbrev pub MarkedLeavesNone : Type 0
 MarkedLeavesNone = (c : Contents) (group : Descriptor) (there : Disks) (was : Status) (next : Stamped Status)

@@ -10,6 +10,7 @@ use Rattle.lvm_session.specs.declared.bringing.OpenCopy.{OpenCopy}
 use Rattle.lvm_session.specs.declared.open.Power.TheVariants as power
 use Rattle.lvm_session.specs.Bringing.{is_out}
 use Rattle.lvm_session.specs.Calls.{closed, copy_state, state_at_end, state_of_copy}
+use Rattle.lvm_session.specs.Judging.{is_missing}
 use Rattle.lvm_disk.specs.Device.{Device}
 use Rattle.lvm_session.specs.State.{Core, State, state}
 use Rattle.lvm_session.specs.Sound.{IsSound}
@@ -140,6 +141,7 @@ module _ (first old : State) (patience left : ℕ) (so_far : BroughtSoFar first 
         leaves = runs.leaves;
         table = subst (λ (s : State). KeepsTable old.core s.core) (sym is) (closed_table old.core);
         orders = runs.orders;
+        loses = λ disk gone. inl (ap (λ (s : State). is_missing s.core disk) (sym is) ∙ gone);
         fewer = none.fewer;
         waited = subst (λ (s : State). RoseBy (left - left) old.device.counts.waits s.device.counts.waits) (sym is) none.waited;
       }

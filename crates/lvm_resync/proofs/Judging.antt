@@ -13,7 +13,7 @@ use Rattle.lvm_session.specs.declared.open.Open.{Open}
 use Rattle.lvm_session.specs.declared.open.Power.TheVariants as power
 use Rattle.lvm_session.specs.Calls.{OpenGives, Opens, aged, copy_at, copy_fault, is_asked}
 use Rattle.lvm_session.specs.Ends.{with_step}
-use Rattle.lvm_session.specs.Judging.{copies_in, is_stale}
+use Rattle.lvm_session.specs.Judging.{copies_in, is_missing, is_stale}
 use Rattle.lvm_session.specs.Sound.{IsSound}
 use Rattle.lvm_session.specs.State.{Core, State, state}
 use Rattle.lvm_copy_open.specs.Opening.{counts_seen}
@@ -107,6 +107,7 @@ opened_beside old new left lv lp number opens same leaves = record {
   leaves = leaves;
   table = subst (KeepsTable old.core) (sym opens.is) (opened_table old.core _);
   orders = ap (λ (d : Device). d.orders) same;
+  loses = λ disk gone. inl (ap (λ (c : Core). is_missing c disk) (sym opens.is) ∙ gone);
   fewer = (beside_none old left).fewer;
   waited = subst (λ (d : Device). RoseBy (left - left) old.device.counts.waits d.counts.waits) (sym same) (beside_none old left).waited;
 }

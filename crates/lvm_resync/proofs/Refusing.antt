@@ -15,7 +15,7 @@ use Rattle.lvm_session.specs.declared.answers.CopyFault.{CopyFault}
 use Rattle.lvm_session.specs.declared.answers.CopyFault.TheVariants as refusal
 use Rattle.lvm_session.specs.declared.open.Power.{Power}
 use Rattle.lvm_session.specs.declared.open.Power.TheVariants as power
-use Rattle.lvm_session.specs.Calls.{OpenGives, Opens, copy_at, copy_fault, has_numbers, refusal_at, refusal_by, refusal_in, refusal_on}
+use Rattle.lvm_session.specs.Calls.{OpenGives, Opens, copy_at, copy_fault, has_numbers, refusal_at, refusal_when, refusal_in, refusal_on}
 use Rattle.lvm_session.specs.Judging.{is_missing, is_settled, is_stale, is_usable}
 use Rattle.lvm_session.specs.State.{Core}
 use Rattle.lvm_resync.specs.Passing.{Copy, MayPass}
@@ -74,7 +74,7 @@ module _ (core : Core) (c : Copy) (may : MayPass core c) (why : CopyFault) where
   pub refused_so : copy_fault core c.lv c.lp c.number ≡ Some why → IsRefusedSo core c.pp why
   refused_so e = by core.power refl e
     where
-      by : (p : Power) → core.power ≡ p → refusal_by p (refusal_on core c.lv c.lp c.number) ≡ Some why → IsRefusedSo core c.pp why
+      by : (p : Power) → core.power ≡ p → refusal_when p (refusal_on core c.lv c.lp c.number) ≡ Some why → IsRefusedSo core c.pp why
       by power.Dark is f = subst (IsRefusedSo core c.pp) (the_one refusal.Dark why f) is
       by power.Off is f = subst (IsRefusedSo core c.pp) (the_one refusal.Off why f) is
       by power.Stuck is f = on_session f

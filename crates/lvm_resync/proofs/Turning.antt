@@ -13,6 +13,7 @@ use Rattle.lvm_running.specs.Running.{RunsOn}
 use Rattle.lvm_running.proofs.Running.{leaves_both, leaves_none, stays_unstuck}
 use Rattle.lvm_turn_answers.specs.Telling.{TurnTells}
 use Rattle.lvm_turn_answers.proofs.Stepping.{turn_counts}
+use Rattle.lvm_turn_losses.proofs.Losing.{loses_both, loses_none, turn_loses}
 use Rattle.lvm_ranges.proofs.Tables.{table_same, table_then, turn_table}
 use Rattle.lvm_driver.specs.Drains.{IsAny, IsTurn, LastTurn, NoTurn, ThenMoves, ThenWaits}
 use Rattle.lvm_resync.specs.declared.fault.SyncFault.{SyncFault}
@@ -32,6 +33,7 @@ beside_none s left = record {
   leaves = leaves_none s;
   table = table_same s.core;
   orders = refl;
+  loses = loses_none s;
   fewer = omega arith;
   waited = rose_same left s.device.counts.waits s.device.counts.waits (rose_by_none s.device.counts.waits);
 }
@@ -45,6 +47,7 @@ beside_both old mid new a b c one two =
       leaves = leaves_both old mid new one.leaves two.leaves;
       table = table_then old.core mid.core new.core one.table two.table;
       orders = two.orders ∙ one.orders;
+      loses = loses_both old mid new one.leaves.keeps.counts two.leaves.keeps.counts one.loses two.loses;
       fewer = omega (arith, high, low);
       waited = subst (λ n. RoseBy n old.device.counts.waits new.device.counts.waits) both (rose_by_both one.waited two.waited);
     }
@@ -96,6 +99,7 @@ runs_beside old new left sound answer made runs = record {
   leaves = runs.leaves;
   table = turn_table old new answer sound made;
   orders = runs.orders;
+  loses = turn_loses old new answer sound made;
   fewer = omega arith;
   waited = rose_same left old.device.counts.waits new.device.counts.waits (rose_by_after (rose_by_none old.device.counts.waits) (turn_counts old new answer made).waits);
 }
@@ -115,6 +119,7 @@ waits_beside old new left some sound under_way made tells runs = record {
   leaves = runs.leaves;
   table = turn_table old new turned.Idle sound made;
   orders = runs.orders;
+  loses = turn_loses old new turned.Idle sound made;
   fewer = omega arith;
   waited =
       let one : 0 + 1 ≡ left - (left - 1) = omega (arith, some) in

@@ -8,16 +8,19 @@ use Rattle.lvm_session.specs.State.{Core, State}
 use Rattle.lvm_running.specs.Running.{LeavesSession}
 use Rattle.lvm_session.specs.declared.answers.Turned.TheVariants as turned
 use Rattle.lvm_session.specs.Turns.{Finds, TurnMakes}
+use Rattle.lvm_turn_losses.specs.Losing.{LosesByFaults}
 use Rattle.lvm_driver.specs.Drains.{IsDrained}
 use Rattle.lvm_ranges.specs.Keeping.{KeepsTable}
 use Rattle.lvm_resync.specs.declared.fault.SyncFault.{SyncFault}
 use Rattle.lvm_resync.specs.declared.fault.SyncFault.TheVariants as fault
 
--- The session goes on, with its requests in the table; no order is given; and the patience that is gone went with answers that nothing has ended.
+-- The session goes on, with its requests in the table; no order is given; disks come to be missing by faults alone; and the patience that is gone went with answers
+-- that nothing has ended.
 pub record GoesBeside (old new : State) (before after : ℕ) : Type 0 where
   pub leaves : LeavesSession old new
   pub table : KeepsTable old.core new.core
   pub orders : new.device.orders ≡ old.device.orders
+  pub loses : LosesByFaults old new
   pub fewer : after ≤ before
   pub waited : RoseBy (before - after) old.device.counts.waits new.device.counts.waits
 

@@ -8,7 +8,6 @@ ghost use Rattle.lvm_resync.specs.Passing.{BringsUp, HasEnded, IsAnsweredBy, IsJ
 ghost use Rattle.lvm_resync.specs.Turning.{GoesBeside};
 
 use crate::fault::SyncFault;
-use crate::sound::is_sound;
 use crate::turns::make_turn;
 use lvm_disk::Shelf;
 use lvm_driver::Driver;
@@ -74,7 +73,7 @@ fn open_stale<S: Shelf>(
     ensures beside { GoesBeside (state_of S.device driver.old) (state_of S.device driver.new) patience.old.left patience.new.left }
 {
     while is_stale(driver, pp) {
-        is_sound(driver);
+        driver.is_sound();
         match driver.open_copy(lv, lp, number) {
             Ok(()) => return Ok(Opening::Opened),
             Err(why) => match why {
@@ -108,7 +107,7 @@ fn bring_up<S: Shelf>(
     ensures beside { GoesBeside (state_of S.device driver.old) (state_of S.device driver.new) patience.old.left patience.new.left }
 {
     while is_running(driver) {
-        is_sound(driver);
+        driver.is_sound();
         make_turn(driver, patience)?;
     }
     let how = driver.copy_state();

@@ -4,7 +4,6 @@
 mod copies;
 mod fault;
 mod passes;
-mod sound;
 mod sync;
 mod tally;
 mod turns;

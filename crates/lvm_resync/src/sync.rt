@@ -8,7 +8,6 @@ ghost use Rattle.lvm_resync.specs.Turning.{GoesBeside};
 
 use crate::fault::SyncFault;
 use crate::passes::{pass_group, pass_partition, pass_volume};
-use crate::sound::is_sound;
 use crate::tally::Tally;
 use lvm_copies::volume_of;
 use lvm_disk::Shelf;
@@ -121,7 +120,7 @@ pub fn sync_partition<S: Shelf>(
     match partition_fault(driver, lv, lp) {
         Some(why) => Err(why),
         None => {
-            is_sound(driver);
+            driver.is_sound();
             let mut tally = no_tally();
             pass_partition(driver, lv, lp, &mut tally, patience)?;
             answer(tally)
@@ -147,7 +146,7 @@ pub fn sync_volume<S: Shelf>(
     match volume_fault(driver, lv) {
         Some(why) => Err(why),
         None => {
-            is_sound(driver);
+            driver.is_sound();
             let mut tally = no_tally();
             pass_volume(driver, lv, &mut tally, patience)?;
             answer(tally)
@@ -172,7 +171,7 @@ pub fn sync_group<S: Shelf>(
     match group_fault(driver) {
         Some(why) => Err(why),
         None => {
-            is_sound(driver);
+            driver.is_sound();
             let mut tally = no_tally();
             pass_group(driver, &mut tally, patience)?;
             answer(tally)

@@ -5,7 +5,6 @@ ghost use Rattle.lvm_driver.specs.Answers.{state_of};
 ghost use Rattle.lvm_resync.specs.Turning.{GoesBeside, IsUnderWay, TurnEnds};
 
 use crate::fault::SyncFault;
-use crate::sound::is_sound;
 use lvm_disk::Shelf;
 use lvm_driver::Driver;
 use lvm_session::Turned;
@@ -26,7 +25,7 @@ pub fn make_turn<S: Shelf>(driver: &mut Driver<S>, patience: &mut Patience) -> R
     if patience.left == 0 {
         return Err(SyncFault::Stuck);
     }
-    is_sound(driver);
+    driver.is_sound();
     match driver.turn() {
         Turned::Moved => Ok(()),
         Turned::Idle => {

@@ -5,7 +5,7 @@ ghost use Rattle.lvm_num.specs.declared.place.Pp.{Pp};
 ghost use Rattle.lvm_num.specs.Descriptor.{IsLaidOut, partitions_in};
 ghost use Rattle.lvm_stale.specs.Table.{is_pp};
 ghost use Rattle.lvm_status.specs.Calls.{IsMarkable};
-ghost use Rattle.lvm_status.specs.Runs.{IsSound as IsSoundStatus};
+ghost use Rattle.lvm_status.specs.Runs.{IsSoundStatus};
 ghost use Rattle.lvm_status.specs.Update.{seen};
 ghost use Rattle.lvm_session.specs.Marks.{WantsStale, is_among};
 ghost use Rattle.lvm_review.specs.Left.{can_stand_in, is_gone, is_left_among, is_left_below, is_left_of};

@@ -24,7 +24,7 @@ use Rattle.lvm_vol.specs.Facts.{Begun}
 use Rattle.lvm_vol.specs.Order.{Ordered}
 use Rattle.lvm_mwc.specs.declared.entries.CacheEntry.{CacheEntry}
 use Rattle.lvm_status.specs.Update.{is_there, members_there, seen}
-use Rattle.lvm_status.specs.Runs.{IsSound as IsSoundStatus}
+use Rattle.lvm_status.specs.Runs.{IsSoundStatus}
 use Rattle.lvm_sched.specs.declared.writes.TargetState.TheVariants as stage
 use Rattle.lvm_path.specs.declared.target.Target.{Target}
 use Rattle.lvm_session.specs.declared.event.Event.TheVariants as event

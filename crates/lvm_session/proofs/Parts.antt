@@ -23,7 +23,7 @@ use Rattle.lvm_kept.proofs.Finding.{some_same}
 use Rattle.lvm_mwc.specs.declared.notes.DiskNotes.{DiskNotes}
 use Rattle.lvm_mwc.specs.Cache.{has_disk, flight_on, no_notes}
 use Rattle.lvm_status.specs.Update.{Updates, is_held, is_owed, is_there, seen}
-use Rattle.lvm_status.specs.Runs.{IsSound as IsSoundStatus}
+use Rattle.lvm_status.specs.Runs.{IsSoundStatus}
 use Rattle.lvm_num.specs.declared.descriptor.LvRow.{LvRow}
 use Rattle.lvm_session.specs.State.{Core}
 use Rattle.lvm_session.specs.Judging.{copies_in, is_stale, is_missing}

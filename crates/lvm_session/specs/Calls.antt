@@ -153,15 +153,15 @@ refusal_on core lv lp number =
     else option_map_or (λ (row : LvRow). refusal_in core row lp number) (volume_of core.descriptor lv) (Some refusal.NoVolume)
 
 -- and where the session is over
-abbrev pub refusal_by : Power → Option CopyFault → Option CopyFault
-refusal_by power.Dark on = Some refusal.Dark
-refusal_by power.Off on = Some refusal.Off
-refusal_by power.Stuck on = on
-refusal_by power.On on = on
+abbrev pub refusal_when : Power → Option CopyFault → Option CopyFault
+refusal_when power.Dark on = Some refusal.Dark
+refusal_when power.Off on = Some refusal.Off
+refusal_when power.Stuck on = on
+refusal_when power.On on = on
 
 -- why a copy isn't opened, if it isn't
 abbrev pub copy_fault : Core → ℕ → ℕ → ℕ → Option CopyFault
-copy_fault core lv lp number = refusal_by core.power (refusal_on core lv lp number)
+copy_fault core lv lp number = refusal_when core.power (refusal_on core lv lp number)
 
 -- its targets were chosen before the copy was opened
 abbrev pub aged : Open → Open

@@ -1,15 +1,15 @@
 -- What becomes wanted of the status within an event.
-use Rattle.std.specs.Prelude.{◌≡◌, ℕ, Bool, true, false, ◌&&◌, ◌||◌, not, if◌then◌else◌, List, [], map, filter, Option}
+use Rattle.std.specs.Prelude.{◌≡◌, ℕ, Bool, true, false, ◌&&◌, ◌||◌, not, if◌then◌else◌, List, [], filter, Option}
 use Rattle.std.specs.List.{list_any, range_with_len}
 use Rattle.std.specs.Option.{option_map_or}
 use Rattle.lvm_num.specs.declared.place.Pp.{Pp}
 use Rattle.lvm_num.specs.declared.descriptor.LvRow.{LvRow}
 use Rattle.lvm_num.specs.Descriptor.{copies_of}
 use Rattle.lvm_num.specs.Status.{calls_stale}
-use Rattle.lvm_num.specs.declared.status.StatusRow.{StatusRow}
 use Rattle.lvm_num.specs.declared.status.Status.{Status}
 use Rattle.lvm_stale.specs.Table.{is_pp, SameMissing}
 use Rattle.lvm_status.specs.declared.change.Change.TheVariants as change
+pub use Rattle.lvm_status.specs.Members.{HasSameRows}
 use Rattle.lvm_status.specs.Calls.{BecomesDirty, BecomesFresh, with_wanted}
 use Rattle.lvm_status.specs.Update.{Stored, seen}
 use Rattle.lvm_path.specs.declared.request.Request.{Request}
@@ -25,12 +25,6 @@ use Rattle.lvm_session.specs.Judging.{is_stale, is_wanted_stale, is_missing, is_
 use Rattle.lvm_session.specs.Bringing.{copy_ends, with_end, marked_by_end, ends_if}
 
 -- ---- what is wanted
-
--- the status is of the same group, with rows for the same disks
-pub record HasSameRows (old new : Status) : Type 0 where
-  pub id : new.id ≡ old.id
-  pub big : new.big ≡ old.big
-  pub disks : map (λ (row : StatusRow). row.disk) new.rows ≡ map (λ (row : StatusRow). row.disk) old.rows
 
 -- These partitions become wanted stale, and nothing else changes; nothing at all where they are.
 pub record WantsStale (due : Pp → Bool) (old new : Stored) : Type 0 where

@@ -84,15 +84,15 @@ IsStepOf (step.Reading source) core c f = IsCopyTransfer core c source false f
 IsStepOf step.Writing core c f = IsCopyTransfer core c c.pp true f
 
 -- the transfer of the copy that is open
-abbrev pub IsCopyOf : Core → Flight → Type 0
-IsCopyOf core f = (c : OpenCopy) × (core.copy ≡ Some c) × IsStepOf c.step core c f
+abbrev pub IsCopyStepOf : Core → Flight → Type 0
+IsCopyStepOf core f = (c : OpenCopy) × (core.copy ≡ Some c) × IsStepOf c.step core c f
 
 -- The transfer is what its owner has out.
 abbrev pub IsTransferOf : Core → Owner → Flight → Type 0
 IsTransferOf core (owner.Data id target) f = IsDataOf core id target f
 IsTransferOf core (owner.Status disk) f = IsStatusOf core disk f
 IsTransferOf core (owner.Note disk) f = IsNoteOf core disk f
-IsTransferOf core owner.Copy f = IsCopyOf core f
+IsTransferOf core owner.Copy f = IsCopyStepOf core f
 
 -- the row of the session's list is the flight's
 pub record IsRowOf (core : Core) (row : Flown) (f : Flight) : Type 0 where

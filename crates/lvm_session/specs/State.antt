@@ -5,6 +5,7 @@ use Rattle.lvm_num.specs.Disks.{Disks}
 use Rattle.lvm_num.specs.Votes.{votes_in}
 use Rattle.lvm_disk.specs.Device.{Device}
 use Rattle.lvm_vol.specs.Log.{Log}
+use Rattle.lvm_kept.specs.Moments.{Moment}
 use Rattle.lvm_hold.specs.Waiting.{Waiting}
 use Rattle.lvm_mwc.specs.Cache.{Cached}
 use Rattle.lvm_status.specs.Update.{Stored, members_there}
@@ -50,6 +51,14 @@ pub record State : Type 0 where
 
 abbrev pub state : Device → Core → State
 state device core = record { device = device; core = core }
+
+-- that of a driver, by the device that its shelf is
+abbrev pub state_of : {S : Type 0} → (S → Device) → S × Core → State
+state_of device driver = state (device driver.0) driver.1
+
+-- what its history has, and what its shelf is
+abbrev pub moment_of : State → Moment
+moment_of s = record { device = s.device; facts = s.core.history.facts }
 
 -- the members that aren't missing
 abbrev pub is_there : Core → Disks

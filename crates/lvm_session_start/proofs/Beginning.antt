@@ -17,7 +17,7 @@ use Rattle.lvm_mwc.specs.declared.notes.DiskNotes.{DiskNotes}
 use Rattle.lvm_mwc.specs.Entries.{AreEntries}
 use Rattle.lvm_mwc.specs.Cache.{Cached, flight_on, has_disk, no_notes}
 use Rattle.lvm_status.specs.Calls.{first_updates}
-use Rattle.lvm_status.specs.Runs.{SetStamp, IsSound as IsSoundStatus}
+use Rattle.lvm_status.specs.Runs.{SetStamp, IsSoundStatus}
 use Rattle.lvm_status.specs.Update.{Updates, seen}
 use Rattle.lvm_status.proofs.Sound.{first_is_sound, steps_stay_sound}
 use Rattle.lvm_homes.specs.declared.homes.Homes.{Homes}

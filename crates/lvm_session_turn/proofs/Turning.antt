@@ -1,5 +1,6 @@
 -- The first event of a turn by its parts.
-use Rattle.std.proofs.Common.{◌≡◌, true, false, if◌then◌else◌, Option, Some, None, refl, ◌∙◌, ap}
+use Rattle.std.proofs.Common.{◌≡◌, ◌<◌, ℕ, true, false, if◌then◌else◌, Option, Some, None, length, length-set, refl, ◌∙◌, ap, subst, arith}
+use Rattle.std.proofs.lemmas.Option.{slice_get_within}
 use Rattle.lvm_disk.specs.Device.{Device}
 use Rattle.lvm_session.specs.declared.event.Event.{Event}
 use Rattle.lvm_session.specs.declared.event.Event.TheVariants as event
@@ -7,7 +8,8 @@ use Rattle.lvm_session.specs.State.{Core, State, state}
 use Rattle.lvm_session.specs.Enabled.{first_event, first_of, is_lost, landing, or_next, parts_to_settle, parts_to_start}
 use Rattle.lvm_session.specs.declared.answers.Turned.{Turned}
 use Rattle.lvm_session.specs.declared.answers.Turned.TheVariants as turned
-use Rattle.lvm_session.specs.Turns.{Moves, NoStart, OnMakes, is_start}
+use Rattle.lvm_session.specs.Events.{StartsData, begun_as}
+use Rattle.lvm_session.specs.Turns.{Makes, Moves, NoStart, OnMakes, is_start}
 use Rattle.lvm_launch.specs.Launching.{StartGives}
 use Rattle.lvm_moves.specs.Moving.{FirstGives}
 use Rattle.lvm_starts.specs.Starts.{CanStart, StartsFirst}
@@ -28,7 +30,7 @@ started_next : (core : Core) → is_lost core ≡ false → first_of parts_to_se
 started_next core votes is = of_both core votes ∙ ap (λ (o : Option Event). or_next o (first_of parts_to_start core)) is
 
 -- what can be started is a start
-starts : (it : Event) (device : Device) (core : Core) → CanStart it device core → is_start it ≡ true
+pub starts : (it : Event) (device : Device) (core : Core) → CanStart it device core → is_start it ≡ true
 starts (event.Land place how) device core can = absurd can
 starts (event.Admit place) device core can = absurd can
 starts (event.Pin place) device core can = absurd can
@@ -37,6 +39,16 @@ starts (event.StartNote place disk) device core can = refl
 starts (event.StartData place target) device core can = refl
 starts event.ReadCopy device core can = refl
 starts event.WriteCopy device core can = refl
+
+-- ---- the request of which a transfer is started
+
+pub started_there : (it : Event) (old new : State) → Makes it old new → (place target : ℕ) → it ≡ event.StartData place target → place < length new.core.requests
+started_there it old new made place target is =
+    let starts : StartsData old new place target = subst (λ (e : Event). Makes e old new) is made in
+    let os = old.core.requests in
+    let within : place < length os = slice_get_within os place starts.its.request starts.its.there in
+    let long : length new.core.requests ≡ length os = ap (λ (s : State). length s.core.requests) starts.is ∙ length-set os place (begun_as target starts.its.request) in
+    omega (arith, within, long)
 
 -- ---- what is made of them
 

@@ -7,56 +7,87 @@ ghost use Rattle.lvm_session.specs.Fields.{core_of};
 ghost use Rattle.lvm_session.specs.Rooms.{HasRooms, SameRooms};
 ghost use Rattle.lvm_session.specs.State.{state};
 ghost use Rattle.lvm_session.specs.Sound.{IsGoing, IsSound};
-ghost use Rattle.lvm_starts.specs.Starts.{StartsFirst};
+ghost use Rattle.lvm_due.specs.Due.{IsDue};
+ghost use Rattle.lvm_launch.specs.Launching.{StartGives};
+ghost use Rattle.lvm_starts.specs.Starts.{CanStart, StartsFirst};
 ghost use Rattle.lvm_session_turn.specs.Taking.{FirstMakes};
 
 use lvm_disk::Shelf;
+use lvm_due::Due;
 use lvm_enabled::first_start;
 use lvm_firsts::is_lost;
 use lvm_moves::{land_first, move_first};
-use lvm_session::{Session, Turned};
+use lvm_session::{Event, Session, Turned};
 use lvm_starts::make_start;
 
+// The transfer of an event that starts one is.
+fn start<S: Shelf>(session: &mut Session, shelf: &mut S, event: Event, due: &mut Due) -> Turned
+    requires may { CanStart event (S.device shelf.old) (core_of session.old) }
+    requires rooms { HasRooms session.old }
+    requires going { IsGoing (core_of session.old) }
+    requires due { IsDue (core_of session.old) due.old }
+    ensures gives { StartGives event (state (S.device shelf.old) (core_of session.old)) (state (S.device shelf.new) (core_of session.new)) result }
+    ensures rooms { SameRooms session.old session.new }
+    ensures due { IsDue (core_of session.new) due.new }
+{
+    match make_start(session, shelf, event) {
+        Turned::Moved => {
+            due.started(session, event);
+            Turned::Moved
+        }
+        answer => {
+            *due = Due::all(session.requests.len());
+            answer
+        }
+    }
+}
+
 // The first transfer that may be started is.
-fn start_first<S: Shelf>(session: &mut Session, shelf: &mut S) -> Option<Turned>
+fn start_first<S: Shelf>(session: &mut Session, shelf: &mut S, due: &mut Due) -> Option<Turned>
     requires sound { IsSound (state (S.device shelf.old) (core_of session.old)) }
     requires on { session.old.power ≡ power.On }
     requires votes { is_lost (core_of session.old) ≡ false }
     requires rooms { HasRooms session.old }
+    requires due { IsDue (core_of session.old) due.old }
     ensures starts { StartsFirst (state (S.device shelf.old) (core_of session.old)) (state (S.device shelf.new) (core_of session.new)) result }
     ensures rooms { SameRooms session.old session.new }
+    ensures due { IsDue (core_of session.new) due.new }
 {
-    match first_start(session) {
+    match first_start(session, due) {
         None => None,
-        Some(event) => Some(make_start(session, shelf, event)),
+        Some(event) => Some(start(session, shelf, event, due)),
     }
 }
 
 // While the votes are there.
-fn settle_or_start<S: Shelf>(session: &mut Session, shelf: &mut S) -> Option<Turned>
+fn settle_or_start<S: Shelf>(session: &mut Session, shelf: &mut S, due: &mut Due) -> Option<Turned>
     requires sound { IsSound (state (S.device shelf.old) (core_of session.old)) }
     requires on { session.old.power ≡ power.On }
     requires votes { is_lost (core_of session.old) ≡ false }
     requires rooms { HasRooms session.old }
+    requires due { IsDue (core_of session.old) due.old }
     ensures makes { FirstMakes (state (S.device shelf.old) (core_of session.old)) (state (S.device shelf.new) (core_of session.new)) result }
     ensures rooms { SameRooms session.old session.new }
+    ensures due { IsDue (core_of session.new) due.new }
 {
-    if move_first(session, shelf) {
+    if move_first(session, shelf, due) {
         Some(Turned::Moved)
     } else {
-        start_first(session, shelf)
+        start_first(session, shelf, due)
     }
 }
 
 // Once they are lost.
-fn land_only(session: &mut Session) -> Option<Turned>
+fn land_only(session: &mut Session, due: &mut Due) -> Option<Turned>
     requires going { IsGoing (core_of session.old) }
     requires lost { is_lost (core_of session.old) ≡ true }
     requires rooms { HasRooms session.old }
+    requires due { IsDue (core_of session.old) due.old }
     ensures makes { (device : Device) → FirstMakes (state device (core_of session.old)) (state device (core_of session.new)) result }
     ensures rooms { SameRooms session.old session.new }
+    ensures due { IsDue (core_of session.new) due.new }
 {
-    if land_first(session) {
+    if land_first(session, due) {
         Some(Turned::Moved)
     } else {
         None
@@ -65,16 +96,18 @@ fn land_only(session: &mut Session) -> Option<Turned>
 
 /// The first event of a turn that may be made is. Answers `Moved`, or `Dark` where it starts a transfer and the
 /// power is found off; None where there is none, and nothing has changed.
-pub fn make_first<S: Shelf>(session: &mut Session, shelf: &mut S) -> Option<Turned>
+pub fn make_first<S: Shelf>(session: &mut Session, shelf: &mut S, due: &mut Due) -> Option<Turned>
     requires sound { IsSound (state (S.device shelf.old) (core_of session.old)) }
     requires on { session.old.power ≡ power.On }
     requires rooms { HasRooms session.old }
+    requires due { IsDue (core_of session.old) due.old }
     ensures makes { FirstMakes (state (S.device shelf.old) (core_of session.old)) (state (S.device shelf.new) (core_of session.new)) result }
     ensures rooms { SameRooms session.old session.new }
+    ensures due { IsDue (core_of session.new) due.new }
 {
     if is_lost(session) {
-        land_only(session)
+        land_only(session, due)
     } else {
-        settle_or_start(session, shelf)
+        settle_or_start(session, shelf, due)
     }
 }

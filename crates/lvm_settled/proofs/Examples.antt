@@ -36,7 +36,7 @@ use Rattle.lvm_mwc.specs.declared.notes.DiskNotes.{DiskNotes}
 use Rattle.lvm_session.specs.State.{Core, state, is_there}
 use Rattle.lvm_session.specs.declared.open.Power.TheVariants as power
 use Rattle.lvm_session.proofs.Parts.{none_written}
-use Rattle.lvm_core.specs.Sound.{IsFitting, IsQuiet, IsSound}
+use Rattle.lvm_core.specs.Sound.{IsFitting, IsQuiet, IsSoundBetween}
 use Rattle.lvm_session.specs.Placed.{IsPlaced}
 use Rattle.lvm_core.proofs.Beginning.{no_entries}
 use Rattle.lvm_core.proofs.Own.{sound_ready}
@@ -163,7 +163,7 @@ of_two zero row low is = subst (IsPlaced pair_sizes 1) is (record { there = omeg
 of_two (suc zero) row low is = subst (IsPlaced pair_sizes 1) is (record { there = omega arith; within = λ size e. let same : 16384 ≡ size = some_same 16384 size e in omega (arith, same) })
 of_two (suc (suc k)) row low is = absurd (omega (arith, low))
 
-sound : (x : Pair) → IsSound (state (device_of x) (core_of x))
+sound : (x : Pair) → IsSoundBetween (state (device_of x) (core_of x))
 sound x = sound_ready (device_of x) (core_of x) (fits x) (record { requests = refl; copy = refl }) (λ id. refl) (λ row one there. of_two one.0 row one.1 one.2) refl refl
     (λ off. absurd (let e : power.On ≡ power.Off = off in cc)) (λ stuck. absurd (let e : power.On ≡ power.Stuck = stuck in cc)) (record { flights = refl; freed = refl; power = refl })
 
@@ -196,7 +196,7 @@ noted_quiet x = record { requests = refl; copy = refl; status = refl; notes = λ
     none false true = refl
     none false false = refl
 
-noted_sound : (x : Pair) → IsSound (state (device_of x) (noted_core x))
+noted_sound : (x : Pair) → IsSoundBetween (state (device_of x) (noted_core x))
 noted_sound x =
     let first = sound x in
     record {
@@ -252,7 +252,7 @@ module _ (mode : Mode) (dirty lost cut : Bool) (note : Sector) (cache : Cached) 
   below : (d s : ℕ) → s < 4096 → x.stands d s ≡ zero_sector
   below d s low = refl
 
-  settles : IsSound (state (device_of x) core) → IsQuiet core → IsSettledPair core x mode cut
+  settles : IsSoundBetween (state (device_of x) core) → IsQuiet core → IsSettledPair core x mode cut
   settles sound quiet =
       let rests = pairs_rest.even mode dirty lost cut note in
       let shown : IsShownEven x (there_by x) (contents_of (image_of pair_sizes (media_of x))) = subst (IsShownEven x (there_by x)) (sym (told x below)) (shows x, zeros_even mode dirty lost note (there_by x), behind x) in

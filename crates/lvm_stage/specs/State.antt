@@ -2,7 +2,7 @@
 use Rattle.std.specs.Prelude.{◌≡◌, ◌≢◌, ◌+◌, ◌≤◌, ℕ, [], List, Option, None, IfSome, IfNone, IsSomeAnd, All, AllPairs}
 use Rattle.lvm_disk.specs.Device.{Device, IsReady}
 use Rattle.lvm_vol.specs.Facts.{Fact}
-use Rattle.lvm_vol.specs.Log.{Log}
+pub use Rattle.lvm_vol.specs.Log.{log_with, without_facts}
 use Rattle.lvm_kept.specs.Moments.{Moment}
 use Rattle.lvm_steps.specs.Moments.{Begins}
 use Rattle.lvm_commit.specs.LawsOfVolumes.{IsOneByAllOn}
@@ -27,14 +27,6 @@ pub record State : Type 0 where
   pub session : Option Core
   pub posts : List Post
   pub last : ℕ
-
--- the history with these entries
-abbrev pub log_with : Log → List Fact → Log
-log_with log facts = record log { facts = facts }
-
--- the history's run and rooms alone
-abbrev pub without_facts : Log → Log
-without_facts log = log_with log []
 
 -- ---- the posts
 

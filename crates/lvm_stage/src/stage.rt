@@ -1,7 +1,8 @@
 //! What stands between two lines of a script.
-ghost use Rattle.std.specs.Prelude.{◌≡◌, ◌⊎◌, ◌↔◌, ℕ, [], length, IsTrue, IsFalse, IsSome, IfSome, IfOk, None};
+ghost use Rattle.std.specs.Prelude.{◌≡◌, ◌≤◌, ◌⊎◌, ◌↔◌, ℕ, [], length, vec_capacity, IsTrue, IsFalse, IsSome, IfSome, IfOk, Some, None};
+ghost use Rattle.lvm_disk.specs.Device.{Device};
 ghost use Rattle.lvm_stage.specs.Replies.{IsStuck, is_unheard};
-ghost use Rattle.lvm_stage.specs.Stages.{ComesTo, GivesBack, HaveRooms, IsCarried, IsEnded, IsLeftBy, IsNotOn, IsOn, IsOnIn, history_in, posts_ended, session_in, session_of, shelf_in};
+ghost use Rattle.lvm_stage.specs.Stages.{ComesTo, GivesBack, HaveRooms, IsCarried, IsClosed, IsEnded, IsLeftBy, IsNotOn, IsOn, IsOnIn, history_in, posts_ended, session_in, session_of, shelf_in};
 
 use crate::holder::Holder;
 use crate::reply::{Refusal, Reply};
@@ -10,7 +11,7 @@ use lvm_disk::Shelf;
 use lvm_num::{Memory, Name};
 use lvm_posts::{Post, end_posts};
 use lvm_session::Power;
-use lvm_tie_copies::below::driver::Driver;
+use lvm_tie_copies::below::driver::{self, Driver};
 use lvm_transfer::relight;
 use std::alloc::Global;
 
@@ -64,6 +65,32 @@ fn end_session<S: Shelf>(holder: &Holder<S>, posts: &mut [Post])
             let (have, total) = driver.votes();
             end_posts(posts, have, total);
         }
+    }
+}
+
+// The posts once this session has ended.
+fn ended_posts<S: Shelf>(driver: &Driver<S>, posts: Vec<Post>) -> Vec<Post>
+    ensures items { result.items ≡ posts_ended (Some driver.now.1) posts.items }
+    ensures room { vec_capacity posts ≤ vec_capacity result }
+{
+    let (have, total) = driver.votes();
+    let mut posts = posts;
+    end_posts(posts.as_mut_slice(), have, total);
+    posts
+}
+
+// The shelf of a session that was closed: after a power cut the power is put on again.
+fn relit<S: Shelf>(shelf: S, power: Power) -> S
+    requires { power ≡ Power.Dark → (S.device shelf).flights ≡ [] }
+    ensures { (old : Device) → S.device shelf ≡ record old { freed = [] } → IsClosed power old (S.device result) }
+{
+    match power {
+        Power::Dark => {
+            let mut shelf = shelf;
+            relight(&mut shelf);
+            shelf
+        }
+        Power::On | Power::Off | Power::Stuck => shelf,
     }
 }
 
@@ -144,16 +171,13 @@ impl<S: Shelf> Stage<S> {
         ensures rooms { (entries : ℕ) → HaveRooms entries posts bytes → HaveRooms entries result.posts result.bytes }
     {
         let power = driver.power();
-        let holder = Holder::Serving { driver };
-        let mut posts = posts;
-        end_session(&holder, posts.as_mut_slice());
-        let Closed { mut shelf, history } = holder.close();
-        match power {
-            Power::Dark => relight(&mut shelf),
-            Power::On | Power::Off | Power::Stuck => {}
-        }
+        let posts = ended_posts(&driver, posts);
+        let driver::Closed { shelf, history } = driver.close();
         Stage {
-            holder: Holder::Off { shelf, history },
+            holder: Holder::Off {
+                shelf: relit(shelf, power),
+                history,
+            },
             posts,
             bytes,
         }

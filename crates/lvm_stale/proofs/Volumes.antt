@@ -6,7 +6,8 @@ use Rattle.std.proofs.lemmas.List.Elements.{All-weaker}
 use Rattle.lvm_num.specs.declared.descriptor.LvRow.{LvRow}
 use Rattle.lvm_num.specs.declared.descriptor.Descriptor.{Descriptor}
 use Rattle.lvm_num.specs.Descriptor.{IsPartitionOf, IsValid, partitions_in, partitions_used}
-use Rattle.lvm_num.proofs.Spots.{IsBounded, bounded, few_apart}
+use Rattle.lvm_num.specs.Marks.{IsBounded}
+use Rattle.lvm_num.proofs.Spots.{bounded, few_apart}
 
 -- partitions that are all different
 pub few_partitions : (d : Descriptor) → IsValid d → length (partitions_used d) ≤ 130048

@@ -1,23 +1,15 @@
 -- What is true of an updater's tables and sets stays so.
-use Rattle.std.proofs.Common.{◌≡◌, ℕ, Bool, true, false, ◌&&◌, ◌||◌, not, List, [], ◌∷◌, length, map, refl, sym, ap, ◌∙◌, arith}
+use Rattle.std.proofs.Common.{◌≡◌, ℕ, Bool, true, false, ◌&&◌, not, length, refl, sym, ap, ◌∙◌, arith}
 use Rattle.std.specs.Prelude.{◌==◌}
-use Rattle.std.specs.List.{list_any}
 use Rattle.std.proofs.lemmas.List.{length-map}
 use Rattle.lvm_num.specs.declared.descriptor.Descriptor.{Descriptor}
 use Rattle.lvm_num.specs.declared.status.StatusRow.{StatusRow}
 use Rattle.lvm_num.specs.declared.status.Status.{Status}
 use Rattle.lvm_num.specs.Disks.{has}
-use Rattle.lvm_stale.specs.Table.{has_row, SameMembers}
+use Rattle.lvm_stale.specs.Table.{SameMembers}
+use Rattle.lvm_left.proofs.MarkLemmas.{has_row-same}
 use Rattle.lvm_status.specs.declared.writes.Writes.{Writes}
 use Rattle.lvm_status.specs.Members.{IsFit}
-
-any_disk : (rows : List StatusRow) (disk : ℕ) → list_any (λ (row : StatusRow). row.disk == disk) rows ≡ list_any (λ n. n == disk) (map (λ (row : StatusRow). row.disk) rows)
-any_disk [] disk = refl
-any_disk (row ∷ rows) disk = ap (λ b. row.disk == disk || b) (any_disk rows disk)
-
-pub has_row-same : (old new : Status) → SameMembers old new → (disk : ℕ) → has_row new disk ≡ has_row old disk
-has_row-same old new same disk =
-    any_disk new.rows disk ∙ ap (λ disks. list_any (λ n. n == disk) disks) same.disks ∙ sym (any_disk old.rows disk)
 
 pub as_many : (old new : Status) → SameMembers old new → length new.rows ≡ length old.rows
 as_many old new same =
@@ -36,6 +28,19 @@ fit_next d committed wanted flying new writes next known fit same unstarted star
   unstarted_members = λ disk is. fit.unstarted_members disk (unstarted disk is);
   started_members = λ disk is. fit.started_members disk (started disk is);
   same = λ is. absurd (cc is);
+}
+
+-- and what is wanted is known to be committed where it is
+pub fit_known : (d : Descriptor) (committed wanted flying : Status) (writes : Writes) (known now : Bool) → IsFit d committed wanted flying writes known → (now ≡ true → wanted ≡ committed)
+    → IsFit d committed wanted flying writes now
+fit_known d committed wanted flying writes known now fit same = record {
+  valid = fit.valid;
+  rows = fit.rows;
+  as_many = fit.as_many;
+  as_many_flying = fit.as_many_flying;
+  unstarted_members = fit.unstarted_members;
+  started_members = fit.started_members;
+  same = same;
 }
 
 -- a disk of what is left of a set is one of the set

@@ -15,7 +15,7 @@ use Rattle.lvm_status.specs.declared.change.Change.{Change}
 use Rattle.lvm_status.specs.declared.change.Change.TheVariants as change
 use Rattle.lvm_status.specs.Update.{Updates, no_disks, is_held, is_owed, is_settled_stale}
 use Rattle.lvm_status.specs.Calls.{Changes, WantsAtEnd, given_up, closed, comes_held, with_end, with_commit}
-use Rattle.lvm_status.specs.Runs.{Call, Want, Start, NextWrite, Ended, SetStamp, Step, IsSound, SetsForward, RunsForward, StaysStale, wants_fresh, InFlightStays, CommitsAreHeld, WrittenHasEnded, StampsRise, SettledStays, MissingStays, MissingIsNotWritten}
+use Rattle.lvm_status.specs.Runs.{Call, Want, Start, NextWrite, Ended, SetStamp, Step, IsSoundStatus, SetsForward, RunsForward, StaysStale, wants_fresh, InFlightStays, CommitsAreHeld, WrittenHasEnded, StampsRise, SettledStays, MissingStays, MissingIsNotWritten}
 use Rattle.lvm_status.proofs.Disks.{no_is_false}
 use Rattle.lvm_status.proofs.Sound.{and_left, and_right, both, not_false, or_tells, or_left, flies, with_end_and_commit, end_nearly, gradual, runs_stay_sound, if_grows}
 
@@ -68,7 +68,7 @@ in_flight_stays (SetStamp stamp) old new t sound step is = subst (StaysOrEnds t)
 closed_committed : (u : Updates) → (closed u).committed ≡ u.committed
 closed_committed u = closed_cases (λ (v : Updates). v.committed ≡ u.committed) u (λ enough none. refl) refl
 
-well_committed : (u : Updates) (disk : ℕ) (wanted : Status) → IsSound u → u.started disk ≡ true
+well_committed : (u : Updates) (disk : ℕ) (wanted : Status) → IsSoundStatus u → u.started disk ≡ true
     → ((with_end_and_commit u disk true wanted).committed ≡ u.committed) ⊎ ((u.in_flight ≡ Some (with_end_and_commit u disk true wanted).committed) × (is_held (with_end u disk true wanted) ≡ true))
 well_committed u disk wanted sound out = by_test (comes_held u (with_end u disk true wanted)) refl
   where

@@ -19,7 +19,7 @@ use Rattle.lvm_status.specs.declared.change.Change.{Change}
 use Rattle.lvm_status.specs.declared.change.Change.TheVariants as change
 use Rattle.lvm_status.specs.Update.{Updates, no_disks, with_disk, without_disk, members_there, is_there, is_held, is_owed}
 use Rattle.lvm_status.specs.Calls.{Changes, WantsAtEnd, given_up, closed, comes_held, with_wanted, with_update, with_start, with_end, with_commit}
-use Rattle.lvm_status.specs.Runs.{Want, Start, NextWrite, Ended, SetStamp, IsSound, FirstIsSound, StepsStaySound, RunsStaySound}
+use Rattle.lvm_status.specs.Runs.{Want, Start, NextWrite, Ended, SetStamp, IsSoundStatus, FirstIsSound, StepsStaySound, RunsStaySound}
 use Rattle.lvm_status.proofs.Disks.{no_is_false}
 
 -- ---- tests
@@ -92,10 +92,10 @@ pub record IsNearly (u : Updates) : Type 0 where
 abbrev without_update : Updates → Updates
 without_update u = record u { in_flight = None; unstarted = no_disks; started = no_disks; written = no_disks; failed = no_disks }
 
-closed_sound : (u : Updates) → IsNearly u → IsSound (closed u)
+closed_sound : (u : Updates) → IsNearly u → IsSoundStatus (closed u)
 closed_sound u near = by_test (is_held u && not (is_owed u)) refl
   where
-    by_test : (b : Bool) → is_held u && not (is_owed u) ≡ b → IsSound (if b then without_update u else u)
+    by_test : (b : Bool) → is_held u && not (is_owed u) ≡ b → IsSoundStatus (if b then without_update u else u)
     by_test true e = record {
       unstarted = λ disk is. absurd (false≢true is);
       started = λ disk is. absurd (false≢true is);
@@ -174,7 +174,7 @@ there_before d old new disk before is =
     both (is_member d disk) (not (calls_missing old disk)) (and_left (is_member d disk) (not (calls_missing new disk)) is)
     (ap not (before (not_false (calls_missing new disk) (and_right (is_member d disk) (not (calls_missing new disk)) is))))
 
-want_sound : (c : Change) (u : Updates) (wanted : Status) → IsSound u → Changes c u.wanted wanted → IsSound (with_wanted u c wanted)
+want_sound : (c : Change) (u : Updates) (wanted : Status) → IsSoundStatus u → Changes c u.wanted wanted → IsSoundStatus (with_wanted u c wanted)
 want_sound c u wanted sound made =
     let g = gradual c u.wanted wanted u.unstarted made in
     closed_sound (record u { wanted = wanted; unstarted = given_up c u.unstarted })
@@ -199,7 +199,7 @@ want_sound c u wanted sound made =
 
 -- ---- a beginning
 
-start_sound : (u : Updates) → IsSound u → IsSound (with_update u)
+start_sound : (u : Updates) → IsSoundStatus u → IsSoundStatus (with_update u)
 start_sound u sound = record {
   unstarted = λ disk is. (is, refl, refl, refl);
   started = λ disk is. absurd (false≢true is);
@@ -223,7 +223,7 @@ starts_there false false true true h = refl
 starts_there false false true false h = refl
 starts_there false false false e h = absurd (false≢true h)
 
-next_sound : (u : Updates) (disk : ℕ) → IsSound u → u.unstarted disk ≡ true → IsSound (with_start u (Some disk))
+next_sound : (u : Updates) (disk : ℕ) → IsSoundStatus u → u.unstarted disk ≡ true → IsSoundStatus (with_start u (Some disk))
 next_sound u disk sound is_lowest =
     let its = sound.unstarted disk is_lowest in
     let member : is_member u.group disk ≡ true = and_left (is_member u.group disk) (not (calls_missing u.wanted disk)) its.0 in
@@ -264,12 +264,12 @@ ends_there false false true false h = refl
 ends_there false false false e h = absurd (false≢true h)
 
 -- of the write that ends, and of the others that aren't started
-apart_from : (u : Updates) (disk d : ℕ) → IsSound u → u.started disk ≡ true → u.unstarted d ≡ true → d == disk ≡ false
+apart_from : (u : Updates) (disk d : ℕ) → IsSoundStatus u → u.started disk ≡ true → u.unstarted d ≡ true → d == disk ≡ false
 apart_from u disk d sound out is =
     no_is_false (d == disk) (λ same. false≢true (sym (sound.unstarted d is).1 ∙ ap u.started (eqb-true d disk same) ∙ out))
 
 -- the same, whatever is committed, but for what is held
-ends_nearly : (u : Updates) (disk : ℕ) (ok : Bool) (wanted committed : Status) → IsSound u → u.started disk ≡ true → WantsAtEnd disk ok u.wanted wanted
+ends_nearly : (u : Updates) (disk : ℕ) (ok : Bool) (wanted committed : Status) → IsSoundStatus u → u.started disk ≡ true → WantsAtEnd disk ok u.wanted wanted
     → (is_held (with_end u disk ok wanted) ≡ true → u.in_flight ≡ Some committed)
     → ((d : ℕ) → calls_missing committed d ≡ true → calls_missing u.wanted d ≡ true)
     → IsNearly (record (with_end u disk ok wanted) { committed = committed })
@@ -321,7 +321,7 @@ never_both true = refl
 never_both false = refl
 
 -- an update is in flight while a write of it is out
-pub flies : (u : Updates) (disk : ℕ) → IsSound u → u.started disk ≡ true → (t : Status) × (u.in_flight ≡ Some t)
+pub flies : (u : Updates) (disk : ℕ) → IsSoundStatus u → u.started disk ≡ true → (t : Status) × (u.in_flight ≡ Some t)
 flies u disk sound out = elim (option_tells u.in_flight) [
   | inl none ↦ absurd (false≢true (sym (sound.idle none disk).1 ∙ out))
   | inr some ↦ some
@@ -331,7 +331,7 @@ flies u disk sound out = elim (option_tells u.in_flight) [
 abbrev pub with_end_and_commit : Updates → ℕ → Bool → Status → Updates
 with_end_and_commit u disk ok wanted = if comes_held u (with_end u disk ok wanted) then with_commit (with_end u disk ok wanted) else with_end u disk ok wanted
 
-good_end : (u : Updates) (disk : ℕ) (wanted : Status) → IsSound u → u.started disk ≡ true → WantsAtEnd disk true u.wanted wanted → IsNearly (with_end_and_commit u disk true wanted)
+good_end : (u : Updates) (disk : ℕ) (wanted : Status) → IsSoundStatus u → u.started disk ≡ true → WantsAtEnd disk true u.wanted wanted → IsNearly (with_end_and_commit u disk true wanted)
 good_end u disk wanted sound out wants = by_test (comes_held u (with_end u disk true wanted)) refl
   where
     by_test : (b : Bool) → comes_held u (with_end u disk true wanted) ≡ b → IsNearly (if b then with_commit (with_end u disk true wanted) else with_end u disk true wanted)
@@ -345,18 +345,18 @@ good_end u disk wanted sound out wants = by_test (comes_held u (with_end u disk 
         (λ is. sound.held (held_before (is_held u) (is_held (with_end u disk true wanted)) e is))
         sound.committed_missing
 
-bad_end : (u : Updates) (disk : ℕ) (wanted : Status) → IsSound u → u.started disk ≡ true → WantsAtEnd disk false u.wanted wanted → IsNearly (with_end_and_commit u disk false wanted)
+bad_end : (u : Updates) (disk : ℕ) (wanted : Status) → IsSoundStatus u → u.started disk ≡ true → WantsAtEnd disk false u.wanted wanted → IsNearly (with_end_and_commit u disk false wanted)
 bad_end u disk wanted sound out wants =
     subst (λ b. IsNearly (if b then with_commit (with_end u disk false wanted) else with_end u disk false wanted)) (sym (never_both (is_held u)))
     (ends_nearly u disk false wanted u.committed sound out wants sound.held sound.committed_missing)
 
-pub end_nearly : (u : Updates) (disk : ℕ) (ok : Bool) (wanted : Status) → IsSound u → u.started disk ≡ true → WantsAtEnd disk ok u.wanted wanted → IsNearly (with_end_and_commit u disk ok wanted)
+pub end_nearly : (u : Updates) (disk : ℕ) (ok : Bool) (wanted : Status) → IsSoundStatus u → u.started disk ≡ true → WantsAtEnd disk ok u.wanted wanted → IsNearly (with_end_and_commit u disk ok wanted)
 end_nearly u disk true wanted sound out wants = good_end u disk wanted sound out wants
 end_nearly u disk false wanted sound out wants = bad_end u disk wanted sound out wants
 
 -- ---- each call
 
-stamp_sound : (u : Updates) (stamp : Stamp) → IsSound u → IsSound (record u { stamp = stamp })
+stamp_sound : (u : Updates) (stamp : Stamp) → IsSoundStatus u → IsSoundStatus (record u { stamp = stamp })
 stamp_sound u stamp sound = record {
   unstarted = sound.unstarted;
   started = sound.started;
@@ -383,12 +383,12 @@ first_is_sound table d = record {
 }
 
 pub steps_stay_sound : StepsStaySound
-steps_stay_sound (Want c) u v sound made = subst IsSound (sym made.1) (want_sound c u v.wanted sound made.0)
-steps_stay_sound Start u v sound made = subst IsSound (sym made.1) (start_sound u sound)
-steps_stay_sound (NextWrite disk) u v sound made = subst IsSound (sym made.1) (next_sound u disk sound made.0.0)
-steps_stay_sound (Ended disk ok) u v sound made = subst IsSound (sym made.2) (closed_sound (with_end_and_commit u disk ok v.wanted) (end_nearly u disk ok v.wanted sound made.0 made.1))
-steps_stay_sound (SetStamp stamp) u v sound made = subst IsSound (sym made.1) (stamp_sound u stamp sound)
+steps_stay_sound (Want c) u v sound made = subst IsSoundStatus (sym made.1) (want_sound c u v.wanted sound made.0)
+steps_stay_sound Start u v sound made = subst IsSoundStatus (sym made.1) (start_sound u sound)
+steps_stay_sound (NextWrite disk) u v sound made = subst IsSoundStatus (sym made.1) (next_sound u disk sound made.0.0)
+steps_stay_sound (Ended disk ok) u v sound made = subst IsSoundStatus (sym made.2) (closed_sound (with_end_and_commit u disk ok v.wanted) (end_nearly u disk ok v.wanted sound made.0 made.1))
+steps_stay_sound (SetStamp stamp) u v sound made = subst IsSoundStatus (sym made.1) (stamp_sound u stamp sound)
 
 pub runs_stay_sound : RunsStaySound
-runs_stay_sound [] u v sound made = subst IsSound (sym made) sound
+runs_stay_sound [] u v sound made = subst IsSoundStatus (sym made) sound
 runs_stay_sound (call ∷ calls) u v sound made = runs_stay_sound calls made.0 v (steps_stay_sound call u made.0 sound made.1) made.2

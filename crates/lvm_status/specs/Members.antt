@@ -1,5 +1,5 @@
 -- Tables with a row for each member, and what is true of an updater's tables and sets.
-use Rattle.std.specs.Prelude.{◌≡◌, ℕ, Bool, true, length}
+use Rattle.std.specs.Prelude.{◌≡◌, ℕ, Bool, true, length, map}
 use Rattle.std.specs.List.{list_all}
 use Rattle.lvm_num.specs.declared.descriptor.PvRow.{PvRow}
 use Rattle.lvm_num.specs.declared.descriptor.Descriptor.{Descriptor}
@@ -13,6 +13,12 @@ use Rattle.lvm_status.specs.declared.writes.Writes.{Writes}
 -- the status has a row for exactly the members
 abbrev pub HasItsRows : Descriptor → Status → Type 0
 HasItsRows d s = (disk : ℕ) → has_row s disk ≡ is_member d disk
+
+-- the status is of the same group, with rows for the same disks
+pub record HasSameRows (old new : Status) : Type 0 where
+  pub id : new.id ≡ old.id
+  pub big : new.big ≡ old.big
+  pub disks : map (λ (row : StatusRow). row.disk) new.rows ≡ map (λ (row : StatusRow). row.disk) old.rows
 
 -- each member has a row, and each row is that of a member
 abbrev pub all_rows : Descriptor → Status → Bool

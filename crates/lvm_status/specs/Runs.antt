@@ -43,7 +43,7 @@ Run (call ∷ calls) old new = (next : Updates) × Step call old next × Run cal
 
 -- At each moment of a session the writes of the update are told apart, and it is in flight until it is committed and
 -- each of its writes has ended.
-pub record IsSound (u : Updates) : Type 0 where
+pub record IsSoundStatus (u : Updates) : Type 0 where
   -- a write that isn't started is one to a member that isn't missing, and isn't anything else
   pub unstarted : (disk : ℕ) → u.unstarted disk ≡ true → (is_there u disk ≡ true) × (u.started disk ≡ false) × (u.written disk ≡ false) × (u.failed disk ≡ false)
   pub started : (disk : ℕ) → u.started disk ≡ true → is_member u.group disk ≡ true
@@ -65,17 +65,17 @@ pub record IsSound (u : Updates) : Type 0 where
 
 -- A session begins soundly, and each call keeps it so.
 abbrev pub FirstIsSound : Type 0
-FirstIsSound = (table : Status) (d : Descriptor) → IsSound (first_updates table d)
+FirstIsSound = (table : Status) (d : Descriptor) → IsSoundStatus (first_updates table d)
 
 abbrev pub StepsStaySound : Type 0
-StepsStaySound = (call : Call) (old new : Updates) → IsSound old → Step call old new → IsSound new
+StepsStaySound = (call : Call) (old new : Updates) → IsSoundStatus old → Step call old new → IsSoundStatus new
 
 abbrev pub RunsStaySound : Type 0
-RunsStaySound = (calls : List Call) (old new : Updates) → IsSound old → Run calls old new → IsSound new
+RunsStaySound = (calls : List Call) (old new : Updates) → IsSoundStatus old → Run calls old new → IsSoundStatus new
 
 -- A table in flight stays so until it is committed; no other takes its place.
 abbrev pub InFlightStays : Type 0
-InFlightStays = (call : Call) (old new : Updates) (t : Status) → IsSound old → Step call old new → old.in_flight ≡ Some t
+InFlightStays = (call : Call) (old new : Updates) (t : Status) → IsSoundStatus old → Step call old new → old.in_flight ≡ Some t
     → (new.in_flight ≡ Some t) ⊎ ((new.in_flight ≡ None) × (new.committed ≡ t))
 
 -- a write of the table in flight has ended well, and with it disks with votes enough to write have it
@@ -87,7 +87,7 @@ pub record ComesCommitted (call : Call) (old new : Updates) : Type 0 where
 
 -- Only so does what is committed change.
 abbrev pub CommitsAreHeld : Type 0
-CommitsAreHeld = (call : Call) (old new : Updates) → IsSound old → Step call old new → (new.committed ≡ old.committed) ⊎ ComesCommitted call old new
+CommitsAreHeld = (call : Call) (old new : Updates) → IsSoundStatus old → Step call old new → (new.committed ≡ old.committed) ⊎ ComesCommitted call old new
 
 -- A disk has the update in flight only where a write of it to that disk has ended well.
 abbrev pub WrittenHasEnded : Type 0
@@ -135,4 +135,4 @@ abbrev pub MissingStays : Type 0
 MissingStays = (calls : List Call) (old new : Updates) (disk : ℕ) → Run calls old new → calls_missing old.wanted disk ≡ true → calls_missing new.wanted disk ≡ true
 
 abbrev pub MissingIsNotWritten : Type 0
-MissingIsNotWritten = (calls : List Call) (old new : Updates) (disk : ℕ) → IsSound old → Run calls old new → calls_missing old.wanted disk ≡ true → new.unstarted disk ≡ false
+MissingIsNotWritten = (calls : List Call) (old new : Updates) (disk : ℕ) → IsSoundStatus old → Run calls old new → calls_missing old.wanted disk ≡ true → new.unstarted disk ≡ false

@@ -3,7 +3,7 @@ ghost use Rattle.std.specs.Prelude.{All, ◌≡◌, ◌≢◌, ◌↔◌, ◌<�
 ghost use Rattle.std.specs.List.{list_any};
 ghost use Rattle.std.specs.Option.{option_copied};
 ghost use Rattle.lvm_num.specs.declared.descriptor.PvRow.{PvRow};
-ghost use Rattle.lvm_num.specs.Descriptor.{IsValid, IsLaidOut, is_member, partitions_in};
+ghost use Rattle.lvm_num.specs.Descriptor.{IsValid, IsLaidOut, partitions_in};
 ghost use Rattle.lvm_num.specs.Votes.{total_votes};
 ghost use Rattle.lvm_num.specs.Disks.{has, IsLowest};
 ghost use Rattle.lvm_left.specs.Marking.{IsLeftIn, Marks, IsMarkable};
@@ -12,7 +12,7 @@ ghost use Rattle.lvm_status.specs.Update.{members_there};
 
 use crate::{Change, Progress, Writes};
 use lvm_left::mark_volumes;
-use lvm_num::{Descriptor, DiskSet, LvRow, Memory, Pp, Rows, Stamp, Status};
+use lvm_num::{Descriptor, DiskSet, LvRow, Memory, Pp, Rows, Stamp, Status, has_member};
 use lvm_stale::StaleTable;
 use std::alloc::Global;
 use std::marker::Model;
@@ -107,8 +107,8 @@ impl Updater {
         // The wanted table is a status that a record may state.
         let _ = self.wanted.as_status();
         let there = members_there(&self.group, &self.wanted);
-        self.is_known = false;
         mark_volumes(&mut self.wanted, volumes, there);
+        self.is_known = says_the_same(&self.wanted, &self.committed);
     }
 
     /// Puts what is wanted in flight, under the next stamp, where nothing is in flight and it isn't what is
@@ -341,22 +341,11 @@ fn all_are_members(s: &Status, d: &Descriptor) -> bool
     ensures { result ≡ all_members d.now s.now }
 {
     for row in s.rows.as_slice() {
-        if !is_member(d, row.disk) {
+        if !has_member(d.pvs.as_slice(), row.disk) {
             return false;
         }
     }
     true
-}
-
-fn is_member(d: &Descriptor, disk: u16) -> bool
-    ensures { result ≡ is_member d.now disk }
-{
-    for member in d.pvs.as_slice() {
-        if member.disk == disk {
-            return true;
-        }
-    }
-    false
 }
 
 // The members of a group, and two tables that say what this one does.

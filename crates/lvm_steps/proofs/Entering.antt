@@ -8,7 +8,8 @@ use Rattle.lvm_vol.specs.declared.entry.Outcome.{Outcome}
 use Rattle.lvm_vol.specs.declared.entry.Outcome.TheVariants as outcome
 use Rattle.lvm_vol.specs.declared.entry.Vol.TheVariants.{Lv}
 use Rattle.lvm_vol.specs.Facts.{Request, Fact, Making, Made, Split, Removing, Removed, Begun, Landed, Taken, Cut, On, same_vol, is_over, block_of}
-use Rattle.lvm_vol.specs.May.{Known, known, is_open_in, without, ended, read, landed, source, change}
+use Rattle.lvm_vol.specs.May.{Known, known, is_open_in, ended, read, landed, source, change}
+use Rattle.lvm_vol.proofs.Knowing.{ended_open, read_open}
 use Rattle.lvm_disk.specs.Device.{Image, image_of}
 use Rattle.lvm_kept.specs.Contents.{contents_of}
 use Rattle.lvm_kept.specs.Moments.{Calm}
@@ -48,30 +49,6 @@ begun_none r opens vol b k none = by_test r.write (is_over r vol b) opens
     by_test : (w t : Bool) → IsFalse w → (if w && t then record k { open_writes = r ∷ k.open_writes } else k).open_writes ≡ []
     by_test true t opens = absurd cc
     by_test false t opens = none
-
-read_open : (how : Outcome) (x : Sector) (k : Known) → (read how x k).open_writes ≡ k.open_writes
-read_open outcome.Got x k = by_test k.loose
-  where
-    by_test : (t : Bool) → (if t then k else record k { values = Some (x ∷ []) }).open_writes ≡ k.open_writes
-    by_test true = refl
-    by_test false = refl
-read_open outcome.Done x k = refl
-read_open outcome.Lost x k = refl
-read_open outcome.ReadFailed x k = refl
-read_open outcome.NoFresh x k = refl
-read_open outcome.Off x k = refl
-read_open outcome.Dark x k = refl
-
-ended_open : (r : Request) (how : Outcome) (started : Bool) (x : Sector) (k : Known) → (ended r how started x k).open_writes ≡ without r k.open_writes
-ended_open r outcome.Done started x k = refl
-ended_open r outcome.Got started x k = refl
-ended_open r outcome.Lost started x k = refl
-ended_open r outcome.ReadFailed started x k = refl
-ended_open r outcome.NoFresh started x k = refl
-ended_open r outcome.Off true x k = refl
-ended_open r outcome.Off false x k = refl
-ended_open r outcome.Dark true x k = refl
-ended_open r outcome.Dark false x k = refl
 
 module _ (r : Request) (how : Outcome) (started : Bool) (put got : Sector) (k : Known) (none : k.open_writes ≡ []) where
   -- a request lands while no write is open

@@ -26,7 +26,7 @@ use Rattle.lvm_kept.specs.Committed.{IsWithinDisks}
 use Rattle.lvm_kept.specs.Kept.{MayDiffer, BlocksKept, Kept}
 use Rattle.lvm_kept.specs.Changes.{Serves, StayExcused}
 use Rattle.lvm_kept.proofs.Finding.{some_same, offered, is_offered, offers, finding_reads}
-use Rattle.lvm_kept.proofs.Restamping.{restamping_keeps}
+use Rattle.lvm_kept.proofs.Restamping.{restamping_keeps, narrower_on}
 use Rattle.lvm_kept.proofs.Changing.{notes_keep}
 use Rattle.lvm_steps.specs.VaryingOn.{AreShowing, RestampKeeps, HasNewest, OnlyNewestIsFound, MayRestate, RestateKeeps, HasNoActive, NotesOf, ForgettingKeeps}
 use Rattle.lvm_steps.proofs.Booleans.{split, join, either, clash}
@@ -104,18 +104,6 @@ not_true false e = refl
 true_not : (b : Bool) → b ≡ false → not b ≡ true
 true_not true e = absurd cc
 true_not false e = refl
-
--- what holds of all that pass one test holds of all that pass another one which is narrower on them
-narrower_on : {X : Type 0} (P : X → Type 0) (p q : X → Bool) (xs : List X) → ((x : X) → IsOneOf xs x → q x ≡ true → p x ≡ true) → AllByRecursion P (filter p xs) → AllByRecursion P (filter q xs)
-narrower_on P p q [] more all = tt
-narrower_on P p q (x ∷ xs) more all = by_tests (p x) (q x) (more x (inl refl)) (narrower_on P p q xs (λ y one. more y (inr one))) all
-  where
-    by_tests : (s t : Bool) → (t ≡ true → s ≡ true) → (AllByRecursion P (filter p xs) → AllByRecursion P (filter q xs))
-        → AllByRecursion P (if s then x ∷ filter p xs else filter p xs) → AllByRecursion P (if t then x ∷ filter q xs else filter q xs)
-    by_tests true true m rest all = (all.0, rest all.1)
-    by_tests true false m rest all = rest all.1
-    by_tests false true m rest all = absurd (let e = m refl in cc)
-    by_tests false false m rest all = rest all
 
 -- a status that calls more copies of the group stale, and as many of its volumes in mode passive dirty
 module _ (c : Contents) (group : Descriptor) (was next : Stamped Status)

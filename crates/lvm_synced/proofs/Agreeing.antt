@@ -18,16 +18,16 @@ use Rattle.lvm_disk.specs.Device.{image_of}
 use Rattle.lvm_kept.specs.Contents.{Contents, contents_of}
 use Rattle.lvm_kept.specs.Group.{IsBlockOf, IsOneOf, block_at}
 use Rattle.lvm_kept.proofs.Finding.{some_same}
-use Rattle.lvm_path.specs.declared.request.Phase.{Phase as RequestPhase}
+use Rattle.lvm_path.specs.declared.request.Phase.{Phase}
 use Rattle.lvm_path.specs.declared.request.Phase.TheVariants as phase
 use Rattle.lvm_path.specs.Asks.{at_of, count_of, is_write, lv_of}
 use Rattle.lvm_path.specs.Targets.{is_begun}
 use Rattle.lvm_session.specs.declared.open.Open.{Open}
 use Rattle.lvm_session.specs.Judging.{is_missing, is_settled, is_stale, place_of}
-use Rattle.lvm_session.specs.State.{Core, State as Session, is_there}
-use Rattle.lvm_invariant.specs.State.{Going, Live, Phase, Queued, Started, State, covers, has_mark, has_notes, is_settled_stale, stale_in, told}
+use Rattle.lvm_session.specs.State.{Core, State, is_there}
+use Rattle.lvm_invariant.specs.State.{Going, Live, ModelPhase, Queued, Started, ModelState, covers, has_mark, has_notes, is_settled_stale, stale_in, told}
 use Rattle.lvm_invariant.specs.Sound.{Agree, MayDiffer, Settled}
-use Rattle.lvm_crash.specs.Session.{as_marks, members_there}
+use Rattle.lvm_crash.specs.Session.{as_marks, members_showing}
 use Rattle.lvm_tie_shelf.proofs.Writing.{and_both}
 use Rattle.lvm_tie.specs.Seen.{IsRequestAt, IsStepAt, SeesRequest, phase_seen}
 use Rattle.lvm_tie.specs.Tied.{IsTied}
@@ -44,7 +44,7 @@ and_self true = refl
 and_self false = refl
 
 -- a request that is seen to go has started
-going_started : (p : RequestPhase) (begun : Bool) → phase_seen p begun ≡ Going → has_started p begun ≡ true
+going_started : (p : Phase) (begun : Bool) → phase_seen p begun ≡ Going → has_started p begun ≡ true
 going_started phase.Held begun e = absurd (cc e)
 going_started phase.WantEntry begun e = absurd (cc e)
 going_started phase.WantRecord begun e = absurd (cc e)
@@ -53,11 +53,11 @@ going_started phase.Data false e = absurd (cc e)
 going_started phase.WantStatus begun e = refl
 going_started phase.Landed begun e = absurd (cc e)
 
-module _ (past : List Fact) (s : Session) (tied : IsTied past s) where
+module _ (past : List Fact) (s : State) (tied : IsTied past s) where
   abbrev core : Core
   core = s.core
 
-  abbrev v : State
+  abbrev v : ModelState
   v = tied.view
 
   abbrev group : Descriptor

@@ -18,7 +18,7 @@ use Rattle.lvm_path.specs.Targets.{is_begun}
 use Rattle.lvm_session.specs.declared.open.Open.{Open}
 use Rattle.lvm_session.specs.Judging.{is_settled, is_stale}
 use Rattle.lvm_session.specs.State.{Core, State, is_there}
-use Rattle.lvm_crash.specs.Session.{members_there}
+use Rattle.lvm_crash.specs.Session.{members_showing}
 use Rattle.lvm_tie.specs.Tied.{IsTied}
 
 -- ---- requests
@@ -52,7 +52,7 @@ pub record IsUsableOf (core : Core) (row : LvRow) (lp : ℕ) (p : Pp) : Type 0 w
 -- one that the committed status or the one in flight calls fresh, on a member that shows the group
 pub record IsLiveOn (shown : Contents) (core : Core) (row : LvRow) (lp : ℕ) (p : Pp) : Type 0 where
   pub copy : IsOneOf (copies_of row lp) p
-  pub shows : IsTrue (members_there shown core.descriptor p.disk)
+  pub shows : IsTrue (members_showing shown core.descriptor p.disk)
   pub fresh : is_settled core p ≡ false
 
 -- A block of a logical partition over which no write goes that has started, and which isn't loose after this earlier history, as none is of a volume with consistency.

@@ -1,6 +1,6 @@
 //! A copy that is brought up.
 use crate::fixtures::{MIRROR, MODES, Setup, begin, check, close, close_copy, is_stale, turn};
-use crate::steps::{Step, break_off, play, play_out};
+use crate::steps::{Step, break_off, does, play, play_out};
 use lvm_disk::{Arrange, Shelf};
 use lvm_faults::{Act, Planned};
 use lvm_num::Mode;
@@ -16,11 +16,7 @@ const STALE: Setup = Setup {
 // Writes a block of each track group, with some turns between.
 fn write_all<S: Shelf>(rt: &impl Abort, driver: &mut Driver<S>) {
     for k in 0..8 {
-        play(
-            rt,
-            driver,
-            &[("taken", Step::Write(256 * k, 21 + k, Ok(k + 2)))],
-        );
+        does(rt, driver, "taken", Step::Write(256 * k, 21 + k, Ok(k + 2)));
         for _ in 0..5 {
             turn(rt, driver);
         }
@@ -29,10 +25,10 @@ fn write_all<S: Shelf>(rt: &impl Abort, driver: &mut Driver<S>) {
 
 fn are_there<S: Shelf>(rt: &impl Abort, driver: &mut Driver<S>) {
     for k in 0..8 {
-        play(rt, driver, &[("written", Step::Take(k + 2, Taken::Done))]);
+        does(rt, driver, "written", Step::Take(k + 2, Taken::Done));
     }
     for k in 0..8 {
-        play(rt, driver, &[("stands", Step::Got(256 * k, Ok(21 + k)))]);
+        does(rt, driver, "stands", Step::Got(256 * k, Ok(21 + k)));
     }
 }
 
@@ -64,13 +60,15 @@ fn bring_up<S: Shelf + Drop>(rt: &impl Abort, driver: Driver<S>) {
     play_out(rt, driver, &BEFORE);
 }
 
+static POOLS: [u32; 2] = [1, 16];
+
 #[test]
 fn a_copy_is_brought_up_beside_writes(rt: HostRuntime) {
-    for mode in MODES {
-        for pool in [1, 16] {
+    for mode in &MODES {
+        for pool in &POOLS {
             let setup = Setup {
-                mode,
-                pool,
+                mode: *mode,
+                pool: *pool,
                 ..STALE
             };
             bring_up(&rt, begin(&rt, &setup, &[]));

@@ -4,7 +4,7 @@ ghost use Rattle.std.specs.Prelude.{◌≤◌, ◌<◌};
 use crate::fixtures::{
     MIRROR, MODES, POLICIES, Setup, begin, check, close, is_stale, turn, written,
 };
-use crate::steps::{Step, play, play_out};
+use crate::steps::{Step, does, play, play_out};
 use lvm_disk::{Arrange, Shelf};
 use lvm_faults::{Act, Planned};
 use lvm_num::{Mode, Policy};
@@ -12,7 +12,7 @@ use lvm_ranges::below::driver::{DrainFault, Driver};
 use lvm_session::{AskFault, CopyFault, Taken, Turned};
 use std::process::Abort;
 
-const WORDS: [u64; 3] = [0, 0x5555_5555_5555_5555, u64::MAX];
+static WORDS: [u64; 3] = [0, 0x5555_5555_5555_5555, u64::MAX];
 
 // The calls of a write of two copies, of which the last two end its transfers. It takes four. An active one takes four
 // before them for its notes; a passive one six for the status, the last of which goes on beside the data.
@@ -45,20 +45,35 @@ fn is_stale_after<S: Shelf + Drop>(rt: &impl Abort, driver: Driver<S>, disk: u16
 {
     let mut driver = driver;
     let other = 1 - disk;
-    let done = [
-        ("it is done", Step::Written(3, 9, Taken::Done)),
-        ("on the other", Step::Stale(other, false)),
-    ];
-    play(rt, &mut driver, &done);
+    does(
+        rt,
+        &mut driver,
+        "it is done",
+        Step::Written(3, 9, Taken::Done),
+    );
+    does(rt, &mut driver, "on the other", Step::Stale(other, false));
     let stale = is_stale(&driver, disk);
     let alone = if stale { Err(Taken::ReadFailed) } else { Ok(9) };
-    let steps = [
-        ("it is read", Step::Got(3, Ok(9))),
-        ("it heals", Step::Order(Arrange::Heal(disk))),
-        ("the other fails", Step::Order(Arrange::Fail(other))),
-        ("it is read from the one copy", Step::Got(3, alone)),
-    ];
-    play_out(rt, driver, &steps);
+    does(rt, &mut driver, "it is read", Step::Got(3, Ok(9)));
+    does(
+        rt,
+        &mut driver,
+        "it heals",
+        Step::Order(Arrange::Heal(disk)),
+    );
+    does(
+        rt,
+        &mut driver,
+        "the other fails",
+        Step::Order(Arrange::Fail(other)),
+    );
+    does(
+        rt,
+        &mut driver,
+        "it is read from the one copy",
+        Step::Got(3, alone),
+    );
+    close(rt, driver);
     stale
 }
 
@@ -73,25 +88,27 @@ fn goes_stale(rt: &(impl Abort + AllocGlobal), setup: &Setup, disk: u16, call: u
     is_stale_after(rt, begin(rt, setup, &fails), disk)
 }
 
+// Each of the disks fails from each call of a write on, and from the one after them.
+fn fail_each(rt: &(impl Abort + AllocGlobal), setup: &Setup) {
+    for disk in 0..2 {
+        for call in 1..calls_of(setup.mode) + 2 {
+            let fails = call <= end_of(setup, disk);
+            let stale = goes_stale(rt, setup, disk, call);
+            check(rt, stale == fails, "where it failed in time");
+        }
+    }
+}
+
 #[test]
 fn a_copy_that_a_write_fails_on_is_stale(rt: HostRuntime) {
-    for mode in MODES {
-        for policy in POLICIES {
-            for disk in 0..2 {
-                let setup = Setup {
-                    mode,
-                    policy,
-                    ..MIRROR
-                };
-                for call in 1..calls_of(mode) + 2 {
-                    let fails = call <= end_of(&setup, disk);
-                    check(
-                        &rt,
-                        goes_stale(&rt, &setup, disk, call) == fails,
-                        "where it failed in time",
-                    );
-                }
-            }
+    for mode in &MODES {
+        for policy in &POLICIES {
+            let setup = Setup {
+                mode: *mode,
+                policy: *policy,
+                ..MIRROR
+            };
+            fail_each(&rt, &setup);
         }
     }
 }
@@ -113,28 +130,45 @@ fn all_fail(copies: u8, word: u64) -> [Planned; 7] {
 
 // A write that all of so many copies fail, on which this stands afterwards.
 fn is_lost<S: Shelf + Drop>(rt: &impl Abort, driver: Driver<S>, copies: u8, stands: u64) {
-    let steps = [
-        ("lost", Step::Written(5, 9, Taken::Lost)),
-        ("the first copy stays fresh", Step::Stale(0, false)),
-        ("the second doesn't", Step::Stale(1, copies > 1)),
-        ("nor does the third", Step::Stale(2, copies > 2)),
-        ("old or new", Step::Got(5, Ok(stands))),
-        ("and it stays so", Step::Got(5, Ok(stands))),
-    ];
-    play_out(rt, driver, &steps);
+    let mut driver = driver;
+    does(rt, &mut driver, "lost", Step::Written(5, 9, Taken::Lost));
+    does(
+        rt,
+        &mut driver,
+        "the first copy stays fresh",
+        Step::Stale(0, false),
+    );
+    does(
+        rt,
+        &mut driver,
+        "the second doesn't",
+        Step::Stale(1, copies > 1),
+    );
+    does(
+        rt,
+        &mut driver,
+        "nor does the third",
+        Step::Stale(2, copies > 2),
+    );
+    does(rt, &mut driver, "old or new", Step::Got(5, Ok(stands)));
+    does(rt, &mut driver, "and it stays so", Step::Got(5, Ok(stands)));
+    close(rt, driver);
 }
+
+// Which sectors a failed write leaves written, and what stands then.
+static LEFT: [(u64, u64); 2] = [(0, 0), (u64::MAX, 9)];
 
 #[test]
 fn a_write_that_no_copy_took_is_lost(rt: HostRuntime) {
     for copies in 1..4 {
-        for (word, stands) in [(0, 0), (u64::MAX, 9)] {
+        for (word, stands) in &LEFT {
             let setup = Setup {
                 mode: Mode::Off,
                 copies,
                 ..MIRROR
             };
-            let driver = begin(&rt, &setup, &all_fail(copies, word));
-            is_lost(&rt, driver, copies, stands);
+            let driver = begin(&rt, &setup, &all_fail(copies, *word));
+            is_lost(&rt, driver, copies, *stands);
         }
     }
 }
@@ -232,21 +266,26 @@ fn cut_at(rt: &(impl Abort + AllocGlobal), mode: Mode, word: u64, call: u64) -> 
     ending(rt, begin(rt, &Setup { mode, ..MIRROR }, &cut))
 }
 
+// The power is cut at each call of a write, and at the one after them.
+fn cut_each(rt: &(impl Abort + AllocGlobal), mode: Mode, word: u64) {
+    let calls = calls_of(mode);
+    for call in 1..calls + 1 {
+        let ended = cut_at(rt, mode, word, call);
+        check(rt, ended == (Taken::Dark, Turned::Dark), "dark");
+    }
+    let ended = cut_at(rt, mode, word, calls + 1);
+    check(
+        rt,
+        ended == (Taken::Done, Turned::Idle),
+        "it has landed before",
+    );
+}
+
 #[test]
 fn a_cut_ends_the_session(rt: HostRuntime) {
-    for mode in MODES {
-        for word in WORDS {
-            let calls = calls_of(mode);
-            for call in 1..calls + 1 {
-                let ended = cut_at(&rt, mode, word, call);
-                check(&rt, ended == (Taken::Dark, Turned::Dark), "dark");
-            }
-            let ended = cut_at(&rt, mode, word, calls + 1);
-            check(
-                &rt,
-                ended == (Taken::Done, Turned::Idle),
-                "it has landed before",
-            );
+    for mode in &MODES {
+        for word in &WORDS {
+            cut_each(&rt, *mode, *word);
         }
     }
 }

@@ -14,6 +14,7 @@ ghost use Rattle.lvm_session.specs.Worked.{status_of};
 ghost use Rattle.lvm_vol.specs.Log.{empty_log, spare_entries};
 
 use lvm_disk::{Arrange, Shelf};
+use lvm_driver::laws::whole_groups_begin;
 use lvm_faults::{Planned, names_disks};
 use lvm_history::History;
 use lvm_homes::Homes;
@@ -23,7 +24,7 @@ use lvm_num::{
     VolumeNumbers, fill, word_of,
 };
 use lvm_path::Ask;
-use lvm_ranges::below::driver::{Closed, DrainFault, Driver, whole_groups_begin};
+use lvm_ranges::below::driver::{Closed, DrainFault, Driver};
 use lvm_session::{AskFault, CopyFault, CopyState, Power, Taken, Turned};
 use lvm_session_start::{Room, take_parts};
 use lvm_transfer::Patience;
@@ -64,9 +65,9 @@ pub const MIRROR: Setup = Setup {
     bytes: 100_000,
 };
 
-pub const MODES: [Mode; 3] = [Mode::Active, Mode::Passive, Mode::Off];
+pub static MODES: [Mode; 3] = [Mode::Active, Mode::Passive, Mode::Off];
 
-pub const POLICIES: [Policy; 4] = [
+pub static POLICIES: [Policy; 4] = [
     Policy::Parallel,
     Policy::Sequential,
     Policy::ParallelWrite,

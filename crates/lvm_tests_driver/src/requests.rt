@@ -1,6 +1,6 @@
 //! Requests that nothing disturbs, and how many may be under way.
-use crate::fixtures::{MIRROR, MODES, POLICIES, Setup, begin, check, close, write};
-use crate::steps::{Step, break_off, play, play_out};
+use crate::fixtures::{MIRROR, MODES, POLICIES, Setup, begin, check, write};
+use crate::steps::{Step, break_off, does, play_out};
 use lvm_disk::Shelf;
 use lvm_num::Mode;
 use lvm_ranges::below::driver::Driver;
@@ -16,12 +16,12 @@ const READ: [(&str, Step); 4] = [
 
 #[test]
 fn what_is_written_is_read(rt: HostRuntime) {
-    for mode in MODES {
-        for policy in POLICIES {
+    for mode in &MODES {
+        for policy in &POLICIES {
             for copies in 1..4 {
                 let setup = Setup {
-                    mode,
-                    policy,
+                    mode: *mode,
+                    policy: *policy,
                     copies,
                     ..MIRROR
                 };
@@ -50,13 +50,15 @@ const IN_ORDER: [(&str, Step); 12] = [
     ("the last stands", Step::Got(7, Ok(2))),
 ];
 
+static POOLS: [u32; 3] = [1, 2, 16];
+
 #[test]
 fn one_buffer_is_enough(rt: HostRuntime) {
-    for mode in MODES {
-        for pool in [1, 2, 16] {
+    for mode in &MODES {
+        for pool in &POOLS {
             let setup = Setup {
-                mode,
-                pool,
+                mode: *mode,
+                pool: *pool,
                 ..MIRROR
             };
             play_out(&rt, begin(&rt, &setup, &[]), &IN_ORDER);
@@ -93,11 +95,8 @@ fn fill<S: Shelf>(rt: &impl Abort, driver: &mut Driver<S>) -> u64 {
         if write(rt, driver, 0, done) == Err(AskFault::HistoryFull) {
             return done;
         }
-        let steps = [
-            ("it has landed", Step::Drain(Ok(()))),
-            ("done", Step::Take(done + 1, Taken::Done)),
-        ];
-        play(rt, driver, &steps);
+        does(rt, driver, "it has landed", Step::Drain(Ok(())));
+        does(rt, driver, "done", Step::Take(done + 1, Taken::Done));
     }
     10
 }
@@ -114,6 +113,8 @@ fn fill_history<S: Shelf + Drop>(rt: &impl Abort, driver: Driver<S>) -> u64 {
     taken
 }
 
+static ROOMS: [u64; 4] = [1023, 1024, 1535, 1536];
+
 // One entry is that of the beginning, and one is kept for a cut. A request takes three, and the bytes of its blocks.
 #[test]
 fn a_full_history_takes_no_more(rt: HostRuntime) {
@@ -125,12 +126,12 @@ fn a_full_history_takes_no_more(rt: HostRuntime) {
         let taken = fill_history(&rt, begin(&rt, &setup, &[]));
         check(&rt, taken == u64::from(room - 2) / 3, "by its entries");
     }
-    for room in [1023, 1024, 1535, 1536] {
+    for room in &ROOMS {
         let setup = Setup {
-            bytes: room,
+            bytes: *room,
             ..MIRROR
         };
         let taken = fill_history(&rt, begin(&rt, &setup, &[]));
-        check(&rt, taken == room / 512, "by its bytes");
+        check(&rt, taken == *room / 512, "by its bytes");
     }
 }

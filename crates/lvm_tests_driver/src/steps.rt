@@ -49,6 +49,11 @@ pub enum Step {
     Votes(u32, u32),
 }
 
+/// Does one step, and ends the test where something else comes of it.
+pub fn does<S: Shelf>(rt: &impl Abort, driver: &mut Driver<S>, name: &str, step: Step) {
+    check(rt, comes(rt, driver, &step), name);
+}
+
 /// Does the steps, and ends the test at the first of which something else comes. Each has a name.
 pub fn play<S: Shelf>(rt: &impl Abort, driver: &mut Driver<S>, steps: &[(&str, Step)]) {
     for (name, step) in steps {

@@ -1,6 +1,6 @@
 //! Writes that wait for an entry of the cache, or for a note.
 use crate::fixtures::{MIRROR, Setup, begin, check, close, turn, write};
-use crate::steps::{Step, play, play_out};
+use crate::steps::{Step, does, play, play_out};
 use lvm_disk::Shelf;
 use lvm_faults::{Act, Planned};
 use lvm_ranges::below::driver::Driver;
@@ -103,7 +103,7 @@ fn wait_for_entry<S: Shelf + Drop>(rt: &impl Abort, driver: Driver<S>) {
     write_63(rt, &mut driver);
     play(rt, &mut driver, &ENTRY);
     for k in 1..63 {
-        play(rt, &mut driver, &[("done", Step::Take(k + 1, Taken::Done))]);
+        does(rt, &mut driver, "done", Step::Take(k + 1, Taken::Done));
     }
     close(rt, driver);
 }

@@ -116,14 +116,18 @@ fn leave(rt: &impl Abort, queue: &mut Queue, id: u64) {
     queue.leave(id);
 }
 
-// What 3, 4, 8 and 9 wait for.
-fn four_waits(queue: &Queue) -> [Option<Option<u64>>; 4] {
-    [
-        wait_of(queue, 3),
-        wait_of(queue, 4),
-        wait_of(queue, 8),
-        wait_of(queue, 9),
-    ]
+// What 3, 4, 8 and 9 wait for at first, without 3, and without 4 too.
+static WAITS: [[Option<Option<u64>>; 4]; 3] = [
+    [Some(None), Some(Some(3)), Some(Some(3)), Some(Some(4))],
+    [None, Some(None), Some(Some(4)), Some(Some(4))],
+    [None, None, Some(None), Some(Some(8))],
+];
+
+fn are_waits(queue: &Queue, want: &[Option<Option<u64>>; 4]) -> bool {
+    wait_of(queue, 3) == want[0]
+        && wait_of(queue, 4) == want[1]
+        && wait_of(queue, 8) == want[2]
+        && wait_of(queue, 9) == want[3]
 }
 
 #[test]
@@ -133,12 +137,9 @@ fn the_least_earlier_one_is_waited_for_until_it_leaves(rt: HostRuntime) {
     queue.enter(4, valid(&rt, write(12, 8)));
     queue.enter(8, valid(&rt, write(15, 1)));
     queue.enter(9, valid(&rt, read(0, 20)));
-    let all = [Some(None), Some(Some(3)), Some(Some(3)), Some(Some(4))];
-    check(&rt, four_waits(&queue) == all, "all");
+    check(&rt, are_waits(&queue, &WAITS[0]), "all");
     leave(&rt, &mut queue, 3);
-    let without_3 = [None, Some(None), Some(Some(4)), Some(Some(4))];
-    check(&rt, four_waits(&queue) == without_3, "without 3");
+    check(&rt, are_waits(&queue, &WAITS[1]), "without 3");
     leave(&rt, &mut queue, 4);
-    let without_4 = [None, None, Some(None), Some(Some(8))];
-    check(&rt, four_waits(&queue) == without_4, "without 4");
+    check(&rt, are_waits(&queue, &WAITS[2]), "without 4");
 }

@@ -34,14 +34,20 @@ fn unpin(rt: &impl Abort, cache: &mut Cache, group: u32) {
     cache.unpin(1, group);
 }
 
+// Whether it names this track group.
+fn is_of(entry: Option<&NoteEntry>, group: u32) -> bool {
+    match entry {
+        Some(entry) => *entry == NoteEntry { lv: 1, group },
+        None => false,
+    }
+}
+
 // Whether the note that is started has 62 entries, of which these are the first and the last.
 fn starts(rt: &impl Abort, cache: &mut Cache, disk: u16, first: u32, last: u32) -> bool {
     assert!(rt; cache.has_disk(disk));
     assert!(rt; !cache.has_note_in_flight(disk));
     let note = cache.start_note(disk);
-    let ends = [note.first().copied(), note.last().copied()];
-    let want = [first, last].map(|group| Some(NoteEntry { lv: 1, group }));
-    note.len() == 62 && ends == want
+    note.len() == 62 && is_of(note.first(), first) && is_of(note.last(), last)
 }
 
 fn end(rt: &impl Abort, cache: &mut Cache, disk: u16, ok: bool) {

@@ -102,6 +102,11 @@ static HELD: [(bool, bool, bool, Next); 6] = [
     ),
 ];
 
+// What a request does next that is held.
+fn held(ask: Ask, facts: Facts) -> Next {
+    Request::new(1, 1, ask).next(facts)
+}
+
 #[test]
 fn a_held_request_waits_or_is_admitted_or_finds_no_copy(rt: HostRuntime) {
     for (blocked, pending, usable, want) in &HELD {
@@ -111,10 +116,8 @@ fn a_held_request_waits_or_is_admitted_or_finds_no_copy(rt: HostRuntime) {
             usable: *usable,
             ..READY
         };
-        let write = Request::new(1, 1, WRITE);
-        let read = Request::new(2, 1, READ);
-        check(&rt, write.next(facts) == *want, "a write");
-        check(&rt, read.next(facts) == *want, "a read");
+        check(&rt, held(WRITE, facts) == *want, "a write");
+        check(&rt, held(READ, facts) == *want, "a read");
     }
 }
 

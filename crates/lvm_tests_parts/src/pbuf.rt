@@ -1,5 +1,6 @@
 use crate::fixtures::check;
 use lvm_pbuf::Pool;
+use std::process::Abort;
 
 #[test]
 fn a_pool_of_two_gives_each_buffer_once_and_again_when_it_is_back(rt: HostRuntime) {
@@ -14,7 +15,11 @@ fn a_pool_of_two_gives_each_buffer_once_and_again_when_it_is_back(rt: HostRuntim
     one.set_sector(255, &[7; 512]);
     pool.give(one);
     check(&rt, pool.has_inside(), "one is back");
-    let again = pool.take().expect(&rt, "a buffer is in");
-    check(&rt, again.number() == 1, "the same");
-    check(&rt, again.sector(255) == &[7; 512], "as it was");
+    check(&rt, taken_again(&rt, &mut pool) == (1, true), "as it was");
+}
+
+// The number of the buffer that is taken, and whether its last sector is sevens.
+fn taken_again(rt: &impl Abort, pool: &mut Pool) -> (u32, bool) {
+    let buf = pool.take().expect(rt, "a buffer is in");
+    (buf.number(), buf.sector(255) == &[7; 512])
 }

@@ -1,3 +1,5 @@
+ghost use Rattle.lvm_sched.specs.Reads.{AreCopies};
+
 use crate::fixtures::check;
 use lvm_num::Policy;
 use lvm_num::Policy::{Parallel, ParallelWrite, RoundRobin, Sequential};
@@ -13,38 +15,33 @@ static THREE: [(Policy, u8, [u32; 3], [u8; 3]); 6] = [
     (RoundRobin, 3, [0; 3], [1, 2, 3]),
 ];
 
+// Whether the copies are read in this order.
+fn is_read_so(policy: Policy, usable: &[u8], last: u8, loads: [u32; 3], want: &[u8]) -> bool
+    requires { AreCopies usable.now }
+{
+    read_order(policy, usable, last, loads).as_slice() == want
+}
+
 #[test]
 fn three_copies_are_read_in_the_order_of_the_policy(rt: HostRuntime) {
     for (policy, last, loads, want) in &THREE {
-        let order = read_order(*policy, &[1, 2, 3], *last, *loads);
-        check(
-            &rt,
-            order.as_slice() == want.as_slice(),
-            "an order of three",
-        );
+        let so = is_read_so(*policy, &[1, 2, 3], *last, *loads, want);
+        check(&rt, so, "an order of three");
     }
 }
 
 #[test]
 fn fewer_copies_are_read_in_the_order_of_the_policy(rt: HostRuntime) {
-    let order = read_order(Parallel, &[], 0, [0; 3]);
-    check(&rt, order.is_empty(), "none");
-    let order = read_order(Parallel, &[1, 3], 3, [9, 0, 9]);
-    check(
-        &rt,
-        order.as_slice() == [1, 3].as_slice(),
-        "the lowest of equal loads",
-    );
-    let order = read_order(Sequential, &[2, 3], 2, [9, 9, 0]);
-    check(&rt, order.as_slice() == [2, 3].as_slice(), "the lowest");
-    let order = read_order(RoundRobin, &[1, 3], 1, [0; 3]);
-    check(&rt, order.as_slice() == [3, 1].as_slice(), "the next one");
-    let order = read_order(RoundRobin, &[1, 2], 2, [0; 3]);
-    check(
-        &rt,
-        order.as_slice() == [1, 2].as_slice(),
-        "the first again",
-    );
+    let none = is_read_so(Parallel, &[], 0, [0; 3], &[]);
+    check(&rt, none, "none");
+    let lowest = is_read_so(Parallel, &[1, 3], 3, [9, 0, 9], &[1, 3]);
+    check(&rt, lowest, "the lowest of equal loads");
+    let lowest = is_read_so(Sequential, &[2, 3], 2, [9, 9, 0], &[2, 3]);
+    check(&rt, lowest, "the lowest");
+    let next = is_read_so(RoundRobin, &[1, 3], 1, [0; 3], &[3, 1]);
+    check(&rt, next, "the next one");
+    let first = is_read_so(RoundRobin, &[1, 2], 2, [0; 3], &[1, 2]);
+    check(&rt, first, "the first again");
 }
 
 #[test]

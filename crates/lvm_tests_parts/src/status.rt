@@ -159,9 +159,9 @@ fn has_stamp(updater: &Updater, epoch: u64, seq: u32) -> bool {
 }
 
 // Ends the test at the first step of this name that is answered otherwise.
-fn run(rt: &impl Abort, name: &str, mut updater: Updater, all: &[Do]) {
+fn run(rt: &impl Abort, name: &str, updater: &mut Updater, all: &[Do]) {
     for (k, what) in all.iter().enumerate() {
-        check_at(rt, step(rt, &mut updater, what), name, k);
+        check_at(rt, step(rt, updater, what), name, k);
     }
 }
 
@@ -512,7 +512,7 @@ static SCRIPTS: [(&str, Of, &[Do]); 16] = [
 #[test]
 fn updates_go_as_it_is_said(rt: HostRuntime) {
     for (name, of, all) in &SCRIPTS {
-        run(&rt, name, updater(&rt, *of), all);
+        run(&rt, name, &mut updater(&rt, *of), all);
     }
 }
 
@@ -523,11 +523,15 @@ static TABLES: [(&[u16], bool); 4] = [
     (&[2, 5, 9, 10], false),
 ];
 
+// Whether a table of these disks fits the three members.
+fn fits(rt: &(impl Abort + AllocGlobal), disks: &[u16]) -> bool {
+    let group = group(rt, &THREE, &[]);
+    Updater::has_its_rows(&group, &table_of(rt, disks))
+}
+
 #[test]
 fn a_table_of_other_members_does_not_fit(rt: HostRuntime) {
-    let group = group(&rt, &THREE, &[]);
-    for (disks, fits) in &TABLES {
-        let table = table_of(&rt, disks);
-        check(&rt, Updater::has_its_rows(&group, &table) == *fits, "fits");
+    for (disks, want) in &TABLES {
+        check(&rt, fits(&rt, disks) == *want, "fits");
     }
 }

@@ -2,7 +2,6 @@
 use crate::fixtures::{DATA, FIRST, LATER, NAMESAKE, NONE, check, group, image_shelf, status};
 use lvm_disk::Shelf;
 use lvm_faults::{Act, Planned};
-use lvm_memory::MemShelf;
 use lvm_num::{Kind, Pbuf, Rows, Stamp};
 use lvm_rec::{frame, slot_sectors, write_note};
 use lvm_survey::{Survey, SurveyRow, Surveyed, survey_disks};

@@ -1,4 +1,5 @@
 //! The values that the tests build.
+ghost use Rattle.std.specs.Prelude.{IsTrue};
 
 use lvm_num::{
     Descriptor, LvRow, Mode, Name, Policy, Pp, PvRow, Rows, Status, StatusRow, VolumeNumbers,
@@ -12,7 +13,9 @@ pub type Member = (u16, u16, bool);
 pub type Volume = (u16, &'static str, u8, u32, &'static [(u16, u16)]);
 
 /// Ends the test where this isn't so, and says of what.
-pub fn check(rt: &impl Abort, is: bool, what: &str) {
+pub fn check(rt: &impl Abort, is: bool, what: &str)
+    ensures { IsTrue is }
+{
     assert!(rt; is, "{what}");
 }
 

@@ -149,7 +149,7 @@ fn set_of(rt: &impl Abort, disks: &[u16]) -> DiskSet {
     let mut set = DiskSet::empty();
     for disk in disks {
         let there = *disk < 128;
-        assert!(rt; there);
+        check(rt, there, "there");
         set = set.with(*disk);
     }
     set
@@ -163,17 +163,17 @@ fn first_fit(
     copies: u8,
 ) -> Map {
     let valid = d.is_valid();
-    assert!(rt; valid);
+    check(rt, valid, "valid");
     allocate(rt.alloc(), d, usable, lps, copies)
 }
 
 // More copies of the first volume.
 fn further(rt: &(impl Abort + AllocGlobal), d: &Descriptor, usable: DiskSet, copies: u8) -> Map {
     let valid = d.is_valid();
-    assert!(rt; valid);
+    check(rt, valid, "valid");
     let first = d.lvs.as_slice().first();
     let fewer = first.is_some_and(|row| row.copies < copies);
-    assert!(rt; fewer);
+    check(rt, fewer, "fewer");
     let number = first.map_or(0, |row| row.number);
     allocate_more(rt.alloc(), d, usable, number, copies)
 }
@@ -227,13 +227,13 @@ static PLACES: [(u16, u8, u64, Option<(u16, u64)>); 8] = [
 
 fn sector(rt: &impl Abort, d: &Descriptor, lv: u16, copy: u8, block: u64) -> Option<(u16, u64)> {
     let valid = d.is_valid();
-    assert!(rt; valid);
+    check(rt, valid, "valid");
     place(d, lv, copy, block).map(|place: Place| (place.disk, place.sector))
 }
 
 fn blocks_of(rt: &impl Abort, d: &Descriptor, lv: u16) -> Option<u64> {
     let valid = d.is_valid();
-    assert!(rt; valid);
+    check(rt, valid, "valid");
     blocks(d, lv)
 }
 

@@ -285,14 +285,14 @@ fn two_disks(rt: &(impl Abort + AllocGlobal), quorum: bool, even: bool) -> Descr
 // The votes of disks 0, 4 and 3.
 fn votes(rt: &impl Abort, group: &Descriptor) -> [u32; 3] {
     let valid = group.is_valid();
-    assert!(rt; valid);
+    check(rt, valid, "valid");
     [group.votes(0), group.votes(4), group.votes(3)]
 }
 
 // The votes of all and those of the first.
 fn sums(rt: &impl Abort, group: &Descriptor) -> [u32; 2] {
     let valid = group.is_valid();
-    assert!(rt; valid);
+    check(rt, valid, "valid");
     [
         group.total_votes(),
         group.votes_in(DiskSet::empty().with(0)),
@@ -302,7 +302,7 @@ fn sums(rt: &impl Abort, group: &Descriptor) -> [u32; 2] {
 // Whether so many are enough to read and to write.
 fn enough(rt: &impl Abort, group: &Descriptor, votes: u32) -> [bool; 2] {
     let valid = group.is_valid();
-    assert!(rt; valid);
+    check(rt, valid, "valid");
     [group.enough_to_read(votes), group.enough_to_write(votes)]
 }
 

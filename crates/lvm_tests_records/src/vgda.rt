@@ -23,7 +23,7 @@ const MEMBERS: [Member; 3] = [(0, 6, false), (1, 6, false), (2, 6, false)];
 
 fn encoded(rt: &(impl Abort + AllocGlobal), group: &Descriptor) -> Rows<u8> {
     let valid = group.is_valid();
-    assert!(rt; valid);
+    check(rt, valid, "valid");
     encode(rt.alloc(), group).expect(rt, "memory")
 }
 

@@ -47,7 +47,7 @@ fn status_of(rt: &(impl Abort + AllocGlobal), big: bool, disks: u16, dirty: &[u1
 
 fn encoded(rt: &(impl Abort + AllocGlobal), status: &Status) -> Rows<u8> {
     let valid = status.is_valid();
-    assert!(rt; valid);
+    check(rt, valid, "valid");
     encode(rt.alloc(), status).expect(rt, "memory")
 }
 
@@ -106,10 +106,10 @@ fn a_row_has_its_disk_and_its_marks(rt: HostRuntime) {
 // Where the status ends once it is written over the first of these bytes.
 fn written(rt: &(impl Abort + AllocGlobal), status: &Status, into: &mut [u8]) -> usize {
     let valid = status.is_valid();
-    assert!(rt; valid);
+    check(rt, valid, "valid");
     let bytes = encode(rt.alloc(), status).expect(rt, "memory");
     let fits = bytes.len() <= into.len();
-    assert!(rt; fits);
+    check(rt, fits, "fits");
     encode_into(status, into)
 }
 

@@ -6,7 +6,6 @@ use crate::fixtures::{
 use lvm_disk::{Arrange, Shelf};
 use lvm_driver::Driver;
 use lvm_faults::{Act, Planned};
-use lvm_num::Mode;
 use lvm_resync::{SyncFault, sync_group, sync_partition, sync_volume};
 use lvm_session::Taken;
 use lvm_transfer::Patience;

@@ -33,30 +33,30 @@ use Rattle.lvm_path.specs.declared.facts.Facts.{Facts}
 use Rattle.lvm_path.specs.declared.facts.Next.TheVariants as next
 use Rattle.lvm_path.specs.declared.ask.Ask.{Ask}
 use Rattle.lvm_path.specs.declared.request.Request.{Request}
-use Rattle.lvm_path.specs.declared.request.Phase.{Phase as RequestPhase}
+use Rattle.lvm_path.specs.declared.request.Phase.{Phase}
 use Rattle.lvm_path.specs.declared.request.Phase.TheVariants as phase
 use Rattle.lvm_path.specs.declared.target.Target.{Target}
 use Rattle.lvm_path.specs.Asks.{lv_of, at_of, count_of, is_write}
 use Rattle.lvm_path.specs.Targets.{is_begun, is_done}
 use Rattle.lvm_path.specs.Next.{start_or_wait, next_chosen, next_write, next_read, next_in, first_phase, admitted as path_admitted}
 use Rattle.lvm_session.specs.declared.open.Open.{Open}
-use Rattle.lvm_session.specs.declared.bringing.OpenCopy.{OpenCopy as Bringing}
+use Rattle.lvm_session.specs.declared.bringing.OpenCopy.{OpenCopy}
 use Rattle.lvm_session.specs.declared.bringing.Step.{Step}
 use Rattle.lvm_session.specs.declared.bringing.Step.TheVariants as step
 use Rattle.lvm_session.specs.declared.flown.Owner.{Owner}
 use Rattle.lvm_session.specs.declared.flown.Owner.TheVariants as owner
-use Rattle.lvm_session.specs.State.{Core, State as Session, state}
+use Rattle.lvm_session.specs.State.{Core, State, state}
 use Rattle.lvm_session.specs.Judging.{is_waiting, is_running, is_usable, is_missing, is_caught, is_held_back, copies_for, group_in, mode_of, policy_of, place_of, held_of, facts_of, next_for, aims, IsWithin}
 use Rattle.lvm_session.specs.Bringing.{is_out, is_whole, step_row, groups_of}
 use Rattle.lvm_session.specs.Events.{Admits, Chooses, ChoosesBy, copy_of, last_after, loads_of, makes_dirty, target_at, usable_from, without_pin}
 use Rattle.lvm_session.specs.Marks.{WantsDirty, WantsDirtyIf}
 use Rattle.lvm_session.specs.Requests.{IsPhase, IsRequest}
 use Rattle.lvm_session.specs.Sound.{IsSound}
-use Rattle.lvm_invariant.specs.State.{Marks, Stage, Phase, Held, WantEntry, Ready, Going, Landed, OpenCopy, Queued, State, covers, is_past, has_landed}
+use Rattle.lvm_invariant.specs.State.{Marks, Stage, ModelPhase, Held, WantEntry, Ready, Going, Landed, ModelCopy, Queued, ModelState, covers, is_past, has_landed}
 use Rattle.lvm_invariant.specs.Updates.{is_pp, put}
 use Rattle.lvm_invariant.specs.Sound.{Conflict}
 use Rattle.lvm_invariant.specs.Admit.{Admits as Admitting, admitted}
-use Rattle.lvm_invariant.specs.Events.{Admit, Want, Step as GoodStep}
+use Rattle.lvm_invariant.specs.Events.{Admit, Want, ModelStep}
 use Rattle.lvm_invariant.specs.Good.{Good}
 use Rattle.lvm_invariant.specs.Want.{Wants, after_wants}
 use Rattle.lvm_invariant.proofs.Each.{each_keeps}
@@ -92,7 +92,7 @@ pub record AreChosen (core : Core) (o : Open) (targets : List Target) : Type 0 w
 -- ---- when it is admitted
 
 -- it hasn't begun, and waits for no other
-pub data Early (held_back : Bool) (p : RequestPhase) (begun : Bool) : Type 0 where
+pub data Early (held_back : Bool) (p : Phase) (begun : Bool) : Type 0 where
   First : p ≡ phase.Held → held_back ≡ false → Early held_back p begun
   Again : (phase_seen p begun ≡ WantEntry) ⊎ (phase_seen p begun ≡ Ready) → Early held_back p begun
 
@@ -112,7 +112,7 @@ not_read ts = by (list_any (λ (t : Target). Rattle.lvm_path.specs.Targets.is_do
     by false false None h = absurd cc
     by false false (Some k) h = absurd cc
 
-early : (k : Facts) (r : Request) (p : RequestPhase) → next_in p k r ≡ next.Admit → Early k.blocked p (is_begun r.targets.items)
+early : (k : Facts) (r : Request) (p : Phase) → next_in p k r ≡ next.Admit → Early k.blocked p (is_begun r.targets.items)
 early k r phase.Held h = by k.blocked k.pending h
   where
     by : (b p : Bool) → (if b || p then next.Wait else if k.usable then next.Admit else next.Land Rattle.lvm_vol.specs.declared.entry.Outcome.TheVariants.NoFresh) ≡ next.Admit → Early b phase.Held (is_begun r.targets.items)
@@ -143,7 +143,7 @@ phase_well mode.Passive true true = inr (refl, λ w a s. absurd cc)
 phase_well mode.Passive true false = inr (refl, λ w a s. absurd cc)
 phase_well mode.Off true several = inr (refl, λ w a s. absurd cc)
 
-module _ (past : List Fact) (old new : Session) (place : ℕ) (admits : Admits old new place) (tied : IsTied past old) (sound : IsSound new) (rows : HaveRows old.core)
+module _ (past : List Fact) (old new : State) (place : ℕ) (admits : Admits old new place) (tied : IsTied past old) (sound : IsSound new) (rows : HaveRows old.core)
     (waits : is_waiting admits.request ≡ true) (empty : admits.request.got ≡ None) (chosen : AreChosen old.core admits.request admits.targets) where
   abbrev core : Core
   core = old.core
@@ -163,7 +163,7 @@ module _ (past : List Fact) (old new : Session) (place : ℕ) (admits : Admits o
   abbrev ask : Ask
   ask = o.request.ask
 
-  abbrev v : State
+  abbrev v : ModelState
   v = tied.view
 
   abbrev i : ℕ
@@ -184,7 +184,7 @@ module _ (past : List Fact) (old new : Session) (place : ℕ) (admits : Admits o
   abbrev o2 : Open
   o2 = record o { request = path_admitted o.request (policy_of core ask) (mode_of core ask) admits.targets; older = false }
 
-  abbrev phase2 : Phase
+  abbrev phase2 : ModelPhase
   phase2 = phase_seen (first_phase (mode_of core ask) (is_write ask) several) false
 
   abbrev targets2 : Pp → Option Stage
@@ -220,7 +220,7 @@ module _ (past : List Fact) (old new : Session) (place : ℕ) (admits : Admits o
       by_request unblocked r false over =
           let s = tied.sees.queue.requests r.place r.request r.there in
           let same : s.0 ≡ e = some_of s.0 e (sym s.1 ∙ ap v.queue r.its ∙ there) in
-          ap (λ (x : Queued). has_landed x.phase) (sym same) ∙ ap has_landed s.2.phase ∙ ap (λ (p : RequestPhase). has_landed (phase_seen p (is_begun r.request.request.targets.items))) (rows.landed r.place r.request r.there over)
+          ap (λ (x : Queued). has_landed x.phase) (sym same) ∙ ap has_landed s.2.phase ∙ ap (λ (p : Phase). has_landed (phase_seen p (is_begun r.request.request.targets.items))) (rows.landed r.place r.request r.there over)
       by_request unblocked r true waiting =
           let s = tied.sees.queue.requests r.place r.request r.there in
           let same : s.0 ≡ e = some_of s.0 e (sym s.1 ∙ ap v.queue r.its ∙ there) in
@@ -267,12 +267,12 @@ module _ (past : List Fact) (old new : Session) (place : ℕ) (admits : Admits o
       (λ caught. by core.copy refl tied.sees.open_copy caught.1 c.0)
       c.1)
     where
-      running : (c : Bringing) → SeesOpen (groups_of core) c v.open_copy → t.pp ≡ c.pp → IsOneOf (copies_for core ask) t.pp → is_missing core t.pp.disk ≡ false
+      running : (c : OpenCopy) → SeesOpen (groups_of core) c v.open_copy → t.pp ≡ c.pp → IsOneOf (copies_for core ask) t.pp → is_missing core t.pp.disk ≡ false
       running c sees_it same one =
           let there2 : v.missing sees_it.copy.target.disk ≡ false = tied.good.sound.statuses.open_there sees_it.copy sees_it.is_open in
           sym (missing_seen past old tied t.pp.disk (on_member past old tied ask inside t.pp one)) ∙ ap (λ (p : Pp). v.missing p.disk) (same ∙ sym sees_it.target) ∙ there2
 
-      by : (x : Option Bringing) → core.copy ≡ x → SeesCopy (groups_of core) x v.open_copy → option_map_or (λ (c : Bringing). is_running c && is_pp t.pp c.pp && nat_lt (group_in core ask) c.cursor) x false ≡ true → IsOneOf (copies_for core ask) t.pp → is_missing core t.pp.disk ≡ false
+      by : (x : Option OpenCopy) → core.copy ≡ x → SeesCopy (groups_of core) x v.open_copy → option_map_or (λ (c : OpenCopy). is_running c && is_pp t.pp c.pp && nat_lt (group_in core ask) c.cursor) x false ≡ true → IsOneOf (copies_for core ask) t.pp → is_missing core t.pp.disk ≡ false
       by None is none h one = absurd cc
       by (Some c) is sees_it h one =
           let outer = and_both (is_running c && is_pp t.pp c.pp) (nat_lt (group_in core ask) c.cursor) h in
@@ -307,7 +307,7 @@ module _ (past : List Fact) (old new : Session) (place : ℕ) (admits : Admits o
   }
     where
       by : Early (is_held_back core o.request) o.request.phase (is_begun o.request.targets.items) → (q.phase ≡ Held) ⊎ (q.phase ≡ WantEntry) ⊎ (q.phase ≡ Ready) ⊎ (IsFalse q.write × IsTrue (is_past q.phase) × (q.got ≡ None))
-      by (First is unblocked) = inl (sees.phase ∙ ap (λ (p : RequestPhase). phase_seen p (is_begun o.request.targets.items)) is)
+      by (First is unblocked) = inl (sees.phase ∙ ap (λ (p : Phase). phase_seen p (is_begun o.request.targets.items)) is)
       by (Again is) = is_first is
 
   sees2 : SeesRequest o2 q2
@@ -326,7 +326,7 @@ module _ (past : List Fact) (old new : Session) (place : ℕ) (admits : Admits o
   abbrev core2 : Core
   core2 = record core { requests = slice_set core.requests place o2; last = last_after core.last (lv_of ask) admits.order; cache = record core.cache { entries = (without_pin core.cache o.request).entries } }
 
-  abbrev w : State
+  abbrev w : ModelState
   w = record v { queue = put v.queue i q2 }
 
   whole : new ≡ state old.device (record core2 { status = new.core.status })
@@ -338,7 +338,7 @@ module _ (past : List Fact) (old new : Session) (place : ℕ) (admits : Admits o
   carries g (owner.Note disk) its = tt
   carries g owner.Copy its = λ c p is writing here. its c p is writing (sym (elsewhere c is writing) ∙ here)
     where
-      elsewhere : (c : Bringing) → core.copy ≡ Some c → c.step ≡ step.Writing → w.queue c.place ≡ v.queue c.place
+      elsewhere : (c : OpenCopy) → core.copy ≡ Some c → c.step ≡ step.Writing → w.queue c.place ≡ v.queue c.place
       elsewhere c is writing = elim (cases_eq c.place i) [
         | inl e ↦ absurd (step_apart past core v place o o2 q2 core.pool core.flying core2.last core.queue core2.cache.entries v.media.block tied.sees numbers admits.there refl sees2 same_entries c is
             (ap (λ (st : Step). is_out st || (is_running c && not (is_whole core c))) writing) e)
@@ -385,7 +385,7 @@ module _ (past : List Fact) (old new : Session) (place : ℕ) (admits : Admits o
     abbrev stored : Stored
     stored = new.core.status
 
-    abbrev w2 : State
+    abbrev w2 : ModelState
     w2 = after_wants w (marks_of stored.wanted) w.missing w.open_copy
 
     wanted_rest : seen stored ≡ record (seen core.status) { wanted = stored.wanted }
@@ -412,7 +412,7 @@ module _ (past : List Fact) (old new : Session) (place : ℕ) (admits : Admits o
       behind = λ lv b c e copy fresh gone copy2 usable_e unwanted. wanted_is c ∙ tied.good.sound.behind.left_behind lv b c e copy fresh gone copy2 usable_e (sym (wanted_is e) ∙ unwanted);
     }
 
-    want_step : GoodStep tied.votes (Want (marks_of stored.wanted) w.missing w.open_copy) w w2
+    want_step : ModelStep tied.votes (Want (marks_of stored.wanted) w.missing w.open_copy) w w2
     want_step = (may_want, refl)
 
     core3 : Core
@@ -494,7 +494,7 @@ index_at [] k p d there = absurd (cc there)
 index_at (x ∷ ps) zero p d there = let e : x ≡ p = cc there in e
 index_at (x ∷ ps) (suc k) p d there = index_at ps k p d there
 
-chosen_by : (s : Session) (o : Open) (targets : List Target) (order : List ℕ) → Chooses s o.request.ask targets order → AreChosen s.core o targets
+chosen_by : (s : State) (o : Open) (targets : List Target) (order : List ℕ) → Chooses s o.request.ask targets order → AreChosen s.core o targets
 chosen_by s o targets order chooses = by (is_write ask) refl chooses
   where
     ask : Ask
@@ -539,7 +539,7 @@ admit_ties place past old new tied sound admits = tied_after past old new place 
       where
         by : (b : Bool) → is_waiting o ≡ b → is_waiting o ≡ true
         by true is = is
-        by false is = absurd (let at = ((open_one old tied.write tied.orderly place o admits.there).over is).phase_is in let e : next.Wait ≡ next.Admit = sym (ap (λ (p : RequestPhase). next_in p k o.request) at) ∙ admits.admits in cc)
+        by false is = absurd (let at = ((open_one old tied.write tied.orderly place o admits.there).over is).phase_is in let e : next.Wait ≡ next.Admit = sym (ap (λ (p : Phase). next_in p k o.request) at) ∙ admits.admits in cc)
 
     none : (m : Option Buffer) → is_some m ≡ false → m ≡ None
     none None h = refl
@@ -559,7 +559,7 @@ admit_ties place past old new tied sound admits = tied_after past old new place 
     its : IsRequest old.core o
     its = waiting_one old tied.write tied.orderly place o admits.there waits
 
-    early_by : (p : RequestPhase) → IsPhase p o → Early (is_held_back old.core o.request) p (is_begun o.request.targets.items) → is_begun o.request.targets.items ≡ false
+    early_by : (p : Phase) → IsPhase p o → Early (is_held_back old.core o.request) p (is_begun o.request.targets.items) → is_begun o.request.targets.items ≡ false
     early_by phase.Held said how = ap is_begun said.0
     early_by phase.WantEntry said how = said.0
     early_by phase.WantRecord said how = said.0

@@ -25,25 +25,25 @@ use Rattle.lvm_status.specs.Update.{Stored, is_held, seen}
 use Rattle.lvm_stamps.specs.Behind.{StampsBefore}
 use Rattle.lvm_commit.specs.Committed.{next_stamp}
 use Rattle.lvm_homes.specs.declared.homes.Homes.{Homes}
-use Rattle.lvm_session.specs.declared.bringing.OpenCopy.{OpenCopy as Bringing}
+use Rattle.lvm_session.specs.declared.bringing.OpenCopy.{OpenCopy}
 use Rattle.lvm_session.specs.declared.bringing.CopyEnd.{CopyEnd}
 use Rattle.lvm_session.specs.declared.flown.Flown.{Flown}
 use Rattle.lvm_session.specs.declared.flown.Owner.{Owner}
 use Rattle.lvm_session.specs.declared.flown.Owner.TheVariants as owner
-use Rattle.lvm_session.specs.State.{Core, State as Session, state, is_there}
+use Rattle.lvm_session.specs.State.{Core, State, state, is_there}
 use Rattle.lvm_session.specs.Judging.{is_missing, is_running}
 use Rattle.lvm_session.specs.Bringing.{copy_ends, with_end}
 use Rattle.lvm_session.specs.Ends.{LosesDisk, NoteLearns, Returns, with_return}
 use Rattle.lvm_session.specs.Marks.{Reviews}
 use Rattle.lvm_session.specs.Sound.{IsGoing, IsSound}
 use Rattle.lvm_keeps_events.proofs.NoteEnd.{beside, none_here, flight_beside}
-use Rattle.lvm_invariant.specs.State.{Groups, Marks, State}
+use Rattle.lvm_invariant.specs.State.{Groups, Marks, ModelState}
 use Rattle.lvm_invariant.specs.EndNote.{after_note}
 use Rattle.lvm_invariant.specs.Events.{EndNote, Want}
 use Rattle.lvm_invariant.specs.Good.{Good}
 use Rattle.lvm_invariant.specs.Want.{Wants, after_wants}
 use Rattle.lvm_invariant.proofs.Each.{each_keeps}
-use Rattle.lvm_crash.specs.Session.{Describes, as_marks, marks_of, members_there}
+use Rattle.lvm_crash.specs.Session.{Describes, as_marks, marks_of, members_showing}
 use Rattle.lvm_crash.specs.Flights.{Matches}
 use Rattle.lvm_tie_shelf.proofs.Quiet.{quiet_lasts, updates_last}
 use Rattle.lvm_tie_shelf.proofs.Writing.{and_both}
@@ -71,16 +71,16 @@ end_leaves : (core : Core) (how : Option CopyEnd) → ((with_end core how).power
 end_leaves core None = (refl, refl)
 end_leaves core (Some how) = by core.copy
   where
-    by : (m : Option Bringing) → ((option_map_or (λ (c : Bringing). Rattle.lvm_session.specs.Bringing.after_copy_end core c how) m core).power ≡ core.power)
-        × ((option_map_or (λ (c : Bringing). Rattle.lvm_session.specs.Bringing.after_copy_end core c how) m core).homes ≡ core.homes)
+    by : (m : Option OpenCopy) → ((option_map_or (λ (c : OpenCopy). Rattle.lvm_session.specs.Bringing.after_copy_end core c how) m core).power ≡ core.power)
+        × ((option_map_or (λ (c : OpenCopy). Rattle.lvm_session.specs.Bringing.after_copy_end core c how) m core).homes ≡ core.homes)
     by None = (refl, refl)
     by (Some c) = (refl, refl)
 
-module _ (past : List Fact) (old new : Session) (at disk : ℕ) (row : Flown) (buf : Buffer) (its_owner : row.owner ≡ owner.Note disk) (returns : Returns old new at row false buf) (learned : NoteLearns old.core at disk false buf new.core) (tied : IsTied past old) (sound : IsSound new) where
+module _ (past : List Fact) (old new : State) (at disk : ℕ) (row : Flown) (buf : Buffer) (its_owner : row.owner ≡ owner.Note disk) (returns : Returns old new at row false buf) (learned : NoteLearns old.core at disk false buf new.core) (tied : IsTied past old) (sound : IsSound new) where
   abbrev core : Core
   core = old.core
 
-  abbrev v : State
+  abbrev v : ModelState
   v = tied.view
 
   abbrev group : Descriptor
@@ -159,7 +159,7 @@ module _ (past : List Fact) (old new : Session) (at disk : ℕ) (row : Flown) (b
   was_in d there = let w = was_there d there in let member = w.member in let gone = w.there in λ t. member t && not (gone t)
 
   abbrev members : Disks
-  members = members_there (contents_of was) group
+  members = members_showing (contents_of was) group
 
   shows : (d : ℕ) → IsTrue (is_there core2 d) → IsTrue (members d)
   shows d there = let w = was_there d there in tied.recorded.members d w.member (there_first past old tied d w.there)
@@ -187,7 +187,7 @@ module _ (past : List Fact) (old new : Session) (at disk : ℕ) (row : Flown) (b
   owners : HasOwners v
   owners = tied.good.sound.tied.owner
 
-  brought : (c : Bringing) → core2.copy ≡ Some c → is_running c ≡ true → IsBrought core2 v c
+  brought : (c : OpenCopy) → core2.copy ≡ Some c → is_running c ≡ true → IsBrought core2 v c
   brought c is runs = let b = (opened past old tied c is runs).0 in record {
     target = b.target;
     member = b.member;
@@ -199,7 +199,7 @@ module _ (past : List Fact) (old new : Session) (at disk : ℕ) (row : Flown) (b
   wants : Wants v (marks_of status.wanted) missing (open_after how v.open_copy)
   wants = review_is_wanted core2 new.core v missing v.facts members (valid_of old tied.write tied.orderly) tied.describes.volumes shows sees_marks keeps owners brought (none_opened past old tied) review
 
-  abbrev v1 : State
+  abbrev v1 : ModelState
   v1 = after_wants v (marks_of status.wanted) missing (open_after how v.open_copy)
 
   good1 : Good tied.votes v1
@@ -230,7 +230,7 @@ module _ (past : List Fact) (old new : Session) (at disk : ℕ) (row : Flown) (b
   landed : HasLanded v1 group (update_of core.status) f.disk own1.note false (contents_of is)
   landed = has_landed tied.votes v1 group (update_of core.status) old.device new.device.flights tied.media its_end.media f false good1 matches1 its_end.removes own1 its_end.lands (λ there. clash (v1.missing f.disk) gone_now there) (inr gone_now)
 
-  abbrev v2 : State
+  abbrev v2 : ModelState
   v2 = after_note v1 landed.names landed.home (flying_after v1 f.disk)
 
   good2 : Good tied.votes v2
@@ -244,7 +244,7 @@ module _ (past : List Fact) (old new : Session) (at disk : ℕ) (row : Flown) (b
   abbrev over : Bool
   over = losing.over core.status lost status disk group going.fitting.group going.status loses rest
 
-  abbrev v3 : State
+  abbrev v3 : ModelState
   v3 = record v2 { in_flight = option_map as_marks (update_of status) }
 
   update_is : update_of status ≡ (if over then None else update_of core.status)
@@ -398,7 +398,7 @@ module _ (past : List Fact) (old new : Session) (at disk : ℕ) (row : Flown) (b
   carries g (owner.Note d) carried = tt
   carries g owner.Copy carried = carried
 
-  members_now : (d : ℕ) → members_there (contents_of is) group d ≡ members_there (contents_of was) group d
+  members_now : (d : ℕ) → members_showing (contents_of is) group d ≡ members_showing (contents_of was) group d
   members_now d = same_members tied.votes v1 group (update_of core.status) old.device new.device.flights tied.media its_end.media f false good1 matches1 its_end.removes own1 its_end.lands d
 
   abbrev committed_update : Stamped Status
@@ -459,7 +459,7 @@ module _ (past : List Fact) (old new : Session) (at disk : ℕ) (row : Flown) (b
     since = since_now;
     recorded = record {
       next = subst (λ (sizes : List ℕ). MayUpdate group status core.homes (image_of sizes its_end.media)) (sym its_end.sizes) next_now;
-      members = λ d member first. subst (λ (sizes : List ℕ). IsTrue (members_there (contents_of (image_of sizes its_end.media)) group d)) (sym its_end.sizes) (members_now d ∙ tied.recorded.members d member first);
+      members = λ d member first. subst (λ (sizes : List ℕ). IsTrue (members_showing (contents_of (image_of sizes its_end.media)) group d)) (sym its_end.sizes) (members_now d ∙ tied.recorded.members d member first);
       records = subst (λ (sizes : List ℕ). ShowsRecords group status (contents_of (image_of sizes its_end.media))) (sym its_end.sizes) records_now;
     };
     notes = notes_fit;
@@ -485,4 +485,4 @@ module _ (past : List Fact) (old new : Session) (at disk : ℕ) (row : Flown) (b
 
   pub loss_tied : IsTied past new
   unfolding near
-  loss_tied = subst (IsTied past) (sym whole) (near_ties past new.device core3 how near runs (subst (λ (x : Session). IsOrderly x (write_by over)) whole orderly_now))
+  loss_tied = subst (IsTied past) (sym whole) (near_ties past new.device core3 how near runs (subst (λ (x : State). IsOrderly x (write_by over)) whole orderly_now))

@@ -23,7 +23,7 @@ use Rattle.lvm_session.specs.State.{Core, is_there}
 use Rattle.lvm_session.specs.Judging.{is_usable, is_stale, is_missing, is_wanted_stale}
 use Rattle.lvm_session.specs.Bringing.{marked_by_end}
 use Rattle.lvm_session.specs.Marks.{WantsStale, can_replace, is_among, is_left_behind, is_entailed_in, is_entailed}
-use Rattle.lvm_invariant.specs.State.{Marks, OpenCopy, State}
+use Rattle.lvm_invariant.specs.State.{Marks, ModelCopy, ModelState}
 use Rattle.lvm_invariant.specs.Want.{Replaced, Wants}
 use Rattle.lvm_crash.specs.Session.{marks_of, HasVolumes}
 use Rattle.lvm_tie_shelf.proofs.Copies.{copy_placed}
@@ -34,7 +34,7 @@ use Rattle.lvm_tie.specs.Wanted.{HasOwners, KeepsFresh, SeesMarks}
 use Rattle.lvm_tie.proofs.Words.{or_left, or_either, or_true, any_one, not_true, not_false, and_not, clash}
 
 -- it is stale, and a copy that the state sees
-abbrev pub IsMarked : Core → State → Pp → Type 0
+abbrev pub IsMarked : Core → ModelState → Pp → Type 0
 IsMarked core v p = (is_stale core p ≡ true) × ((lv : ℕ) × (b : ℕ) × IsTrue (v.is_copy lv b p))
 
 -- ---- lists
@@ -75,7 +75,7 @@ first_block group valid row lp low =
 
 -- ---- copies that are left behind
 
-module _ (core : Core) (v : State) (missing : ℕ → Bool) (how : Option CopyEnd) (status : Stored) (facts : List Fact) (members : Disks) (valid : IsValid core.descriptor) (volumes : HasVolumes v facts core.descriptor members)
+module _ (core : Core) (v : ModelState) (missing : ℕ → Bool) (how : Option CopyEnd) (status : Stored) (facts : List Fact) (members : Disks) (valid : IsValid core.descriptor) (volumes : HasVolumes v facts core.descriptor members)
     (shows : (d : ℕ) → IsTrue (is_there core d) → IsTrue (members d)) (sees : SeesMarks core v missing) (keeps : KeepsFresh v) (owners : HasOwners v)
     (marked : (p : Pp) → marked_by_end core how p ≡ true → IsMarked core v p) (wants : WantsStale (λ p. is_entailed core p || marked_by_end core how p) core.status status) where
   abbrev group : Descriptor
@@ -235,8 +235,8 @@ module _ (core : Core) (v : State) (missing : ℕ → Bool) (how : Option CopyEn
       wants.stale c ∙ or_true (is_wanted_stale core c) (due c) (inr (or_true (is_entailed core c) (marked_by_end core how c) (inl all)))
 
   -- The state wants them; the open copy stays, or it ends and is stale by what is wanted.
-  pub review_wants : (open_copy : Option OpenCopy) → ((open_copy ≡ v.open_copy) ⊎ ((open_copy ≡ None) × ((o : OpenCopy) → v.open_copy ≡ Some o → IsTrue (calls_stale status.wanted o.target))))
-      → ((o : OpenCopy) → open_copy ≡ Some o → IsFalse (missing o.target.disk)) → Wants v marks missing open_copy
+  pub review_wants : (open_copy : Option ModelCopy) → ((open_copy ≡ v.open_copy) ⊎ ((open_copy ≡ None) × ((o : ModelCopy) → v.open_copy ≡ Some o → IsTrue (calls_stale status.wanted o.target))))
+      → ((o : ModelCopy) → open_copy ≡ Some o → IsFalse (missing o.target.disk)) → Wants v marks missing open_copy
   review_wants open_copy same there = record {
     missing_still = sees.still;
     still = λ p is. wants.stale p ∙ or_true (is_wanted_stale core p) (due p) (inl (sym (wanted_seen p) ∙ is));

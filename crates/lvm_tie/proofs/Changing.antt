@@ -14,12 +14,12 @@ use Rattle.lvm_sched.specs.declared.writes.TargetState.{TargetState}
 use Rattle.lvm_path.specs.declared.target.Target.{Target}
 use Rattle.lvm_path.specs.Targets.{with_state}
 use Rattle.lvm_session.specs.declared.open.Open.{Open}
-use Rattle.lvm_session.specs.declared.bringing.OpenCopy.{OpenCopy as Bringing}
+use Rattle.lvm_session.specs.declared.bringing.OpenCopy.{OpenCopy}
 use Rattle.lvm_session.specs.declared.flown.Flown.{Flown}
 use Rattle.lvm_session.specs.State.{Core}
 use Rattle.lvm_session.specs.Judging.{place_of}
 use Rattle.lvm_session.specs.Bringing.{has_row}
-use Rattle.lvm_invariant.specs.State.{Queued, State}
+use Rattle.lvm_invariant.specs.State.{Queued, ModelState}
 use Rattle.lvm_invariant.specs.Updates.{put, is_pp, staged, with_block}
 use Rattle.lvm_tie_shelf.proofs.Writing.{pp_same}
 use Rattle.lvm_tie.proofs.Orderly.{HaveNumbers}
@@ -82,7 +82,7 @@ same_long (u ∷ us) (suc number) state = let rest = same_long us number state i
 
 -- ---- a request changes
 
-module _ (past : List Fact) (core : Core) (v : State) (place : ℕ) (o o2 : Open) (q2 : Queued) (pool : List Bool) (flying : List Flown) (last : List ℕ) (queue : Waiting) (entries : List CacheEntry) (block : ℕ → ℕ → Pp → Sector)
+module _ (past : List Fact) (core : Core) (v : ModelState) (place : ℕ) (o o2 : Open) (q2 : Queued) (pool : List Bool) (flying : List Flown) (last : List ℕ) (queue : Waiting) (entries : List CacheEntry) (block : ℕ → ℕ → Pp → Sector)
     (sees : Sees past core v) (numbers : HaveNumbers core) (there : slice_get core.requests place ≡ Some o) (same_id : o2.request.id ≡ o.request.id) (sees_new : SeesRequest o2 q2)
     (same_entries : (lv g : ℕ) → has_entry entries lv g ≡ has_entry core.cache.entries lv g) where
   abbrev i : ℕ
@@ -91,7 +91,7 @@ module _ (past : List Fact) (core : Core) (v : State) (place : ℕ) (o o2 : Open
   abbrev new : Core
   new = record core { requests = slice_set core.requests place o2; pool = pool; flying = flying; last = last; queue = queue; cache = record core.cache { entries = entries } }
 
-  abbrev w : State
+  abbrev w : ModelState
   w = record v { queue = put v.queue i q2; media = with_block v.media block }
 
   within : place < length core.requests
@@ -108,7 +108,7 @@ module _ (past : List Fact) (core : Core) (v : State) (place : ℕ) (o o2 : Open
   other_place k p ne at e = ne (numbers k place p o at there (omega arith))
 
   -- and so has a step
-  pub step_apart : (c : Bringing) → core.copy ≡ Some c → has_row core c ≡ true → c.place ≡ i → ⊥
+  pub step_apart : (c : OpenCopy) → core.copy ≡ Some c → has_row core c ≡ true → c.place ≡ i → ⊥
   step_apart c is row e =
       let a = sees.queue.a_step c is row in
       let b = sees.queue.requests place o there in

@@ -3,7 +3,7 @@ use Rattle.std.proofs.Common.{◌≡◌, inl, ⊎_elim, ℕ, Bool, true, false, 
 use Rattle.std.specs.Option.{option_map_or}
 use Rattle.lvm_vol.specs.Facts.{Fact}
 use Rattle.lvm_disk.specs.Device.{Flight}
-use Rattle.lvm_session.specs.declared.bringing.OpenCopy.{OpenCopy as Bringing}
+use Rattle.lvm_session.specs.declared.bringing.OpenCopy.{OpenCopy}
 use Rattle.lvm_session.specs.declared.bringing.CopyEnd.{CopyEnd}
 use Rattle.lvm_session.specs.declared.bringing.Step.{Step}
 use Rattle.lvm_session.specs.declared.bringing.Step.TheVariants as step
@@ -11,12 +11,12 @@ use Rattle.lvm_session.specs.declared.flown.Flown.{Flown}
 use Rattle.lvm_session.specs.declared.flown.Owner.{Owner}
 use Rattle.lvm_session.specs.declared.flown.Owner.TheVariants as owner
 use Rattle.lvm_session.specs.declared.answers.CopyState.TheVariants as copy
-use Rattle.lvm_session.specs.State.{Core, State as Session, state}
+use Rattle.lvm_session.specs.State.{Core, State, state}
 use Rattle.lvm_session.specs.Judging.{is_running}
 use Rattle.lvm_session.specs.Bringing.{groups_of, has_row, is_out, is_whole}
 use Rattle.lvm_session.specs.Calls.{Closes, closed, copy_state, state_at_end}
 use Rattle.lvm_session.specs.Sound.{IsSound}
-use Rattle.lvm_invariant.specs.State.{State}
+use Rattle.lvm_invariant.specs.State.{ModelState}
 use Rattle.lvm_tie.specs.Out.{CarriesStep, CarryTheirs}
 use Rattle.lvm_tie.specs.Seen.{IsRequestAt, IsStepAt, Sees, SeesCopy, SeesRunning, step_write_in, step_write_of}
 use Rattle.lvm_tie.specs.Tied.{IsTied}
@@ -24,11 +24,11 @@ use Rattle.lvm_tie.proofs.Orderly.{orderly_same}
 use Rattle.lvm_tie.specs.Calls.{CloseTies}
 
 -- one that isn't running by what a caller sees has ended, and nothing of it is out
-pub record IsEnded (c : Bringing) : Type 0 where
+pub record IsEnded (c : OpenCopy) : Type 0 where
   pub over : is_running c ≡ false
   pub still : is_out c.step ≡ false
 
-has_ended : (c : Bringing) → ((cursor : ℕ) → (if is_out c.step then copy.Running c.cursor else option_map_or (state_at_end c) c.end (copy.Running c.cursor)) ≡ copy.Running cursor → ⊥) → IsEnded c
+has_ended : (c : OpenCopy) → ((cursor : ℕ) → (if is_out c.step then copy.Running c.cursor else option_map_or (state_at_end c) c.end (copy.Running c.cursor)) ≡ copy.Running cursor → ⊥) → IsEnded c
 has_ended c ended = by (is_out c.step) c.end refl refl ended
   where
     by : (b : Bool) (m : Option CopyEnd) → is_out c.step ≡ b → c.end ≡ m → ((cursor : ℕ) → (if b then copy.Running c.cursor else option_map_or (state_at_end c) m (copy.Running c.cursor)) ≡ copy.Running cursor → ⊥) → IsEnded c
@@ -36,36 +36,36 @@ has_ended c ended = by (is_out c.step) c.end refl refl ended
     by false None out is none = absurd (none c.cursor refl)
     by false (Some how) out is none = record { over = ap (λ (x : Option CopyEnd). Rattle.std.specs.Prelude.is_none x) is; still = out }
 
-ended_of : (core : Core) → ((cursor : ℕ) → copy_state core ≡ copy.Running cursor → ⊥) → (c : Bringing) → core.copy ≡ Some c → IsEnded c
-ended_of core ended c is = has_ended c (λ cursor h. ended cursor (ap (λ (m : Option Bringing). option_map_or Rattle.lvm_session.specs.Calls.state_of_copy m copy.Closed) is ∙ h))
+ended_of : (core : Core) → ((cursor : ℕ) → copy_state core ≡ copy.Running cursor → ⊥) → (c : OpenCopy) → core.copy ≡ Some c → IsEnded c
+ended_of core ended c is = has_ended c (λ cursor h. ended cursor (ap (λ (m : Option OpenCopy). option_map_or Rattle.lvm_session.specs.Calls.state_of_copy m copy.Closed) is ∙ h))
 
-no_row : (core : Core) (c : Bringing) → IsEnded c → has_row core c ≡ false
+no_row : (core : Core) (c : OpenCopy) → IsEnded c → has_row core c ≡ false
 no_row core c ended = (λ t. ended.still t || (ended.over t && not (is_whole core c)))
 
-step_none : (c : Bringing) (s : Step) → is_out s ≡ false → step_write_of c s ≡ None
+step_none : (c : OpenCopy) (s : Step) → is_out s ≡ false → step_write_of c s ≡ None
 step_none c step.Idle h = refl
 step_none c (step.Reading source) h = absurd (cc h)
 step_none c (step.Read buf) h = refl
 step_none c step.Writing h = absurd (cc h)
 
-module _ (past : List Fact) (s : Session) (tied : IsTied past s) (ended : (cursor : ℕ) → copy_state s.core ≡ copy.Running cursor → ⊥) (sound : IsSound (state s.device (closed s.core))) where
+module _ (past : List Fact) (s : State) (tied : IsTied past s) (ended : (cursor : ℕ) → copy_state s.core ≡ copy.Running cursor → ⊥) (sound : IsSound (state s.device (closed s.core))) where
   abbrev core : Core
   core = s.core
 
-  abbrev v : State
+  abbrev v : ModelState
   v = tied.view
 
   not_open : v.open_copy ≡ None
   not_open = by core.copy refl tied.sees.open_copy
     where
-      by : (m : Option Bringing) → core.copy ≡ m → SeesCopy (groups_of core) m v.open_copy → v.open_copy ≡ None
+      by : (m : Option OpenCopy) → core.copy ≡ m → SeesCopy (groups_of core) m v.open_copy → v.open_copy ≡ None
       by None is sees = sees
       by (Some c) is sees = subst (λ b. SeesRunning b (groups_of core) c v.open_copy) (ended_of core ended c is).over sees
 
   no_write : v.step_write ≡ None
   no_write = tied.sees.step_write ∙ by core.copy refl
     where
-      by : (m : Option Bringing) → core.copy ≡ m → step_write_in m ≡ None
+      by : (m : Option OpenCopy) → core.copy ≡ m → step_write_in m ≡ None
       by None is = refl
       by (Some c) is = step_none c c.step (ended_of core ended c is).still
 

@@ -3,12 +3,12 @@ use Rattle.std.proofs.Common.{◌≡◌, ℕ, Bool, true, false, List, Some, ref
 use Rattle.lvm_num.specs.Buffer.{Buffer}
 use Rattle.lvm_vol.specs.Facts.{Fact}
 use Rattle.lvm_disk.specs.Device.{HasSectors}
-use Rattle.lvm_session.specs.declared.bringing.OpenCopy.{OpenCopy as Bringing}
+use Rattle.lvm_session.specs.declared.bringing.OpenCopy.{OpenCopy}
 use Rattle.lvm_session.specs.declared.bringing.Step.{Step}
 use Rattle.lvm_session.specs.declared.bringing.Step.TheVariants as step
 use Rattle.lvm_session.specs.declared.flown.Flown.{Flown}
 use Rattle.lvm_session.specs.declared.flown.Owner.TheVariants as owner
-use Rattle.lvm_session.specs.State.{State as Session}
+use Rattle.lvm_session.specs.State.{State}
 use Rattle.lvm_session.specs.Judging.{is_running}
 use Rattle.lvm_session.specs.Bringing.{is_whole}
 use Rattle.lvm_session.specs.Ends.{Returns, StepLeaves, StepLearns}
@@ -30,8 +30,8 @@ copy_group_ties at past old new tied sound event = by (is_whole old.core (d past
     by false short = group_tied past old new at tied sound event.0 event.1 short
     by true full = whole_tied past old new at tied sound event.0 event.1 full
 
-module _ (past : List Fact) (old new : Session) (at : ℕ) (row : Flown) (buf : Buffer) (tied : IsTied past old) (sound : IsSound new) (sectors : HasSectors new.device)
-    (own : row.owner ≡ owner.Copy) (c : Bringing) (is_open : old.core.copy ≡ Some c) where
+module _ (past : List Fact) (old new : State) (at : ℕ) (row : Flown) (buf : Buffer) (tied : IsTied past old) (sound : IsSound new) (sectors : HasSectors new.device)
+    (own : row.owner ≡ owner.Copy) (c : OpenCopy) (is_open : old.core.copy ≡ Some c) where
   -- by what its step was
   stepped : (st : Step) (ok : Bool) → c.step ≡ st → is_running c ≡ true → Returns old new at row ok buf → StepLeaves st ok old.core at c buf new.core → IsTied past new
   stepped step.Idle ok is runs returns none = absurd none

@@ -11,7 +11,7 @@ use Rattle.lvm_kept.specs.Contents.{contents_of}
 use Rattle.lvm_hold.specs.Waiting.{without}
 use Rattle.lvm_status.specs.Update.{Stored}
 use Rattle.lvm_session.specs.declared.open.Open.{Open}
-use Rattle.lvm_session.specs.declared.bringing.OpenCopy.{OpenCopy as Bringing}
+use Rattle.lvm_session.specs.declared.bringing.OpenCopy.{OpenCopy}
 use Rattle.lvm_session.specs.declared.bringing.Step.{Step}
 use Rattle.lvm_session.specs.declared.bringing.Step.TheVariants as step
 use Rattle.lvm_session.specs.declared.bringing.CopyEnd.{CopyEnd}
@@ -22,7 +22,7 @@ use Rattle.lvm_session.specs.Judging.{is_running, place_of}
 use Rattle.lvm_session.specs.Bringing.{after_copy_end, block_at, copy_ends, end_by_sources, end_of, ends_if, groups_of, hand_of, has_row, is_cleared, is_out, is_whole, with_back, with_end}
 use Rattle.lvm_session.specs.Judging.{is_missing}
 use Rattle.lvm_session.specs.declared.bringing.CopyEnd.TheVariants as ending
-use Rattle.lvm_invariant.specs.State.{OpenCopy, Queued, State, has_landed}
+use Rattle.lvm_invariant.specs.State.{ModelCopy, Queued, ModelState, has_landed}
 use Rattle.lvm_invariant.specs.Good.{Good}
 use Rattle.lvm_invariant.specs.EndStep.{StepEnds}
 use Rattle.lvm_invariant.specs.Take.{Takes, taken}
@@ -45,12 +45,12 @@ some_of a b e = cc
 pub ends_running : (core : Core) (how : CopyEnd) → copy_ends core ≡ Some how → IsRunning core
 ends_running core how is = by core.copy refl is
   where
-    runs : (c : Bringing) (b : Bool) → is_running c ≡ b
+    runs : (c : OpenCopy) (b : Bool) → is_running c ≡ b
         → (if not b then None else if is_missing core c.pp.disk then Some ending.SyncFailed else if is_whole core c then ends_if (is_cleared core c) ending.Done else end_by_sources core c) ≡ Some how → is_running c ≡ true
     runs c true its h = its
     runs c false its h = absurd (cc h)
 
-    by : (m : Option Bringing) → core.copy ≡ m → option_map_or (end_of core) m None ≡ Some how → IsRunning core
+    by : (m : Option OpenCopy) → core.copy ≡ m → option_map_or (end_of core) m None ≡ Some how → IsRunning core
     by None there h = absurd (cc h)
     by (Some c) there h = record { copy = c; is_open = there; runs = runs c (is_running c) refl h }
 
@@ -59,7 +59,7 @@ pub with_end_status : (core : Core) (how : Option CopyEnd) (status : Stored) →
 with_end_status core None status = refl
 with_end_status core (Some how) status = by core.copy
   where
-    by : (m : Option Bringing) → record (option_map_or (λ (c : Bringing). after_copy_end core c how) m core) { status = status } ≡ option_map_or (λ (c : Bringing). after_copy_end (record core { status = status }) c how) m (record core { status = status })
+    by : (m : Option OpenCopy) → record (option_map_or (λ (c : OpenCopy). after_copy_end core c how) m core) { status = status } ≡ option_map_or (λ (c : OpenCopy). after_copy_end (record core { status = status }) c how) m (record core { status = status })
     by None = refl
     by (Some c) = refl
 
@@ -72,13 +72,13 @@ unlanded (step.Reading source) q out hand = absurd (cc out)
 unlanded (step.Read buf) q out hand = ap has_landed hand.0
 unlanded step.Writing q out hand = absurd (cc out)
 
-no_write : (c : Bringing) (s : Step) → is_out s ≡ false → step_write_of c s ≡ None
+no_write : (c : OpenCopy) (s : Step) → is_out s ≡ false → step_write_of c s ≡ None
 no_write c step.Idle out = refl
 no_write c (step.Reading source) out = absurd (cc out)
 no_write c (step.Read buf) out = refl
 no_write c step.Writing out = absurd (cc out)
 
-same_write : (c d : Bringing) (s : Step) → d.pp ≡ c.pp → d.place ≡ c.place → step_write_of d s ≡ step_write_of c s
+same_write : (c d : OpenCopy) (s : Step) → d.pp ≡ c.pp → d.place ≡ c.place → step_write_of d s ≡ step_write_of c s
 same_write c d step.Idle pp place = refl
 same_write c d (step.Reading source) pp place = refl
 same_write c d (step.Read buf) pp place = refl
@@ -87,21 +87,21 @@ same_write c d step.Writing pp place = λ t. Some (record { target = pp t; place
 -- ---- its end
 
 module _ (past : List Fact) (device : Device) (core : Core) (how : CopyEnd) (near : IsNear past device core (Some how)) (its : IsRunning core) where
-  abbrev c : Bringing
+  abbrev c : OpenCopy
   c = its.copy
 
-  abbrev v : State
+  abbrev v : ModelState
   v = near.view
 
   none : v.open_copy ≡ None
   none = near.ended
 
-  own : (d : Bringing) → core.copy ≡ Some d → d ≡ c
+  own : (d : OpenCopy) → core.copy ≡ Some d → d ≡ c
   own d is = some_of d c (sym is ∙ its.is_open)
 
   -- ---- where its transfer is out
 
-  abbrev c_out : Bringing
+  abbrev c_out : OpenCopy
   c_out = record c { end = Some how }
 
   abbrev core_out : Core
@@ -109,7 +109,7 @@ module _ (past : List Fact) (device : Device) (core : Core) (how : CopyEnd) (nea
 
   out_is : is_out c.step ≡ true → with_end core (Some how) ≡ core_out
   out_is out =
-      ap (λ (m : Option Bringing). option_map_or (λ (d : Bringing). after_copy_end core d how) m core) its.is_open
+      ap (λ (m : Option OpenCopy). option_map_or (λ (d : OpenCopy). after_copy_end core d how) m core) its.is_open
       ∙ ap (λ (b : Bool). record core { copy = Some (record c { step = if b then c.step else step.Idle; end = Some how }); queue = if b then core.queue else record core.queue { rows = without c.place core.queue.rows }; pool = with_back core.pool (hand_of c.step) }) out
 
   row_out : is_out c.step ≡ true → has_row core c ≡ true
@@ -125,11 +125,11 @@ module _ (past : List Fact) (device : Device) (core : Core) (how : CopyEnd) (nea
       a_step = λ d is row.
           let same : c_out ≡ d = some_of c_out d is in
           let s = near.sees.queue.a_step c its.is_open (row_out out) in
-          subst (λ (x : Bringing). (q : Queued) × (v.queue x.place ≡ Some q) × SeesStep core_out x q) same
+          subst (λ (x : OpenCopy). (q : Queued) × (v.queue x.place ≡ Some q) × SeesStep core_out x q) same
           (s.0, s.1, record { lv = s.2.lv; first = s.2.first; count = s.2.count; write = s.2.write; step = s.2.step; hand = s.2.hand; failed = s.2.failed });
       only = λ j q at. ⊎_elim
           (λ (r : IsRequestAt core j). inl r)
-          (λ (r : IsStepAt core j). inr (record { copy = c_out; is_open = refl; row = or_true (is_out c.step) (is_running c_out && not (is_whole core c)) (inl out); its = ap (λ (x : Bringing). x.place) (sym (own r.copy r.is_open)) ∙ r.its }))
+          (λ (r : IsStepAt core j). inr (record { copy = c_out; is_open = refl; row = or_true (is_out c.step) (is_running c_out && not (is_whole core c)) (inl out); its = ap (λ (x : OpenCopy). x.place) (sym (own r.copy r.is_open)) ∙ r.its }))
           (near.sees.queue.only j q at);
       names = near.sees.queue.names;
     };
@@ -146,7 +146,7 @@ module _ (past : List Fact) (device : Device) (core : Core) (how : CopyEnd) (nea
   carries_out g (owner.Note disk) carried = carried
   carries_out g owner.Copy carried = λ d q is writing at.
       let same : c_out ≡ d = some_of c_out d is in
-      carried c q its.is_open (ap (λ (x : Bringing). x.step) same ∙ writing) (ap (λ (x : Bringing). v.queue x.place) same ∙ at)
+      carried c q its.is_open (ap (λ (x : OpenCopy). x.step) same ∙ writing) (ap (λ (x : OpenCopy). v.queue x.place) same ∙ at)
 
   tied_out : is_out c.step ≡ true → IsOrderly (state device core_out) near.write → IsTied past (state device core_out)
   tied_out out orderly = record {
@@ -163,13 +163,13 @@ module _ (past : List Fact) (device : Device) (core : Core) (how : CopyEnd) (nea
     recorded = near.recorded;
     notes = near.notes;
     copy_aimed = λ d is row.
-        subst (λ (x : Bringing). IsTrue (v.is_copy x.lv (block_at core x) x.pp) × ((source : Pp) → x.step ≡ step.Reading source → IsTrue (v.is_copy x.lv (block_at core x) source))) (some_of c_out d is) (near.copy_aimed c its.is_open (row_out out));
+        subst (λ (x : OpenCopy). IsTrue (v.is_copy x.lv (block_at core x) x.pp) × ((source : Pp) → x.step ≡ step.Reading source → IsTrue (v.is_copy x.lv (block_at core x) source))) (some_of c_out d is) (near.copy_aimed c its.is_open (row_out out));
     carry = carry_on core core_out v v device.flights core.flying carries_out near.carry;
   }
 
   -- ---- where it isn't
 
-  abbrev c_in : Bringing
+  abbrev c_in : OpenCopy
   c_in = record c { step = step.Idle; end = Some how }
 
   abbrev core_in : Core
@@ -177,23 +177,23 @@ module _ (past : List Fact) (device : Device) (core : Core) (how : CopyEnd) (nea
 
   in_is : is_out c.step ≡ false → with_end core (Some how) ≡ core_in
   in_is out =
-      ap (λ (m : Option Bringing). option_map_or (λ (d : Bringing). after_copy_end core d how) m core) its.is_open
+      ap (λ (m : Option OpenCopy). option_map_or (λ (d : OpenCopy). after_copy_end core d how) m core) its.is_open
       ∙ ap (λ (b : Bool). record core { copy = Some (record c { step = if b then c.step else step.Idle; end = Some how }); queue = if b then core.queue else record core.queue { rows = without c.place core.queue.rows }; pool = with_back core.pool (hand_of c.step) }) out
 
-  no_row : (d : Bringing) → core_in.copy ≡ Some d → has_row core_in d ≡ true → ⊥
+  no_row : (d : OpenCopy) → core_in.copy ≡ Some d → has_row core_in d ≡ true → ⊥
   no_row d is row = let e : ◌≡◌ {A = Bool} false true = ap (has_row core_in) (some_of c_in d is) ∙ row in cc
 
   write_in : is_out c.step ≡ false → v.step_write ≡ None
   write_in out = near.sees.step_write ∙ ap step_write_in its.is_open ∙ no_write c c.step out
 
-  carries_in : (w : State) (g : Flight) (o : Owner) → CarriesStep core v g o → CarriesStep core_in w g o
+  carries_in : (w : ModelState) (g : Flight) (o : Owner) → CarriesStep core v g o → CarriesStep core_in w g o
   carries_in w g (owner.Data id number) carried = carried
   carries_in w g (owner.Status disk) carried = carried
   carries_in w g (owner.Note disk) carried = carried
-  carries_in w g owner.Copy carried = λ d q is writing at. absurd (let e : step.Idle ≡ step.Writing = ap (λ (x : Bringing). x.step) (some_of c_in d is) ∙ writing in cc)
+  carries_in w g owner.Copy carried = λ d q is writing at. absurd (let e : step.Idle ≡ step.Writing = ap (λ (x : OpenCopy). x.step) (some_of c_in d is) ∙ writing in cc)
 
   -- so it is tied, if the state sees it so
-  tied_in : (w : State) → Sees past core_in w → Good near.votes w → Describes w w.facts core.descriptor (update_of core.status) (contents_of (image_of device.sizes near.media)) → IsOrderly (state device core_in) near.write → IsTied past (state device core_in)
+  tied_in : (w : ModelState) → Sees past core_in w → Good near.votes w → Describes w w.facts core.descriptor (update_of core.status) (contents_of (image_of device.sizes near.media)) → IsOrderly (state device core_in) near.write → IsTied past (state device core_in)
   tied_in w sees good describes orderly = record {
     votes = near.votes;
     media = near.media;
@@ -244,10 +244,10 @@ module _ (past : List Fact) (device : Device) (core : Core) (how : CopyEnd) (nea
     sees_q : SeesStep core c q
     sees_q = (near.sees.queue.a_step c its.is_open row).2
 
-    abbrev landed : State
+    abbrev landed : ModelState
     landed = with_req v i (land q)
 
-    abbrev w : State
+    abbrev w : ModelState
     w = taken landed i (land q)
 
     itself : (i == i) ≡ true
@@ -294,7 +294,7 @@ module _ (past : List Fact) (device : Device) (core : Core) (how : CopyEnd) (nea
           | inl e ↦ absurd (let no : None ≡ Some p = sym (gone j e) ∙ here in cc)
           | inr ne ↦ ⊎_elim
               (λ (r : IsRequestAt core j). inl r)
-              (λ (r : IsStepAt core j). absurd (ne (sym r.its ∙ ap (λ (x : Bringing). x.place) (own r.copy r.is_open))))
+              (λ (r : IsStepAt core j). absurd (ne (sym r.its ∙ ap (λ (x : OpenCopy). x.place) (own r.copy r.is_open))))
               (near.sees.queue.only j p (sym (elsewhere j ne) ∙ here))
         ];
         names = near.sees.queue.names;
@@ -321,7 +321,7 @@ near_ties past device core None near runs orderly = record {
   media = near.media;
   setting = near.setting;
   view = near.view;
-  sees = subst (λ (o : Option OpenCopy). Sees past core (record near.view { open_copy = o })) (sym near.ended) near.sees;
+  sees = subst (λ (o : Option ModelCopy). Sees past core (record near.view { open_copy = o })) (sym near.ended) near.sees;
   good = near.good;
   describes = near.describes;
   write = near.write;

@@ -13,25 +13,25 @@ use Rattle.lvm_kept.specs.Contents.{contents_of}
 use Rattle.lvm_kept.specs.Group.{IsOneOf}
 use Rattle.lvm_hold.specs.declared.queue.Row.{Row}
 use Rattle.lvm_hold.specs.Conflicts.{conflicts, have_common_block}
-use Rattle.lvm_path.specs.declared.request.Phase.{Phase as RequestPhase}
+use Rattle.lvm_path.specs.declared.request.Phase.{Phase}
 use Rattle.lvm_path.specs.Asks.{at_of, count_of, is_write, lv_of}
 use Rattle.lvm_path.specs.Targets.{is_begun}
-use Rattle.lvm_session.specs.declared.bringing.OpenCopy.{OpenCopy as Bringing}
+use Rattle.lvm_session.specs.declared.bringing.OpenCopy.{OpenCopy}
 use Rattle.lvm_session.specs.declared.bringing.Step.{Step}
 use Rattle.lvm_session.specs.declared.bringing.Step.TheVariants as step
 use Rattle.lvm_session.specs.declared.flown.Owner.TheVariants as owner
-use Rattle.lvm_session.specs.State.{Core, State as Session}
+use Rattle.lvm_session.specs.State.{Core, State}
 use Rattle.lvm_session.specs.Judging.{copies_in, held_of, is_missing, is_running, is_stale, is_usable, is_waiting, place_of}
 use Rattle.lvm_session.specs.Bringing.{block_at, groups_of, has_row, is_idle, is_out, is_whole, step_of}
 use Rattle.lvm_session.specs.Enabled.{is_free_step}
 use Rattle.lvm_session.specs.Events.{ReadsCopy, flown}
 use Rattle.lvm_session.specs.Sound.{IsSound}
-use Rattle.lvm_invariant.specs.State.{Badly, Flying, Going, Held, Landed, Phase, Queued, Ready, Stage, State, Todo, WantEntry, has_landed, is_past, is_usable as sees_usable}
+use Rattle.lvm_invariant.specs.State.{Badly, Flying, Going, Held, Landed, ModelPhase, Queued, Ready, Stage, ModelState, Todo, WantEntry, has_landed, is_past, is_usable as sees_usable}
 use Rattle.lvm_invariant.specs.Updates.{is_pp, put, with_req}
 use Rattle.lvm_invariant.specs.Sound.{Conflict}
 use Rattle.lvm_invariant.specs.Admit.{admitted}
 use Rattle.lvm_invariant.specs.Read.{reading}
-use Rattle.lvm_invariant.specs.Events.{Admit, Read, Step as GoodStep}
+use Rattle.lvm_invariant.specs.Events.{Admit, Read, ModelStep}
 use Rattle.lvm_invariant.specs.Good.{Good}
 use Rattle.lvm_invariant.proofs.Each.{each_keeps}
 use Rattle.lvm_crash.specs.Session.{Describes}
@@ -60,14 +60,14 @@ found_source t u (x ∷ ps) p is = by (u x) refl is (found_source t u ps p)
     by true passes h rest = here (t x) passes h rest
     by false passes h rest = let r = rest h in (inr r.0, r.1)
 
-module _ (past : List Fact) (old new : Session) (tied : IsTied past old) (sound : IsSound new) (reads : ReadsCopy old new) where
+module _ (past : List Fact) (old new : State) (tied : IsTied past old) (sound : IsSound new) (reads : ReadsCopy old new) where
   abbrev core : Core
   core = old.core
 
-  abbrev v : State
+  abbrev v : ModelState
   v = tied.view
 
-  abbrev c : Bringing
+  abbrev c : OpenCopy
   c = reads.copy
 
   abbrev i : ℕ
@@ -151,10 +151,10 @@ module _ (past : List Fact) (old new : Session) (tied : IsTied past old) (sound 
   abbrev q2 : Queued
   q2 = reading q1 source Flying None
 
-  abbrev v1 : State
+  abbrev v1 : ModelState
   v1 = with_req v i q1
 
-  abbrev w : State
+  abbrev w : ModelState
   w = with_req v1 i q2
 
   -- nothing earlier is in its way
@@ -162,7 +162,7 @@ module _ (past : List Fact) (old new : Session) (tied : IsTied past old) (sound 
   free j e here before conflict = ⊎_elim of_request of_step (tied.sees.queue.only j e here)
     where
       of_step : IsStepAt core j → IsTrue (has_landed e.phase)
-      of_step r = absurd (let own : r.copy ≡ c = (let x : Some r.copy ≡ Some c = sym r.is_open ∙ reads.is_open in cc) in let k : i ≡ j = ap (λ (x : Bringing). x.place) (sym own) ∙ r.its in omega (arith, k, before))
+      of_step r = absurd (let own : r.copy ≡ c = (let x : Some r.copy ≡ Some c = sym r.is_open ∙ reads.is_open in cc) in let k : i ≡ j = ap (λ (x : OpenCopy). x.place) (sym own) ∙ r.its in omega (arith, k, before))
 
       of_request : IsRequestAt core j → IsTrue (has_landed e.phase)
       of_request r = by (is_waiting r.request) refl
@@ -200,7 +200,7 @@ module _ (past : List Fact) (old new : Session) (tied : IsTied past old) (sound 
               λ k. one k && two k && three k
 
           by : (b : Bool) → is_waiting r.request ≡ b → IsTrue (has_landed e.phase)
-          by false over = ap has_landed e_sees.phase ∙ ap (λ (p : RequestPhase). has_landed (phase_seen p (is_begun r.request.request.targets.items))) ((open_one old tied.write tied.orderly r.place r.request r.there).over over).phase_is
+          by false over = ap has_landed e_sees.phase ∙ ap (λ (p : Phase). has_landed (phase_seen p (is_begun r.request.request.targets.items))) ((open_one old tied.write tied.orderly r.place r.request r.there).over over).phase_is
           by true waits =
               let row2 : Row = record { id = place_of r.request.request.id; ask = held_of r.request.request.ask } in
               let both : conflicts (held_of r.request.request.ask) (step_of core c) ≡ true = (λ k. block k && ((writes k && true) || false)) in
@@ -212,14 +212,14 @@ module _ (past : List Fact) (old new : Session) (tied : IsTied past old) (sound 
   early : (q.phase ≡ Held) ⊎ (q.phase ≡ WantEntry) ⊎ (q.phase ≡ Ready) ⊎ (IsFalse q.write × IsTrue (is_past q.phase) × (q.got ≡ None))
   early = by q.phase refl hand.0
     where
-      by : (p : Phase) → q.phase ≡ p → has_landed p ≡ false → (q.phase ≡ Held) ⊎ (q.phase ≡ WantEntry) ⊎ (q.phase ≡ Ready) ⊎ (IsFalse q.write × IsTrue (is_past q.phase) × (q.got ≡ None))
+      by : (p : ModelPhase) → q.phase ≡ p → has_landed p ≡ false → (q.phase ≡ Held) ⊎ (q.phase ≡ WantEntry) ⊎ (q.phase ≡ Ready) ⊎ (IsFalse q.write × IsTrue (is_past q.phase) × (q.got ≡ None))
       by Held is h = inl is
       by WantEntry is h = inr (inl is)
       by Ready is h = inr (inr (inl is))
       by Going is h = inr (inr (inr (sees.write, ap is_past is, hand.1)))
       by Landed is h = absurd (cc h)
 
-  admit_step : GoodStep tied.votes (Admit i q Ready false targets) v v1
+  admit_step : ModelStep tied.votes (Admit i q Ready false targets) v v1
   admit_step = (
     record {
       there = at;
@@ -245,7 +245,7 @@ module _ (past : List Fact) (old new : Session) (tied : IsTied past old) (sound 
   own_source : is_pp source source ≡ true
   own_source = same_pp source source refl
 
-  read_step : GoodStep tied.votes (Read i q1 source Flying None) v1 w
+  read_step : ModelStep tied.votes (Read i q1 source Flying None) v1 w
   read_step = (
     record {
       there = put_here v.queue q1;
@@ -284,7 +284,7 @@ module _ (past : List Fact) (old new : Session) (tied : IsTied past old) (sound 
       by false bad = absurd (cc bad)
 
   sees_w : Sees past (record core { pool = new.core.pool; flying = core.flying ++ flown reads.flight.ticket reads.flight.disk owner.Copy ∷ []; copy = Some (record c { step = step.Reading source }) }) w
-  sees_w = subst (λ (x : State). Sees past (record core { pool = new.core.pool; flying = core.flying ++ flown reads.flight.ticket reads.flight.disk owner.Copy ∷ []; copy = Some (record c { step = step.Reading source }) }) x) (sym w_is)
+  sees_w = subst (λ (x : ModelState). Sees past (record core { pool = new.core.pool; flying = core.flying ++ flown reads.flight.ticket reads.flight.disk owner.Copy ∷ []; copy = Some (record c { step = step.Reading source }) }) x) (sym w_is)
       (sees_step_on past core v c (step.Reading source) new.core.pool (core.flying ++ flown reads.flight.ticket reads.flight.disk owner.Copy ∷ []) w.queue q2 tied.sees reads.is_open row refl
       (put_here v1.queue q2) (λ j ne. put_there v1.queue q2 j ne ∙ put_there v.queue q1 j ne)
       (record { lv = sees.lv; first = sees.first; count = sees.count; write = sees.write; step = sees.step; hand = (refl, ap (λ b. if b then Some Flying else targets source) own_source); failed = none_failed }))
@@ -293,7 +293,7 @@ module _ (past : List Fact) (old new : Session) (tied : IsTied past old) (sound 
   read_started = subst (IsTied past) (sym reads.is)
       (copy_started past old new.device c (step.Reading source) new.core.pool reads.flight tied reads.is_open reads.launches.starts
       (let e : reads.flight.first ≡ sector_of core.descriptor.mib source.pp (block_at core c) = reads.reads.first in omega (arith, e)) row (ap is_out at_rest)
-      w (λ d p is writing. absurd (let own : record c { step = step.Reading source } ≡ d = (let e : Some (record c { step = step.Reading source }) ≡ Some d = is in cc) in let e : step.Reading source ≡ step.Writing = ap (λ (x : Bringing). x.step) own ∙ writing in cc))
+      w (λ d p is writing. absurd (let own : record c { step = step.Reading source } ≡ d = (let e : Some (record c { step = step.Reading source }) ≡ Some d = is in cc) in let e : step.Reading source ≡ step.Writing = ap (λ (x : OpenCopy). x.step) own ∙ writing in cc))
       sees_w good2 describes2 refl (λ p is. let own : source ≡ p = (let e : step.Reading source ≡ step.Reading p = is in cc) in subst (λ (z : Pp). IsTrue (v.is_copy c.lv (block_at core c) z)) own source_copy) (subst IsSound reads.is sound))
 
 pub copy_read_ties : CopyReadTies

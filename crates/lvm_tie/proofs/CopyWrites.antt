@@ -6,18 +6,18 @@ use Rattle.lvm_num.specs.Geometry.{sector_of}
 use Rattle.lvm_vol.specs.Facts.{Fact}
 use Rattle.lvm_disk.specs.Device.{image_of}
 use Rattle.lvm_kept.specs.Contents.{contents_of}
-use Rattle.lvm_session.specs.declared.bringing.OpenCopy.{OpenCopy as Bringing}
+use Rattle.lvm_session.specs.declared.bringing.OpenCopy.{OpenCopy}
 use Rattle.lvm_session.specs.declared.bringing.Step.{Step}
 use Rattle.lvm_session.specs.declared.bringing.Step.TheVariants as step
 use Rattle.lvm_session.specs.declared.flown.Owner.TheVariants as owner
-use Rattle.lvm_session.specs.State.{Core, State as Session}
+use Rattle.lvm_session.specs.State.{Core, State}
 use Rattle.lvm_session.specs.Judging.{is_running}
 use Rattle.lvm_session.specs.Bringing.{block_at, hand_of, has_row, is_idle, is_out, is_whole}
 use Rattle.lvm_session.specs.Events.{WritesCopy, flown}
 use Rattle.lvm_session.specs.Sound.{IsCopy, IsSound}
-use Rattle.lvm_invariant.specs.State.{Queued, State, StepWrite, is_past}
+use Rattle.lvm_invariant.specs.State.{Queued, ModelState, StepWrite, is_past}
 use Rattle.lvm_invariant.specs.CopyWrite.{copied}
-use Rattle.lvm_invariant.specs.Events.{CopyWrite, Step as GoodStep}
+use Rattle.lvm_invariant.specs.Events.{CopyWrite, ModelStep}
 use Rattle.lvm_invariant.proofs.Each.{each_keeps}
 use Rattle.lvm_tie_shelf.proofs.Quiet.{quiet_lasts}
 use Rattle.lvm_tie_shelf.proofs.Writing.{and_both}
@@ -29,14 +29,14 @@ use Rattle.lvm_tie.proofs.Words.{or_true}
 use Rattle.lvm_tie.specs.Starts.{CopyWriteTies}
 use Rattle.lvm_tie.proofs.CopySteps.{copy_started, sees_step_on}
 
-module _ (past : List Fact) (old new : Session) (tied : IsTied past old) (sound : IsSound new) (writes : WritesCopy old new) where
+module _ (past : List Fact) (old new : State) (tied : IsTied past old) (sound : IsSound new) (writes : WritesCopy old new) where
   abbrev core : Core
   core = old.core
 
-  abbrev v : State
+  abbrev v : ModelState
   v = tied.view
 
-  abbrev c : Bringing
+  abbrev c : OpenCopy
   c = writes.copy
 
   runs : is_running c ≡ true
@@ -69,10 +69,10 @@ module _ (past : List Fact) (old new : Session) (tied : IsTied past old) (sound 
   abbrev step_write : Option StepWrite
   step_write = Some (record { target = c.pp; place = c.place })
 
-  abbrev w : State
+  abbrev w : ModelState
   w = copied v v.media.block v.open_copy step_write
 
-  write_step : GoodStep tied.votes (CopyWrite c.place q value c.pp v.open_copy step_write v.media.block) v w
+  write_step : ModelStep tied.votes (CopyWrite c.place q value c.pp v.open_copy step_write v.media.block) v w
   write_step = (
     record {
       there = at;
@@ -108,7 +108,7 @@ module _ (past : List Fact) (old new : Session) (tied : IsTied past old) (sound 
   carries : CarriesStep new_core w writes.flight owner.Copy
   carries d p is writing here =
       let own : record c { step = step.Writing } ≡ d = (let e : Some (record c { step = step.Writing }) ≡ Some d = is in cc) in
-      let same : q ≡ p = (let e : Some q ≡ Some p = sym at ∙ ap (λ (x : Bringing). v.queue x.place) own ∙ here in cc) in
+      let same : q ≡ p = (let e : Some q ≡ Some p = sym at ∙ ap (λ (x : OpenCopy). v.queue x.place) own ∙ here in cc) in
       subst (λ (x : Queued). (f : ℕ → Sector) × (x.got ≡ Some f) × ((k : ℕ) → k < 256 → slice_get writes.flight.buf.sectors k ≡ Some (f (x.first + k)))) same (value, hand.2, carried)
 
   pub write_started : IsTied past new

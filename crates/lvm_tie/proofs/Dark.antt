@@ -24,10 +24,10 @@ use Rattle.lvm_steps.proofs.Spans.{keeps_steps}
 use Rattle.lvm_path.specs.Asks.{count_of}
 use Rattle.lvm_session.specs.declared.open.Open.{Open}
 use Rattle.lvm_session.specs.declared.open.Power.TheVariants as power
-use Rattle.lvm_session.specs.State.{Core, State as Session}
+use Rattle.lvm_session.specs.State.{Core, State}
 use Rattle.lvm_session.specs.Judging.{is_waiting, place_of}
 use Rattle.lvm_session.specs.Dark.{landings as all_landings}
-use Rattle.lvm_invariant.specs.State.{Queued, State, covers, write_in, told}
+use Rattle.lvm_invariant.specs.State.{Queued, ModelState, covers, write_in, told}
 use Rattle.lvm_invariant.specs.Over.{AreOpen, landings}
 use Rattle.lvm_invariant.proofs.Ending.{cut_keeps}
 use Rattle.lvm_crash.proofs.Ends.{cut_kept}
@@ -44,8 +44,8 @@ use Rattle.lvm_tie.proofs.Uncut.{calm_if_uncut}
 use Rattle.lvm_tie.proofs.ReadLandings.{reads_land}
 use Rattle.lvm_tie.proofs.LandingsOver.{land_all}
 
-module _ (past : List Fact) (s : Session) (tied : IsTied past s) where
-  abbrev v : State
+module _ (past : List Fact) (s : State) (tied : IsTied past s) where
+  abbrev v : ModelState
   v = tied.view
 
   abbrev core : Core
@@ -175,7 +175,7 @@ abbrev cut_if : Bool → Log → Log
 cut_if b log = if b then with_fact log Cut else log
 
 -- after which the cut and the landings follow
-pub darkness_goes_on : (run : ℕ) (first : Moment) (s : Session) (device : Device) → s.core.power ≡ power.On → IsGood run first s → LeavesNoMore s.device device → Keeps run first (at device s.core.history.facts)
+pub darkness_goes_on : (run : ℕ) (first : Moment) (s : State) (device : Device) → s.core.power ≡ power.On → IsGood run first s → LeavesNoMore s.device device → Keeps run first (at device s.core.history.facts)
     → Keeps run first (at device ((cut_log s.core.history).facts ++ all_landings outcome.Dark (cut_log s.core.history).facts s.core.requests))
 darkness_goes_on run first s device on good leaves span = by (is_uncut s.core.history.facts) refl
   where

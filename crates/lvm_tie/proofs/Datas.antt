@@ -10,7 +10,7 @@ use Rattle.lvm_path.specs.Asks.{is_write}
 use Rattle.lvm_path.specs.Targets.{is_begun}
 use Rattle.lvm_path.specs.Next.{next_in}
 use Rattle.lvm_session.specs.declared.open.Open.{Open}
-use Rattle.lvm_session.specs.State.{Core, State as Session}
+use Rattle.lvm_session.specs.State.{Core, State}
 use Rattle.lvm_session.specs.Judging.{facts_of, is_waiting}
 use Rattle.lvm_session.specs.Enabled.{target_next}
 use Rattle.lvm_session.specs.Events.{StartsData}
@@ -41,7 +41,7 @@ moving k o number phase.Data its which due = refl
 moving k o number phase.WantStatus its which due = absurd (not_marked k.marked k.kept number due)
 moving k o number phase.Landed its which due = absurd its
 
-module _ (past : List Fact) (old new : Session) (place number : ℕ) (tied : IsTied past old) (sound : IsSound new) (starts : StartsData old new place number) where
+module _ (past : List Fact) (old new : State) (place number : ℕ) (tied : IsTied past old) (sound : IsSound new) (starts : StartsData old new place number) where
   abbrev core : Core
   core = old.core
 
@@ -52,7 +52,7 @@ module _ (past : List Fact) (old new : Session) (place number : ℕ) (tied : IsT
   k = facts_of core o.request
 
   orderly : IsOrderly new tied.write
-  orderly = orderly_same old new tied.write tied.orderly sound (ap (λ (s : Session). s.core.power) starts.is) (ap (λ (s : Session). s.core.status) starts.is) (ap (λ (s : Session). s.core.homes) starts.is)
+  orderly = orderly_same old new tied.write tied.orderly sound (ap (λ (s : State). s.core.power) starts.is) (ap (λ (s : State). s.core.status) starts.is) (ap (λ (s : State). s.core.homes) starts.is)
 
   waits : is_waiting o ≡ true
   waits = by (is_waiting o) refl

@@ -11,7 +11,7 @@ use Rattle.lvm_kept.specs.Torn.{RecordWrite, IsOtherOrRecord}
 use Rattle.lvm_session.specs.declared.flown.Flown.{Flown}
 use Rattle.lvm_session.specs.declared.flown.Owner.{Owner}
 use Rattle.lvm_session.specs.State.{Core}
-use Rattle.lvm_invariant.specs.State.{State}
+use Rattle.lvm_invariant.specs.State.{ModelState}
 use Rattle.lvm_tie_shelf.proofs.Writing.{ends_land}
 use Rattle.lvm_tie_shelf.specs.Writing.{Lands}
 use Rattle.lvm_tie.proofs.Orderly.{IsOut, AreOut, HaveTickets}
@@ -70,16 +70,16 @@ row_of core w (g ∷ gs) after f [] out = absurd out
 row_of core w (g ∷ gs) after f (r ∷ rs) out = let x = row_of core w gs after f rs out.2 in (suc x.0, x.1, x.2, x.3)
 
 -- The transfer is the owner's, and what steps carry goes on without it.
-pub record IsRow (core next : Core) (w : Option RecordWrite) (v u : State) (before after : List Flight) (f : Flight) (rows : List Flown) (index : ℕ) (row : Flown) : Type 0 where
+pub record IsRow (core next : Core) (w : Option RecordWrite) (v u : ModelState) (before after : List Flight) (f : Flight) (rows : List Flown) (index : ℕ) (row : Flown) : Type 0 where
   pub out : IsOut core w f row.owner
   pub carry : ((g : Flight) (o : Owner) → CarriesStep core v g o → CarriesStep next u g o) → CarryTheirs core v (before ++ f ∷ after) rows → CarryTheirs next u (before ++ after) (remove rows index)
 
-carry_all : (core next : Core) (w : Option RecordWrite) (v u : State) (fs : List Flight) (rows : List Flown) → AreOut core w fs rows → ((g : Flight) (o : Owner) → CarriesStep core v g o → CarriesStep next u g o) → CarryTheirs core v fs rows → CarryTheirs next u fs rows
+carry_all : (core next : Core) (w : Option RecordWrite) (v u : ModelState) (fs : List Flight) (rows : List Flown) → AreOut core w fs rows → ((g : Flight) (o : Owner) → CarriesStep core v g o → CarriesStep next u g o) → CarryTheirs core v fs rows → CarryTheirs next u fs rows
 carry_all core next w v u [] rows out each carry = tt
 carry_all core next w v u (f ∷ fs) [] out each carry = absurd out
 carry_all core next w v u (f ∷ fs) (r ∷ rs) out each carry = (each f r.owner carry.0, carry_all core next w v u fs rs out.2 each carry.1)
 
-pub is_row : (core next : Core) (w : Option RecordWrite) (v u : State) (before after : List Flight) (f : Flight) (rows : List Flown) (index : ℕ) (row : Flown)
+pub is_row : (core next : Core) (w : Option RecordWrite) (v u : ModelState) (before after : List Flight) (f : Flight) (rows : List Flown) (index : ℕ) (row : Flown)
     → AreOut core w (before ++ f ∷ after) rows → HaveTickets rows → slice_get rows index ≡ Some row → f.ticket ≡ row.ticket → IsRow core next w v u before after f rows index row
 is_row core next w v u [] after f [] index row out tickets there same = absurd out
 is_row core next w v u [] after f (r ∷ rs) zero row out tickets there same = record {

@@ -21,13 +21,13 @@ use Rattle.lvm_mwc.specs.Cache.{notes_on}
 use Rattle.lvm_mwc.specs.Notes.{names_group}
 use Rattle.lvm_session.specs.declared.flown.Owner.{Owner}
 use Rattle.lvm_session.specs.declared.flown.Owner.TheVariants as owner
-use Rattle.lvm_session.specs.State.{Core, State as Session}
+use Rattle.lvm_session.specs.State.{Core, State}
 use Rattle.lvm_session.specs.Judging.{is_missing}
 use Rattle.lvm_session.specs.Owners.{IsNoteOf, IsTransferOf}
 use Rattle.lvm_session.specs.Sound.{IsOn}
 use Rattle.lvm_keeps_events.proofs.Removal.{taken_out}
-use Rattle.lvm_invariant.specs.State.{Groups, State}
-use Rattle.lvm_crash.specs.Session.{members_there}
+use Rattle.lvm_invariant.specs.State.{Groups, ModelState}
+use Rattle.lvm_crash.specs.Session.{members_showing}
 use Rattle.lvm_tie_shelf.proofs.Quiet.{update_goes_on}
 use Rattle.lvm_tie_shelf.proofs.Writing.{and_both}
 use Rattle.lvm_tie_shelf.specs.Owned.{IsNoteFlight, OnlyUpdateSince}
@@ -59,11 +59,11 @@ shows_records image id d is = by (has_records image d) refl
     by true there = refl
     by false there = absurd (some_passes (is_of id) (descriptor_on image d) is (ap (λ b. if b then newest_on descriptor_of kind.Descriptor (image.sector d) else None) there))
 
-module _ (past : List Fact) (old new : Session) (at disk : ℕ) (ok : Bool) (row : Flown) (buf : Buffer) (its_owner : row.owner ≡ owner.Note disk) (returns : Returns old new at row ok buf) (tied : IsTied past old) where
+module _ (past : List Fact) (old new : State) (at disk : ℕ) (ok : Bool) (row : Flown) (buf : Buffer) (its_owner : row.owner ≡ owner.Note disk) (returns : Returns old new at row ok buf) (tied : IsTied past old) where
   abbrev core : Core
   core = old.core
 
-  abbrev v : State
+  abbrev v : ModelState
   v = tied.view
 
   pub ended : HasEnded old.device new.device row.ticket ok buf tied.media
@@ -80,7 +80,7 @@ module _ (past : List Fact) (old new : Session) (at disk : ℕ) (ok : Bool) (row
 
   -- ---- its transfer
 
-  pub its_row : (next : Core) (u : State) → IsRow core next tied.write v u ended.removes.before ended.removes.after f core.flying at row
+  pub its_row : (next : Core) (u : ModelState) → IsRow core next tied.write v u ended.removes.before ended.removes.after f core.flying at row
   its_row next u = is_row core next tied.write v u ended.removes.before ended.removes.after f core.flying at row
       (subst (λ (fs : List Flight). AreOut core tied.write fs core.flying) ended.removes.was (out_of old tied.write tied.orderly tied.notes)) (tickets_of old tied.write tied.orderly) returns.there ended.its
 
@@ -153,7 +153,7 @@ module _ (past : List Fact) (old new : Session) (at disk : ℕ) (ok : Bool) (row
   pub room : IsFalse (v.missing f.disk) → has_records was f.disk ≡ true
   room there =
       let here : is_missing core disk ≡ false = sym (missing_seen past old tied disk member) ∙ ap v.missing (sym out.disk_is) ∙ there in
-      let shown : IsTrue (members_there (contents_of was) core.descriptor disk) = tied.recorded.members disk member (there_first past old tied disk here) in
+      let shown : IsTrue (members_showing (contents_of was) core.descriptor disk) = tied.recorded.members disk member (there_first past old tied disk here) in
       ap (has_records was) out.disk_is ∙ shows_records was core.descriptor.id disk (and_both (passes (is_of core.descriptor.id) ((contents_of was).descriptor disk)) (has_room (contents_of was) disk core.descriptor) shown).0
 
   pub since_ended : (x : Option RecordWrite) (u : Option (Stamped Status)) → OnlyUpdateSince old.device x u → OnlyUpdateSince new.device x u

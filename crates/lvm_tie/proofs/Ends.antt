@@ -4,7 +4,7 @@ use Rattle.lvm_disk.specs.Device.{HasSectors}
 use Rattle.lvm_vol.specs.Facts.{Fact}
 use Rattle.lvm_session.specs.declared.flown.Owner.{Owner}
 use Rattle.lvm_session.specs.declared.flown.Owner.TheVariants as owner
-use Rattle.lvm_session.specs.State.{State as Session}
+use Rattle.lvm_session.specs.State.{State}
 use Rattle.lvm_session.specs.Ends.{Ends, Learns}
 use Rattle.lvm_session.specs.Sound.{IsSound}
 use Rattle.lvm_tie.specs.Tied.{IsTied, Ties}
@@ -13,7 +13,7 @@ use Rattle.lvm_tie.proofs.StatusTiesStatuses.{status_end_ties}
 use Rattle.lvm_tie.proofs.CopyEnds.{copy_end_ties}
 use Rattle.lvm_tie.proofs.WriteTies.{data_end_ties}
 
-module _ (at : ℕ) (past : List Fact) (old new : Session) (tied : IsTied past old) (sound : IsSound new) (sectors : HasSectors new.device) (ends : Ends old new at) where
+module _ (at : ℕ) (past : List Fact) (old new : State) (tied : IsTied past old) (sound : IsSound new) (sectors : HasSectors new.device) (ends : Ends old new at) where
   by_owner : (who : Owner) → ends.row.owner ≡ who → IsTied past new
   by_owner (owner.Data id target) own = data_end_ties at id target past old new tied sound (sectors, record { ends = ends; own = own })
   by_owner (owner.Status disk) own = status_end_ties at disk ends.ok past old new tied sound

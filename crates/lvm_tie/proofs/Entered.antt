@@ -7,7 +7,7 @@ use Rattle.lvm_vol.specs.Facts.{Request as Asked, Fact, begun, begun_by}
 use Rattle.lvm_vol.specs.Log.{has_id, no_request, request_of, with_fact}
 use Rattle.lvm_vol.proofs.Order.{begun-push}
 use Rattle.lvm_session.specs.State.{Core}
-use Rattle.lvm_invariant.specs.State.{State}
+use Rattle.lvm_invariant.specs.State.{ModelState}
 use Rattle.lvm_tie.specs.Seen.{Sees}
 
 same_request : (facts : List Fact) (f : Fact) (id : ℕ) → begun_by f ≡ None → request_of (facts ++ f ∷ []) id ≡ request_of facts id
@@ -15,7 +15,7 @@ same_request facts f id aside =
     let b : begun (facts ++ f ∷ []) ≡ begun facts = begun-push facts f ∙ ap (λ (o : Option Asked). begun facts ++ cons_option o []) aside ∙ append-nil (begun facts) in
     ap (λ (rs : List Asked). unwrap_or (find (has_id id) rs) no_request) b
 
-pub sees_entered : (past : List Fact) (core : Core) (v : State) (f : Fact) → begun_by f ≡ None → Sees past core v → Sees past (record core { history = with_fact core.history f }) (record v { facts = v.facts ++ f ∷ [] })
+pub sees_entered : (past : List Fact) (core : Core) (v : ModelState) (f : Fact) → begun_by f ≡ None → Sees past core v → Sees past (record core { history = with_fact core.history f }) (record v { facts = v.facts ++ f ∷ [] })
 sees_entered past core v f aside sees = record {
   queue = record {
     requests = sees.queue.requests;

@@ -5,15 +5,15 @@ use Rattle.lvm_num.specs.declared.place.Pp.{Pp}
 use Rattle.lvm_vol.specs.Facts.{Fact}
 use Rattle.lvm_disk.specs.Device.{HasSectors}
 use Rattle.lvm_status.specs.Update.{Stored}
-use Rattle.lvm_session.specs.declared.bringing.OpenCopy.{OpenCopy as Bringing}
+use Rattle.lvm_session.specs.declared.bringing.OpenCopy.{OpenCopy}
 use Rattle.lvm_session.specs.declared.bringing.CopyEnd.TheVariants as ending
 use Rattle.lvm_session.specs.declared.bringing.Step.TheVariants as step
-use Rattle.lvm_session.specs.State.{Core, State as Session, state}
+use Rattle.lvm_session.specs.State.{Core, State, state}
 use Rattle.lvm_session.specs.Bringing.{is_idle, is_whole, marked_by_end, with_end}
 use Rattle.lvm_session.specs.Ends.{with_copy, with_return}
 use Rattle.lvm_session.specs.Sound.{IsSound}
 use Rattle.lvm_keeps_events.specs.Ends.{EndsWrite}
-use Rattle.lvm_invariant.specs.State.{State}
+use Rattle.lvm_invariant.specs.State.{ModelState}
 use Rattle.lvm_tie.specs.Tied.{IsTied}
 use Rattle.lvm_tie.proofs.Judged.{copy_is}
 use Rattle.lvm_tie.proofs.Words.{clash}
@@ -21,11 +21,11 @@ use Rattle.lvm_tie.proofs.Landed.{landed_write}
 use Rattle.lvm_tie.proofs.Stepped.{ended_ties, wanted_stale}
 use Rattle.lvm_tie.specs.Steps.{CopyWriteFailTies}
 
-module _ (past : List Fact) (old new : Session) (at : ℕ) (tied : IsTied past old) (sound : IsSound new) (sectors : HasSectors new.device) (event : EndsWrite old new at) where
-  abbrev v : State
+module _ (past : List Fact) (old new : State) (at : ℕ) (tied : IsTied past old) (sound : IsSound new) (sectors : HasSectors new.device) (event : EndsWrite old new at) where
+  abbrev v : ModelState
   v = tied.view
 
-  abbrev c : Bringing
+  abbrev c : OpenCopy
   c = event.copy
 
   -- it isn't whole yet
@@ -34,7 +34,7 @@ module _ (past : List Fact) (old new : Session) (at : ℕ) (tied : IsTied past o
 
   -- so nothing more is wanted stale
   none_due : (p : Pp) → marked_by_end old.core (Some ending.SyncFailed) p ≡ false
-  none_due p = ap (λ (m : Option Bringing). Rattle.std.specs.Option.option_map_or (λ (x : Bringing). is_whole old.core x && Rattle.lvm_stale.specs.Table.is_pp p x.pp) m false) event.is_open ∙ ap (λ b. b && Rattle.lvm_stale.specs.Table.is_pp p c.pp) part
+  none_due p = ap (λ (m : Option OpenCopy). Rattle.std.specs.Option.option_map_or (λ (x : OpenCopy). is_whole old.core x && Rattle.lvm_stale.specs.Table.is_pp p x.pp) m false) event.is_open ∙ ap (λ b. b && Rattle.lvm_stale.specs.Table.is_pp p c.pp) part
 
   same : new.core.status ≡ old.core.status
   same = event.fails.marks.same (λ p due. clash (marked_by_end old.core (Some ending.SyncFailed) p) due (none_due p))

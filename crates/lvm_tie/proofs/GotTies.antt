@@ -21,14 +21,14 @@ use Rattle.lvm_path.specs.Asks.{at_of, count_of, is_write}
 use Rattle.lvm_path.specs.Targets.{is_begun, is_done}
 use Rattle.lvm_path.specs.Next.{next_in, next_data, next_read}
 use Rattle.lvm_session.specs.declared.open.Open.{Open}
-use Rattle.lvm_session.specs.State.{Core, State as Session}
+use Rattle.lvm_session.specs.State.{Core, State}
 use Rattle.lvm_session.specs.Judging.{is_waiting, place_of, facts_of}
 use Rattle.lvm_session.specs.Events.{Lands, got_blocks}
-use Rattle.lvm_invariant.specs.State.{Badly, Queued, State, is_past}
+use Rattle.lvm_invariant.specs.State.{Badly, Queued, ModelState, is_past}
 use Rattle.lvm_invariant.specs.Updates.{landed}
 use Rattle.lvm_invariant.specs.LandGot.{LandsGot}
 use Rattle.lvm_invariant.specs.LandReadFailed.{ReadFails}
-use Rattle.lvm_invariant.specs.Events.{LandGot, LandReadFailed, Step as GoodStep}
+use Rattle.lvm_invariant.specs.Events.{LandGot, LandReadFailed, ModelStep}
 use Rattle.lvm_tie_shelf.proofs.Owned.{covered}
 use Rattle.lvm_tie.proofs.Words.{any_none}
 use Rattle.lvm_tie.specs.Seen.{stage_seen, phase_seen, SeesRequest}
@@ -93,7 +93,7 @@ failed_by target.Flying d f w = absurd cc
 failed_by target.Done d f w = absurd cc
 failed_by target.Failed d f w = refl
 
-module _ (past : List Fact) (old new : Session) (place : ℕ) (result : Outcome) (lands : Lands old new place result) (tied : IsTied past old) (waits : is_waiting lands.request ≡ true)
+module _ (past : List Fact) (old new : State) (place : ℕ) (result : Outcome) (lands : Lands old new place result) (tied : IsTied past old) (waits : is_waiting lands.request ≡ true)
     (moving : lands.request.request.phase ≡ phase.Data) (reads : is_write lands.request.request.ask ≡ false) (begun : is_begun lands.request.request.targets.items ≡ true) where
   abbrev o : Open
   o = lands.request
@@ -101,7 +101,7 @@ module _ (past : List Fact) (old new : Session) (place : ℕ) (result : Outcome)
   abbrev ts : List Target
   ts = o.request.targets.items
 
-  abbrev v : State
+  abbrev v : ModelState
   v = tied.view
 
   abbrev i : ℕ
@@ -169,10 +169,10 @@ module _ (past : List Fact) (old new : Session) (place : ℕ) (result : Outcome)
       by : How result (list_any (λ (t : Target). is_done t.state) ts) ts → IsTied past new
       by (Got got done) =
           let has : HasGot old.core o = subst (GotsAre old.core o) done gots in
-          let step : GoodStep tied.votes (LandGot i q (got_blocks (count_of o.request.ask) o.got)) v (landed v i q (v.facts ++ Landed (v.name i) result (is_begun ts) (got_blocks (count_of o.request.ask) o.got) ∷ [])) = (lands_got has, λ k. landed v i q (v.facts ++ Landed (v.name i) (got k) (begun k) (got_blocks (count_of o.request.ask) o.got) ∷ [])) in
+          let step : ModelStep tied.votes (LandGot i q (got_blocks (count_of o.request.ask) o.got)) v (landed v i q (v.facts ++ Landed (v.name i) result (is_begun ts) (got_blocks (count_of o.request.ask) o.got) ∷ [])) = (lands_got has, λ k. landed v i q (v.facts ++ Landed (v.name i) (got k) (begun k) (got_blocks (count_of o.request.ask) o.got) ∷ [])) in
           lands_tied past old new place result lands tied q (LandGot i q (got_blocks (count_of o.request.ask) o.got)) (numbers_of old tied.write tied.orderly) at sees step tt orderly
       by (Failed failed done flies waits) =
           let empty : o.got ≡ None = subst (GotsAre old.core o) done gots in
           let none : got_blocks (count_of o.request.ask) o.got ≡ [] = ap (got_blocks (count_of o.request.ask)) empty in
-          let step : GoodStep tied.votes (LandReadFailed i q) v (landed v i q (v.facts ++ Landed (v.name i) result (is_begun ts) (got_blocks (count_of o.request.ask) o.got) ∷ [])) = (read_fails done flies waits, λ k. landed v i q (v.facts ++ Landed (v.name i) (failed k) (begun k) (none k) ∷ [])) in
+          let step : ModelStep tied.votes (LandReadFailed i q) v (landed v i q (v.facts ++ Landed (v.name i) result (is_begun ts) (got_blocks (count_of o.request.ask) o.got) ∷ [])) = (read_fails done flies waits, λ k. landed v i q (v.facts ++ Landed (v.name i) (failed k) (begun k) (none k) ∷ [])) in
           lands_tied past old new place result lands tied q (LandReadFailed i q) (numbers_of old tied.write tied.orderly) at sees step tt orderly

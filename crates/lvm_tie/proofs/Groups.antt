@@ -10,9 +10,9 @@ use Rattle.lvm_disk.specs.Device.{HasSectors}
 use Rattle.lvm_stale.specs.Table.{is_pp as same_pp}
 use Rattle.lvm_status.specs.Update.{Stored}
 use Rattle.lvm_session.specs.declared.open.Open.{Open}
-use Rattle.lvm_session.specs.declared.bringing.OpenCopy.{OpenCopy as Bringing}
+use Rattle.lvm_session.specs.declared.bringing.OpenCopy.{OpenCopy}
 use Rattle.lvm_session.specs.declared.bringing.CopyEnd.{CopyEnd}
-use Rattle.lvm_session.specs.State.{Core, State as Session, state}
+use Rattle.lvm_session.specs.State.{Core, State, state}
 use Rattle.lvm_session.specs.Judging.{place_of}
 use Rattle.lvm_session.specs.Bringing.{block_at, copy_ends, groups_of, has_row, is_done_end, is_whole, marked_by_end, step_place, with_copy_end, with_end}
 use Rattle.lvm_session.specs.Ends.{with_step}
@@ -20,7 +20,7 @@ use Rattle.lvm_session.specs.Marks.{Reviews, is_entailed}
 use Rattle.lvm_session.specs.Sound.{IsSound}
 use Rattle.lvm_submit.proofs.Numbered.{below_next}
 use Rattle.lvm_keeps_events.specs.EndsGroup.{EndsGroup}
-use Rattle.lvm_invariant.specs.State.{Held, Queued, State}
+use Rattle.lvm_invariant.specs.State.{Held, Queued, ModelState}
 use Rattle.lvm_invariant.specs.EnterStep.{StepEnters, entered}
 use Rattle.lvm_invariant.specs.Updates.{put, with_name}
 use Rattle.lvm_tie.specs.Seen.{IsRequestAt, IsStepAt, SeesRunning, update_of}
@@ -34,19 +34,19 @@ use Rattle.lvm_tie.proofs.Landed.{landed_write, now, q}
 use Rattle.lvm_tie.proofs.Stepped.{IsStepped, apart, ended_ties, stepped_ties, wanted_stale}
 use Rattle.lvm_tie.proofs.Passing.{d, goes, its, landed, left, member, mid, o2, part, stands_left, there}
 
-module _ (past : List Fact) (old new : Session) (at : ℕ) (tied : IsTied past old) (sound : IsSound new) (sectors : HasSectors new.device) (event : EndsGroup old new at)
+module _ (past : List Fact) (old new : State) (at : ℕ) (tied : IsTied past old) (sound : IsSound new) (sectors : HasSectors new.device) (event : EndsGroup old new at)
     (short : is_whole old.core (d past old new at tied sectors event) ≡ false) where
   abbrev core : Core
   core = old.core
 
-  abbrev v : State
+  abbrev v : ModelState
   v = tied.view
 
-  abbrev c : Bringing
+  abbrev c : OpenCopy
   c = event.copy
 
   -- the copy at its next track group
-  abbrev e : Bringing
+  abbrev e : OpenCopy
   e = d past old new at tied sectors event
 
   abbrev on : Core
@@ -97,7 +97,7 @@ module _ (past : List Fact) (old new : Session) (at : ℕ) (tied : IsTied past o
   abbrev next : Queued
   next = record { lv = c.lv; first = block_at core e; count = 256; write = false; step = true; value = λ b. []; phase = Held; several = false; targets = λ p. None; got = None }
 
-  abbrev was : State
+  abbrev was : ModelState
   was = left past old new at tied sectors event
 
   low : (k : ℕ) (p : Open) → slice_get core.requests k ≡ Some p → place_of p.request.id < i
@@ -113,7 +113,7 @@ module _ (past : List Fact) (old new : Session) (at : ℕ) (tied : IsTied past o
     | inl is ↦ absurd (let k : Some x ≡ None = sym at_j ∙ ap (gone v.queue c.place step_q) is ∙ gone_here v.queue c.place step_q in cc)
     | inr ne ↦ ⊎_elim
         (λ (r : IsRequestAt core j). let lt = low r.place r.request r.there in let k = r.its in omega (arith, lt, k))
-        (λ (r : IsStepAt core j). absurd (let own : r.copy ≡ c = (let k : Some r.copy ≡ Some c = sym r.is_open ∙ event.is_open in cc) in ne (sym r.its ∙ ap (λ (y : Bringing). y.place) own)))
+        (λ (r : IsStepAt core j). absurd (let own : r.copy ≡ c = (let k : Some r.copy ≡ Some c = sym r.is_open ∙ event.is_open in cc) in ne (sym r.its ∙ ap (λ (y : OpenCopy). y.place) own)))
         (tied.sees.queue.only j x (sym (gone_there v.queue c.place step_q j ne) ∙ at_j))
   ]
 

@@ -28,12 +28,12 @@ use Rattle.lvm_path.specs.declared.ask.Ask.{Ask}
 use Rattle.lvm_path.specs.declared.target.Target.{Target}
 use Rattle.lvm_path.specs.Asks.{lv_of, at_of, count_of}
 use Rattle.lvm_session.specs.declared.open.Open.{Open}
-use Rattle.lvm_session.specs.declared.bringing.OpenCopy.{OpenCopy as Bringing}
-use Rattle.lvm_session.specs.State.{Core, State as Session, is_there}
+use Rattle.lvm_session.specs.declared.bringing.OpenCopy.{OpenCopy}
+use Rattle.lvm_session.specs.State.{Core, State, is_there}
 use Rattle.lvm_session.specs.Judging.{copies_in, copies_for, group_in, is_usable, is_stale, is_missing, is_wanted_stale, is_settled, is_running, is_caught, is_waiting, IsWithin}
 use Rattle.lvm_session.specs.Bringing.{groups_of}
-use Rattle.lvm_invariant.specs.State.{Marks, OpenCopy, State, is_usable as sees_usable, is_settled_stale, stale_in, HasPassed}
-use Rattle.lvm_crash.specs.Session.{as_marks, members_there}
+use Rattle.lvm_invariant.specs.State.{Marks, ModelCopy, ModelState, is_usable as sees_usable, is_settled_stale, stale_in, HasPassed}
+use Rattle.lvm_crash.specs.Session.{as_marks, members_showing}
 use Rattle.lvm_tie_shelf.proofs.Copies.{copy_placed, one_block}
 use Rattle.lvm_tie_shelf.proofs.Writing.{and_both, pp_same, same_pp}
 use Rattle.lvm_tie_shelf.specs.Copies.{IsCopyOf}
@@ -66,7 +66,7 @@ among_one (q ∷ ps) p is = by (is_pp p q) refl is (among_one ps p)
     by false same h rest = inr (rest h)
 
 -- the open copy is a copy of its logical partition
-pub record IsOfItsPartition (core : Core) (c : Bringing) : Type 0 where
+pub record IsOfItsPartition (core : Core) (c : OpenCopy) : Type 0 where
   pub row : LvRow
   pub volume : volume_of core.descriptor c.lv ≡ Some row
   pub lp : c.lp < row.lps
@@ -78,15 +78,15 @@ one_at [] k x there = absurd (cc there)
 one_at (y ∷ xs) zero x there = inl (let same : y ≡ x = cc there in sym same)
 one_at (y ∷ xs) (suc k) x there = inr (one_at xs k x there)
 
-pub its_partition : (core : Core) (c : Bringing) → IsCopy core c → IsOfItsPartition core c
+pub its_partition : (core : Core) (c : OpenCopy) → IsCopy core c → IsOfItsPartition core c
 its_partition core c its = record { row = its.row; volume = its.volume; lp = its.lp; among = by (c.copy == 0) its.its; cursor = its.cursor }
   where
     by : (b : Bool) → (if b then None else slice_get (copies_in core.descriptor c.lv c.lp) (c.copy - 1)) ≡ Some c.pp → IsOneOf (copies_of its.row c.lp) c.pp
     by true there = absurd (cc there)
     by false there = one_at (copies_of its.row c.lp) (c.copy - 1) c.pp (sym (ap (λ (o : Option LvRow). slice_get (option_map_or (λ (row : LvRow). copies_of row c.lp) o []) (c.copy - 1)) its.volume) ∙ there)
 
-module _ (past : List Fact) (s : Session) (tied : IsTied past s) where
-  abbrev v : State
+module _ (past : List Fact) (s : State) (tied : IsTied past s) where
+  abbrev v : ModelState
   v = tied.view
 
   abbrev core : Core
@@ -96,7 +96,7 @@ module _ (past : List Fact) (s : Session) (tied : IsTied past s) where
   group = core.descriptor
 
   abbrev members : Disks
-  members = members_there (contents_of (image_of s.device.sizes tied.media)) group
+  members = members_showing (contents_of (image_of s.device.sizes tied.media)) group
 
   pub stale_seen : (p : Pp) → v.committed.value.stale p ≡ is_stale core p
   stale_seen p = ap (λ (m : Marks). m.stale p) tied.sees.status.committed
@@ -122,10 +122,10 @@ module _ (past : List Fact) (s : Session) (tied : IsTied past s) where
       by (Some u) both = λ t. both.0 t && both.1 t
 
   -- the copy that is open
-  pub copy_is : (c : Bringing) → core.copy ≡ Some c → IsCopy core c
-  copy_is c is = subst (λ (m : Option Bringing). IfSome m (IsCopy core)) is (tied.orderly.sound.on tied.orderly.on).going.copy
+  pub copy_is : (c : OpenCopy) → core.copy ≡ Some c → IsCopy core c
+  copy_is c is = subst (λ (m : Option OpenCopy). IfSome m (IsCopy core)) is (tied.orderly.sound.on tied.orderly.on).going.copy
 
-  pub of_its : (c : Bringing) → core.copy ≡ Some c → IsOfItsPartition core c
+  pub of_its : (c : OpenCopy) → core.copy ≡ Some c → IsOfItsPartition core c
   of_its c is = its_partition core c (copy_is c is)
 
   -- a disk that isn't missing wasn't when the session began
@@ -200,11 +200,11 @@ module _ (past : List Fact) (s : Session) (tied : IsTied past s) where
     group_low = let size = partition_blocks group.mib in let rest : at_of ask % size < size = omega arith in omega (arith, rest, groups)
 
     -- a copy of the request that is the one which is being brought up is of the same logical partition
-    pub record IsBeside (c : Bringing) : Type 0 where
+    pub record IsBeside (c : OpenCopy) : Type 0 where
       pub lv : lv_of ask ≡ c.lv
       pub same_lp : lp ≡ c.lp
 
-    beside : (c : Bringing) (p : Pp) → IsOfItsPartition core c → IsOneOf (copies_for core ask) p → p ≡ c.pp → IsBeside c
+    beside : (c : OpenCopy) (p : Pp) → IsOfItsPartition core c → IsOneOf (copies_for core ask) p → p ≡ c.pp → IsBeside c
     beside c p its one same =
         let size = partition_blocks group.mib in
         let b : ℕ = c.lp * size + at_of ask % size in
@@ -225,14 +225,14 @@ module _ (past : List Fact) (s : Session) (tied : IsTied past s) where
     pub caught_passed : (p : Pp) → IsOneOf (copies_for core ask) p → is_caught core (group_in core ask) p ≡ true → HasPassed v (lv_of ask) (track_group_of (at_of ask)) p
     caught_passed p one caught = by core.copy refl caught
       where
-        by : (o : Option Bringing) → core.copy ≡ o → option_map_or (λ (c : Bringing). is_running c && is_pp p c.pp && nat_lt (group_in core ask) c.cursor) o false ≡ true → HasPassed v (lv_of ask) (track_group_of (at_of ask)) p
+        by : (o : Option OpenCopy) → core.copy ≡ o → option_map_or (λ (c : OpenCopy). is_running c && is_pp p c.pp && nat_lt (group_in core ask) c.cursor) o false ≡ true → HasPassed v (lv_of ask) (track_group_of (at_of ask)) p
         by None is test = absurd cc
         by (Some c) is test =
             let outer = and_both (is_running c && is_pp p c.pp) (nat_lt (group_in core ask) c.cursor) test in
             let inner = and_both (is_running c) (is_pp p c.pp) outer.0 in
             let same : p ≡ c.pp = pp_same p c.pp inner.1 in
             let below : group_in core ask < c.cursor = let h : nat_lt (group_in core ask) c.cursor ≡ true = outer.1 in grind (arith, nat_tests) in
-            let sees : SeesOpen (groups_of core) c v.open_copy = subst (λ (b : Bool). SeesRunning b (groups_of core) c v.open_copy) inner.0 (subst (λ (x : Option Bringing). SeesCopy (groups_of core) x v.open_copy) is tied.sees.open_copy) in
+            let sees : SeesOpen (groups_of core) c v.open_copy = subst (λ (b : Bool). SeesRunning b (groups_of core) c v.open_copy) inner.0 (subst (λ (x : Option OpenCopy). SeesCopy (groups_of core) x v.open_copy) is tied.sees.open_copy) in
             let its = beside c p (of_its c is) one same in
             let product : groups_of core * lp ≡ groups_of core * c.lp = ap (λ n. groups_of core * n) its.same_lp in
             let lv : (lv_of ask == c.lv) ≡ true = let e = its.lv in grind (arith, nat_tests) in
@@ -247,15 +247,15 @@ module _ (past : List Fact) (s : Session) (tied : IsTied past s) where
             }
 
     pub passed_caught : (p : Pp) → IsOneOf (copies_for core ask) p → HasPassed v (lv_of ask) (track_group_of (at_of ask)) p → is_caught core (group_in core ask) p ≡ true
-    passed_caught p one passed = ap (λ (o : Option Bringing). option_map_or (λ (c : Bringing). is_running c && is_pp p c.pp && nat_lt (group_in core ask) c.cursor) o false) refl ∙ by core.copy refl tied.sees.open_copy
+    passed_caught p one passed = ap (λ (o : Option OpenCopy). option_map_or (λ (c : OpenCopy). is_running c && is_pp p c.pp && nat_lt (group_in core ask) c.cursor) o false) refl ∙ by core.copy refl tied.sees.open_copy
       where
-        running : (c : Bringing) → core.copy ≡ Some c → (b : Bool) → is_running c ≡ b → SeesRunning b (groups_of core) c v.open_copy → (is_running c && is_pp p c.pp && nat_lt (group_in core ask) c.cursor) ≡ true
+        running : (c : OpenCopy) → core.copy ≡ Some c → (b : Bool) → is_running c ≡ b → SeesRunning b (groups_of core) c v.open_copy → (is_running c && is_pp p c.pp && nat_lt (group_in core ask) c.cursor) ≡ true
         running c is false test none = absurd (let e : Some passed.copy ≡ None = sym passed.is_open ∙ none in cc)
         running c is true test sees =
             let open_same : passed.copy ≡ sees.copy = let e : Some passed.copy ≡ Some sees.copy = sym passed.is_open ∙ sees.is_open in cc in
-            let same : p ≡ c.pp = sym passed.target ∙ ap (λ (x : OpenCopy). x.target) open_same ∙ sees.target in
+            let same : p ≡ c.pp = sym passed.target ∙ ap (λ (x : ModelCopy). x.target) open_same ∙ sees.target in
             let its = beside c p (of_its c is) one same in
-            let by_cursor : IsTrue (passed_by (groups_of core) c (lv_of ask) (track_group_of (at_of ask))) = sym (sees.passed (lv_of ask) (track_group_of (at_of ask))) ∙ ap (λ (x : OpenCopy). x.passed (lv_of ask) (track_group_of (at_of ask))) (sym open_same) ∙ passed.passed in
+            let by_cursor : IsTrue (passed_by (groups_of core) c (lv_of ask) (track_group_of (at_of ask))) = sym (sees.passed (lv_of ask) (track_group_of (at_of ask))) ∙ ap (λ (x : ModelCopy). x.passed (lv_of ask) (track_group_of (at_of ask))) (sym open_same) ∙ passed.passed in
             let outer = and_both ((lv_of ask == c.lv) && nat_le (groups_of core * c.lp) (track_group_of (at_of ask))) (nat_lt (track_group_of (at_of ask)) (groups_of core * c.lp + c.cursor)) by_cursor in
             let lt : track_group_of (at_of ask) < groups_of core * c.lp + c.cursor = let h : nat_lt (track_group_of (at_of ask)) (groups_of core * c.lp + c.cursor) ≡ true = outer.1 in grind (arith, nat_tests) in
             let product : groups_of core * lp ≡ groups_of core * c.lp = ap (λ n. groups_of core * n) its.same_lp in
@@ -263,7 +263,7 @@ module _ (past : List Fact) (s : Session) (tied : IsTied past s) where
             let below : nat_lt (group_in core ask) c.cursor ≡ true = let h : group_in core ask < c.cursor = omega (arith, g, product, lt) in grind (arith, nat_tests) in
             λ t. test t && same_pp p c.pp same t && below t
 
-        by : (o : Option Bringing) → core.copy ≡ o → SeesCopy (groups_of core) o v.open_copy → option_map_or (λ (c : Bringing). is_running c && is_pp p c.pp && nat_lt (group_in core ask) c.cursor) o false ≡ true
+        by : (o : Option OpenCopy) → core.copy ≡ o → SeesCopy (groups_of core) o v.open_copy → option_map_or (λ (c : OpenCopy). is_running c && is_pp p c.pp && nat_lt (group_in core ask) c.cursor) o false ≡ true
         by None is none = absurd (let e : Some passed.copy ≡ None = sym passed.is_open ∙ none in cc)
         by (Some c) is sees = running c is (is_running c) refl sees
 

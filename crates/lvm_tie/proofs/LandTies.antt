@@ -18,24 +18,24 @@ use Rattle.lvm_path.specs.declared.facts.Facts.{Facts}
 use Rattle.lvm_path.specs.declared.facts.Next.{Next}
 use Rattle.lvm_path.specs.declared.facts.Next.TheVariants as next
 use Rattle.lvm_path.specs.declared.request.Request.{Request}
-use Rattle.lvm_path.specs.declared.request.Phase.{Phase as RequestPhase}
+use Rattle.lvm_path.specs.declared.request.Phase.{Phase}
 use Rattle.lvm_path.specs.declared.request.Phase.TheVariants as phase
 use Rattle.lvm_path.specs.declared.target.Target.{Target}
 use Rattle.lvm_path.specs.Asks.{count_of, is_write}
 use Rattle.lvm_path.specs.Targets.{is_begun}
 use Rattle.lvm_session.specs.declared.open.Open.{Open}
-use Rattle.lvm_session.specs.declared.bringing.OpenCopy.{OpenCopy as Bringing}
+use Rattle.lvm_session.specs.declared.bringing.OpenCopy.{OpenCopy}
 use Rattle.lvm_session.specs.declared.bringing.Step.{Step}
 use Rattle.lvm_session.specs.declared.bringing.Step.TheVariants as step
 use Rattle.lvm_session.specs.declared.flown.Owner.{Owner}
 use Rattle.lvm_session.specs.declared.flown.Owner.TheVariants as owner
-use Rattle.lvm_session.specs.State.{Core, State as Session, state}
+use Rattle.lvm_session.specs.State.{Core, State, state}
 use Rattle.lvm_session.specs.Judging.{is_running, place_of, IsWithin}
 use Rattle.lvm_session.specs.Bringing.{is_out, is_whole}
 use Rattle.lvm_session.specs.Events.{Lands, after_landing, got_blocks, landed_as, without_pin}
-use Rattle.lvm_invariant.specs.State.{Queued, State}
+use Rattle.lvm_invariant.specs.State.{Queued, ModelState}
 use Rattle.lvm_invariant.specs.Updates.{put, land, landed}
-use Rattle.lvm_invariant.specs.Events.{Event, Step as GoodStep}
+use Rattle.lvm_invariant.specs.Events.{Event, ModelStep}
 use Rattle.lvm_invariant.proofs.Each.{each_keeps}
 use Rattle.lvm_crash.specs.Lasting.{AsksOf}
 use Rattle.lvm_tie_shelf.proofs.Quiet.{quiet_lasts}
@@ -52,19 +52,19 @@ use Rattle.lvm_tie.proofs.Unpinned.{cache_is, entries_stay}
 use Rattle.lvm_path.specs.Targets.{is_done, states_of}
 use Rattle.lvm_path.specs.Next.{start_or_wait, next_chosen, next_write, next_read, next_in}
 use Rattle.lvm_session.specs.Judging.{is_usable, copies_for, facts_of}
-use Rattle.lvm_invariant.specs.State.{Stage, Phase, Held, WantEntry, Ready, Going, Well, Badly, HasPassed, Started, is_settled_stale}
+use Rattle.lvm_invariant.specs.State.{Stage, ModelPhase, Held, WantEntry, Ready, Going, Well, Badly, HasPassed, Started, is_settled_stale}
 use Rattle.lvm_invariant.specs.LandNoFresh.{FindsNoFresh}
 use Rattle.lvm_invariant.specs.Events.{LandNoFresh}
 
 some_of : {X : Type 0} (a b : X) → Some a ≡ Some b → a ≡ b
 some_of a b e = cc
 
-module _ (past : List Fact) (old new : Session) (place : ℕ) (how : Outcome) (lands : Lands old new place how) (tied : IsTied past old) (q : Queued) (event : Event) (numbers : HaveNumbers old.core)
+module _ (past : List Fact) (old new : State) (place : ℕ) (how : Outcome) (lands : Lands old new place how) (tied : IsTied past old) (q : Queued) (event : Event) (numbers : HaveNumbers old.core)
     (at : tied.view.queue (place_of lands.request.request.id) ≡ Some q) (sees : SeesRequest lands.request q) where
   abbrev core : Core
   core = old.core
 
-  abbrev v : State
+  abbrev v : ModelState
   v = tied.view
 
   abbrev o : Open
@@ -97,7 +97,7 @@ module _ (past : List Fact) (old new : Session) (place : ℕ) (how : Outcome) (l
   abbrev core2 : Core
   core2 = record core1 { history = with_fact core.history fact }
 
-  abbrev w : State
+  abbrev w : ModelState
   w = landed v i q (v.facts ++ told ∷ [])
 
   sees2 : SeesRequest o2 q2
@@ -117,14 +117,14 @@ module _ (past : List Fact) (old new : Session) (place : ℕ) (how : Outcome) (l
   carries g (owner.Note disk) its = tt
   carries g owner.Copy its = λ c p is writing here. its c p is writing (sym (elsewhere c is writing) ∙ here)
     where
-      elsewhere : (c : Bringing) → core.copy ≡ Some c → c.step ≡ step.Writing → w.queue c.place ≡ v.queue c.place
+      elsewhere : (c : OpenCopy) → core.copy ≡ Some c → c.step ≡ step.Writing → w.queue c.place ≡ v.queue c.place
       elsewhere c is writing = elim (cases_eq c.place i) [
         | inl e ↦ absurd (step_apart past core v place o o2 q2 core1.pool core.flying core.last core1.queue core1.cache.entries v.media.block tied.sees numbers lands.there refl sees2 (entries_stay core.cache o.request) c is
             (ap (λ (st : Step). is_out st || (is_running c && not (is_whole core c))) writing) e)
         | inr ne ↦ let test : (c.place == i) ≡ false = grind (arith, nat_tests) in ap (λ b. if b then Some q2 else v.queue c.place) test
       ]
 
-  pub lands_tied : GoodStep tied.votes event v w → AsksOf core.descriptor event → IsOrderly new tied.write → IsTied past new
+  pub lands_tied : ModelStep tied.votes event v w → AsksOf core.descriptor event → IsOrderly new tied.write → IsTied past new
   lands_tied step asks orderly = subst (IsTied past) (sym whole) (record {
     votes = tied.votes;
     media = tied.media;
@@ -136,7 +136,7 @@ module _ (past : List Fact) (old new : Session) (place : ℕ) (how : Outcome) (l
     write = tied.write;
     since = tied.since;
     recorded = tied.recorded;
-    orderly = subst (λ (x : Session). IsOrderly x tied.write) whole orderly;
+    orderly = subst (λ (x : State). IsOrderly x tied.write) whole orderly;
     copy_aimed = tied.copy_aimed;
     carry = carry_on core core2 v w old.device.flights core.flying carries tied.carry;
     notes = tied.notes;
@@ -144,7 +144,7 @@ module _ (past : List Fact) (old new : Session) (place : ℕ) (how : Outcome) (l
 
 -- ---- without a usable copy
 
-pub data NoneFound (usable : Bool) (write : Bool) (p : Phase) : Type 0 where
+pub data NoneFound (usable : Bool) (write : Bool) (p : ModelPhase) : Type 0 where
   AtFirst : p ≡ Held → usable ≡ false → NoneFound usable write p
   Later : (p ≡ WantEntry) ⊎ (p ≡ Ready) → write ≡ true → usable ≡ false → NoneFound usable write p
 
@@ -173,7 +173,7 @@ chosen_none k on other h = by k.pending k.usable k.changed h
     by false true true h = absurd cc
     by false true false h = absurd (other h)
 
-none_found : (k : Facts) (r : Request) (p : RequestPhase) → ((p ≡ phase.WantEntry) ⊎ (p ≡ phase.WantRecord) → is_write r.ask ≡ true) → next_in p k r ≡ next.Land outcome.NoFresh → NoneFound k.usable (is_write r.ask) (phase_seen p (is_begun r.targets.items))
+none_found : (k : Facts) (r : Request) (p : Phase) → ((p ≡ phase.WantEntry) ⊎ (p ≡ phase.WantRecord) → is_write r.ask ≡ true) → next_in p k r ≡ next.Land outcome.NoFresh → NoneFound k.usable (is_write r.ask) (phase_seen p (is_begun r.targets.items))
 none_found k r phase.Held writes h = AtFirst refl (by k.blocked k.pending k.usable h)
   where
     by : (b p u : Bool) → (if b || p then next.Wait else if u then next.Admit else next.Land outcome.NoFresh) ≡ next.Land outcome.NoFresh → u ≡ false
@@ -210,7 +210,7 @@ none_found k r phase.WantStatus writes h = by k.marked k.kept h
     by false c h = absurd cc
 none_found k r phase.Landed writes h = absurd cc
 
-module _ (past : List Fact) (old new : Session) (place : ℕ) (how : Outcome) (lands : Lands old new place how) (tied : IsTied past old) (inside : IsWithin old.core.descriptor lands.request.request.ask) (is : how ≡ outcome.NoFresh)
+module _ (past : List Fact) (old new : State) (place : ℕ) (how : Outcome) (lands : Lands old new place how) (tied : IsTied past old) (inside : IsWithin old.core.descriptor lands.request.request.ask) (is : how ≡ outcome.NoFresh)
     (writes : (lands.request.request.phase ≡ phase.WantEntry) ⊎ (lands.request.request.phase ≡ phase.WantRecord) → is_write lands.request.request.ask ≡ true) where
   finds_none : (q : Queued) → tied.view.queue (place_of lands.request.request.id) ≡ Some q → SeesRequest lands.request q → FindsNoFresh tied.view (place_of lands.request.request.id) q
   finds_none q at sees = by (none_found (facts_of old.core lands.request.request) lands.request.request lands.request.request.phase writes (lands.lands ∙ ap next.Land is))
@@ -227,11 +227,11 @@ module _ (past : List Fact) (old new : Session) (place : ℕ) (how : Outcome) (l
   pub no_fresh_ties : lands.request.got ≡ None → is_begun lands.request.request.targets.items ≡ false → IsOrderly new tied.write → IsTied past new
   no_fresh_ties empty early orderly =
       let o : Open = lands.request in
-      let v : State = tied.view in
+      let v : ModelState = tied.view in
       let seen = tied.sees.queue.requests place o lands.there in
       let q : Queued = seen.0 in
       let i : ℕ = place_of o.request.id in
       let none : got_blocks (count_of o.request.ask) o.got ≡ [] = ap (got_blocks (count_of o.request.ask)) empty in
-      let step : GoodStep tied.votes (LandNoFresh i q) v (landed v i q (v.facts ++ Landed (v.name i) how (is_begun o.request.targets.items) (got_blocks (count_of o.request.ask) o.got) ∷ [])) =
+      let step : ModelStep tied.votes (LandNoFresh i q) v (landed v i q (v.facts ++ Landed (v.name i) how (is_begun o.request.targets.items) (got_blocks (count_of o.request.ask) o.got) ∷ [])) =
       (finds_none q seen.1 seen.2, λ k. landed v i q (v.facts ++ Landed (v.name i) (is k) (early k) (none k) ∷ [])) in
       lands_tied past old new place how lands tied q (LandNoFresh i q) (numbers_of old tied.write tied.orderly) seen.1 seen.2 step tt orderly

@@ -20,25 +20,25 @@ use Rattle.lvm_kept.specs.Torn.{RecordWrite}
 use Rattle.lvm_stamps.specs.Laws.{IsWhole}
 use Rattle.lvm_stamps.proofs.Writes.{data_keeps_before}
 use Rattle.lvm_commit.specs.Committed.{next_stamp}
-use Rattle.lvm_commit.proofs.Slots.{slot_for_same}
+use Rattle.lvm_rec.proofs.NextLemmas.{slot_for_same}
 use Rattle.lvm_status.specs.Update.{Stored}
 use Rattle.lvm_homes.specs.declared.homes.Homes.{Homes}
-use Rattle.lvm_session.specs.declared.bringing.OpenCopy.{OpenCopy as Bringing}
+use Rattle.lvm_session.specs.declared.bringing.OpenCopy.{OpenCopy}
 use Rattle.lvm_session.specs.declared.bringing.Step.{Step}
 use Rattle.lvm_session.specs.declared.bringing.Step.TheVariants as step
 use Rattle.lvm_session.specs.declared.flown.Flown.{Flown}
 use Rattle.lvm_session.specs.declared.flown.Owner.TheVariants as owner
-use Rattle.lvm_session.specs.State.{Core, State as Session}
+use Rattle.lvm_session.specs.State.{Core, State}
 use Rattle.lvm_session.specs.Judging.{is_running}
 use Rattle.lvm_session.specs.Bringing.{has_row, is_out, is_whole}
 use Rattle.lvm_session.specs.Ends.{Returns}
 use Rattle.lvm_session.specs.Events.{IsCopyTransfer}
-use Rattle.lvm_invariant.specs.State.{OpenCopy, Queued, State, is_past}
+use Rattle.lvm_invariant.specs.State.{ModelCopy, Queued, ModelState, is_past}
 use Rattle.lvm_invariant.specs.CopyWrite.{copied}
 use Rattle.lvm_invariant.specs.Events.{CopyWrite}
 use Rattle.lvm_invariant.proofs.Each.{each_keeps}
 use Rattle.lvm_crash.specs.Left.{KeepsGroup}
-use Rattle.lvm_crash.specs.Session.{Describes, members_there}
+use Rattle.lvm_crash.specs.Session.{Describes, members_showing}
 use Rattle.lvm_tie_shelf.specs.Bringing.{PassesOver}
 use Rattle.lvm_tie_shelf.specs.Owned.{IsTransfer, OnlyUpdateSince}
 use Rattle.lvm_tie_shelf.specs.Writing.{after_write}
@@ -65,7 +65,7 @@ row_of core w (g ∷ gs) after f [] out = absurd out
 row_of core w (g ∷ gs) after f (r ∷ rs) out = let x = row_of core w gs after f rs out.2 in (suc x.0, x.1, x.2, x.3)
 
 -- what it carries, if it is a step's
-carried : (core : Core) (w : Option RecordWrite) (v : State) (before after : List Flight) (f : Flight) (rows : List Flown) (index : ℕ) (row : Flown)
+carried : (core : Core) (w : Option RecordWrite) (v : ModelState) (before after : List Flight) (f : Flight) (rows : List Flown) (index : ℕ) (row : Flown)
     → AreOut core w (before ++ f ∷ after) rows → HaveTickets rows → slice_get rows index ≡ Some row → f.ticket ≡ row.ticket → CarryTheirs core v (before ++ f ∷ after) rows → CarriesStep core v f row.owner
 carried core w v [] after f [] index row out tickets there same carry = absurd out
 carried core w v [] after f (r ∷ rs) zero row out tickets there same carry = subst (λ (x : Flown). CarriesStep core v f x.owner) (some_of r row there) carry.0
@@ -93,7 +93,7 @@ next_below group status homes was is same whole may = record {
   spare = λ d there owed. may.spare d there owed ∙ sym (slot_for_same status_of kind.Status (was.sector d) (is.sector d) (λ slot s two from to. same.sectors d s (slot_low kind.Status slot s two to)));
 }
 
-busy : (core : Core) (c : Bringing) (st : Step) (f : Flight) → StepIsOut core c st f → is_out st ≡ true
+busy : (core : Core) (c : OpenCopy) (st : Step) (f : Flight) → StepIsOut core c st f → is_out st ≡ true
 busy core c step.Idle f out = absurd out
 busy core c (step.Reading source) f out = refl
 busy core c (step.Read buf) f out = absurd out
@@ -101,12 +101,12 @@ busy core c step.Writing f out = refl
 
 -- ---- the transfer
 
-module _ (past : List Fact) (old new : Session) (at : ℕ) (row : Flown) (ok : Bool) (buf : Buffer) (tied : IsTied past old) (returns : Returns old new at row ok buf) (own : row.owner ≡ owner.Copy)
-    (c : Bringing) (is_open : old.core.copy ≡ Some c) where
+module _ (past : List Fact) (old new : State) (at : ℕ) (row : Flown) (ok : Bool) (buf : Buffer) (tied : IsTied past old) (returns : Returns old new at row ok buf) (own : row.owner ≡ owner.Copy)
+    (c : OpenCopy) (is_open : old.core.copy ≡ Some c) where
   abbrev core : Core
   core = old.core
 
-  abbrev pub v : State
+  abbrev pub v : ModelState
   v = tied.view
 
   pub ended : HasEnded old.device new.device row.ticket ok buf tied.media
@@ -128,7 +128,7 @@ module _ (past : List Fact) (old new : Session) (at : ℕ) (row : Flown) (ok : B
   found = subst (IsOut core tied.write f) own its_row.out
 
   pub out : StepIsOut core c c.step f
-  out = subst (λ (x : Bringing). StepIsOut core x x.step f) (some_of found.copy c (sym found.is_open ∙ is_open)) found.out
+  out = subst (λ (x : OpenCopy). StepIsOut core x x.step f) (some_of found.copy c (sym found.is_open ∙ is_open)) found.out
 
   carries : CarriesStep core v f owner.Copy
   carries = subst (CarriesStep core v f) own
@@ -165,11 +165,11 @@ module _ (past : List Fact) (old new : Session) (at : ℕ) (row : Flown) (ok : B
   now = contents_of (image_of new.device.sizes ended.media)
 
   -- A good state describes what stands then, and the members and the next update go on.
-  pub record HasLanded (open_copy : Option OpenCopy) : Type 0 where
+  pub record HasLanded (open_copy : Option ModelCopy) : Type 0 where
     pub block : ℕ → ℕ → Pp → Sector
     pub stands : Stands tied.votes core.descriptor (update_of core.status) now (copied v block open_copy None)
     pub next : MayUpdate core.descriptor core.status core.homes (image_of new.device.sizes ended.media)
-    pub members : (d : ℕ) → is_member core.descriptor d ≡ true → calls_missing core.origin.table d ≡ false → IsTrue (members_there now core.descriptor d)
+    pub members : (d : ℕ) → is_member core.descriptor d ≡ true → calls_missing core.origin.table d ≡ false → IsTrue (members_showing now core.descriptor d)
     pub records : ShowsRecords core.descriptor core.status now
 
   pub since : (x : Option RecordWrite) (u : Option (Stamped Status)) → OnlyUpdateSince old.device x u → OnlyUpdateSince new.device x u
@@ -202,8 +202,8 @@ module _ (past : List Fact) (old new : Session) (at : ℕ) (row : Flown) (ok : B
     pub read_next : MayUpdate core.descriptor core.status core.homes (image_of new.device.sizes ended.media)
     read_next = subst (λ (i : Image). MayUpdate core.descriptor core.status core.homes i) (sym same_image) tied.recorded.next
 
-    pub read_members : (d : ℕ) → is_member core.descriptor d ≡ true → calls_missing core.origin.table d ≡ false → IsTrue (members_there now core.descriptor d)
-    read_members d member first = subst (λ (i : Image). IsTrue (members_there (contents_of i) core.descriptor d)) (sym same_image) (tied.recorded.members d member first)
+    pub read_members : (d : ℕ) → is_member core.descriptor d ≡ true → calls_missing core.origin.table d ≡ false → IsTrue (members_showing now core.descriptor d)
+    read_members d member first = subst (λ (i : Image). IsTrue (members_showing (contents_of i) core.descriptor d)) (sym same_image) (tied.recorded.members d member first)
 
     pub read_records : ShowsRecords core.descriptor core.status now
     read_records = subst (λ (i : Image). ShowsRecords core.descriptor core.status (contents_of i)) (sym same_image) tied.recorded.records
@@ -244,7 +244,7 @@ module _ (past : List Fact) (old new : Session) (at : ℕ) (row : Flown) (ok : B
     whole : AreSectors new.device.sizes ended.media
     whole = subst (λ (m : Option Media). IfSome m (AreSectors new.device.sizes)) ended.told sectors
 
-    pub landed_write : (open_copy : Option OpenCopy) → (open_copy ≡ v.open_copy) ⊎ (IsTrue ok × PassesOver v q c.pp open_copy) → HasLanded open_copy
+    pub landed_write : (open_copy : Option ModelCopy) → (open_copy ≡ v.open_copy) ⊎ (IsTrue ok × PassesOver v q c.pp open_copy) → HasLanded open_copy
     landed_write open_copy opened =
         let its = step_ends tied.votes v c.place q value c.pp open_copy None core.descriptor (update_of core.status) old.device.sizes tied.media ended.media f ok (valid_of old tied.write tied.orderly) tied.good tied.describes at_q sees.write past_now theirs.1 aimed transfer ended.lands opened in
         let block : ℕ → ℕ → Pp → Sector = after_write v core.descriptor.mib q c.pp (contents_of (image_of old.device.sizes ended.media)) in
@@ -256,8 +256,8 @@ module _ (past : List Fact) (old new : Session) (at : ℕ) (row : Flown) (ok : B
           };
           next = next_below core.descriptor core.status core.homes (image_of old.device.sizes tied.media) (image_of new.device.sizes ended.media)
               (subst (λ (sizes : List ℕ). SameRecords (image_of old.device.sizes tied.media) (image_of sizes ended.media)) (sym ended.sizes) same_below) whole tied.recorded.next;
-          members = λ d member first. subst (λ (sizes : List ℕ). IsTrue (members_there (contents_of (image_of sizes ended.media)) core.descriptor d)) (sym ended.sizes)
-              (ap (λ (x : Contents). members_there x core.descriptor d) kept.rest ∙ tied.recorded.members d member first);
+          members = λ d member first. subst (λ (sizes : List ℕ). IsTrue (members_showing (contents_of (image_of sizes ended.media)) core.descriptor d)) (sym ended.sizes)
+              (ap (λ (x : Contents). members_showing x core.descriptor d) kept.rest ∙ tied.recorded.members d member first);
           records = subst (λ (sizes : List ℕ). ShowsRecords core.descriptor core.status (contents_of (image_of sizes ended.media))) (sym ended.sizes)
               (records_kept core.descriptor core.status (image_of old.device.sizes tied.media) (image_of old.device.sizes ended.media) same_below tied.recorded.records);
         }

@@ -21,15 +21,15 @@ use Rattle.lvm_kept.specs.Group.{names_if}
 use Rattle.lvm_kept.proofs.Contained.{note-same, blocks_are_sectors}
 use Rattle.lvm_kept.proofs.Records.{newest_stays, slot-above}
 use Rattle.lvm_commit.specs.Committed.{next_stamp}
-use Rattle.lvm_commit.proofs.Slots.{slot_for_same}
+use Rattle.lvm_rec.proofs.NextLemmas.{slot_for_same}
 use Rattle.lvm_status.specs.Update.{Stored}
 use Rattle.lvm_homes.specs.declared.homes.Homes.{Homes}
-use Rattle.lvm_invariant.specs.State.{Groups, State}
+use Rattle.lvm_invariant.specs.State.{Groups, ModelState}
 use Rattle.lvm_invariant.specs.Found.{Votes}
 use Rattle.lvm_invariant.specs.Good.{Good}
 use Rattle.lvm_invariant.specs.Events.{EndNote}
 use Rattle.lvm_invariant.specs.EndNote.{EndsNote, after_note}
-use Rattle.lvm_crash.specs.Session.{Describes, marks_shown, members_there}
+use Rattle.lvm_crash.specs.Session.{Describes, marks_shown, members_showing}
 use Rattle.lvm_crash.specs.Left.{MayRemain}
 use Rattle.lvm_crash.specs.Flights.{Matches}
 use Rattle.lvm_crash.proofs.Images.{images_remain}
@@ -47,7 +47,7 @@ some_is : {X : Type 0} (a b : X) → Some a ≡ Some b → a ≡ b
 some_is a b e = cc
 
 -- The write of a note has ended on a disk: what is home there is the note, unless the disk is missing, and elsewhere what it was.
-pub record HasLanded (s : State) (group : Descriptor) (in_flight : Option (Stamped Status)) (disk : ℕ) (note : Groups) (well : Bool) (now : Contents) : Type 0 where
+pub record HasLanded (s : ModelState) (group : Descriptor) (in_flight : Option (Stamped Status)) (disk : ℕ) (note : Groups) (well : Bool) (now : Contents) : Type 0 where
   pub names : ℕ → Groups
   pub home : ℕ → Groups
   pub may : EndsNote s disk names home (flying_after s disk)
@@ -55,7 +55,7 @@ pub record HasLanded (s : State) (group : Descriptor) (in_flight : Option (Stamp
   pub own : IsTrue well → IsFalse (s.missing disk) → home disk ≡ note
   pub others : (d : ℕ) → (d ≡ disk → ⊥) → home d ≡ s.home_note d
 
-module _ (votes : Votes) (s : State) (group : Descriptor) (in_flight : Option (Stamped Status)) (device : Device) (rest : List Flight) (m n : Media) (f : Flight) (well : Bool)
+module _ (votes : Votes) (s : ModelState) (group : Descriptor) (in_flight : Option (Stamped Status)) (device : Device) (rest : List Flight) (m n : Media) (f : Flight) (well : Bool)
     (good : Good votes s) (matches : Matches s s.facts group in_flight device m) (removes : Removes f device.flights rest) (own : IsNoteFlight s f) (lands : Lands f well m n) where
   abbrev was : Image
   was = image_of device.sizes m
@@ -173,8 +173,8 @@ module _ (votes : Votes) (s : State) (group : Descriptor) (in_flight : Option (S
 
   -- ---- what else stands
 
-  pub same_members : (d : ℕ) → members_there now group d ≡ members_there before group d
-  same_members d = ap (λ (c : Contents). members_there c group d) remain.kept.rest
+  pub same_members : (d : ℕ) → members_showing now group d ≡ members_showing before group d
+  same_members d = ap (λ (c : Contents). members_showing c group d) remain.kept.rest
 
   pub same_descriptors : (d : ℕ) → now.descriptor d ≡ before.descriptor d
   same_descriptors d = ap (λ (c : Contents). c.descriptor d) remain.kept.rest

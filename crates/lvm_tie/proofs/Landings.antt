@@ -23,7 +23,7 @@ use Rattle.lvm_path.specs.Asks.{at_of, is_write, lv_of}
 use Rattle.lvm_path.specs.Targets.{are_over, is_begun, is_done, is_failed, is_over, states_of}
 use Rattle.lvm_path.specs.Next.{next_chosen, next_data, next_in, next_read, next_write, start_or_wait}
 use Rattle.lvm_session.specs.declared.open.Open.{Open}
-use Rattle.lvm_session.specs.State.{Core, State as Session}
+use Rattle.lvm_session.specs.State.{Core, State}
 use Rattle.lvm_session.specs.Judging.{copies_for, facts_of, group_in, is_caught, is_kept, is_waiting}
 use Rattle.lvm_session.specs.Events.{Lands}
 use Rattle.lvm_session.specs.Requests.{IsPhase, IsRequest, IsTarget, may_lack, wants_status}
@@ -161,7 +161,7 @@ some_long (t ∷ ts) p h = omega arith
 
 -- ---- the landing
 
-module _ (past : List Fact) (old new : Session) (place : ℕ) (how : Outcome) (lands : Lands old new place how) (tied : IsTied past old) (sound : IsSound new) where
+module _ (past : List Fact) (old new : State) (place : ℕ) (how : Outcome) (lands : Lands old new place how) (tied : IsTied past old) (sound : IsSound new) where
   abbrev core : Core
   core = old.core
 
@@ -177,8 +177,8 @@ module _ (past : List Fact) (old new : Session) (place : ℕ) (how : Outcome) (l
   orderly : IsOrderly new tied.write
   orderly = record {
     sound = sound;
-    on = ap (λ (s : Session). s.core.power) lands.is ∙ tied.orderly.on;
-    update = subst (λ (s : Session). Rattle.lvm_tie.specs.Out.IsWriteOf s.core.status s.core.homes s.core.status.in_flight tied.write) (sym lands.is) tied.orderly.update;
+    on = ap (λ (s : State). s.core.power) lands.is ∙ tied.orderly.on;
+    update = subst (λ (s : State). Rattle.lvm_tie.specs.Out.IsWriteOf s.core.status s.core.homes s.core.status.in_flight tied.write) (sym lands.is) tied.orderly.update;
   }
 
   waits : is_waiting o ≡ true

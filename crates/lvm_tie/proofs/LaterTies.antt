@@ -4,17 +4,17 @@ use Rattle.std.specs.Prelude.{IsTrue, if◌then◌else◌, nat_le}
 use Rattle.lvm_num.specs.Geometry.{sector_of, data_start}
 use Rattle.lvm_vol.specs.Facts.{Fact}
 use Rattle.lvm_sched.specs.declared.writes.TargetState.TheVariants as target
-use Rattle.lvm_path.specs.declared.request.Phase.{Phase as RequestPhase}
+use Rattle.lvm_path.specs.declared.request.Phase.{Phase}
 use Rattle.lvm_path.specs.declared.request.Phase.TheVariants as phase
 use Rattle.lvm_path.specs.declared.target.Target.{Target}
 use Rattle.lvm_path.specs.Asks.{at_of, is_write}
 use Rattle.lvm_path.specs.Targets.{is_begun, with_state}
 use Rattle.lvm_path.specs.Next.{with_start}
 use Rattle.lvm_session.specs.declared.open.Open.{Open}
-use Rattle.lvm_session.specs.State.{State as Session}
+use Rattle.lvm_session.specs.State.{State}
 use Rattle.lvm_session.specs.Judging.{is_waiting as is_open_waiting, place_of}
 use Rattle.lvm_session.specs.Events.{StartsData}
-use Rattle.lvm_invariant.specs.State.{Flying, Well, Going, Queued, State, is_past}
+use Rattle.lvm_invariant.specs.State.{Flying, Well, Going, Queued, ModelState, is_past}
 use Rattle.lvm_invariant.specs.Updates.{is_pp, staged}
 use Rattle.lvm_invariant.specs.Transfer.{Restages}
 use Rattle.lvm_invariant.specs.Read.{Reads}
@@ -27,7 +27,7 @@ use Rattle.lvm_tie.specs.Tied.{IsOrderly, IsTied}
 use Rattle.lvm_tie.proofs.Starting.{may_start}
 use Rattle.lvm_tie.proofs.Ties.{state_there, started_ties}
 
-module _ (past : List Fact) (old new : Session) (place number : ℕ) (starts : StartsData old new place number) (tied : IsTied past old) (waits : is_open_waiting starts.its.request ≡ true) where
+module _ (past : List Fact) (old new : State) (place number : ℕ) (starts : StartsData old new place number) (tied : IsTied past old) (waits : is_open_waiting starts.its.request ≡ true) where
   abbrev o : Open
   o = starts.its.request
 
@@ -64,7 +64,7 @@ module _ (past : List Fact) (old new : Session) (place number : ℕ) (starts : S
   }
 
 -- the first transfer of a write
-pub first_start_ties : (past : List Fact) (old new : Session) (place number : ℕ) (starts : StartsData old new place number) (tied : IsTied past old) → is_open_waiting starts.its.request ≡ true
+pub first_start_ties : (past : List Fact) (old new : State) (place number : ℕ) (starts : StartsData old new place number) (tied : IsTied past old) → is_open_waiting starts.its.request ≡ true
     → is_write starts.its.request.request.ask ≡ true → is_begun starts.its.request.request.targets.items ≡ false → IsOrderly new tied.write → IsTied past new
 first_start_ties past old new place number starts tied waits writes early orderly =
     let o : Open = starts.its.request in
@@ -75,10 +75,10 @@ first_start_ties past old new place number starts tied waits writes early orderl
     subst (IsTied past) (sym starts.is)
     (started_ties past old new.device place number o starts.its.aim q (record q { phase = Going; targets = staged q.targets c Flying }) starts.flight new.core.pool tied (numbers_of old tied.write tied.orderly) starts.its.there starts.its.aim_is seen.1 starts.launches.starts
     (low past old new place number starts tied waits) (sees_started past old new place number starts tied waits q seen.2)
-    (StartWrite (place_of o.request.id) q c) (may, refl) tt (subst (λ (x : Session). IsOrderly x tied.write) starts.is orderly))
+    (StartWrite (place_of o.request.id) q c) (may, refl) tt (subst (λ (x : State). IsOrderly x tied.write) starts.is orderly))
 
 -- a further one
-pub later_start_ties : (past : List Fact) (old new : Session) (place number : ℕ) (starts : StartsData old new place number) (tied : IsTied past old) → is_open_waiting starts.its.request ≡ true
+pub later_start_ties : (past : List Fact) (old new : State) (place number : ℕ) (starts : StartsData old new place number) (tied : IsTied past old) → is_open_waiting starts.its.request ≡ true
     → is_write starts.its.request.request.ask ≡ true → starts.its.request.request.phase ≡ phase.Data → is_begun starts.its.request.request.targets.items ≡ true → IsOrderly new tied.write → IsTied past new
 later_start_ties past old new place number starts tied waits writes moving begun orderly =
     let o : Open = starts.its.request in
@@ -87,21 +87,21 @@ later_start_ties past old new place number starts tied waits writes moving begun
     let seen = tied.sees.queue.requests place o starts.its.there in
     let q : Queued = seen.0 in
     let sees : SeesRequest o q = seen.2 in
-    let v : State = tied.view in
-    let going : q.phase ≡ Going = sees.phase ∙ ap (λ (p : RequestPhase). phase_seen p (is_begun o.request.targets.items)) moving ∙ ap (phase_seen phase.Data) begun in
+    let v : ModelState = tied.view in
+    let going : q.phase ≡ Going = sees.phase ∙ ap (λ (p : Phase). phase_seen p (is_begun o.request.targets.items)) moving ∙ ap (phase_seen phase.Data) begun in
     let same : (record q { targets = staged q.targets c Flying }) ≡ (record q { phase = Going; targets = staged q.targets c Flying }) = λ k. record q { phase = going k; targets = staged q.targets c Flying } in
     let may : Restages v i q c Flying v.media.block = record { started = record { there = seen.1; write = sees.write ∙ writes; going = going }; was = (stage_seen starts.its.aim.state, found past old new place number starts tied waits q sees); media = λ lv b e. inl refl; well = λ is. absurd (let e : Flying ≡ Well = is in cc) } in
     subst (IsTied past) (sym starts.is)
     (started_ties past old new.device place number o starts.its.aim q (record q { targets = staged q.targets c Flying }) starts.flight new.core.pool tied (numbers_of old tied.write tied.orderly) starts.its.there starts.its.aim_is seen.1 starts.launches.starts
     (low past old new place number starts tied waits) (subst (SeesRequest (record o { request = with_start o.request number })) (sym same) (sees_started past old new place number starts tied waits q sees))
-    (Transfer i q c Flying v.media.block) (may, refl) tt (subst (λ (x : Session). IsOrderly x tied.write) starts.is orderly))
+    (Transfer i q c Flying v.media.block) (may, refl) tt (subst (λ (x : State). IsOrderly x tied.write) starts.is orderly))
 
 past_either : (b : Bool) → IsTrue (is_past (phase_seen phase.Data b))
 past_either true = refl
 past_either false = refl
 
 -- one of a read
-pub read_start_ties : (past : List Fact) (old new : Session) (place number : ℕ) (starts : StartsData old new place number) (tied : IsTied past old) → is_open_waiting starts.its.request ≡ true
+pub read_start_ties : (past : List Fact) (old new : State) (place number : ℕ) (starts : StartsData old new place number) (tied : IsTied past old) → is_open_waiting starts.its.request ≡ true
     → is_write starts.its.request.request.ask ≡ false → starts.its.request.request.phase ≡ phase.Data → IsOrderly new tied.write → IsTied past new
 read_start_ties past old new place number starts tied waits reads moving orderly =
     let o : Open = starts.its.request in
@@ -110,10 +110,10 @@ read_start_ties past old new place number starts tied waits reads moving orderly
     let seen = tied.sees.queue.requests place o starts.its.there in
     let q : Queued = seen.0 in
     let sees : SeesRequest o q = seen.2 in
-    let v : State = tied.view in
-    let on : IsTrue (is_past q.phase) = ap is_past (sees.phase ∙ ap (λ (p : RequestPhase). phase_seen p (is_begun o.request.targets.items)) moving) ∙ past_either (is_begun o.request.targets.items) in
+    let v : ModelState = tied.view in
+    let on : IsTrue (is_past q.phase) = ap is_past (sees.phase ∙ ap (λ (p : Phase). phase_seen p (is_begun o.request.targets.items)) moving) ∙ past_either (is_begun o.request.targets.items) in
     let may : Reads v i q c q.got = record { there = seen.1; read = sees.write ∙ reads; past = on; was = (stage_seen starts.its.aim.state, found past old new place number starts tied waits q sees); gets = λ value is. inl is } in
     subst (IsTied past) (sym starts.is)
     (started_ties past old new.device place number o starts.its.aim q (record q { phase = Going; targets = staged q.targets c Flying }) starts.flight new.core.pool tied (numbers_of old tied.write tied.orderly) starts.its.there starts.its.aim_is seen.1 starts.launches.starts
     (low past old new place number starts tied waits) (sees_started past old new place number starts tied waits q sees)
-    (Read i q c Flying q.got) (may, refl) tt (subst (λ (x : Session). IsOrderly x tied.write) starts.is orderly))
+    (Read i q c Flying q.got) (may, refl) tt (subst (λ (x : State). IsOrderly x tied.write) starts.is orderly))

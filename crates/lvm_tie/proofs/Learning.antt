@@ -12,7 +12,7 @@ use Rattle.lvm_num.specs.Status.{calls_missing}
 use Rattle.lvm_num.specs.Votes.{is_enough_to_write, votes_in}
 use Rattle.lvm_status.specs.Update.{Stored, Updates, is_held, is_owed, no_disks, seen, with_disk, without_disk}
 use Rattle.lvm_status.specs.Calls.{WantsAtEnd, after_end, comes_held, with_commit, with_end}
-use Rattle.lvm_status.specs.Runs.{IsSound as IsSoundStatus}
+use Rattle.lvm_status.specs.Runs.{IsSoundStatus}
 use Rattle.lvm_crash.specs.Session.{marks_of}
 use Rattle.lvm_tie.proofs.Words.{clash, not_true, or_true}
 use Rattle.lvm_tie.proofs.Losing.{not_owed_by}

@@ -8,10 +8,10 @@ use Rattle.lvm_num.specs.Record.{Stamped}
 use Rattle.lvm_vol.specs.Facts.{Taken}
 use Rattle.lvm_vol.specs.Log.{no_request}
 use Rattle.lvm_kept.specs.Contents.{Contents}
-use Rattle.lvm_invariant.specs.State.{OpenCopy, Queued, State, has_landed}
+use Rattle.lvm_invariant.specs.State.{ModelCopy, Queued, ModelState, has_landed}
 use Rattle.lvm_invariant.specs.Updates.{land, put, with_req, without}
 use Rattle.lvm_invariant.specs.EnterStep.{StepEnters, entered}
-use Rattle.lvm_invariant.specs.Events.{EndStep, EnterStep, Event, Step, Take, Want}
+use Rattle.lvm_invariant.specs.Events.{EndStep, EnterStep, Event, ModelStep, Take, Want}
 use Rattle.lvm_invariant.specs.Found.{Votes}
 use Rattle.lvm_invariant.specs.Good.{Good}
 use Rattle.lvm_invariant.specs.Take.{taken}
@@ -41,13 +41,13 @@ gone_there queue i q j ne = let test : (j == i) ≡ false = grind (arith, nat_te
 
 -- ---- a good state that describes what stands
 
-pub record Stands (votes : Votes) (group : Descriptor) (update : Option (Stamped Status)) (c : Contents) (s : State) : Type 0 where
+pub record Stands (votes : Votes) (group : Descriptor) (update : Option (Stamped Status)) (c : Contents) (s : ModelState) : Type 0 where
   pub good : Good votes s
   pub describes : Describes s s.facts group update c
 
 module _ (votes : Votes) (group : Descriptor) (update : Option (Stamped Status)) (c : Contents) where
   -- an event by which nothing changes on the media leaves one
-  pub quiet : (event : Event) (s new : State) → Step votes event s new → AsksOf group event → new.media ≡ s.media → new.is_copy ≡ s.is_copy → new.in_flight ≡ s.in_flight
+  pub quiet : (event : Event) (s new : ModelState) → ModelStep votes event s new → AsksOf group event → new.media ≡ s.media → new.is_copy ≡ s.is_copy → new.in_flight ≡ s.in_flight
       → Stands votes group update c s → Stands votes group update c new
   quiet event s new makes asks media copies flies stands = record {
     good = each_keeps votes event s new makes stands.good;
@@ -55,17 +55,17 @@ module _ (votes : Votes) (group : Descriptor) (update : Option (Stamped Status))
   }
 
   -- the step has ended, and leaves the queue
-  pub step_left : (s : State) (i : ℕ) (q : Queued) → s.queue i ≡ Some q → q.step ≡ true → has_landed q.phase ≡ false → Stands votes group update c s → Stands votes group update c (record s { queue = gone s.queue i q })
+  pub step_left : (s : ModelState) (i : ℕ) (q : Queued) → s.queue i ≡ Some q → q.step ≡ true → has_landed q.phase ≡ false → Stands votes group update c s → Stands votes group update c (record s { queue = gone s.queue i q })
   step_left s i q at is_step going stands =
-      let s1 : State = with_req s i (land q) in
-      let s2 : State = taken s1 i (land q) in
+      let s1 : ModelState = with_req s i (land q) in
+      let s2 : ModelState = taken s1 i (land q) in
       let first = quiet (EndStep i q) s s1 (record { there = at; step = is_step; unlanded = going }, refl) tt refl refl refl stands in
       let second = quiet (Take i (land q)) s1 s2 (record { there = put_here s.queue i (land q); landed = refl }, refl) tt refl refl refl first in
       let same : s2 ≡ record s { queue = gone s.queue i q } = λ t. record s { queue = gone s.queue i q; facts = if is_step t then s.facts else s.facts ++ Taken (s.name i) ∷ [] } in
       subst (Stands votes group update c) same second
 
   -- the copy ends that is open, and stale by what is wanted
-  pub copy_over : (s : State) → ((o : OpenCopy) → s.open_copy ≡ Some o → IsTrue (s.wanted.stale o.target)) → Stands votes group update c s → Stands votes group update c (record s { open_copy = None })
+  pub copy_over : (s : ModelState) → ((o : ModelCopy) → s.open_copy ≡ Some o → IsTrue (s.wanted.stale o.target)) → Stands votes group update c s → Stands votes group update c (record s { open_copy = None })
   copy_over s stale stands = quiet (Want s.wanted s.missing None) s (record s { open_copy = None }) (may, refl) tt refl refl refl stands
     where
       may : Wants s s.wanted s.missing None
@@ -80,5 +80,5 @@ module _ (votes : Votes) (group : Descriptor) (update : Option (Stamped Status))
       }
 
   -- the next one enters it
-  pub step_entered : (s : State) (i : ℕ) (q : Queued) → StepEnters s i q → Stands votes group update c s → Stands votes group update c (entered s i no_request q)
+  pub step_entered : (s : ModelState) (i : ℕ) (q : Queued) → StepEnters s i q → Stands votes group update c s → Stands votes group update c (entered s i no_request q)
   step_entered s i q may stands = quiet (EnterStep i no_request q) s (entered s i no_request q) (may, refl) tt refl refl refl stands

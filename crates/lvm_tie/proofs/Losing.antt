@@ -13,9 +13,9 @@ use Rattle.lvm_num.specs.Status.{calls_missing}
 use Rattle.lvm_disk.specs.Device.{Device, Media}
 use Rattle.lvm_status.specs.Update.{Stored, Updates, is_held, is_owed, no_disks, seen, without_disk}
 use Rattle.lvm_status.specs.Calls.{BecomesMissing}
-use Rattle.lvm_status.specs.Runs.{IsSound as IsSoundStatus}
+use Rattle.lvm_status.specs.Runs.{IsSoundStatus}
 use Rattle.lvm_session.specs.Ends.{LosesDisk}
-use Rattle.lvm_invariant.specs.State.{Marks, OpenCopy, State}
+use Rattle.lvm_invariant.specs.State.{Marks, ModelCopy, ModelState}
 use Rattle.lvm_invariant.specs.Crash.{Brings, CopyBrings}
 use Rattle.lvm_invariant.specs.Want.{after_wants}
 use Rattle.lvm_crash.specs.Session.{marks_of}
@@ -171,7 +171,7 @@ module _ (old lost new : Stored) (disk : ℕ) (group : Descriptor) (group_is : o
 -- ---- what is out
 
 -- what is out of a state is out of one that wants more
-pub wanted_out : (s : State) (wanted : Marks) (missing : ℕ → Bool) (open_copy : Option OpenCopy) (group : Descriptor) (in_flight : Option (Stamped Status)) (device : Device) (media : Media)
+pub wanted_out : (s : ModelState) (wanted : Marks) (missing : ℕ → Bool) (open_copy : Option ModelCopy) (group : Descriptor) (in_flight : Option (Stamped Status)) (device : Device) (media : Media)
     → HasOut s group in_flight device media → HasOut (after_wants s wanted missing open_copy) group in_flight device media
 wanted_out s wanted missing open_copy group in_flight device media out = record {
   blocks = λ lv b p value copy flies. ⊎_elim

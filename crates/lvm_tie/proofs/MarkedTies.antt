@@ -11,21 +11,21 @@ use Rattle.lvm_kept.specs.Group.{IsOneOf}
 use Rattle.lvm_sched.specs.declared.writes.TargetState.{TargetState}
 use Rattle.lvm_sched.specs.declared.writes.TargetState.TheVariants as target
 use Rattle.lvm_path.specs.declared.facts.Next.TheVariants as next
-use Rattle.lvm_path.specs.declared.request.Phase.{Phase as RequestPhase}
+use Rattle.lvm_path.specs.declared.request.Phase.{Phase}
 use Rattle.lvm_path.specs.declared.request.Phase.TheVariants as phase
 use Rattle.lvm_path.specs.declared.target.Target.{Target}
 use Rattle.lvm_path.specs.Asks.{lv_of, at_of, count_of, is_write}
 use Rattle.lvm_path.specs.Targets.{is_begun, is_over, is_failed, are_over}
 use Rattle.lvm_path.specs.Next.{next_in}
 use Rattle.lvm_session.specs.declared.open.Open.{Open}
-use Rattle.lvm_session.specs.State.{Core, State as Session}
+use Rattle.lvm_session.specs.State.{Core, State}
 use Rattle.lvm_session.specs.Judging.{place_of, is_sure, is_settled, is_kept, is_marked, counts_failed, all_but_sure, facts_of}
 use Rattle.lvm_session.specs.Events.{Lands, got_blocks}
-use Rattle.lvm_invariant.specs.State.{Stage, Well, Badly, Queued, State, HasPassed, Started}
+use Rattle.lvm_invariant.specs.State.{Stage, Well, Badly, Queued, ModelState, HasPassed, Started}
 use Rattle.lvm_invariant.specs.Updates.{is_pp, landed}
 use Rattle.lvm_invariant.specs.LandDone.{IsDropped, LandsDone}
 use Rattle.lvm_invariant.specs.LandLost.{LandsLost}
-use Rattle.lvm_invariant.specs.Events.{LandDone, LandLost, Step as GoodStep}
+use Rattle.lvm_invariant.specs.Events.{LandDone, LandLost, ModelStep}
 use Rattle.lvm_tie_shelf.proofs.Writing.{pp_same}
 use Rattle.lvm_tie.proofs.Judged.{settled_seen}
 use Rattle.lvm_tie.proofs.Words.{all_one}
@@ -80,7 +80,7 @@ settled_or : (failed wanted settled : Bool) → failed ≡ true → (not (failed
 settled_or true wanted settled h is = is
 settled_or false wanted settled h is = absurd cc
 
-module _ (past : List Fact) (old new : Session) (place : ℕ) (result : Outcome) (lands : Lands old new place result) (tied : IsTied past old) (waits : lands.request.request.phase ≡ phase.WantStatus) (writes : is_write lands.request.request.ask ≡ true)
+module _ (past : List Fact) (old new : State) (place : ℕ) (result : Outcome) (lands : Lands old new place result) (tied : IsTied past old) (waits : lands.request.request.phase ≡ phase.WantStatus) (writes : is_write lands.request.request.ask ≡ true)
     (begun : is_begun lands.request.request.targets.items ≡ true) (over : are_over lands.request.request.targets.items ≡ true)
     (uncaught : (t : Target) → IsOneOf lands.request.request.targets.items t → (is_failed t.state ≡ true) ⊎ (is_kept old.core lands.request.request ≡ false)
     → HasPassed tied.view (lv_of lands.request.request.ask) (track_group_of (at_of lands.request.request.ask)) t.pp → ⊥)
@@ -94,14 +94,14 @@ module _ (past : List Fact) (old new : Session) (place : ℕ) (result : Outcome)
   abbrev ts : List Target
   ts = o.request.targets.items
 
-  abbrev v : State
+  abbrev v : ModelState
   v = tied.view
 
   abbrev i : ℕ
   i = place_of o.request.id
 
   started : Started v i q
-  started = record { there = at; write = sees.write ∙ writes; going = sees.phase ∙ ap (λ (p : RequestPhase). phase_seen p (is_begun ts)) waits }
+  started = record { there = at; write = sees.write ∙ writes; going = sees.phase ∙ ap (λ (p : Phase). phase_seen p (is_begun ts)) waits }
 
   -- how it lands
   pub data How : Type 0 where
@@ -109,7 +109,7 @@ module _ (past : List Fact) (old new : Session) (place : ℕ) (result : Outcome)
     Gone : result ≡ outcome.Lost → is_kept core o.request ≡ false → ((t : Target) → IsOneOf (all_but_sure core ts) t → is_settled core t.pp ≡ true) → How
 
   pub how : How
-  how = by (is_kept core o.request) refl (is_marked core o.request) refl (sym (ap (λ (p : RequestPhase). next_in p (facts_of core o.request) o.request) waits) ∙ lands.lands)
+  how = by (is_kept core o.request) refl (is_marked core o.request) refl (sym (ap (λ (p : Phase). next_in p (facts_of core o.request) o.request) waits) ∙ lands.lands)
     where
       by : (k : Bool) → is_kept core o.request ≡ k → (m : Bool) → is_marked core o.request ≡ m → (if m then next.Land (if k then outcome.Done else outcome.Lost) else next.Wait) ≡ next.Land result → How
       by k is false marked h = absurd cc
@@ -148,9 +148,9 @@ module _ (past : List Fact) (old new : Session) (place : ℕ) (result : Outcome)
   pub tied_after : o.got ≡ None → How → IsOrderly new tied.write → IsTied past new
   tied_after empty (Kept done is settled) orderly =
       let got : got_blocks (count_of o.request.ask) o.got ≡ [] = ap (got_blocks (count_of o.request.ask)) empty in
-      let step : GoodStep tied.votes (LandDone i q) v (landed v i q (v.facts ++ Landed (v.name i) result (is_begun ts) (got_blocks (count_of o.request.ask) o.got) ∷ [])) = (lands_done is settled, λ k. landed v i q (v.facts ++ Landed (v.name i) (done k) (begun k) (got k) ∷ [])) in
+      let step : ModelStep tied.votes (LandDone i q) v (landed v i q (v.facts ++ Landed (v.name i) result (is_begun ts) (got_blocks (count_of o.request.ask) o.got) ∷ [])) = (lands_done is settled, λ k. landed v i q (v.facts ++ Landed (v.name i) (done k) (begun k) (got k) ∷ [])) in
       lands_tied past old new place result lands tied q (LandDone i q) (numbers_of old tied.write tied.orderly) at sees step tt orderly
   tied_after empty (Gone lost is settled) orderly =
       let got : got_blocks (count_of o.request.ask) o.got ≡ [] = ap (got_blocks (count_of o.request.ask)) empty in
-      let step : GoodStep tied.votes (LandLost i q) v (landed v i q (v.facts ++ Landed (v.name i) result (is_begun ts) (got_blocks (count_of o.request.ask) o.got) ∷ [])) = (lands_lost is settled, λ k. landed v i q (v.facts ++ Landed (v.name i) (lost k) (begun k) (got k) ∷ [])) in
+      let step : ModelStep tied.votes (LandLost i q) v (landed v i q (v.facts ++ Landed (v.name i) result (is_begun ts) (got_blocks (count_of o.request.ask) o.got) ∷ [])) = (lands_lost is settled, λ k. landed v i q (v.facts ++ Landed (v.name i) (lost k) (begun k) (got k) ∷ [])) in
       lands_tied past old new place result lands tied q (LandLost i q) (numbers_of old tied.write tied.orderly) at sees step tt orderly

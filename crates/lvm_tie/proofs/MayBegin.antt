@@ -27,16 +27,16 @@ use Rattle.lvm_kept.specs.Torn.{MayWriteAll, RecordWrite, on_disk}
 use Rattle.lvm_stamps.specs.Laws.{ShowsBefore}
 use Rattle.lvm_stamps.proofs.Records.{later_may_go, shown_is_before}
 use Rattle.lvm_status.specs.Update.{Updates, no_disks, seen}
-use Rattle.lvm_status.specs.Update.{members_there as there_by}
+use Rattle.lvm_status.specs.Update.{members_there}
 use Rattle.lvm_status.specs.Calls.{with_start, with_update}
 use Rattle.lvm_homes.specs.Homes.{next_slot, second_slots}
 use Rattle.lvm_session.specs.declared.open.Power.TheVariants as power
-use Rattle.lvm_session.specs.State.{Core, State as Session, is_there}
+use Rattle.lvm_session.specs.State.{Core, State, is_there}
 use Rattle.lvm_session.specs.Events.{StartsStatus}
 use Rattle.lvm_session.specs.Sound.{IsSound}
-use Rattle.lvm_invariant.specs.State.{Marks, State}
+use Rattle.lvm_invariant.specs.State.{Marks, ModelState}
 use Rattle.lvm_invariant.specs.Found.{Found}
-use Rattle.lvm_crash.specs.Session.{as_marks, marks_shown, members_there}
+use Rattle.lvm_crash.specs.Session.{as_marks, marks_shown, members_showing}
 use Rattle.lvm_tie.specs.Out.{IsUpdateWrite, is_owed_on}
 use Rattle.lvm_tie.specs.Seen.{update_of}
 use Rattle.lvm_tie.specs.Tied.{IsTied}
@@ -44,7 +44,7 @@ use Rattle.lvm_tie.proofs.Judged.{there_first}
 use Rattle.lvm_tie.proofs.EndedNotes.{shows_records}
 
 -- This record may go out: to slots that don't hold the newest, under a stamp later than all that stand; and no disk at all has votes enough to write.
-pub record MayBegin (v : State) (votes : Descriptor) (group : Descriptor) (image : Image) (w : RecordWrite) (u : Stamped Status) : Type 0 where
+pub record MayBegin (v : ModelState) (votes : Descriptor) (group : Descriptor) (image : Image) (w : RecordWrite) (u : Stamped Status) : Type 0 where
   pub is_status : w.kind ≡ kind.Status
   pub stamp : w.framed.stamp ≡ u.stamp
   pub may : MayWriteAll Status status_of w u.value image
@@ -87,12 +87,12 @@ marks_of_some id (Some r) m is = by (is_status_of id r.value) is
     by true h = (r, refl, let e : as_marks r ≡ m = cc h in e)
     by false h = absurd (cc h)
 
-module _ (past : List Fact) (old new : Session) (tied : IsTied past old) (sound : IsSound new) (valid : IsValidStatus old.core.status.wanted) (starts : StartsStatus old new)
+module _ (past : List Fact) (old new : State) (tied : IsTied past old) (sound : IsSound new) (valid : IsValidStatus old.core.status.wanted) (starts : StartsStatus old new)
     (none : old.core.status.in_flight ≡ None) (is : seen new.core.status ≡ with_start (with_update (seen old.core.status)) (Some starts.disk)) where
   abbrev core : Core
   core = old.core
 
-  abbrev v : State
+  abbrev v : ModelState
   v = tied.view
 
   abbrev image : Image
@@ -124,12 +124,12 @@ module _ (past : List Fact) (old new : Session) (tied : IsTied past old) (sound 
   }
     where
       on_then : new.core.power ≡ power.On
-      on_then = ap (λ (s : Session). s.core.power) starts.is ∙ tied.orderly.on
+      on_then = ap (λ (s : State). s.core.power) starts.is ∙ tied.orderly.on
 
   reads : status_of (status_bytes starts.status) ≡ Ok starts.status
   reads = subst (λ (x : Status). status_of (status_bytes x) ≡ Ok x) (sym value_is) (is_read_again core.status.wanted valid)
 
-  shows : (d : ℕ) → IsTrue (is_there core d) → IsTrue (members_there c core.descriptor d)
+  shows : (d : ℕ) → IsTrue (is_there core d) → IsTrue (members_showing c core.descriptor d)
   shows d there =
       let parts = and_parts (is_member core.descriptor d) (not (calls_missing core.status.wanted d)) there in
       tied.recorded.members d parts.0 (there_first past old tied d (not_true_is (calls_missing core.status.wanted d) parts.1))
@@ -199,21 +199,21 @@ module _ (past : List Fact) (old new : Session) (tied : IsTied past old) (sound 
       group_is : core.status.group ≡ record core.descriptor { lvs = [] }
       group_is = tied.orderly.sound.fitting.group
 
-      there_is : (d : ℕ) → there_by core.status.group core.status.wanted d ≡ true → IsTrue (is_there core d)
-      there_is d h = sym (ap (λ (g : Descriptor). there_by g core.status.wanted d) group_is) ∙ h
+      there_is : (d : ℕ) → members_there core.status.group core.status.wanted d ≡ true → IsTrue (is_there core d)
+      there_is d h = sym (ap (λ (g : Descriptor). members_there g core.status.wanted d) group_is) ∙ h
 
       of : (a b : Bool) → (a && not b) || (false || b) ≡ true → (a ≡ true) ⊎ (b ≡ true)
       of true b h = inl refl
       of false true h = inr refl
       of false false h = absurd (cc h)
 
-      lowest : there_by core.status.group core.status.wanted starts.disk ≡ true
+      lowest : members_there core.status.group core.status.wanted starts.disk ≡ true
       lowest = sym (ap (λ (x : Updates). x.unstarted starts.disk) begun_is) ∙ starts.lowest.0
         where
           begun_is : seen starts.begun ≡ with_update (seen core.status)
           begun_is = ⊎_elim (λ was. absurd (was.0 none)) (λ was. was.1) starts.begins
 
-      by : (d : ℕ) (b : Bool) → (d == starts.disk) ≡ b → (there_by core.status.group core.status.wanted d && not (d == starts.disk)) || (false || (d == starts.disk)) ≡ true → IsTrue (is_there core d)
+      by : (d : ℕ) (b : Bool) → (d == starts.disk) ≡ b → (members_there core.status.group core.status.wanted d && not (d == starts.disk)) || (false || (d == starts.disk)) ≡ true → IsTrue (is_there core d)
       by d b at h = ⊎_elim (λ there. there_is d there)
-          (λ same. there_is d (ap (there_by core.status.group core.status.wanted) (eqb-true d starts.disk same) ∙ lowest))
-          (of (there_by core.status.group core.status.wanted d) (d == starts.disk) h)
+          (λ same. there_is d (ap (members_there core.status.group core.status.wanted) (eqb-true d starts.disk same) ∙ lowest))
+          (of (members_there core.status.group core.status.wanted d) (d == starts.disk) h)

@@ -7,16 +7,16 @@ use Rattle.lvm_num.specs.Disks.{has}
 use Rattle.lvm_vol.specs.Facts.{Fact}
 use Rattle.lvm_stale.specs.Table.{is_pp as same_pp}
 use Rattle.lvm_status.specs.Update.{Stored}
-use Rattle.lvm_session.specs.declared.bringing.OpenCopy.{OpenCopy as Bringing}
+use Rattle.lvm_session.specs.declared.bringing.OpenCopy.{OpenCopy}
 use Rattle.lvm_session.specs.declared.bringing.CopyEnd.{CopyEnd}
 use Rattle.lvm_session.specs.declared.bringing.Step.TheVariants as step
-use Rattle.lvm_session.specs.State.{Core, State as Session, state}
+use Rattle.lvm_session.specs.State.{Core, State, state}
 use Rattle.lvm_session.specs.Bringing.{copy_ends, is_done_end, is_idle, is_whole, marked_by_end, with_copy_end, with_end}
 use Rattle.lvm_session.specs.Ends.{with_copy, with_return}
 use Rattle.lvm_session.specs.Marks.{is_entailed}
 use Rattle.lvm_session.specs.Sound.{IsSound}
 use Rattle.lvm_keeps_events.specs.Ends.{EndsMiss}
-use Rattle.lvm_invariant.specs.State.{Badly, Flying, Queued, State, is_past}
+use Rattle.lvm_invariant.specs.State.{Badly, Flying, Queued, ModelState, is_past}
 use Rattle.lvm_invariant.specs.CopyWrite.{copied}
 use Rattle.lvm_invariant.specs.Events.{Read}
 use Rattle.lvm_invariant.specs.Read.{reading}
@@ -31,17 +31,17 @@ use Rattle.lvm_tie.proofs.Landed.{at_q, hand, landed_read, now, q, read_stands, 
 use Rattle.lvm_tie.proofs.Stepped.{ended_ties, going_ties, wanted_stale}
 use Rattle.lvm_tie.specs.Steps.{CopyMissTies}
 
-module _ (past : List Fact) (old new : Session) (at : ℕ) (tied : IsTied past old) (sound : IsSound new) (event : EndsMiss old new at) where
+module _ (past : List Fact) (old new : State) (at : ℕ) (tied : IsTied past old) (sound : IsSound new) (event : EndsMiss old new at) where
   abbrev core : Core
   core = old.core
 
-  abbrev v : State
+  abbrev v : ModelState
   v = tied.view
 
-  abbrev c : Bringing
+  abbrev c : OpenCopy
   c = event.copy
 
-  abbrev d : Bringing
+  abbrev d : OpenCopy
   d = record c { step = step.Idle; tried = event.misses.tried }
 
   abbrev mid : Core
@@ -80,7 +80,7 @@ module _ (past : List Fact) (old new : Session) (at : ℕ) (tied : IsTied past o
   abbrev next : Queued
   next = reading step_q event.source Badly None
 
-  abbrev was : State
+  abbrev was : ModelState
   was = copied v v.media.block v.open_copy None
 
   stands : Stands tied.votes core.descriptor (update_of core.status) (now past old new at event.row false event.buf tied event.returns event.own c event.is_open) (record was { queue = put v.queue c.place next })

@@ -9,12 +9,12 @@ use Rattle.lvm_map.proofs.PlaceLemmas.{volume_at}
 use Rattle.lvm_kept.proofs.Entries.{volume_is_row}
 use Rattle.lvm_path.specs.declared.ask.Ask.{Ask}
 use Rattle.lvm_path.specs.Asks.{lv_of}
-use Rattle.lvm_session.specs.State.{State as Session}
+use Rattle.lvm_session.specs.State.{State}
 use Rattle.lvm_session.specs.Judging.{IsWithin, mode_of}
 use Rattle.lvm_invariant.specs.State.{has_mark, has_notes}
 use Rattle.lvm_tie.specs.Tied.{IsTied}
 
-module _ (past : List Fact) (s : Session) (tied : IsTied past s) (ask : Ask) (inside : IsWithin s.core.descriptor ask) where
+module _ (past : List Fact) (s : State) (tied : IsTied past s) (ask : Ask) (inside : IsWithin s.core.descriptor ask) where
   mode_is : mode_of s.core ask ≡ inside.row.mode
   mode_is = ap (λ (o : Option LvRow). option_map_or (λ (row : LvRow). row.mode) o mode.Off) inside.volume
 

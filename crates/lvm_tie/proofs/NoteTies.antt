@@ -26,22 +26,22 @@ use Rattle.lvm_mwc.specs.Entries.{note_of}
 use Rattle.lvm_mwc.specs.Notes.{is_on, names_group}
 use Rattle.lvm_mwc.specs.Cache.{notes_on, flight_on, is_named, started, after_start}
 use Rattle.lvm_mwc.proofs.PinsLemmas.{note-names}
-use Rattle.lvm_path.specs.declared.request.Phase.{Phase as RequestPhase}
+use Rattle.lvm_path.specs.declared.request.Phase.{Phase}
 use Rattle.lvm_path.specs.declared.target.Target.{Target}
 use Rattle.lvm_path.specs.Asks.{lv_of}
 use Rattle.lvm_session.specs.declared.open.Open.{Open}
 use Rattle.lvm_session.specs.declared.flown.Flown.{Flown}
 use Rattle.lvm_session.specs.declared.flown.Owner.{Owner}
 use Rattle.lvm_session.specs.declared.flown.Owner.TheVariants as owner
-use Rattle.lvm_session.specs.State.{Core, State as Session, state, is_there}
+use Rattle.lvm_session.specs.State.{Core, State, state, is_there}
 use Rattle.lvm_session.specs.Judging.{is_missing, group_of, is_waiting, IsWithin}
 use Rattle.lvm_session.specs.Enabled.{wants_record, is_unnamed, note_due}
 use Rattle.lvm_session.specs.Events.{with_flight, flown, StartsNote}
-use Rattle.lvm_invariant.specs.State.{Groups, State}
+use Rattle.lvm_invariant.specs.State.{Groups, ModelState}
 use Rattle.lvm_invariant.specs.StartNote.{StartsNote as NoteStarts}
 use Rattle.lvm_invariant.specs.Events.{StartNote}
 use Rattle.lvm_invariant.proofs.Each.{each_keeps}
-use Rattle.lvm_crash.specs.Session.{members_there, Describes}
+use Rattle.lvm_crash.specs.Session.{members_showing, Describes}
 use Rattle.lvm_tie_shelf.proofs.Flying.{writes_at}
 use Rattle.lvm_tie_shelf.proofs.Quiet.{quiet_lasts, update_goes_on}
 use Rattle.lvm_tie_shelf.proofs.Writing.{and_both}
@@ -122,8 +122,8 @@ flight_none : (o : Option (ArrayVec NoteEntry)) → is_none o ≡ true → o ≡
 flight_none None h = refl
 flight_none (Some x) h = absurd cc
 
-module _ (past : List Fact) (old new : Session) (place disk : ℕ) (starts : StartsNote old new place disk) (tied : IsTied past old) (sound : IsSound new) where
-  abbrev v : State
+module _ (past : List Fact) (old new : State) (place disk : ℕ) (starts : StartsNote old new place disk) (tied : IsTied past old) (sound : IsSound new) where
+  abbrev v : ModelState
   v = tied.view
 
   abbrev core : Core
@@ -141,7 +141,7 @@ module _ (past : List Fact) (old new : Session) (place disk : ℕ) (starts : Sta
   abbrev flying : ℕ → Option Groups
   flying d = if d == disk then Some v.cache else v.flying_note d
 
-  abbrev w : State
+  abbrev w : ModelState
   w = record v { flying_note = flying }
 
   inside : IsWithin core.descriptor starts.request.request.ask
@@ -154,7 +154,7 @@ module _ (past : List Fact) (old new : Session) (place disk : ℕ) (starts : Sta
       by true is = is
       by false is =
           let at = ((open_one old tied.write tied.orderly place starts.request starts.there).over is).phase_is in
-          absurd (let e : None ≡ Some disk = sym (ap (λ (p : RequestPhase). if wants_record p && starts.request.request.pinned then option_map (λ (t : Target). t.pp.disk) (find (is_unnamed core starts.request.request.ask) starts.request.request.targets.items) else None) at) ∙ starts.due in cc)
+          absurd (let e : None ≡ Some disk = sym (ap (λ (p : Phase). if wants_record p && starts.request.request.pinned then option_map (λ (t : Target). t.pp.disk) (find (is_unnamed core starts.request.request.ask) starts.request.request.targets.items) else None) at) ∙ starts.due in cc)
 
   -- the disk is a member, isn't missing, and no note is out there
   pub record IsDue : Type 0 where
@@ -250,7 +250,7 @@ module _ (past : List Fact) (old new : Session) (place disk : ℕ) (starts : Sta
   ]
 
   orderly_now : IsOrderly new tied.write
-  orderly_now = orderly_same old new tied.write tied.orderly sound (ap (λ (s : Session). s.core.power) starts.is) (ap (λ (s : Session). s.core.status) starts.is) (ap (λ (s : Session). s.core.homes) starts.is)
+  orderly_now = orderly_same old new tied.write tied.orderly sound (ap (λ (s : State). s.core.power) starts.is) (ap (λ (s : State). s.core.status) starts.is) (ap (λ (s : State). s.core.homes) starts.is)
 
   sizes_is : new.device.sizes ≡ old.device.sizes
   sizes_is = ap (λ (d : Device). d.sizes) starts.launches.starts.new_is
@@ -273,10 +273,10 @@ module _ (past : List Fact) (old new : Session) (place disk : ℕ) (starts : Sta
     since = since_note old.device new.device f tied.write (update_of core.status) starts.launches.starts starts.writes.first starts.writes.count tied.since;
     recorded = record {
       next = subst (λ (sizes : List ℕ). MayUpdate core.descriptor core.status core.homes (image_of sizes tied.media)) (sym sizes_is) tied.recorded.next;
-      members = λ d member first. subst (λ (sizes : List ℕ). IsTrue (members_there (contents_of (image_of sizes tied.media)) core.descriptor d)) (sym sizes_is) (tied.recorded.members d member first);
+      members = λ d member first. subst (λ (sizes : List ℕ). IsTrue (members_showing (contents_of (image_of sizes tied.media)) core.descriptor d)) (sym sizes_is) (tied.recorded.members d member first);
       records = subst (λ (sizes : List ℕ). ShowsRecords core.descriptor core.status (contents_of (image_of sizes tied.media))) (sym sizes_is) tied.recorded.records;
     };
-    orderly = subst (λ (x : Session). IsOrderly x tied.write) starts.is orderly_now;
+    orderly = subst (λ (x : State). IsOrderly x tied.write) starts.is orderly_now;
     copy_aimed = tied.copy_aimed;
     carry = subst (λ (fs : List Flight). CarryTheirs next w fs (core.flying ++ row ∷ [])) (sym (ap (λ (d : Device). d.flights) starts.launches.starts.new_is))
         (carry_more core next v w old.device.flights core.flying tied.write f row (out_of old tied.write tied.orderly tied.notes) carries tt tied.carry);

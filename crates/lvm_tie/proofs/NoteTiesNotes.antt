@@ -2,7 +2,7 @@
 use Rattle.std.proofs.Common.{◌≡◌, ℕ, Bool, true, false, List, refl, subst}
 use Rattle.lvm_vol.specs.Facts.{Fact}
 use Rattle.lvm_session.specs.declared.flown.Owner.{Owner}
-use Rattle.lvm_session.specs.State.{State as Session}
+use Rattle.lvm_session.specs.State.{State}
 use Rattle.lvm_session.specs.Ends.{Learns, NoteLearns, Returns}
 use Rattle.lvm_session.specs.Sound.{IsSound}
 use Rattle.lvm_tie.specs.Tied.{IsTied}
@@ -10,7 +10,7 @@ use Rattle.lvm_tie.specs.Notes.{EndsOfNote, NoteEndTies}
 use Rattle.lvm_tie.proofs.Badly.{loss_tied}
 use Rattle.lvm_tie.proofs.Well.{note_tied}
 
-module _ (past : List Fact) (old new : Session) (at disk : ℕ) (ends : EndsOfNote old new at disk) (tied : IsTied past old) (sound : IsSound new) where
+module _ (past : List Fact) (old new : State) (at disk : ℕ) (ends : EndsOfNote old new at disk) (tied : IsTied past old) (sound : IsSound new) where
   learns : (ok : Bool) → ends.ends.ok ≡ ok → NoteLearns old.core at disk ok ends.ends.buf new.core
   learns ok is = subst (λ (b : Bool). NoteLearns old.core at disk b ends.ends.buf new.core) is (subst (λ (who : Owner). Learns who old.core at ends.ends.ok ends.ends.buf new.core) ends.own ends.ends.learns)
 

@@ -16,17 +16,17 @@ use Rattle.lvm_steps.specs.Requests.{at}
 use Rattle.lvm_mwc.specs.Cache.{flight_on}
 use Rattle.lvm_path.specs.declared.request.Phase.TheVariants as phase
 use Rattle.lvm_session.specs.declared.open.Open.{Open}
-use Rattle.lvm_session.specs.declared.bringing.OpenCopy.{OpenCopy as Bringing}
+use Rattle.lvm_session.specs.declared.bringing.OpenCopy.{OpenCopy}
 use Rattle.lvm_session.specs.declared.bringing.Step.{Step}
 use Rattle.lvm_session.specs.declared.bringing.Step.TheVariants as step
 use Rattle.lvm_session.specs.declared.flown.Owner.TheVariants as owner
-use Rattle.lvm_session.specs.State.{Core, State as Session, is_there}
+use Rattle.lvm_session.specs.State.{Core, State, is_there}
 use Rattle.lvm_session.specs.Judging.{is_waiting}
 use Rattle.lvm_session.specs.Bringing.{is_out}
 use Rattle.lvm_session.specs.Enabled.{is_lost}
 use Rattle.lvm_session.specs.Dark.{IsAscending, landings as all_landings}
 use Rattle.lvm_session.specs.Requests.{IsShaped}
-use Rattle.lvm_invariant.specs.State.{Groups, State}
+use Rattle.lvm_invariant.specs.State.{Groups, ModelState}
 use Rattle.lvm_invariant.specs.Over.{landings}
 use Rattle.lvm_invariant.specs.Off.{GoesOff}
 use Rattle.lvm_invariant.proofs.Ending.{off_keeps}
@@ -40,7 +40,7 @@ use Rattle.lvm_tie.proofs.Quiet.{Quieted, quieted, quiet_matches, flies_none, no
 use Rattle.lvm_tie.proofs.LandingsOver.{land_all}
 
 -- what every tied session says of its table
-module _ (past : List Fact) (s : Session) (tied : IsTied past s) where
+module _ (past : List Fact) (s : State) (tied : IsTied past s) where
   pub rises_of : IsAscending s.core.requests
   rises_of = (tied.orderly.sound.on tied.orderly.on).going.told.table.ascending
 
@@ -58,8 +58,8 @@ not_true : (b : Bool) → not b ≡ true → b ≡ false
 not_true true e = absurd (cc e)
 not_true false e = refl
 
-module _ (past : List Fact) (s : Session) (tied : IsTied past s) (lost : is_lost s.core ≡ true) (idle : s.device.flights ≡ []) where
-  abbrev v : State
+module _ (past : List Fact) (s : State) (tied : IsTied past s) (lost : is_lost s.core ≡ true) (idle : s.device.flights ≡ []) where
+  abbrev v : ModelState
   v = tied.view
 
   abbrev core : Core
@@ -68,7 +68,7 @@ module _ (past : List Fact) (s : Session) (tied : IsTied past s) (lost : is_lost
   quiet : Quieted past s tied
   quiet = quieted past s tied
 
-  abbrev w : State
+  abbrev w : ModelState
   w = record v { queue = quiet.queue }
 
   abbrev has_started : ℕ → Bool
@@ -92,13 +92,13 @@ module _ (past : List Fact) (s : Session) (tied : IsTied past s) (lost : is_lost
   no_copy : w.step_write ≡ None
   no_copy = tied.sees.step_write ∙ by core.copy (flies_none past s tied idle owner.Copy)
     where
-      of : (c : Bringing) (st : Step) → is_out st ≡ false → step_write_of c st ≡ None
+      of : (c : OpenCopy) (st : Step) → is_out st ≡ false → step_write_of c st ≡ None
       of c step.Idle none = refl
       of c (step.Reading source) none = refl
       of c (step.Read buf) none = refl
       of c step.Writing none = absurd (cc none)
 
-      by : (m : Option Bringing) → option_map_or (λ (c : Bringing). is_out c.step) m false ≡ false → step_write_in m ≡ None
+      by : (m : Option OpenCopy) → option_map_or (λ (c : OpenCopy). is_out c.step) m false ≡ false → step_write_in m ≡ None
       by None none = refl
       by (Some c) none = of c c.step none
 
@@ -130,6 +130,6 @@ module _ (past : List Fact) (s : Session) (tied : IsTied past s) (lost : is_lost
       }
 
 pub off_goes_on : OffGoesOn
-off_goes_on run first old new on good off span = subst (λ (n : Session). Keeps run first (moment_of n)) (sym off.is)
+off_goes_on run first old new on good off span = subst (λ (n : State). Keeps run first (moment_of n)) (sym off.is)
     (land_all run first old.device old.core.history.facts old.core.history.facts outcome.Off old.core.requests
     (λ xs ys split past begins. off_holds past old (good on past begins) off.lost off.idle xs ys split) span)

@@ -18,23 +18,23 @@ use Rattle.lvm_stale.specs.Table.{is_pp}
 use Rattle.lvm_session.specs.declared.open.Open.{Open}
 use Rattle.lvm_session.specs.declared.open.Power.{Power}
 use Rattle.lvm_session.specs.declared.open.Power.TheVariants as power
-use Rattle.lvm_session.specs.declared.bringing.OpenCopy.{OpenCopy as Bringing}
+use Rattle.lvm_session.specs.declared.bringing.OpenCopy.{OpenCopy}
 use Rattle.lvm_session.specs.declared.bringing.Step.TheVariants as step
 use Rattle.lvm_session.specs.declared.flown.Flown.{Flown}
 use Rattle.lvm_session.specs.declared.flown.Owner.{Owner}
 use Rattle.lvm_session.specs.declared.flown.Owner.TheVariants as owner
-use Rattle.lvm_session.specs.State.{Core, State as Session, state}
+use Rattle.lvm_session.specs.State.{Core, State, state}
 use Rattle.lvm_session.specs.Judging.{is_missing, is_settled, is_stale, is_usable, place_of}
 use Rattle.lvm_session.specs.Bringing.{block_at, groups_of, has_row, step_place}
 use Rattle.lvm_session.specs.declared.answers.CopyFault.{CopyFault}
 use Rattle.lvm_session.specs.declared.answers.CopyFault.TheVariants as refusal
-use Rattle.lvm_session.specs.Calls.{Opens, aged, copy_at, copy_fault, faults_of, has_numbers, opened, refusal_at, refusal_by, refusal_in, refusal_on}
+use Rattle.lvm_session.specs.Calls.{Opens, aged, copy_at, copy_fault, faults_of, has_numbers, opened, refusal_at, refusal_when, refusal_in, refusal_on}
 use Rattle.lvm_session.specs.Ends.{with_step}
 use Rattle.lvm_session.specs.Sound.{IsSound}
 use Rattle.lvm_submit.proofs.Numbered.{below_next}
-use Rattle.lvm_invariant.specs.State.{Held, OpenCopy, Queued, State}
+use Rattle.lvm_invariant.specs.State.{Held, ModelCopy, Queued, ModelState}
 use Rattle.lvm_invariant.specs.EnterStep.{entered}
-use Rattle.lvm_invariant.specs.Events.{EnterStep, Open as Opening, Step as GoodStep}
+use Rattle.lvm_invariant.specs.Events.{EnterStep, Open as Opening, ModelStep}
 use Rattle.lvm_invariant.specs.Good.{Good}
 use Rattle.lvm_invariant.proofs.Each.{each_keeps}
 use Rattle.lvm_crash.specs.Session.{Describes}
@@ -68,7 +68,7 @@ pub record IsOpened (core : Core) (lv lp number : ℕ) (pp : Pp) : Type 0 where
   pub settled : is_settled core pp ≡ true
   pub there : is_missing core pp.disk ≡ false
 
-none_there : (m : Option Bringing) → is_some m ≡ false → m ≡ None
+none_there : (m : Option OpenCopy) → is_some m ≡ false → m ≡ None
 none_there None h = refl
 none_there (Some c) h = absurd (cc h)
 
@@ -83,7 +83,7 @@ at_pp core copies p none = by (is_settled core p) (is_missing core p.disk) refl 
     by true false sa sb h = (sa, sb)
 
 is_opened : (core : Core) (lv lp number : ℕ) (row : LvRow) (pp : Pp) → core.power ≡ power.On → copy_fault core lv lp number ≡ None → volume_of core.descriptor lv ≡ Some row → copy_at (copies_of row lp) number ≡ Some pp → IsOpened core lv lp number pp
-is_opened core lv lp number row pp on none volume its = by (is_some core.copy) refl (sym (ap (λ (p : Power). refusal_by p (refusal_on core lv lp number)) on) ∙ none)
+is_opened core lv lp number row pp on none volume its = by (is_some core.copy) refl (sym (ap (λ (p : Power). refusal_when p (refusal_on core lv lp number)) on) ∙ none)
   where
     in_row : refusal_in core row lp number ≡ None → (is_settled core pp ≡ true) × (is_missing core pp.disk ≡ false)
     in_row none2 = of (nat_lt lp row.lps) none2
@@ -100,18 +100,18 @@ is_opened core lv lp number row pp on none volume its = by (is_some core.copy) r
 
 -- ---- the opening
 
-module _ (past : List Fact) (s : Session) (new : Core) (counts : Counts) (lv lp number : ℕ) (tied : IsTied past s) (sound : IsSound (state s.device new)) (opens : Opens counts s.core new lv lp number)
+module _ (past : List Fact) (s : State) (new : Core) (counts : Counts) (lv lp number : ℕ) (tied : IsTied past s) (sound : IsSound (state s.device new)) (opens : Opens counts s.core new lv lp number)
     (may : IsOpened s.core lv lp number opens.pp) where
   abbrev core : Core
   core = s.core
 
-  abbrev v : State
+  abbrev v : ModelState
   v = tied.view
 
   abbrev i : ℕ
   i = step_place core
 
-  abbrev c : Bringing
+  abbrev c : OpenCopy
   c = opened opens.pp lv lp number opens.tried (faults_of counts (copies_of opens.row lp)) i
 
   abbrev core1 : Core
@@ -120,16 +120,16 @@ module _ (past : List Fact) (s : Session) (new : Core) (counts : Counts) (lv lp 
   abbrev core2 : Core
   core2 = with_step core1 c
 
-  abbrev o : OpenCopy
+  abbrev o : ModelCopy
   o = record { target = opens.pp; passed = passed_by (groups_of core) c }
 
   abbrev q : Queued
   q = record { lv = lv; first = block_at core c; count = 256; write = false; step = true; value = λ b. []; phase = Held; several = false; targets = λ p. None; got = None }
 
-  abbrev v1 : State
+  abbrev v1 : ModelState
   v1 = record v { open_copy = Some o }
 
-  abbrev w : State
+  abbrev w : ModelState
   w = entered v1 i no_request q
 
   sound2 : IsSound (state s.device core2)
@@ -151,7 +151,7 @@ module _ (past : List Fact) (s : Session) (new : Core) (counts : Counts) (lv lp 
       omega (arith, less)
 
   none_open : v.open_copy ≡ None
-  none_open = subst (λ (m : Option Bringing). SeesCopy (groups_of core) m v.open_copy) may.none tied.sees.open_copy
+  none_open = subst (λ (m : Option OpenCopy). SeesCopy (groups_of core) m v.open_copy) may.none tied.sees.open_copy
 
   stale_now : is_stale core opens.pp ≡ true
   stale_now = (and_both (is_stale core opens.pp) _ may.settled).0
@@ -159,7 +159,7 @@ module _ (past : List Fact) (s : Session) (new : Core) (counts : Counts) (lv lp 
   member : is_member core.descriptor opens.pp.disk ≡ true
   member = step_member past s tied c its some_groups opens.pp its.among
 
-  open_step : GoodStep tied.votes (Opening o) v v1
+  open_step : ModelStep tied.votes (Opening o) v v1
   open_step = (
     record {
       none = none_open;
@@ -185,7 +185,7 @@ module _ (past : List Fact) (s : Session) (new : Core) (counts : Counts) (lv lp 
   describes1 : Describes v1 v1.facts core.descriptor (update_of core.status) (contents_of (image_of s.device.sizes tied.media))
   describes1 = quiet_lasts tied.votes (Opening o) v v1 core.descriptor (update_of core.status) (contents_of (image_of s.device.sizes tied.media)) open_step tied.good tt tied.describes refl refl refl
 
-  enter_step : GoodStep tied.votes (EnterStep i no_request q) v1 w
+  enter_step : ModelStep tied.votes (EnterStep i no_request q) v1 w
   enter_step = (
     record {
       held = refl;
@@ -225,8 +225,8 @@ module _ (past : List Fact) (s : Session) (new : Core) (counts : Counts) (lv lp 
           );
       a_step = λ d is row. let same : c ≡ d = (let e : Some c ≡ Some d = is in cc) in (
         q,
-        ap (λ (x : Bringing). w.queue x.place) (sym same) ∙ put_here,
-        subst (λ (x : Bringing). SeesStep core2 x q) same (record { lv = refl; first = refl; count = refl; write = refl; step = refl; hand = (refl, refl); failed = λ p bad. absurd (cc bad) }),
+        ap (λ (x : OpenCopy). w.queue x.place) (sym same) ∙ put_here,
+        subst (λ (x : OpenCopy). SeesStep core2 x q) same (record { lv = refl; first = refl; count = refl; write = refl; step = refl; hand = (refl, refl); failed = λ p bad. absurd (cc bad) }),
       );
       only = λ j e at. elim (cases_eq j i) [
         | inl is ↦ inr (record { copy = c; is_open = refl; row = row_now; its = sym is })
@@ -252,7 +252,7 @@ module _ (past : List Fact) (s : Session) (new : Core) (counts : Counts) (lv lp 
   carries f (owner.Data id n) = tt
   carries f (owner.Status disk) = tt
   carries f (owner.Note disk) = tt
-  carries f owner.Copy = λ d p is writing. absurd (let same : c ≡ d = (let e : Some c ≡ Some d = is in cc) in let e2 : step.Idle ≡ step.Writing = ap (λ (x : Bringing). x.step) same ∙ writing in cc)
+  carries f owner.Copy = λ d p is writing. absurd (let same : c ≡ d = (let e : Some c ≡ Some d = is in cc) in let e2 : step.Idle ≡ step.Writing = ap (λ (x : OpenCopy). x.step) same ∙ writing in cc)
 
   carry_so : (fs : List Flight) (rows : List Flown) → CarryTheirs core2 w fs rows
   carry_so [] rows = tt
@@ -274,7 +274,7 @@ module _ (past : List Fact) (s : Session) (new : Core) (counts : Counts) (lv lp 
     recorded = tied.recorded;
     notes = tied.notes;
     copy_aimed = λ d is row. let same : c ≡ d = (let e : Some c ≡ Some d = is in cc) in
-        subst (λ (x : Bringing). IsTrue (v.is_copy x.lv (block_at core x) x.pp) × ((source : Pp) → x.step ≡ step.Reading source → IsTrue (v.is_copy x.lv (block_at core x) source))) same
+        subst (λ (x : OpenCopy). IsTrue (v.is_copy x.lv (block_at core x) x.pp) × ((source : Pp) → x.step ≡ step.Reading source → IsTrue (v.is_copy x.lv (block_at core x) source))) same
         (one_is_copy_of past s tied c its some_groups opens.pp its.among member (there_first past s tied opens.pp.disk may.there), λ source reads. absurd (let e : step.Idle ≡ step.Reading source = reads in cc));
     carry = carry_so s.device.flights core.flying;
   }

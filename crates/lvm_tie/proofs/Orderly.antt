@@ -38,13 +38,13 @@ use Rattle.lvm_path.specs.Targets.{is_begun, is_over}
 use Rattle.lvm_status.specs.Update.{Stored}
 use Rattle.lvm_homes.specs.declared.homes.Homes.{Homes}
 use Rattle.lvm_session.specs.declared.open.Open.{Open}
-use Rattle.lvm_session.specs.declared.bringing.OpenCopy.{OpenCopy as Bringing}
+use Rattle.lvm_session.specs.declared.bringing.OpenCopy.{OpenCopy}
 use Rattle.lvm_session.specs.declared.bringing.Step.{Step}
 use Rattle.lvm_session.specs.declared.bringing.Step.TheVariants as step
 use Rattle.lvm_session.specs.declared.flown.Flown.{Flown}
 use Rattle.lvm_session.specs.declared.flown.Owner.{Owner}
 use Rattle.lvm_session.specs.declared.flown.Owner.TheVariants as owner
-use Rattle.lvm_session.specs.State.{Core, State as Session}
+use Rattle.lvm_session.specs.State.{Core, State}
 use Rattle.lvm_session.specs.Judging.{is_waiting}
 use Rattle.lvm_session.specs.Dark.{IsAscending}
 use Rattle.lvm_session.specs.Events.{IsDataTransfer, IsCopyTransfer}
@@ -189,14 +189,14 @@ pub record IsNoteOut (core : Core) (f : Flight) (disk : ℕ) : Type 0 where
   pub carries : slice_get f.buf.sectors 0 ≡ Some sector
   pub names : (lv g : ℕ) → names_if (note_in sector) lv g ≡ names_group items.items lv g
 
-abbrev pub StepIsOut : Core → Bringing → Step → Flight → Type 0
+abbrev pub StepIsOut : Core → OpenCopy → Step → Flight → Type 0
 StepIsOut core c step.Idle f = ⊥
 StepIsOut core c (step.Reading source) f = IsCopyTransfer core c source false f
 StepIsOut core c (step.Read buf) f = ⊥
 StepIsOut core c step.Writing f = IsCopyTransfer core c c.pp true f
 
 pub record IsCopyOut (core : Core) (f : Flight) : Type 0 where
-  pub copy : Bringing
+  pub copy : OpenCopy
   pub is_open : core.copy ≡ Some copy
   pub out : StepIsOut core copy copy.step f
 
@@ -219,7 +219,7 @@ same_self (owner.Status disk) = eq-eqb disk disk refl
 same_self (owner.Note disk) = eq-eqb disk disk refl
 same_self owner.Copy = refl
 
-module _ (s : Session) (w : Option RecordWrite) (orderly : IsOrderly s w) where
+module _ (s : State) (w : Option RecordWrite) (orderly : IsOrderly s w) where
   abbrev core : Core
   core = s.core
 
@@ -354,7 +354,7 @@ module _ (s : Session) (w : Option RecordWrite) (orderly : IsOrderly s w) where
         names = λ lv g. ap (λ (m : Option Noted). names_if m lv g) (written_is_read note (notes disk its.note its.flies));
       }
 
-  step_out : (st : Step) (c : Bringing) (f : Flight) → IsStepOf st core c f → StepIsOut core c st f
+  step_out : (st : Step) (c : OpenCopy) (f : Flight) → IsStepOf st core c f → StepIsOut core c st f
   step_out step.Idle c f its = its
   step_out (step.Reading source) c f its = its
   step_out (step.Read buf) c f its = its
@@ -376,7 +376,7 @@ module _ (s : Session) (w : Option RecordWrite) (orderly : IsOrderly s w) where
   out_of notes = all_out notes s.device.flights core.flying flies_at on.rows
 
 -- where neither power nor status nor slots change
-pub orderly_same : (old new : Session) (w : Option RecordWrite) → IsOrderly old w → IsSound new → new.core.power ≡ old.core.power → new.core.status ≡ old.core.status → new.core.homes ≡ old.core.homes → IsOrderly new w
+pub orderly_same : (old new : State) (w : Option RecordWrite) → IsOrderly old w → IsSound new → new.core.power ≡ old.core.power → new.core.status ≡ old.core.status → new.core.homes ≡ old.core.homes → IsOrderly new w
 orderly_same old new w orderly sound power status homes = record {
   sound = sound;
   on = power ∙ orderly.on;

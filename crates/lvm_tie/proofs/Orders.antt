@@ -20,7 +20,7 @@ use Rattle.lvm_path.specs.Targets.{is_begun}
 use Rattle.lvm_session.specs.declared.open.Open.{Open}
 use Rattle.lvm_session.specs.declared.open.Power.{Power}
 use Rattle.lvm_session.specs.declared.open.Power.TheVariants as power
-use Rattle.lvm_session.specs.State.{Core, State as Session, state}
+use Rattle.lvm_session.specs.State.{Core, State, state}
 use Rattle.lvm_session.specs.Dark.{landings as all_landings, after_arrange, all_dark}
 use Rattle.lvm_session.specs.Requests.{IsLanded}
 use Rattle.lvm_session.specs.Sound.{IsSound}
@@ -47,7 +47,7 @@ quiet_cut run first device log os over span =
     by true = quiet_goes_on run first device log.facts Cut span tt (λ past begins holds. tt)
     by false = span
 
-all_landed : (s : Session) (p : Power) → s.core.power ≡ p → (p ≡ power.On → ⊥) → IsSound s → AllByRecursion IsLanded s.core.requests
+all_landed : (s : State) (p : Power) → s.core.power ≡ p → (p ≡ power.On → ⊥) → IsSound s → AllByRecursion IsLanded s.core.requests
 all_landed s power.On is not_on sound = absurd (not_on refl)
 all_landed s power.Off is not_on sound = (sound.over (ap Rattle.lvm_session.specs.Causes.is_over is)).landed
 all_landed s power.Dark is not_on sound = (sound.over (ap Rattle.lvm_session.specs.Causes.is_over is)).landed
@@ -55,7 +55,7 @@ all_landed s power.Stuck is not_on sound = subst (λ (os : List Open). AllByRecu
 
 -- ---- spans
 
-cut_follows : (run : ℕ) (first : Moment) (old : Session) (device : Device) (p : Power) → old.core.power ≡ p → IsSound old → IsGood run first old → LeavesNoMore old.device device → Keeps run first (at device old.core.history.facts)
+cut_follows : (run : ℕ) (first : Moment) (old : State) (device : Device) (p : Power) → old.core.power ≡ p → IsSound old → IsGood run first old → LeavesNoMore old.device device → Keeps run first (at device old.core.history.facts)
     → Keeps run first (at device (all_dark old.core).history.facts)
 cut_follows run first old device power.On is sound good leaves span = darkness_goes_on run first old device is good leaves span
 cut_follows run first old device power.Off is sound good leaves span = quiet_cut run first device old.core.history old.core.requests (all_landed old power.Off is (λ e. cc e) sound) span
@@ -82,7 +82,7 @@ order_goes_on run first old new what done sound good order span =
 -- ---- the tie
 
 -- an order that is noted changes nothing that the tie is about
-ordered : (past : List Fact) (s : Session) (what : Arrange) → IsTied past s → IsSound (state (with_order s.device what) s.core) → IsTied past (state (with_order s.device what) s.core)
+ordered : (past : List Fact) (s : State) (what : Arrange) → IsTied past s → IsSound (state (with_order s.device what) s.core) → IsTied past (state (with_order s.device what) s.core)
 ordered past s what = shelf_noted past s s.device.counts (with_order s.device what).orders
 
 pub order_ties : OrderTies

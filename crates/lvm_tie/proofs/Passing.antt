@@ -7,15 +7,15 @@ use Rattle.lvm_num.specs.Descriptor.{is_member}
 use Rattle.lvm_num.specs.Geometry.{track_group_of}
 use Rattle.lvm_vol.specs.Facts.{Fact}
 use Rattle.lvm_disk.specs.Device.{HasSectors}
-use Rattle.lvm_session.specs.declared.bringing.OpenCopy.{OpenCopy as Bringing}
+use Rattle.lvm_session.specs.declared.bringing.OpenCopy.{OpenCopy}
 use Rattle.lvm_session.specs.declared.bringing.Step.TheVariants as step
-use Rattle.lvm_session.specs.State.{Core, State as Session}
+use Rattle.lvm_session.specs.State.{Core, State}
 use Rattle.lvm_session.specs.Judging.{is_missing, is_stale}
 use Rattle.lvm_session.specs.Bringing.{block_at, groups_of, is_idle, is_whole, step_place}
 use Rattle.lvm_session.specs.Ends.{GoesOn, with_return, without_step}
 use Rattle.lvm_session.specs.Sound.{IsCopy}
 use Rattle.lvm_keeps_events.specs.EndsGroup.{EndsGroup}
-use Rattle.lvm_invariant.specs.State.{OpenCopy, Queued, State, covers}
+use Rattle.lvm_invariant.specs.State.{ModelCopy, Queued, ModelState, covers}
 use Rattle.lvm_invariant.specs.CopyWrite.{copied}
 use Rattle.lvm_tie_shelf.specs.Bringing.{PassesOver}
 use Rattle.lvm_tie_shelf.proofs.Writing.{and_both}
@@ -45,25 +45,25 @@ so_within base n g a is low high =
     let lt : nat_lt g (base + n) ≡ true = grind (arith, nat_tests) in
     λ t. is t && le t && lt t
 
-module _ (past : List Fact) (old new : Session) (at : ℕ) (tied : IsTied past old) (sectors : HasSectors new.device) (event : EndsGroup old new at) where
+module _ (past : List Fact) (old new : State) (at : ℕ) (tied : IsTied past old) (sectors : HasSectors new.device) (event : EndsGroup old new at) where
   abbrev core : Core
   core = old.core
 
-  abbrev v : State
+  abbrev v : ModelState
   v = tied.view
 
-  abbrev c : Bringing
+  abbrev c : OpenCopy
   c = event.copy
 
   -- the copy, one track group on
-  abbrev pub d : Bringing
+  abbrev pub d : OpenCopy
   d = record event.copy { cursor = event.copy.cursor + 1; step = step.Idle; tried = event.passes.next.tried; place = step_place old.core }
 
   abbrev pub mid : Core
   mid = without_step (with_return old.core at event.buf) event.copy
 
   pub goes : GoesOn (is_whole old.core d) mid d event.passes.on
-  goes = subst (λ (k : Bringing). GoesOn (is_whole core k) mid k event.passes.on) event.passes.moves.is event.passes.goes
+  goes = subst (λ (k : OpenCopy). GoesOn (is_whole core k) mid k event.passes.on) event.passes.moves.is event.passes.goes
 
   its_copy : IsCopy core c
   its_copy = copy_is past old tied c event.is_open
@@ -78,7 +78,7 @@ module _ (past : List Fact) (old new : Session) (at : ℕ) (tied : IsTied past o
   its = of_its past old tied c event.is_open
 
   pub seen_open : SeesOpen (groups_of old.core) event.copy tied.view.open_copy
-  seen_open = subst (λ (b : Bool). SeesRunning b (groups_of core) c v.open_copy) event.runs (subst (λ (m : Option Bringing). SeesCopy (groups_of core) m v.open_copy) event.is_open tied.sees.open_copy)
+  seen_open = subst (λ (b : Bool). SeesRunning b (groups_of core) c v.open_copy) event.runs (subst (λ (m : Option OpenCopy). SeesCopy (groups_of core) m v.open_copy) event.is_open tied.sees.open_copy)
 
   pub member : is_member old.core.descriptor event.copy.pp.disk ≡ true
   member = step_member past old tied c its less c.pp its.among
@@ -92,7 +92,7 @@ module _ (past : List Fact) (old new : Session) (at : ℕ) (tied : IsTied past o
 
   -- ---- what it has passed
 
-  abbrev pub o2 : OpenCopy
+  abbrev pub o2 : ModelCopy
   o2 = record { target = event.copy.pp; passed = passed_by (groups_of old.core) d }
 
   abbrev step_q : Queued
@@ -149,7 +149,7 @@ module _ (past : List Fact) (old new : Session) (at : ℕ) (tied : IsTied past o
   landed = landed_write past old new at event.row true event.buf tied event.returns event.own c event.is_open event.writes sectors (Some o2) (inr (refl, passes_over))
 
   -- the state once its step has left the queue
-  abbrev pub left : State
+  abbrev pub left : ModelState
   left = record (copied tied.view landed.block (Some o2) None) { queue = gone tied.view.queue event.copy.place (q past old new at event.row true event.buf tied event.returns event.own event.copy event.is_open) }
 
   pub stands_left : Stands tied.votes old.core.descriptor (update_of old.core.status) (now past old new at event.row true event.buf tied event.returns event.own event.copy event.is_open) left

@@ -17,18 +17,18 @@ use Rattle.lvm_mwc.specs.Entries.{are_all_pinned, has_entry, pins_of}
 use Rattle.lvm_mwc.specs.Cache.{Cached, after_pin}
 use Rattle.lvm_mwc.proofs.PinsLemmas.{pinned_is_there}
 use Rattle.lvm_path.specs.declared.facts.Facts.{Facts}
-use Rattle.lvm_path.specs.declared.request.Phase.{Phase as RequestPhase}
+use Rattle.lvm_path.specs.declared.request.Phase.{Phase}
 use Rattle.lvm_path.specs.declared.request.Phase.TheVariants as phase
 use Rattle.lvm_path.specs.Asks.{is_write, lv_of}
 use Rattle.lvm_path.specs.Targets.{is_begun}
 use Rattle.lvm_path.specs.Next.{with_pin}
 use Rattle.lvm_session.specs.declared.open.Open.{Open}
-use Rattle.lvm_session.specs.declared.bringing.OpenCopy.{OpenCopy as Bringing}
+use Rattle.lvm_session.specs.declared.bringing.OpenCopy.{OpenCopy}
 use Rattle.lvm_session.specs.declared.bringing.Step.{Step}
 use Rattle.lvm_session.specs.declared.bringing.Step.TheVariants as step
 use Rattle.lvm_session.specs.declared.flown.Owner.{Owner}
 use Rattle.lvm_session.specs.declared.flown.Owner.TheVariants as owner
-use Rattle.lvm_session.specs.State.{Core, State as Session, state}
+use Rattle.lvm_session.specs.State.{Core, State, state}
 use Rattle.lvm_session.specs.Judging.{facts_of, group_of, is_running, is_waiting, mode_of, next_for, place_of}
 use Rattle.lvm_session.specs.Bringing.{is_out, is_whole}
 use Rattle.lvm_session.specs.Enabled.{can_pin, is_pin}
@@ -36,10 +36,10 @@ use Rattle.lvm_session.specs.Events.{Pins}
 use Rattle.lvm_session.specs.Requests.{IsPinned, IsRecorded, IsReady}
 use Rattle.lvm_session.specs.Sound.{IsSound, pins}
 use Rattle.lvm_keeps.proofs.Nexts.{pins_entry}
-use Rattle.lvm_invariant.specs.State.{Queued, Ready, State, is_pinning}
+use Rattle.lvm_invariant.specs.State.{Queued, Ready, ModelState, is_pinning}
 use Rattle.lvm_invariant.specs.Updates.{put}
 use Rattle.lvm_invariant.specs.Pin.{Pins as MayPin, pinned}
-use Rattle.lvm_invariant.specs.Events.{Pin, Step as GoodStep}
+use Rattle.lvm_invariant.specs.Events.{Pin, ModelStep}
 use Rattle.lvm_invariant.proofs.Each.{each_keeps}
 use Rattle.lvm_tie_shelf.proofs.Quiet.{quiet_lasts}
 use Rattle.lvm_tie_shelf.proofs.Writing.{and_both}
@@ -61,7 +61,7 @@ after_pin_is c lv g = by (are_all_pinned c.entries lv g)
     by true = refl
     by false = refl
 
-sees_cache : (past : List Fact) (core : Core) (v : State) (entries : List CacheEntry) → Sees past core v → Sees past (record core { cache = record core.cache { entries = entries } }) (record v { cache = has_entry entries })
+sees_cache : (past : List Fact) (core : Core) (v : ModelState) (entries : List CacheEntry) → Sees past core v → Sees past (record core { cache = record core.cache { entries = entries } }) (record v { cache = has_entry entries })
 sees_cache past core v entries sees = record {
   queue = sees.queue;
   facts = sees.facts;
@@ -88,7 +88,7 @@ counted (x ∷ os) (suc k) o t there is =
     omega (arith, more, rest)
 
 -- in a sound session what a request has pinned stands in the cache
-pinned_there : (s : Session) (write : Option RecordWrite) (orderly : IsOrderly s write) (k : ℕ) (o : Open) → slice_get s.core.requests k ≡ Some o → o.request.pinned ≡ true → has_entry s.core.cache.entries (lv_of o.request.ask) (group_of o.request.ask) ≡ true
+pinned_there : (s : State) (write : Option RecordWrite) (orderly : IsOrderly s write) (k : ℕ) (o : Open) → slice_get s.core.requests k ≡ Some o → o.request.pinned ≡ true → has_entry s.core.cache.entries (lv_of o.request.ask) (group_of o.request.ask) ≡ true
 pinned_there s write orderly k o there is =
     let lv = lv_of o.request.ask in
     let g = group_of o.request.ask in
@@ -97,14 +97,14 @@ pinned_there s write orderly k o there is =
     let count = (orderly.sound.on orderly.on).going.pinned lv g in
     pinned_is_there s.core.cache.entries lv g (omega (arith, some, count))
 
-module _ (past : List Fact) (old new : Session) (place : ℕ) (event : Pins old new place) (tied : IsTied past old) (sound : IsSound new) where
+module _ (past : List Fact) (old new : State) (place : ℕ) (event : Pins old new place) (tied : IsTied past old) (sound : IsSound new) where
   abbrev core : Core
   core = old.core
 
   abbrev o : Open
   o = event.request
 
-  abbrev v : State
+  abbrev v : ModelState
   v = tied.view
 
   abbrev i : ℕ
@@ -149,10 +149,10 @@ module _ (past : List Fact) (old new : Session) (place : ℕ) (event : Pins old 
   sees2 : SeesRequest o2 q2
   sees2 = record { lv = sees.lv; first = sees.first; count = sees.count; write = sees.write; step = sees.step; phase = refl; several = sees.several; targets = sees.targets; got = sees.got }
 
-  abbrev w1 : State
+  abbrev w1 : ModelState
   w1 = record v { queue = put v.queue i q2 }
 
-  abbrev w : State
+  abbrev w : ModelState
   w = pinned v i q (has_entry entries)
 
   sees_all : Sees past core2 w
@@ -181,7 +181,7 @@ module _ (past : List Fact) (old new : Session) (place : ℕ) (event : Pins old 
       pinning_at : is_pinning (phase_seen p.request.phase (is_begun p.request.targets.items)) ≡ true
       pinning_at = ap is_pinning (sym its.phase) ∙ pinning
 
-      by_phase : (f : RequestPhase) → is_pinning (phase_seen f (is_begun p.request.targets.items)) ≡ true → IsPinned f p.request → p.request.pinned ≡ true
+      by_phase : (f : Phase) → is_pinning (phase_seen f (is_begun p.request.targets.items)) ≡ true → IsPinned f p.request → p.request.pinned ≡ true
       by_phase phase.Held is said = absurd (cc is)
       by_phase phase.WantEntry is said = absurd (cc is)
       by_phase phase.WantRecord is said = said
@@ -194,7 +194,7 @@ module _ (past : List Fact) (old new : Session) (place : ℕ) (event : Pins old 
           let ready : IsReady core p.request = (waiting_one old tied.write tied.orderly place2 p there waits).ready in
           let recorded : IsRecorded mode.Active p.request.phase p.request = subst (λ (m : Mode). IsRecorded m p.request.phase p.request) is_active_mode (subst (λ b. IsRecorded (if b then mode_of core p.request.ask else mode.Off) p.request.phase p.request) writes ready.recorded) in
           by_phase p.request.phase pinning_at recorded
-      by false over = absurd (let f = ((open_one old tied.write tied.orderly place2 p there).over over).phase_is in let e2 : false ≡ true = sym (ap (λ (x : RequestPhase). is_pinning (phase_seen x (is_begun p.request.targets.items))) f) ∙ pinning_at in cc)
+      by false over = absurd (let f = ((open_one old tied.write tied.orderly place2 p there).over over).phase_is in let e2 : false ≡ true = sym (ap (λ (x : Phase). is_pinning (phase_seen x (is_begun p.request.targets.items))) f) ∙ pinning_at in cc)
 
   keeps : (j : ℕ) (e : Queued) → v.queue j ≡ Some e → IsTrue e.write → IsTrue (is_pinning e.phase) → IsTrue (v.is_active e.lv) → IsTrue e.several
       → IsTrue (v.cache e.lv (track_group_of e.first)) → IsTrue (has_entry entries e.lv (track_group_of e.first))
@@ -223,7 +223,7 @@ module _ (past : List Fact) (old new : Session) (place : ℕ) (event : Pins old 
   may : MayPin v i q (has_entry entries)
   may = record {
     there = at;
-    waits = sees.phase ∙ ap (λ (p : RequestPhase). phase_seen p (is_begun o.request.targets.items)) wants_entry;
+    waits = sees.phase ∙ ap (λ (p : Phase). phase_seen p (is_begun o.request.targets.items)) wants_entry;
     has = (λ t. has_entry entries (sees.lv t) (track_group_of (sees.first t))) ∙ own_there;
     keeps = keeps;
   }
@@ -234,14 +234,14 @@ module _ (past : List Fact) (old new : Session) (place : ℕ) (event : Pins old 
   carries g (owner.Note disk) its = tt
   carries g owner.Copy its = λ c p is writing here. its c p is writing (sym (elsewhere c is writing) ∙ here)
     where
-      elsewhere : (c : Bringing) → core.copy ≡ Some c → c.step ≡ step.Writing → w.queue c.place ≡ v.queue c.place
+      elsewhere : (c : OpenCopy) → core.copy ≡ Some c → c.step ≡ step.Writing → w.queue c.place ≡ v.queue c.place
       elsewhere c is writing = elim (cases_eq c.place i) [
         | inl e ↦ absurd (step_apart past core v place o o2 q2 core.pool core.flying core.last core.queue core.cache.entries v.media.block tied.sees (numbers_of old tied.write tied.orderly) event.there refl sees2 (λ lv g. refl) c is
             (ap (λ (st : Step). is_out st || (is_running c && not (is_whole core c))) writing) e)
         | inr ne ↦ let test : (c.place == i) ≡ false = grind (arith, nat_tests) in ap (λ b. if b then Some q2 else v.queue c.place) test
       ]
 
-  step_is : GoodStep tied.votes (Pin i q (has_entry entries)) v w
+  step_is : ModelStep tied.votes (Pin i q (has_entry entries)) v w
   step_is = (may, refl)
 
   pub pin_tied : IsTied past new

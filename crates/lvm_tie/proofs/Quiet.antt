@@ -14,18 +14,18 @@ use Rattle.lvm_sched.specs.declared.writes.TargetState.TheVariants as target
 use Rattle.lvm_sched.specs.Writes.{is_flying}
 use Rattle.lvm_path.specs.declared.target.Target.{Target}
 use Rattle.lvm_session.specs.declared.open.Open.{Open}
-use Rattle.lvm_session.specs.declared.bringing.OpenCopy.{OpenCopy as Bringing}
+use Rattle.lvm_session.specs.declared.bringing.OpenCopy.{OpenCopy}
 use Rattle.lvm_session.specs.declared.bringing.Step.{Step}
 use Rattle.lvm_session.specs.declared.bringing.Step.TheVariants as step
 use Rattle.lvm_session.specs.declared.flown.Flown.{Flown}
 use Rattle.lvm_session.specs.declared.flown.Owner.{Owner}
 use Rattle.lvm_session.specs.declared.flown.Owner.TheVariants as owner
-use Rattle.lvm_session.specs.State.{Core, State as Session}
+use Rattle.lvm_session.specs.State.{Core, State}
 use Rattle.lvm_session.specs.Judging.{place_of}
 use Rattle.lvm_session.specs.Bringing.{has_row}
 use Rattle.lvm_session.specs.Owners.{AreRows, flies, same_owner, target_flies}
 use Rattle.lvm_session.specs.Sound.{IsOn}
-use Rattle.lvm_invariant.specs.State.{Flying, Queued, State, has_landed}
+use Rattle.lvm_invariant.specs.State.{Flying, Queued, ModelState, has_landed}
 use Rattle.lvm_invariant.specs.Updates.{is_pp, put, without, with_req, land}
 use Rattle.lvm_invariant.specs.Take.{taken}
 use Rattle.lvm_invariant.specs.Events.{EndStep, Take}
@@ -66,8 +66,8 @@ unlanded_hand (step.Reading source) q hand = ap has_landed hand.0
 unlanded_hand (step.Read buf) q hand = ap has_landed hand.0
 unlanded_hand step.Writing q hand = ap has_landed hand.0
 
-module _ (past : List Fact) (s : Session) (tied : IsTied past s) where
-  abbrev v : State
+module _ (past : List Fact) (s : State) (tied : IsTied past s) where
+  abbrev v : ModelState
   v = tied.view
 
   abbrev core : Core
@@ -100,7 +100,7 @@ module _ (past : List Fact) (s : Session) (tied : IsTied past s) where
     only = λ i q at. ⊎_elim (λ (r : IsRequestAt core i). r) (λ (st : IsStepAt core i). absurd (none i st)) (tied.sees.queue.only i q at);
   }
 
-  module _ (c : Bringing) (is_open : core.copy ≡ Some c) (row : has_row core c ≡ true) where
+  module _ (c : OpenCopy) (is_open : core.copy ≡ Some c) (row : has_row core c ≡ true) where
     abbrev q : Queued
     q = (tied.sees.queue.a_step c is_open row).0
 
@@ -149,24 +149,24 @@ module _ (past : List Fact) (s : Session) (tied : IsTied past s) where
             (λ (r : IsRequestAt core i). r)
             (λ (st : IsStepAt core i).
             let same : st.copy ≡ c = same_row st.copy c (sym st.is_open ∙ is_open) in
-            no_one (sym (eq-eqb i c.place (sym st.its ∙ ap (λ (x : Bringing). x.place) same)) ∙ is))
+            no_one (sym (eq-eqb i c.place (sym st.its ∙ ap (λ (x : OpenCopy). x.place) same)) ∙ is))
             (tied.sees.queue.only i x (sym (elsewhere i is) ∙ at))
 
   pub quieted : Quieted
   quieted = by core.copy refl
     where
-      of : (c : Bringing) → core.copy ≡ Some c → (b : Bool) → has_row core c ≡ b → Quieted
+      of : (c : OpenCopy) → core.copy ≡ Some c → (b : Bool) → has_row core c ≡ b → Quieted
       of c is true row = without_step c is row
       of c is false none = as_it_is (λ i st. let same : st.copy ≡ c = same_row st.copy c (sym st.is_open ∙ is) in no_one (sym st.row ∙ ap (has_row core) same ∙ none))
 
-      by : (m : Option Bringing) → core.copy ≡ m → Quieted
+      by : (m : Option OpenCopy) → core.copy ≡ m → Quieted
       by None is = as_it_is (λ i st. let e : None ≡ Some st.copy = sym is ∙ st.is_open in absurd (cc e))
       by (Some c) is = of c is (has_row core c) refl
 
   -- ---- it describes what stands
 
   module _ (queue : ℕ → Option Queued) where
-    abbrev w : State
+    abbrev w : ModelState
     w = record v { queue = queue }
 
     same_describes : (facts : List Fact) (group : Descriptor) (in_flight : Option (Stamped Status)) (c : Contents) → Describes v facts group in_flight c → Describes w facts group in_flight c

@@ -3,15 +3,15 @@ use Rattle.std.proofs.Common.{◌≡◌, inl, ℕ, Bool, false, List, Option, So
 use Rattle.std.specs.Prelude.{slice_set}
 use Rattle.lvm_vol.specs.Facts.{Fact}
 use Rattle.lvm_disk.specs.Device.{HasSectors}
-use Rattle.lvm_session.specs.declared.bringing.OpenCopy.{OpenCopy as Bringing}
+use Rattle.lvm_session.specs.declared.bringing.OpenCopy.{OpenCopy}
 use Rattle.lvm_session.specs.declared.bringing.Step.{Step}
 use Rattle.lvm_session.specs.declared.bringing.Step.TheVariants as step
-use Rattle.lvm_session.specs.State.{Core, State as Session, state}
+use Rattle.lvm_session.specs.State.{Core, State, state}
 use Rattle.lvm_session.specs.Bringing.{groups_of}
 use Rattle.lvm_session.specs.Ends.{after_quit}
 use Rattle.lvm_session.specs.Sound.{IsSound}
 use Rattle.lvm_keeps_events.specs.Ends.{EndsQuit}
-use Rattle.lvm_invariant.specs.State.{State}
+use Rattle.lvm_invariant.specs.State.{ModelState}
 use Rattle.lvm_tie.specs.Seen.{SeesCopy, SeesRunning}
 use Rattle.lvm_tie.specs.Tied.{IsTied}
 use Rattle.lvm_tie.proofs.Orderly.{StepIsOut}
@@ -19,18 +19,18 @@ use Rattle.lvm_tie.proofs.Landed.{HasLanded, ended, landed_read, landed_write, o
 use Rattle.lvm_tie.proofs.Stepped.{ended_ties}
 use Rattle.lvm_tie.specs.Steps.{CopyQuitTies}
 
-module _ (past : List Fact) (old new : Session) (at : ℕ) (ok : Bool) (tied : IsTied past old) (sound : IsSound new) (sectors : HasSectors new.device) (event : EndsQuit old new at ok) where
-  abbrev v : State
+module _ (past : List Fact) (old new : State) (at : ℕ) (ok : Bool) (tied : IsTied past old) (sound : IsSound new) (sectors : HasSectors new.device) (event : EndsQuit old new at ok) where
+  abbrev v : ModelState
   v = tied.view
 
-  abbrev c : Bringing
+  abbrev c : OpenCopy
   c = event.copy
 
-  abbrev d : Bringing
+  abbrev d : OpenCopy
   d = record c { step = step.Idle }
 
   none_open : v.open_copy ≡ None
-  none_open = subst (λ (b : Bool). SeesRunning b (groups_of old.core) c v.open_copy) event.over (subst (λ (m : Option Bringing). SeesCopy (groups_of old.core) m v.open_copy) event.is_open tied.sees.open_copy)
+  none_open = subst (λ (b : Bool). SeesRunning b (groups_of old.core) c v.open_copy) event.over (subst (λ (m : Option OpenCopy). SeesCopy (groups_of old.core) m v.open_copy) event.is_open tied.sees.open_copy)
 
   landed : HasLanded past old new at event.row ok event.buf tied event.returns event.own c event.is_open v.open_copy
   landed = by c.step refl (out past old new at event.row ok event.buf tied event.returns event.own c event.is_open)

@@ -6,14 +6,14 @@ use Rattle.lvm_num.specs.Buffer.{Sector}
 use Rattle.lvm_num.specs.Disks.{has}
 use Rattle.lvm_num.specs.Geometry.{sector_of}
 use Rattle.lvm_vol.specs.Facts.{Fact}
-use Rattle.lvm_session.specs.declared.bringing.OpenCopy.{OpenCopy as Bringing}
+use Rattle.lvm_session.specs.declared.bringing.OpenCopy.{OpenCopy}
 use Rattle.lvm_session.specs.declared.bringing.Step.TheVariants as step
-use Rattle.lvm_session.specs.State.{Core, State as Session, state}
+use Rattle.lvm_session.specs.State.{Core, State, state}
 use Rattle.lvm_session.specs.Bringing.{is_idle, is_whole}
 use Rattle.lvm_session.specs.Ends.{after_read}
 use Rattle.lvm_session.specs.Sound.{IsCopy, IsSound}
 use Rattle.lvm_keeps_events.specs.Ends.{EndsRead}
-use Rattle.lvm_invariant.specs.State.{Badly, Flying, Queued, State, Well, covers, is_past}
+use Rattle.lvm_invariant.specs.State.{Badly, Flying, Queued, ModelState, Well, covers, is_past}
 use Rattle.lvm_invariant.specs.CopyWrite.{copied}
 use Rattle.lvm_invariant.specs.Events.{Read}
 use Rattle.lvm_invariant.specs.Read.{reading}
@@ -29,14 +29,14 @@ use Rattle.lvm_tie.proofs.Landed.{at_q, ended, hand, its_read, landed_read, now,
 use Rattle.lvm_tie.proofs.Stepped.{going_ties}
 use Rattle.lvm_tie.specs.Steps.{CopyReadEndTies}
 
-module _ (past : List Fact) (old new : Session) (at : ℕ) (tied : IsTied past old) (sound : IsSound new) (event : EndsRead old new at) where
+module _ (past : List Fact) (old new : State) (at : ℕ) (tied : IsTied past old) (sound : IsSound new) (event : EndsRead old new at) where
   abbrev core : Core
   core = old.core
 
-  abbrev v : State
+  abbrev v : ModelState
   v = tied.view
 
-  abbrev c : Bringing
+  abbrev c : OpenCopy
   c = event.copy
 
   abbrev source : Pp
@@ -81,7 +81,7 @@ module _ (past : List Fact) (old new : Session) (at : ℕ) (tied : IsTied past o
   abbrev next : Queued
   next = reading step_q source Well (Some value)
 
-  abbrev was : State
+  abbrev was : ModelState
   was = copied v v.media.block v.open_copy None
 
   stands : Stands tied.votes core.descriptor (update_of core.status) (now past old new at event.row true event.buf tied event.returns event.own c event.is_open) (record was { queue = put v.queue c.place next })
@@ -96,7 +96,7 @@ module _ (past : List Fact) (old new : Session) (at : ℕ) (tied : IsTied past o
     refl,
   ) tt refl refl refl (read_stands past old new at event.row true event.buf tied event.returns event.own c event.is_open source event.reads)
 
-  abbrev d : Bringing
+  abbrev d : OpenCopy
   d = record c { step = step.Read event.buf }
 
   -- the source has done well

@@ -19,7 +19,7 @@ use Rattle.lvm_kept.specs.Changes.{OnlyAllowsMore}
 use Rattle.lvm_kept.proofs.Entries.{entry_keeps, more_is_kept}
 use Rattle.lvm_kept.proofs.Values.{known_more}
 use Rattle.lvm_steps.proofs.Entries.{volumes-append}
-use Rattle.lvm_invariant.specs.State.{State}
+use Rattle.lvm_invariant.specs.State.{ModelState}
 use Rattle.lvm_invariant.specs.Told.{Told}
 use Rattle.lvm_invariant.specs.Over.{IsDistinct, IsUnlanded, landings}
 use Rattle.lvm_invariant.proofs.Requests.{decided}
@@ -58,12 +58,12 @@ module _ (facts : List Fact) (r : Request) (started : Bool) (reads : r.write ≡
 -- ---- one after another
 
 -- some of the open requests have landed, and these haven't
-pub record Way (s : State) (places : List ℕ) (facts : List Fact) (P : Contents → Type 0) : Type 0 where
+pub record Way (s : ModelState) (places : List ℕ) (facts : List Fact) (P : Contents → Type 0) : Type 0 where
   pub legal : Legal facts
   pub kept : (c : Contents) → P c → Kept c facts
   pub waits : (i : ℕ) → Stands i places → Stands (Begun (s.name i)) facts × (list_any (lands (s.name i)) facts ≡ false)
 
-module _ (s : State) (t : Told s.queue s.name s.facts) (started : ℕ → Bool) (P : Contents → Type 0) where
+module _ (s : ModelState) (t : Told s.queue s.name s.facts) (started : ℕ → Bool) (P : Contents → Type 0) where
   way_step : (i : ℕ) (places : List ℕ) (facts : List Fact) → (Stands i places → ⊥) → ((j : ℕ) → Stands j (i ∷ places) → IsUnlanded s j) → (s.name i).write ≡ false
       → Way s (i ∷ places) facts P → Way s places (facts ++ HasLanded (s.name i) outcome.Dark (started i) [] ∷ []) P
   way_step i places facts once each reads way =

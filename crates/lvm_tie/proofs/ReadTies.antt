@@ -20,15 +20,15 @@ use Rattle.lvm_path.specs.declared.target.Target.{Target}
 use Rattle.lvm_path.specs.Asks.{is_write}
 use Rattle.lvm_path.specs.Targets.{is_begun, are_over, with_state, end_state}
 use Rattle.lvm_session.specs.declared.open.Open.{Open}
-use Rattle.lvm_session.specs.declared.bringing.OpenCopy.{OpenCopy as Bringing}
+use Rattle.lvm_session.specs.declared.bringing.OpenCopy.{OpenCopy}
 use Rattle.lvm_session.specs.declared.bringing.CopyEnd.{CopyEnd}
 use Rattle.lvm_session.specs.declared.bringing.Step.{Step}
 use Rattle.lvm_session.specs.declared.bringing.Step.TheVariants as step
 use Rattle.lvm_session.specs.declared.flown.Owner.{Owner}
 use Rattle.lvm_session.specs.declared.flown.Owner.TheVariants as owner
-use Rattle.lvm_session.specs.State.{Core, State as Session, state}
+use Rattle.lvm_session.specs.State.{Core, State, state}
 use Rattle.lvm_session.specs.Judging.{is_waiting, place_of}
-use Rattle.lvm_invariant.specs.State.{State}
+use Rattle.lvm_invariant.specs.State.{ModelState}
 use Rattle.lvm_path.specs.declared.request.Phase.TheVariants as phase
 use Rattle.lvm_path.specs.Next.{with_end}
 use Rattle.lvm_session.specs.Judging.{is_running}
@@ -40,7 +40,7 @@ use Rattle.lvm_invariant.specs.State.{Stage, Going, Queued}
 use Rattle.lvm_invariant.specs.Updates.{is_pp}
 use Rattle.lvm_invariant.specs.Events.{Read}
 use Rattle.lvm_invariant.proofs.Each.{each_keeps}
-use Rattle.lvm_crash.specs.Session.{members_there, Describes}
+use Rattle.lvm_crash.specs.Session.{members_showing, Describes}
 use Rattle.lvm_tie_shelf.proofs.Bringing.{read_leaves, read_gets}
 use Rattle.lvm_tie_shelf.proofs.Quiet.{quiet_lasts, update_goes_on}
 use Rattle.lvm_tie_shelf.specs.Bringing.{IsReading, in_buffer}
@@ -60,7 +60,7 @@ use Rattle.lvm_session.specs.Marks.{WantsStale, Entails, is_among, due_targets, 
 use Rattle.lvm_invariant.specs.State.{Marks, covers}
 use Rattle.lvm_invariant.specs.Updates.{put}
 use Rattle.std.specs.Prelude.{slice_index_or}
-use Rattle.lvm_invariant.specs.State.{Phase}
+use Rattle.lvm_invariant.specs.State.{ModelPhase}
 use Rattle.lvm_invariant.specs.Read.{Reads as Reading, reading}
 use Rattle.lvm_session.specs.Ends.{DataLearns, Ends}
 use Rattle.lvm_session.specs.Sound.{IsSound}
@@ -79,7 +79,7 @@ state_there (u ∷ us) (suc number) t state there = state_there us number t stat
 going_by : (w : Bool) (over : Bool) → w ≡ false → (if w && over then phase.WantStatus else phase.Data) ≡ phase.Data
 going_by w over is = ap (λ b. if b && over then phase.WantStatus else phase.Data) is
 
-module _ (past : List Fact) (old new : Session) (index : ℕ) (ends : Ends old new index) (id number : ℕ) (its_owner : ends.row.owner ≡ owner.Data id number) (learns : DataLearns old.core index id number ends.ok ends.buf new.core) (tied : IsTied past old) (sound : IsSound new)
+module _ (past : List Fact) (old new : State) (index : ℕ) (ends : Ends old new index) (id number : ℕ) (its_owner : ends.row.owner ≡ owner.Data id number) (learns : DataLearns old.core index id number ends.ok ends.buf new.core) (tied : IsTied past old) (sound : IsSound new)
     (reads : is_write learns.its.request.request.ask ≡ false) where
   abbrev o : Open
   o = learns.its.request
@@ -90,7 +90,7 @@ module _ (past : List Fact) (old new : Session) (index : ℕ) (ends : Ends old n
   abbrev ts : List Target
   ts = o.request.targets.items
 
-  abbrev v : State
+  abbrev v : ModelState
   v = tied.view
 
   abbrev i : ℕ
@@ -146,7 +146,7 @@ module _ (past : List Fact) (old new : Session) (index : ℕ) (ends : Ends old n
   sees : SeesRequest o q
   sees = (tied.sees.queue.requests learns.place o learns.its.there).2
 
-  its_row : (u : State) → IsRow old.core core2 tied.write v u ended.removes.before ended.removes.after f old.core.flying index ends.row
+  its_row : (u : ModelState) → IsRow old.core core2 tied.write v u ended.removes.before ended.removes.after f old.core.flying index ends.row
   its_row u = is_row old.core core2 tied.write v u ended.removes.before ended.removes.after f old.core.flying index ends.row
       (subst (λ (fs : List Flight). AreOut old.core tied.write fs old.core.flying) ended.removes.was (out_of old tied.write tied.orderly tied.notes)) tickets ends.returns.there ended.its
 
@@ -217,7 +217,7 @@ module _ (past : List Fact) (old new : Session) (index : ℕ) (ends : Ends old n
   abbrev q2 : Queued
   q2 = reading q t.pp (stage_of ends.ok) (got2 ends.ok)
 
-  abbrev w : State
+  abbrev w : ModelState
   w = record v { queue = put v.queue i q2 }
 
   abbrev ts2 : List Target
@@ -259,7 +259,7 @@ module _ (past : List Fact) (old new : Session) (index : ℕ) (ends : Ends old n
   carries g (owner.Note disk) c = tt
   carries g owner.Copy carried = λ c p is writing here. carried c p is writing (sym (elsewhere c is writing) ∙ here)
     where
-      elsewhere : (c : Bringing) → old.core.copy ≡ Some c → c.step ≡ step.Writing → w.queue c.place ≡ v.queue c.place
+      elsewhere : (c : OpenCopy) → old.core.copy ≡ Some c → c.step ≡ step.Writing → w.queue c.place ≡ v.queue c.place
       elsewhere c is writing = elim (cases_eq c.place i) [
         | inl e ↦ absurd (step_apart past old.core v learns.place o o2 q2 core2.pool core2.flying old.core.last old.core.queue old.core.cache.entries v.media.block tied.sees numbers learns.its.there refl sees2 (λ lv g2. refl) c is
             (ap (λ (st : Step). is_out st || (is_running c && not (is_whole old.core c))) writing) e)
@@ -278,7 +278,7 @@ module _ (past : List Fact) (old new : Session) (index : ℕ) (ends : Ends old n
   no_end : end_by_write core2 o2 ends.ok t.pp ≡ None
   no_end = by old.core.copy
     where
-      by : (c : Option Bringing) → Rattle.lvm_session.specs.Bringing.ends_if (Rattle.std.specs.Option.option_map_or (Rattle.lvm_session.specs.Marks.hits_copy core2 o2 ends.ok t.pp) c false) Rattle.lvm_session.specs.declared.bringing.CopyEnd.TheVariants.SyncFailed ≡ None
+      by : (c : Option OpenCopy) → Rattle.lvm_session.specs.Bringing.ends_if (Rattle.std.specs.Option.option_map_or (Rattle.lvm_session.specs.Marks.hits_copy core2 o2 ends.ok t.pp) c false) Rattle.lvm_session.specs.declared.bringing.CopyEnd.TheVariants.SyncFailed ≡ None
       by None = refl
       by (Some c) = ap (λ w2. Rattle.lvm_session.specs.Bringing.ends_if (w2 && is_running c && (not ends.ok && Rattle.lvm_stale.specs.Table.is_pp t.pp c.pp || (are_over ts2 && not (is_kept core2 o2.request) && not o2.older && is_among (due_of core2 o2.request) c.pp))) Rattle.lvm_session.specs.declared.bringing.CopyEnd.TheVariants.SyncFailed) reads
 
@@ -308,7 +308,7 @@ module _ (past : List Fact) (old new : Session) (index : ℕ) (ends : Ends old n
         since = since_ended tied.write (update_of old.core.status) tied.since;
         recorded = record {
           next = subst (λ (sizes : List ℕ). MayUpdate old.core.descriptor old.core.status old.core.homes (image_of sizes tied.media)) (sym ended.sizes) tied.recorded.next;
-          members = λ d member first. subst (λ (sizes : List ℕ). IsTrue (members_there (contents_of (image_of sizes tied.media)) old.core.descriptor d)) (sym ended.sizes) (tied.recorded.members d member first);
+          members = λ d member first. subst (λ (sizes : List ℕ). IsTrue (members_showing (contents_of (image_of sizes tied.media)) old.core.descriptor d)) (sym ended.sizes) (tied.recorded.members d member first);
           records = subst (λ (sizes : List ℕ). ShowsRecords old.core.descriptor old.core.status (contents_of (image_of sizes tied.media))) (sym ended.sizes) tied.recorded.records;
         };
         notes = tied.notes;

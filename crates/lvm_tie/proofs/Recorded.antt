@@ -11,8 +11,8 @@ use Rattle.lvm_kept.specs.Contents.{Contents, contents_of}
 use Rattle.lvm_kept.specs.Group.{is_status_of}
 use Rattle.lvm_kept.specs.Places.{SameRecords}
 use Rattle.lvm_kept.proofs.Contained.{data_writes}
-use Rattle.lvm_status.specs.Update.{Stored, members_there as there_by}
-use Rattle.lvm_invariant.specs.State.{Marks, State}
+use Rattle.lvm_status.specs.Update.{Stored, members_there}
+use Rattle.lvm_invariant.specs.State.{Marks, ModelState}
 use Rattle.lvm_invariant.specs.Found.{Found, Votes}
 use Rattle.lvm_crash.specs.Session.{Describes, as_marks, marks_shown}
 use Rattle.lvm_tie.specs.Seen.{update_of}
@@ -20,7 +20,7 @@ use Rattle.lvm_tie.specs.Tied.{ShowsRecords, ShowsStatus}
 
 -- none is there that wasn't
 abbrev pub NoMoreThere : Descriptor → Stored → Stored → Type 0
-NoMoreThere group old new = (d : ℕ) → there_by group new.wanted d ≡ true → there_by group old.wanted d ≡ true
+NoMoreThere group old new = (d : ℕ) → members_there group new.wanted d ≡ true → members_there group old.wanted d ≡ true
 
 -- where the statuses stand that stood, and what is committed is what was
 pub status_lasts : (group : Descriptor) (old new : Stored) (a b : Contents) → ShowsStatus group old a → NoMoreThere group old new → new.committed ≡ old.committed → ((d : ℕ) → b.status d ≡ a.status d) → ShowsStatus group new b
@@ -58,7 +58,7 @@ shown_of id (Some r) m is = by (is_status_of id r.value) refl is
     by false own h = absurd (cc h)
 
 -- A disk that shows the marks of the update in flight shows that update.
-pub shows_update : (s : State) (facts : List Fact) (group : Descriptor) (u : Stamped Status) (c : Contents) → Describes s facts group (Some u) c → (d : ℕ) → s.media.status d ≡ Some (as_marks u) → c.status d ≡ Some u
+pub shows_update : (s : ModelState) (facts : List Fact) (group : Descriptor) (u : Stamped Status) (c : Contents) → Describes s facts group (Some u) c → (d : ℕ) → s.media.status d ≡ Some (as_marks u) → c.status d ≡ Some u
 shows_update s facts group u c describes d shown =
     let its = shown_of group.id (c.status d) (as_marks u) (sym (describes.shown.status d) ∙ shown) in
     let same : its.0 ≡ u = describes.shown.statuses.new u d its.0 refl its.1 (its.2 ∙ sym (describes.shown.statuses.own u refl)) (ap (λ (m : Stamped Marks). m.stamp) its.3) in
@@ -69,7 +69,7 @@ pub shows_own : (id : ℕ) (r : Stamped Status) → r.value.id ≡ id → marks_
 shows_own id r own = let test : is_status_of id r.value ≡ true = grind (arith, nat_tests) in ap (λ t. option_map as_marks (if t then Some r else None)) test
 
 -- Once the update in flight is committed, no disk shows a later status.
-pub shows_last : (votes : Votes) (s : State) (facts : List Fact) (group : Descriptor) (u : Stamped Status) (c : Contents) → Describes s facts group (Some u) c → Found votes s → s.committed ≡ as_marks u → s.in_flight ≡ Some (as_marks u)
+pub shows_last : (votes : Votes) (s : ModelState) (facts : List Fact) (group : Descriptor) (u : Stamped Status) (c : Contents) → Describes s facts group (Some u) c → Found votes s → s.committed ≡ as_marks u → s.in_flight ≡ Some (as_marks u)
     → (d : ℕ) (r : Stamped Status) → c.status d ≡ Some r → r.value.id ≡ group.id → (stamp_lt r.stamp u.stamp ≡ true) ⊎ (r ≡ u)
 shows_last votes s facts group u c describes found committed flies d r is own = ⊎_elim
     (λ before. inl (ap (λ (m : Stamped Marks). stamp_lt r.stamp m.stamp) (sym committed) ∙ before))

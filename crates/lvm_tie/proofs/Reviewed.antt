@@ -14,27 +14,27 @@ use Rattle.lvm_vol.specs.Facts.{Fact}
 use Rattle.lvm_disk.specs.Device.{image_of}
 use Rattle.lvm_kept.specs.Contents.{Contents, contents_of}
 use Rattle.lvm_stale.specs.Table.{is_pp}
-use Rattle.lvm_status.specs.Update.{Stored, Updates, is_held, members_there as there_by, seen, with_disk}
+use Rattle.lvm_status.specs.Update.{Stored, Updates, is_held, members_there, seen, with_disk}
 use Rattle.lvm_status.specs.Calls.{WantsAtEnd, comes_held, with_end as with_write_end}
-use Rattle.lvm_session.specs.declared.bringing.OpenCopy.{OpenCopy as Bringing}
+use Rattle.lvm_session.specs.declared.bringing.OpenCopy.{OpenCopy}
 use Rattle.lvm_session.specs.declared.bringing.CopyEnd.{CopyEnd}
 use Rattle.lvm_session.specs.declared.bringing.CopyEnd.TheVariants as ending
 use Rattle.lvm_session.specs.declared.flown.Flown.{Flown}
 use Rattle.lvm_session.specs.declared.flown.Owner.TheVariants as owner
-use Rattle.lvm_session.specs.State.{Core, State as Session, is_there}
+use Rattle.lvm_session.specs.State.{Core, State, is_there}
 use Rattle.lvm_session.specs.Judging.{is_missing, is_running, is_stale, is_wanted_stale}
 use Rattle.lvm_session.specs.Bringing.{copy_ends, end_of, is_cleared, is_done_end, is_whole, marked_by_end}
 use Rattle.lvm_session.specs.Marks.{Reviews, is_entailed}
 use Rattle.lvm_session.specs.Ends.{Returns, StatusLearns, with_return}
 use Rattle.lvm_session.specs.Sound.{IsGoing}
-use Rattle.lvm_invariant.specs.State.{Marks, OpenCopy, State}
+use Rattle.lvm_invariant.specs.State.{Marks, ModelCopy, ModelState}
 use Rattle.lvm_invariant.specs.Good.{Good}
 use Rattle.lvm_invariant.specs.Want.{Wants}
 use Rattle.lvm_invariant.specs.Commit.{Commit, Commits}
 use Rattle.lvm_invariant.specs.MoveStatus.{moved}
 use Rattle.lvm_invariant.specs.Events.{CommitUpdate, Want}
 use Rattle.lvm_invariant.proofs.Each.{each_keeps}
-use Rattle.lvm_crash.specs.Session.{Describes, HasVolumes, as_marks, marks_of, members_there}
+use Rattle.lvm_crash.specs.Session.{Describes, HasVolumes, as_marks, marks_of, members_showing}
 use Rattle.lvm_tie_shelf.proofs.Quiet.{quiet_lasts}
 use Rattle.lvm_tie_shelf.proofs.Writing.{and_both}
 use Rattle.lvm_tie_shelf.specs.Records.{StatusEnded, statuses_of}
@@ -54,16 +54,16 @@ some_of : {X : Type 0} (a b : X) → Some a ≡ Some b → a ≡ b
 some_of a b e = cc
 
 -- the copy that is open once the update is committed: one that it clears is done
-abbrev done_after : Option CopyEnd → Option OpenCopy → Option OpenCopy
+abbrev done_after : Option CopyEnd → Option ModelCopy → Option ModelCopy
 done_after None o = o
 done_after (Some how) o = if is_done_end how then None else o
 
-module _ (past : List Fact) (old new : Session) (index disk : ℕ) (ok : Bool) (row : Flown) (buf : Buffer) (its_owner : row.owner ≡ owner.Status disk) (returns : Returns old new index row ok buf) (tied : IsTied past old)
+module _ (past : List Fact) (old new : State) (index disk : ℕ) (ok : Bool) (row : Flown) (buf : Buffer) (its_owner : row.owner ≡ owner.Status disk) (returns : Returns old new index row ok buf) (tied : IsTied past old)
     (learns : StatusLearns old.core index disk ok buf new.core) where
   abbrev core : Core
   core = old.core
 
-  abbrev v : State
+  abbrev v : ModelState
   v = tied.view
 
   abbrev group : Descriptor
@@ -107,7 +107,7 @@ module _ (past : List Fact) (old new : Session) (index disk : ℕ) (ok : Bool) (
   left = moves past old new index disk ok row buf its_owner returns tied flying
 
   -- the status of each disk as it stands, and which writes are out
-  abbrev pub v1 : State
+  abbrev pub v1 : ModelState
   v1 = moved v (statuses_of group.id now) flying
 
   good1 : Good tied.votes v1
@@ -120,7 +120,7 @@ module _ (past : List Fact) (old new : Session) (index disk : ℕ) (ok : Bool) (
   mid = learned (seen core.status) disk ok stored.wanted commits
 
   -- The state after it, with these marks and this copy.
-  abbrev pub after : Stamped Marks → (ℕ → Bool) → State
+  abbrev pub after : Stamped Marks → (ℕ → Bool) → ModelState
   after committed missing = record v1 { committed = committed; wanted = marks_of status.wanted; missing = missing; open_copy = open_after how v.open_copy }
 
   pub record IsReviewed : Type 0 where
@@ -141,7 +141,7 @@ module _ (past : List Fact) (old new : Session) (index disk : ℕ) (ok : Bool) (
   wanted_seen = tied.sees.status.wanted ∙ sym (marks_then disk ok core.status.wanted stored.wanted learns.wants)
 
   abbrev members : Disks
-  members = members_there now group
+  members = members_showing now group
 
   not_true_is : (b : Bool) → not b ≡ true → b ≡ false
   not_true_is true h = absurd (cc h)
@@ -158,7 +158,7 @@ module _ (past : List Fact) (old new : Session) (index disk : ℕ) (ok : Bool) (
   shows : (d : ℕ) → IsTrue (is_there core1 d) → IsTrue (members d)
   shows d there =
       let parts = and_both (is_member group d) (not (is_missing core d)) (was_there d there) in
-      ap (λ (c : Contents). members_there c group d) (kept past old new index disk ok row buf its_owner returns tied).rest ∙ tied.recorded.members d parts.0 (there_first past old tied d (not_true_is (is_missing core d) parts.1))
+      ap (λ (c : Contents). members_showing c group d) (kept past old new index disk ok row buf its_owner returns tied).rest ∙ tied.recorded.members d parts.0 (there_first past old tied d (not_true_is (is_missing core d) parts.1))
 
   owners : HasOwners v
   owners = tied.good.sound.tied.owner
@@ -185,7 +185,7 @@ module _ (past : List Fact) (old new : Session) (index disk : ℕ) (ok : Bool) (
     sees : SeesMarks core1 v1 missing
     sees = record { committed = tied.sees.status.committed ∙ ap marks_of (sym committed_same); wanted = wanted_seen; missing_is = λ d. refl; still = still }
 
-    brought : (c : Bringing) → core1.copy ≡ Some c → is_running c ≡ true → IsBrought core1 v1 c
+    brought : (c : OpenCopy) → core1.copy ≡ Some c → is_running c ≡ true → IsBrought core1 v1 c
     brought c is runs = let b = (opened past old tied c is runs).0 in record {
       target = b.target;
       member = b.member;
@@ -228,12 +228,12 @@ module _ (past : List Fact) (old new : Session) (index disk : ℕ) (ok : Bool) (
     missing_same d = ap (λ (s : Status). calls_missing s d) wanted_same
 
     there_same : (d : ℕ) → is_there core1 d ≡ is_there core d
-    there_same d = ap (λ (s : Status). there_by group s d) wanted_same
+    there_same d = ap (λ (s : Status). members_there group s d) wanted_same
 
-    abbrev done : Option OpenCopy
+    abbrev done : Option ModelCopy
     done = done_after how v.open_copy
 
-    abbrev cleared : State
+    abbrev cleared : ModelState
     cleared = record v1 { committed = as_marks u; open_copy = done }
 
     flies : v.in_flight ≡ Some (as_marks u)
@@ -249,14 +249,14 @@ module _ (past : List Fact) (old new : Session) (index disk : ℕ) (ok : Bool) (
     volumes = let x = left.describes.volumes in record { copies = x.copies; inside = x.inside; some = x.some; notes = x.notes; mark = x.mark; modes = x.modes; history = x.history }
 
     -- the copy that runs
-    running : (c : Bringing) → core.copy ≡ Some c → is_running c ≡ true → IsBrought core v c × (is_missing core1 c.pp.disk ≡ false)
+    running : (c : OpenCopy) → core.copy ≡ Some c → is_running c ≡ true → IsBrought core v c × (is_missing core1 c.pp.disk ≡ false)
     running c is runs = let b = opened past old tied c is runs in (b.0, missing_same c.pp.disk ∙ b.1)
 
-    end_at : (c : Bringing) → core.copy ≡ Some c → end_of core1 c ≡ how
-    end_at c is = sym (ap (λ (m : Option Bringing). option_map_or (end_of core1) m None) is)
+    end_at : (c : OpenCopy) → core.copy ≡ Some c → end_of core1 c ≡ how
+    end_at c is = sym (ap (λ (m : Option OpenCopy). option_map_or (end_of core1) m None) is)
 
     -- one that is whole ends only as done
-    whole_done : (c : Bringing) → core.copy ≡ Some c → is_running c ≡ true → (e : CopyEnd) → how ≡ Some e → is_whole core1 c ≡ true → (is_cleared core1 c ≡ true) × (e ≡ ending.Done)
+    whole_done : (c : OpenCopy) → core.copy ≡ Some c → is_running c ≡ true → (e : CopyEnd) → how ≡ Some e → is_whole core1 c ≡ true → (is_cleared core1 c ≡ true) × (e ≡ ending.Done)
     whole_done c is runs e ends all = ⊎_elim (λ gone. clash (is_missing core1 c.pp.disk) gone.0 (running c is runs).1) (λ its_end. its_end) (whole_ends core1 c runs e all (end_at c is ∙ ends))
 
     -- so none is marked by its end
@@ -266,7 +266,7 @@ module _ (past : List Fact) (old new : Session) (index disk : ℕ) (ok : Bool) (
         at : (e : CopyEnd) → how ≡ Some e → marked_by_end core1 (Some e) p ≡ true → IsMarked core1 cleared p
         at e ends h =
             let r = ends_running core1 e ends in
-            let parts = and_both (not (is_done_end e)) (is_whole core1 r.copy && is_pp p r.copy.pp) (sym (ap (λ (m : Option Bringing). not (is_done_end e) && option_map_or (λ (c : Bringing). is_whole core1 c && is_pp p c.pp) m false) r.is_open) ∙ h) in
+            let parts = and_both (not (is_done_end e)) (is_whole core1 r.copy && is_pp p r.copy.pp) (sym (ap (λ (m : Option OpenCopy). not (is_done_end e) && option_map_or (λ (c : OpenCopy). is_whole core1 c && is_pp p c.pp) m false) r.is_open) ∙ h) in
             let both = and_both (is_whole core1 r.copy) (is_pp p r.copy.pp) parts.1 in
             let d = whole_done r.copy r.is_open r.runs e ends both.0 in
             clash (is_done_end e) (ap is_done_end d.1) (not_true_is (is_done_end e) parts.0)
@@ -276,44 +276,44 @@ module _ (past : List Fact) (old new : Session) (index disk : ℕ) (ok : Bool) (
         by (Some e) ends h = at e ends h
 
     -- the copy that is open runs
-    found : (o : OpenCopy) → v.open_copy ≡ Some o → (c : Bringing) × (core.copy ≡ Some c) × (is_running c ≡ true)
+    found : (o : ModelCopy) → v.open_copy ≡ Some o → (c : OpenCopy) × (core.copy ≡ Some c) × (is_running c ≡ true)
     found o at = by core.copy refl
       where
-        of : (c : Bringing) → core.copy ≡ Some c → (b : Bool) → is_running c ≡ b → (x : Bringing) × (core.copy ≡ Some x) × (is_running x ≡ true)
+        of : (c : OpenCopy) → core.copy ≡ Some c → (b : Bool) → is_running c ≡ b → (x : OpenCopy) × (core.copy ≡ Some x) × (is_running x ≡ true)
         of c is true runs = (c, is, runs)
         of c is false over = absurd (let e : None ≡ Some o = sym (none_opened past old tied (λ d there runs. clash (is_running d) runs (ap is_running (some_of d c (sym there ∙ is)) ∙ over))) ∙ at in cc)
 
-        by : (m : Option Bringing) → core.copy ≡ m → (x : Bringing) × (core.copy ≡ Some x) × (is_running x ≡ true)
+        by : (m : Option OpenCopy) → core.copy ≡ m → (x : OpenCopy) × (core.copy ≡ Some x) × (is_running x ≡ true)
         by None is = absurd (let e : None ≡ Some o = sym (none_opened past old tied (λ d there runs. let e2 : None ≡ Some d = sym is ∙ there in cc)) ∙ at in cc)
         by (Some c) is = of c is (is_running c) refl
 
     -- one that ends, and isn't done, isn't whole, and is wanted stale
-    stale_then : (e : CopyEnd) → how ≡ Some e → is_done_end e ≡ false → (o : OpenCopy) → v.open_copy ≡ Some o → IsTrue (is_wanted_stale core o.target)
+    stale_then : (e : CopyEnd) → how ≡ Some e → is_done_end e ≡ false → (o : ModelCopy) → v.open_copy ≡ Some o → IsTrue (is_wanted_stale core o.target)
     stale_then e ends not_done o at =
         let r = found o at in
         let b = (running r.0 r.1 r.2).0 in
         ap (is_wanted_stale core) (b.target o at) ∙ by r.0 r.1 r.2 b (is_whole core1 r.0) refl
       where
-        by : (c : Bringing) → core.copy ≡ Some c → is_running c ≡ true → IsBrought core v c → (w : Bool) → is_whole core1 c ≡ w → is_wanted_stale core c.pp ≡ true
+        by : (c : OpenCopy) → core.copy ≡ Some c → is_running c ≡ true → IsBrought core v c → (w : Bool) → is_whole core1 c ≡ w → is_wanted_stale core c.pp ≡ true
         by c is runs b false part = b.part part
         by c is runs b true all = clash (is_done_end e) (ap is_done_end (whole_done c is runs e ends all).1) not_done
 
     still_wanted : (p : Pp) → is_wanted_stale core p ≡ true → IsTrue (calls_stale status.wanted p)
     still_wanted p is = review.marks.stale p ∙ or_true (is_wanted_stale core1 p) (is_entailed core1 p || marked_by_end core1 how p) (inl (stale_same p ∙ is))
 
-    open_same : (open_after how v.open_copy ≡ done) ⊎ ((open_after how v.open_copy ≡ None) × ((o : OpenCopy) → done ≡ Some o → IsTrue (calls_stale status.wanted o.target)))
+    open_same : (open_after how v.open_copy ≡ done) ⊎ ((open_after how v.open_copy ≡ None) × ((o : ModelCopy) → done ≡ Some o → IsTrue (calls_stale status.wanted o.target)))
     open_same = by how refl
       where
         of : (e : CopyEnd) → how ≡ Some e → (b : Bool) → is_done_end e ≡ b
-            → (◌≡◌ {A = Option OpenCopy} None (if b then None else v.open_copy)) ⊎ ((◌≡◌ {A = Option OpenCopy} None None) × ((o : OpenCopy) → (if b then None else v.open_copy) ≡ Some o → IsTrue (calls_stale status.wanted o.target)))
+            → (◌≡◌ {A = Option ModelCopy} None (if b then None else v.open_copy)) ⊎ ((◌≡◌ {A = Option ModelCopy} None None) × ((o : ModelCopy) → (if b then None else v.open_copy) ≡ Some o → IsTrue (calls_stale status.wanted o.target)))
         of e ends true is = inl refl
         of e ends false is = inr (refl, λ o at. still_wanted o.target (stale_then e ends is o at))
 
-        by : (m : Option CopyEnd) → how ≡ m → (open_after m v.open_copy ≡ done_after m v.open_copy) ⊎ ((open_after m v.open_copy ≡ None) × ((o : OpenCopy) → done_after m v.open_copy ≡ Some o → IsTrue (calls_stale status.wanted o.target)))
+        by : (m : Option CopyEnd) → how ≡ m → (open_after m v.open_copy ≡ done_after m v.open_copy) ⊎ ((open_after m v.open_copy ≡ None) × ((o : ModelCopy) → done_after m v.open_copy ≡ Some o → IsTrue (calls_stale status.wanted o.target)))
         by None ends = inl refl
         by (Some e) ends = of e ends (is_done_end e) refl
 
-    open_there : (o : OpenCopy) → open_after how v.open_copy ≡ Some o → IsFalse (v.missing o.target.disk)
+    open_there : (o : ModelCopy) → open_after how v.open_copy ≡ Some o → IsFalse (v.missing o.target.disk)
     open_there o = by how
       where
         by : (m : Option CopyEnd) → open_after m v.open_copy ≡ Some o → IsFalse (v.missing o.target.disk)
@@ -324,7 +324,7 @@ module _ (past : List Fact) (old new : Session) (index disk : ℕ) (ok : Bool) (
     wants_done = review_wants core1 cleared v.missing how status v.facts members (valid_of old tied.write tied.orderly) volumes shows sees_done keeps_done owners marked review.marks (open_after how v.open_copy) open_same open_there
 
     -- one that goes on is stale by the update, or wanted so
-    not_cleared : (o : OpenCopy) → v.open_copy ≡ Some o → (how ≡ None) ⊎ ((e : CopyEnd) × (how ≡ Some e) × (is_done_end e ≡ false)) → IsTrue (calls_stale t o.target) ⊎ IsTrue (v.wanted.stale o.target)
+    not_cleared : (o : ModelCopy) → v.open_copy ≡ Some o → (how ≡ None) ⊎ ((e : CopyEnd) × (how ≡ Some e) × (is_done_end e ≡ false)) → IsTrue (calls_stale t o.target) ⊎ IsTrue (v.wanted.stale o.target)
     not_cleared o at ends =
         let r = found o at in
         let b = (running r.0 r.1 r.2).0 in
@@ -336,20 +336,20 @@ module _ (past : List Fact) (old new : Session) (index disk : ℕ) (ok : Bool) (
         parts p false false true xs ys zs h = inr (ap (λ (m : Marks). m.stale p) wanted_seen ∙ zs)
         parts p false false false xs ys zs h = absurd (cc h)
 
-        of : (c : Bringing) → core.copy ≡ Some c → is_running c ≡ true → IsBrought core v c → (w : Bool) → is_whole core1 c ≡ w → (how ≡ None) ⊎ ((e : CopyEnd) × (how ≡ Some e) × (is_done_end e ≡ false))
+        of : (c : OpenCopy) → core.copy ≡ Some c → is_running c ≡ true → IsBrought core v c → (w : Bool) → is_whole core1 c ≡ w → (how ≡ None) ⊎ ((e : CopyEnd) × (how ≡ Some e) × (is_done_end e ≡ false))
             → IsTrue (calls_stale t c.pp) ⊎ IsTrue (v.wanted.stale c.pp)
         of c is runs b false part which = inr (ap (λ (m : Marks). m.stale c.pp) tied.sees.status.wanted ∙ b.part part)
         of c is runs b true all (inl none) = parts c.pp (is_stale core1 c.pp) (calls_stale (unwrap_or stored.in_flight stored.committed) c.pp) (is_wanted_stale core1 c.pp) refl refl refl ((goes_on core1 c runs (end_at c is ∙ none)).1 all)
         of c is runs b true all (inr some) = clash (is_done_end some.0) (ap is_done_end (whole_done c is runs some.0 some.1 all).1) some.2
 
     -- one that is done is fresh by the update
-    fresh_then : (e : CopyEnd) → how ≡ Some e → is_done_end e ≡ true → (o : OpenCopy) → v.open_copy ≡ Some o → IsFalse (calls_stale t o.target)
+    fresh_then : (e : CopyEnd) → how ≡ Some e → is_done_end e ≡ true → (o : ModelCopy) → v.open_copy ≡ Some o → IsFalse (calls_stale t o.target)
     fresh_then e ends is_done o at =
         let r = found o at in
         let b = (running r.0 r.1 r.2).0 in
         ap (calls_stale t) (b.target o at) ∙ of r.0 r.1 r.2 (is_whole core1 r.0) refl
       where
-        of : (c : Bringing) → core.copy ≡ Some c → is_running c ≡ true → (w : Bool) → is_whole core1 c ≡ w → calls_stale t c.pp ≡ false
+        of : (c : OpenCopy) → core.copy ≡ Some c → is_running c ≡ true → (w : Bool) → is_whole core1 c ≡ w → calls_stale t c.pp ≡ false
         of c is runs false part = clash (is_done_end e) is_done (part_ends core1 c runs e part (end_at c is ∙ ends))
         of c is runs true all =
             let d = whole_done c is runs e ends all in
@@ -360,19 +360,19 @@ module _ (past : List Fact) (old new : Session) (index disk : ℕ) (ok : Bool) (
     commits_so : Commits v1 (as_marks u) done
     commits_so = record { flies = flies; open_same = by_same how refl; open_done = by_done how refl }
       where
-        of_same : (e : CopyEnd) → how ≡ Some e → (b : Bool) → is_done_end e ≡ b → (o : OpenCopy) → (if b then None else v.open_copy) ≡ Some o → (v.open_copy ≡ Some o) × (IsTrue (calls_stale t o.target) ⊎ IsTrue (v.wanted.stale o.target))
+        of_same : (e : CopyEnd) → how ≡ Some e → (b : Bool) → is_done_end e ≡ b → (o : ModelCopy) → (if b then None else v.open_copy) ≡ Some o → (v.open_copy ≡ Some o) × (IsTrue (calls_stale t o.target) ⊎ IsTrue (v.wanted.stale o.target))
         of_same e ends true is o at = absurd (cc at)
         of_same e ends false is o at = (at, not_cleared o at (inr (e, ends, is)))
 
-        by_same : (m : Option CopyEnd) → how ≡ m → (o : OpenCopy) → done_after m v.open_copy ≡ Some o → (v.open_copy ≡ Some o) × (IsTrue (calls_stale t o.target) ⊎ IsTrue (v.wanted.stale o.target))
+        by_same : (m : Option CopyEnd) → how ≡ m → (o : ModelCopy) → done_after m v.open_copy ≡ Some o → (v.open_copy ≡ Some o) × (IsTrue (calls_stale t o.target) ⊎ IsTrue (v.wanted.stale o.target))
         by_same None ends o at = (at, not_cleared o at (inl ends))
         by_same (Some e) ends o at = of_same e ends (is_done_end e) refl o at
 
-        of_done : (e : CopyEnd) → how ≡ Some e → (b : Bool) → is_done_end e ≡ b → (o : OpenCopy) → v.open_copy ≡ Some o → ((if b then None else v.open_copy) ≡ Some o) ⊎ IsFalse (calls_stale t o.target)
+        of_done : (e : CopyEnd) → how ≡ Some e → (b : Bool) → is_done_end e ≡ b → (o : ModelCopy) → v.open_copy ≡ Some o → ((if b then None else v.open_copy) ≡ Some o) ⊎ IsFalse (calls_stale t o.target)
         of_done e ends true is o at = inr (fresh_then e ends is o at)
         of_done e ends false is o at = inl at
 
-        by_done : (m : Option CopyEnd) → how ≡ m → (o : OpenCopy) → v.open_copy ≡ Some o → (done_after m v.open_copy ≡ Some o) ⊎ IsFalse (calls_stale t o.target)
+        by_done : (m : Option CopyEnd) → how ≡ m → (o : ModelCopy) → v.open_copy ≡ Some o → (done_after m v.open_copy ≡ Some o) ⊎ IsFalse (calls_stale t o.target)
         by_done None ends o at = inl at
         by_done (Some e) ends o at = of_done e ends (is_done_end e) refl o at
 

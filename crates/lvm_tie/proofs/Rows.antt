@@ -7,8 +7,8 @@ use Rattle.lvm_kept.specs.Torn.{RecordWrite}
 use Rattle.lvm_hold.specs.declared.queue.Row.{Row}
 use Rattle.lvm_path.specs.declared.request.Phase.TheVariants as phase
 use Rattle.lvm_session.specs.declared.open.Open.{Open}
-use Rattle.lvm_session.specs.declared.bringing.OpenCopy.{OpenCopy as Bringing}
-use Rattle.lvm_session.specs.State.{Core, State as Session}
+use Rattle.lvm_session.specs.declared.bringing.OpenCopy.{OpenCopy}
+use Rattle.lvm_session.specs.State.{Core, State}
 use Rattle.lvm_session.specs.Judging.{held_of, is_waiting, place_of}
 use Rattle.lvm_session.specs.Bringing.{has_row, step_row}
 use Rattle.lvm_session.specs.Sound.{rows_of, waiting_rows, with_row}
@@ -18,7 +18,7 @@ use Rattle.lvm_tie.proofs.Orderly.{open_one}
 -- each that waits has its row, and one that doesn't has landed
 pub record HaveRows (core : Core) : Type 0 where
   pub requests : (k : ℕ) (o : Open) → slice_get core.requests k ≡ Some o → is_waiting o ≡ true → IsOneOf core.queue.rows (record { id = place_of o.request.id; ask = held_of o.request.ask })
-  pub a_step : (c : Bringing) → core.copy ≡ Some c → has_row core c ≡ true → IsOneOf core.queue.rows (step_row core c)
+  pub a_step : (c : OpenCopy) → core.copy ≡ Some c → has_row core c ≡ true → IsOneOf core.queue.rows (step_row core c)
   pub landed : (k : ℕ) (o : Open) → slice_get core.requests k ≡ Some o → is_waiting o ≡ false → o.request.phase ≡ phase.Landed
 
 among_rows : (o : Open) (os : List Open) (k : ℕ) → slice_get os k ≡ Some o → is_waiting o ≡ true → IsOneOf (waiting_rows os) (record { id = place_of o.request.id; ask = held_of o.request.ask })
@@ -55,18 +55,18 @@ with_row_keeps own row (r ∷ rows) one = by (nat_lt own.id r.id) one (with_row_
     by false (inl here) others = inl here
     by false (inr there) others = inr (others there)
 
-module _ (s : Session) (write : Option RecordWrite) (orderly : IsOrderly s write) where
+module _ (s : State) (write : Option RecordWrite) (orderly : IsOrderly s write) where
   queue_is : s.core.queue.rows ≡ rows_of s.core
   queue_is = (orderly.sound.on orderly.on).going.queue
 
   all_rows : (row : Row) → IsOneOf (waiting_rows s.core.requests) row → IsOneOf (rows_of s.core) row
   all_rows row one = by s.core.copy
     where
-      of : (c : Bringing) (b : Bool) → IsOneOf (if b then with_row (step_row s.core c) (waiting_rows s.core.requests) else waiting_rows s.core.requests) row
+      of : (c : OpenCopy) (b : Bool) → IsOneOf (if b then with_row (step_row s.core c) (waiting_rows s.core.requests) else waiting_rows s.core.requests) row
       of c true = with_row_keeps (step_row s.core c) row (waiting_rows s.core.requests) one
       of c false = one
 
-      by : (m : Option Bringing) → IsOneOf (option_map_or (λ (c : Bringing). if has_row s.core c then with_row (step_row s.core c) (waiting_rows s.core.requests) else waiting_rows s.core.requests) m (waiting_rows s.core.requests)) row
+      by : (m : Option OpenCopy) → IsOneOf (option_map_or (λ (c : OpenCopy). if has_row s.core c then with_row (step_row s.core c) (waiting_rows s.core.requests) else waiting_rows s.core.requests) m (waiting_rows s.core.requests)) row
       by None = one
       by (Some c) = of c (has_row s.core c)
 
@@ -74,7 +74,7 @@ module _ (s : Session) (write : Option RecordWrite) (orderly : IsOrderly s write
   rows_are = record {
     requests = λ k o there waits. subst (λ (rows : List Row). IsOneOf rows (record { id = place_of o.request.id; ask = held_of o.request.ask })) (sym queue_is) (all_rows (record { id = place_of o.request.id; ask = held_of o.request.ask }) (among_rows o s.core.requests k there waits));
     a_step = λ c is row. subst (λ (rows : List Row). IsOneOf rows (step_row s.core c)) (sym queue_is)
-        (subst (λ (m : Option Bringing). IsOneOf (option_map_or (λ (x : Bringing). if has_row s.core x then with_row (step_row s.core x) (waiting_rows s.core.requests) else waiting_rows s.core.requests) m (waiting_rows s.core.requests)) (step_row s.core c)) (sym is)
+        (subst (λ (m : Option OpenCopy). IsOneOf (option_map_or (λ (x : OpenCopy). if has_row s.core x then with_row (step_row s.core x) (waiting_rows s.core.requests) else waiting_rows s.core.requests) m (waiting_rows s.core.requests)) (step_row s.core c)) (sym is)
         (subst (λ b. IsOneOf (if b then with_row (step_row s.core c) (waiting_rows s.core.requests) else waiting_rows s.core.requests) (step_row s.core c)) (sym row) (with_row_has (step_row s.core c) (waiting_rows s.core.requests))));
     landed = λ k o there over. ((open_one s write orderly k o there).over over).phase_is;
   }

@@ -24,18 +24,18 @@ use Rattle.lvm_sched.specs.declared.writes.TargetState.{TargetState}
 use Rattle.lvm_sched.specs.declared.writes.TargetState.TheVariants as target
 use Rattle.lvm_path.specs.declared.target.Target.{Target}
 use Rattle.lvm_path.specs.Targets.{is_failed}
-use Rattle.lvm_session.specs.declared.bringing.OpenCopy.{OpenCopy as Bringing}
+use Rattle.lvm_session.specs.declared.bringing.OpenCopy.{OpenCopy}
 use Rattle.lvm_session.specs.declared.open.Open.{Open}
 use Rattle.lvm_session.specs.Bringing.{groups_of, is_whole}
 use Rattle.lvm_session.specs.Calls.{copy_at}
 use Rattle.lvm_session.specs.Judging.{copies_in, is_missing, is_running, is_stale, is_waiting, is_wanted_stale, place_of}
-use Rattle.lvm_session.specs.State.{Core, State as Session}
+use Rattle.lvm_session.specs.State.{Core, State}
 use Rattle.lvm_session.specs.Marks.{is_among}
 use Rattle.lvm_session.specs.Causes.{AreCaused, AreCounted, FailedSince, HasFailed as HasFailedSince, IsCaused, IsCopyCaused, IsCounted, faults_at_first, faults_at_opening, is_blamed, is_held_stale, was_usable}
 use Rattle.lvm_session.specs.Sound.{IsSound}
 use Rattle.lvm_invariant.specs.Caused.{FactIsCaused, HadNoCopy, LandingIsCaused, Since}
 use Rattle.lvm_invariant.specs.Faults.{Faults, HasCause, HasFailed}
-use Rattle.lvm_invariant.specs.State.{Badly, Marks, OpenCopy, Queued, State}
+use Rattle.lvm_invariant.specs.State.{Badly, Marks, ModelCopy, Queued, ModelState}
 use Rattle.lvm_crash.specs.Session.{as_marks}
 use Rattle.lvm_keeps_events.proofs.Counts.{rose_since}
 use Rattle.lvm_tie_shelf.proofs.Copies.{number_finds}
@@ -110,11 +110,11 @@ numbered test ps is = let at = any_there test ps is in (at.0 + 1, at.1, place_of
         let less : k + 1 - 1 ≡ k = omega arith in
         ap (λ b. if b then None else slice_get ps (k + 1 - 1)) some ∙ ap (slice_get ps) less
 
-module _ (past first : List Fact) (s : Session) (w : Faults) (tied : IsTied past s) (causes : HasCausesSince first s) (faults : AreFaultsOf past first s w) where
+module _ (past first : List Fact) (s : State) (w : Faults) (tied : IsTied past s) (causes : HasCausesSince first s) (faults : AreFaultsOf past first s w) where
   abbrev core : Core
   core = s.core
 
-  abbrev v : State
+  abbrev v : ModelState
   v = tied.view
 
   sound : IsSound s
@@ -181,23 +181,23 @@ module _ (past first : List Fact) (s : Session) (w : Faults) (tied : IsTied past
           let same : as_marks (record { stamp = core.status.stamp; value = t }) ≡ u = cc e in
           of_flight c (ap (λ (o : Option Status). calls_stale (unwrap_or o core.status.committed) c) some ∙ ap (λ (x : Stamped Marks). x.value.stale c) same ∙ is)
 
-  brought_up_is : (o : OpenCopy) → v.open_copy ≡ Some o → HasCause w o.target
+  brought_up_is : (o : ModelCopy) → v.open_copy ≡ Some o → HasCause w o.target
   brought_up_is o is_open = by core.copy refl tied.sees.open_copy
     where
-      stale_so : (c : Bringing) → core.copy ≡ Some c → is_running c ≡ true → is_stale core c.pp ≡ true
+      stale_so : (c : OpenCopy) → core.copy ≡ Some c → is_running c ≡ true → is_stale core c.pp ≡ true
       stale_so c is runs = whole (is_whole core c) refl
         where
           whole : (b : Bool) → is_whole core c ≡ b → is_stale core c.pp ≡ true
           whole true all = ((copy_is past s tied c is).clearing runs all).0
           whole false short = (and_both (is_stale core c.pp) (calls_stale (unwrap_or core.status.in_flight core.status.committed) c.pp) ((copy_is past s tied c is).stale runs short).0).0
 
-      running : (c : Bringing) → core.copy ≡ Some c → (b : Bool) → is_running c ≡ b → SeesRunning b (groups_of core) c v.open_copy → HasCause w o.target
+      running : (c : OpenCopy) → core.copy ≡ Some c → (b : Bool) → is_running c ≡ b → SeesRunning b (groups_of core) c v.open_copy → HasCause w o.target
       running c is true runs sees =
           let same : sees.copy ≡ o = (let e : Some sees.copy ≡ Some o = sym sees.is_open ∙ is_open in cc e) in
-          subst (HasCause w) (sym sees.target ∙ ap (λ (x : OpenCopy). x.target) same) (of_stale c.pp (stale_so c is runs))
+          subst (HasCause w) (sym sees.target ∙ ap (λ (x : ModelCopy). x.target) same) (of_stale c.pp (stale_so c is runs))
       running c is false over sees = absurd (let e : None ≡ Some o = sym sees ∙ is_open in cc e)
 
-      by : (m : Option Bringing) → core.copy ≡ m → SeesCopy (groups_of core) m v.open_copy → HasCause w o.target
+      by : (m : Option OpenCopy) → core.copy ≡ m → SeesCopy (groups_of core) m v.open_copy → HasCause w o.target
       by None none sees = absurd (let e : None ≡ Some o = sym sees ∙ is_open in cc e)
       by (Some c) is sees = running c is (is_running c) refl sees
 
@@ -221,12 +221,12 @@ module _ (past first : List Fact) (s : Session) (w : Faults) (tied : IsTied past
       (target_failed place o there c it)))
 
   -- a source that was tried in vain stands on a disk that has failed since the copy was opened
-  tried_failed : (copy : Bringing) → core.copy ≡ Some copy → (disk : ℕ) → has copy.tried disk ≡ true → Rose (w.asked copy.place disk) (w.now disk)
+  tried_failed : (copy : OpenCopy) → core.copy ≡ Some copy → (disk : ℕ) → has copy.tried disk ≡ true → Rose (w.asked copy.place disk) (w.now disk)
   tried_failed copy is_open disk tried =
       let copies = copies_in core.descriptor copy.lv copy.lp in
       let one = numbered (λ (p : Pp). not (is_pp p copy.pp) && p.disk == disk) copies ((copy_is past s tied copy is_open).tried disk tried) in
       let same : one.1.disk ≡ disk = eqb-true one.1.disk disk (and_both (not (is_pp one.1 copy.pp)) (one.1.disk == disk) one.3).1 in
-      let caused : IsCopyCaused s copies copy = subst (λ (m : Option Bringing). IfSome m (λ (x : Bringing). IsCopyCaused s (copies_in core.descriptor x.lv x.lp) x)) is_open sound.copy in
+      let caused : IsCopyCaused s copies copy = subst (λ (m : Option OpenCopy). IfSome m (λ (x : OpenCopy). IsCopyCaused s (copies_in core.descriptor x.lv x.lp) x)) is_open sound.copy in
       subst (λ d. Rose (w.asked copy.place d) (w.now d)) same
       (subst (Rose (w.asked copy.place one.1.disk)) (sym (faults.now one.1.disk))
       (rose_since (w.asked copy.place one.1.disk) (faults_at_opening copy one.0) (s.device.counts.faults one.1.disk) (faults.opened copy one.0 one.1 is_open one.2)
@@ -320,7 +320,7 @@ faults_are_there past first s sound = (
     asked_since = λ i d. omega arith;
     asked_before = λ i d. sound.origin.since d;
     asked = λ place o number t there at. (all_at (IsCounted s) o.request.targets.items number t (all_at (AreCounted s) s.core.requests place o sound.counted there) at).began;
-    opened = λ c number p is_open at. (subst (λ (m : Option Bringing). IfSome m (λ (x : Bringing). IsCopyCaused s (copies_in s.core.descriptor x.lv x.lp) x)) is_open sound.copy).began number p at;
+    opened = λ c number p is_open at. (subst (λ (m : Option OpenCopy). IfSome m (λ (x : OpenCopy). IsCopyCaused s (copies_in s.core.descriptor x.lv x.lp) x)) is_open sound.copy).began number p at;
     missing = λ d. refl;
     stale = λ p. refl;
     past_is = refl;

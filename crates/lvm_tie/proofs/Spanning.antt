@@ -10,7 +10,7 @@ use Rattle.lvm_num.specs.declared.status.Status.{Status}
 use Rattle.lvm_num.specs.Record.{Stamped}
 use Rattle.lvm_kept.specs.Torn.{RecordWrite}
 use Rattle.lvm_session.specs.declared.open.Power.TheVariants as power
-use Rattle.lvm_session.specs.State.{State as Session, state}
+use Rattle.lvm_session.specs.State.{State, state}
 use Rattle.lvm_session.specs.Sound.{IsSound}
 use Rattle.lvm_tie_shelf.specs.Owned.{OnlyUpdateSince}
 use Rattle.lvm_tie.specs.Seen.{update_of}
@@ -19,14 +19,14 @@ use Rattle.lvm_tie.proofs.Tied.{good_upholds, good_goes_on}
 use Rattle.lvm_tie.specs.GoingOn.{GoesOn}
 
 -- nothing happens
-pub goes_same : (run : ℕ) (old new : Session) → new ≡ old → GoesOn run old new
-goes_same run old new same = subst (λ (n : Session). GoesOn run old n) (sym same) (λ first good. (good, λ span. span))
+pub goes_same : (run : ℕ) (old new : State) → new ≡ old → GoesOn run old new
+goes_same run old new same = subst (λ (n : State). GoesOn run old n) (sym same) (λ first good. (good, λ span. span))
 
 -- one thing after another
-pub goes_then : (run : ℕ) (old mid new : Session) → GoesOn run old mid → GoesOn run mid new → GoesOn run old new
+pub goes_then : (run : ℕ) (old mid new : State) → GoesOn run old mid → GoesOn run mid new → GoesOn run old new
 goes_then run old mid new one two first good = let a = one first good in let b = two first a.0 in (b.0, λ span. b.1 (a.1 span))
 
-module _ (run : ℕ) (old new : Session) (tie : (past : List Fact) → IsTied past old → IsTied past new) where
+module _ (run : ℕ) (old new : State) (tie : (past : List Fact) → IsTied past old → IsTied past new) where
   -- neither the shelf nor the history changes, whatever the power is
   pub goes_still : (new.core.power ≡ power.On → old.core.power ≡ power.On) → new.device ≡ old.device → new.core.history.facts ≡ old.core.history.facts → GoesOn run old new
   goes_still was device facts first good = (λ on past begins. tie past (good (was on) past begins), good_goes_on.still run first old new device facts)
@@ -56,7 +56,7 @@ same_since device counts orders (Some w) (Some u) since =
     record { is_status = since.is_status; stamp = since.stamp; began = since.began; may = since.may; way = record { images = since.way.images; flights = since.way.flights } }
 
 -- what the shelf counts and the orders that it notes are none of the tie
-pub shelf_noted : (past : List Fact) (s : Session) (counts : Counts) (orders : Orders) → IsTied past s → IsSound (state (record s.device { counts = counts; orders = orders }) s.core) → IsTied past (state (record s.device { counts = counts; orders = orders }) s.core)
+pub shelf_noted : (past : List Fact) (s : State) (counts : Counts) (orders : Orders) → IsTied past s → IsSound (state (record s.device { counts = counts; orders = orders }) s.core) → IsTied past (state (record s.device { counts = counts; orders = orders }) s.core)
 shelf_noted past s counts orders tied sound = record {
   votes = tied.votes;
   media = tied.media;
@@ -74,5 +74,5 @@ shelf_noted past s counts orders tied sound = record {
   carry = tied.carry;
 }
 
-pub counted : (past : List Fact) (s : Session) (counts : Counts) → IsTied past s → IsSound (state (record s.device { counts = counts }) s.core) → IsTied past (state (record s.device { counts = counts }) s.core)
+pub counted : (past : List Fact) (s : State) (counts : Counts) → IsTied past s → IsSound (state (record s.device { counts = counts }) s.core) → IsTied past (state (record s.device { counts = counts }) s.core)
 counted past s counts = shelf_noted past s counts s.device.orders

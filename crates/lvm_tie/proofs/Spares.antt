@@ -24,7 +24,7 @@ use Rattle.lvm_mwc.specs.Cache.{after_end as after_note_end}
 use Rattle.lvm_status.specs.Update.{Stored, Updates}
 use Rattle.lvm_homes.specs.declared.homes.Homes.{Homes}
 use Rattle.lvm_homes.specs.Homes.{next_slot}
-use Rattle.lvm_commit.proofs.Slots.{slot_for_same}
+use Rattle.lvm_rec.proofs.NextLemmas.{slot_for_same}
 use Rattle.lvm_path.specs.declared.ask.Ask.{Ask}
 use Rattle.lvm_session.specs.declared.answers.AskFault.{AskFault}
 use Rattle.lvm_session.specs.declared.answers.CopyFault.{CopyFault}
@@ -42,7 +42,7 @@ use Rattle.lvm_session.specs.declared.event.Event.TheVariants as event
 use Rattle.lvm_session.specs.declared.flown.Owner.{Owner}
 use Rattle.lvm_session.specs.declared.flown.Owner.TheVariants as owner
 use Rattle.lvm_session.specs.declared.open.Open.{Open}
-use Rattle.lvm_session.specs.State.{Core, State as Session, is_there, state}
+use Rattle.lvm_session.specs.State.{Core, State, is_there, state}
 use Rattle.lvm_session.specs.Bringing.{after_copy_end, copy_ends, is_whole, with_end}
 use Rattle.lvm_session.specs.Calls.{OpenGives, Opens, SubmitGives, TakeAt, TakeGives, TakesLanded, ask_fault, copy_fault, is_asked, submitted}
 use Rattle.lvm_session.specs.Dark.{all_dark, is_cut}
@@ -225,8 +225,8 @@ begun_wants : (old begun : Stored) → Begins old begun → begun.wanted ≡ old
 begun_wants old begun (inl same) = ap (λ (s : Stored). s.wanted) same.1
 begun_wants old begun (inr starts) = ap (λ (u : Updates). u.wanted) starts.1
 
-status_starts : (old new : Session) → StartsStatus old new → Stays old.core new.core
-status_starts old new made = of_wanted old.core new.core (ap (λ (s : Session). kept s.core) made.is) (ap (λ (u : Updates). u.wanted) made.started ∙ begun_wants old.core.status made.begun made.begins)
+status_starts : (old new : State) → StartsStatus old new → Stays old.core new.core
+status_starts old new made = of_wanted old.core new.core (ap (λ (s : State). kept s.core) made.is) (ap (λ (u : Updates). u.wanted) made.started ∙ begun_wants old.core.status made.begun made.begins)
 
 -- ---- both
 
@@ -235,7 +235,7 @@ slots_in : (slot s : ℕ) → slot < 2 → slot_start kind.Descriptor slot ≤ s
 slots_in slot s two low high = (omega arith, omega arith)
 
 -- where the slots hold what they held, what spared the newest ones spares them
-spares_on : (old new : Session) → Stays old.core new.core → BothTold old.device.media new.device.media SameSlots → SparesDescriptors old → SparesDescriptors new
+spares_on : (old new : State) → Stays old.core new.core → BothTold old.device.media new.device.media SameSlots → SparesDescriptors old → SparesDescriptors new
 spares_on old new stays same spares = by old.device.media new.device.media same spares
   where
     by : (m n : Option Media) → BothTold m n SameSlots → IfSome m (SparesOn old.core) → IfSome n (SparesOn new.core)
@@ -248,7 +248,7 @@ spares_on old new stays same spares = by old.device.media new.device.media same 
 
 -- ---- a turn
 
-module _ (old new : Session) (outside : LeavesDescriptors old.device) (spares : SparesDescriptors old) where
+module _ (old new : State) (outside : LeavesDescriptors old.device) (spares : SparesDescriptors old) where
   stays_still : Stays old.core new.core → new.device ≡ old.device → SparesDescriptors new
   stays_still stays is = spares_on old new stays (same_media old.device.media new.device.media (ap (λ (d : Device). d.media) is)) spares
 
@@ -263,14 +263,14 @@ module _ (old new : Session) (outside : LeavesDescriptors old.device) (spares : 
   dirty_stays true lv dirty is = of_kept old.core new.core is (λ d gone. sym (dirty.wants.missing d) ∙ gone)
 
   event_spares : (it : Event) → Makes it old new → SparesDescriptors new
-  event_spares (event.Land place how) made = all_still (ap (λ (s : Session). s.device) made.is) (ap (λ (s : Session). still s.core) made.is)
-  event_spares (event.Admit place) made = stays_still (dirty_stays _ _ made.dirty (ap (λ (s : Session). kept s.core) made.is)) (ap (λ (s : Session). s.device) made.is)
-  event_spares (event.Pin place) made = all_still (ap (λ (s : Session). s.device) made.is) (ap (λ (s : Session). still s.core) made.is)
+  event_spares (event.Land place how) made = all_still (ap (λ (s : State). s.device) made.is) (ap (λ (s : State). still s.core) made.is)
+  event_spares (event.Admit place) made = stays_still (dirty_stays _ _ made.dirty (ap (λ (s : State). kept s.core) made.is)) (ap (λ (s : State). s.device) made.is)
+  event_spares (event.Pin place) made = all_still (ap (λ (s : State). s.device) made.is) (ap (λ (s : State). still s.core) made.is)
   event_spares event.StartStatus made = started made.flight made.launches.starts (status_starts old new made)
-  event_spares (event.StartNote place disk) made = started made.flight made.launches.starts (of_still old.core new.core (ap (λ (s : Session). still s.core) made.is))
-  event_spares (event.StartData place target) made = started made.flight made.launches.starts (of_still old.core new.core (ap (λ (s : Session). still s.core) made.is))
-  event_spares event.ReadCopy made = started made.flight made.launches.starts (of_still old.core new.core (ap (λ (s : Session). still s.core) made.is))
-  event_spares event.WriteCopy made = started made.flight made.starts (of_still old.core new.core (ap (λ (s : Session). still s.core) made.is))
+  event_spares (event.StartNote place disk) made = started made.flight made.launches.starts (of_still old.core new.core (ap (λ (s : State). still s.core) made.is))
+  event_spares (event.StartData place target) made = started made.flight made.launches.starts (of_still old.core new.core (ap (λ (s : State). still s.core) made.is))
+  event_spares event.ReadCopy made = started made.flight made.launches.starts (of_still old.core new.core (ap (λ (s : State). still s.core) made.is))
+  event_spares event.WriteCopy made = started made.flight made.starts (of_still old.core new.core (ap (λ (s : State). still s.core) made.is))
 
   end_spares : (at : ℕ) → Ends old new at → SparesDescriptors new
   end_spares at it = spares_on old new (learned_stays it.row.owner it.ok old.core new.core at it.buf it.learns) (by it.ok it.returns.ends) spares
@@ -285,9 +285,9 @@ module _ (old new : Session) (outside : LeavesDescriptors old.device) (spares : 
   finish_spares : (answer : Turned) → FinishMakes old new answer → SparesDescriptors new
   finish_spares turned.Moved made = end_spares made.0 made.1
   finish_spares turned.Idle (inl finds) = spares_on old new (of_still old.core new.core (ap still finds.is)) (step_slots old.device new.device outside (Waited finds.waits)) spares
-  finish_spares turned.Idle (inr nothing) = all_still (ap (λ (s : Session). s.device) nothing.is) (ap (λ (s : Session). still s.core) nothing.is)
+  finish_spares turned.Idle (inr nothing) = all_still (ap (λ (s : State). s.device) nothing.is) (ap (λ (s : State). still s.core) nothing.is)
   finish_spares turned.Dark made = dark_spares made.1
-  finish_spares turned.Off made = all_still (ap (λ (s : Session). s.device) made.is) (ap (λ (s : Session). still s.core) made.is)
+  finish_spares turned.Off made = all_still (ap (λ (s : State). s.device) made.is) (ap (λ (s : State). still s.core) made.is)
 
   on_spares : (answer : Turned) → OnMakes old new answer → SparesDescriptors new
   on_spares answer (Moves it event made is) = event_spares it made
@@ -295,8 +295,8 @@ module _ (old new : Session) (outside : LeavesDescriptors old.device) (spares : 
   on_spares answer (Finishes none made) = finish_spares answer made
 
   turn_spares : (answer : Turned) → TurnMakes old new answer → SparesDescriptors new
-  turn_spares answer (WasDark dark is same) = all_still (ap (λ (s : Session). s.device) same) (ap (λ (s : Session). still s.core) same)
-  turn_spares answer (WasOff off is same) = all_still (ap (λ (s : Session). s.device) same) (ap (λ (s : Session). still s.core) same)
+  turn_spares answer (WasDark dark is same) = all_still (ap (λ (s : State). s.device) same) (ap (λ (s : State). still s.core) same)
+  turn_spares answer (WasOff off is same) = all_still (ap (λ (s : State). s.device) same) (ap (λ (s : State). still s.core) same)
   turn_spares answer (WasOn on made) = on_spares answer made
 
   -- ---- an order
@@ -320,7 +320,7 @@ turn_spares_descriptors old new answer outside made spares = turn_spares old new
 
 -- ---- the calls of a client
 
-module _ (s : Session) (new : Core) (spares : SparesDescriptors s) where
+module _ (s : State) (new : Core) (spares : SparesDescriptors s) where
   same_spares : still new ≡ still s.core → SparesDescriptors (state s.device new)
   same_spares same = spares_on s (state s.device new) (of_still s.core new same) (same_media s.device.media s.device.media refl) spares
 

@@ -54,7 +54,7 @@ use Rattle.lvm_session.specs.declared.flown.Owner.{Owner}
 use Rattle.lvm_session.specs.declared.flown.Owner.TheVariants as owner
 use Rattle.lvm_session.specs.declared.open.Open.{Open}
 use Rattle.lvm_session.specs.declared.open.Power.TheVariants as power
-use Rattle.lvm_session.specs.State.{Core, State as Session}
+use Rattle.lvm_session.specs.State.{Core, State}
 use Rattle.lvm_session.specs.Bringing.{is_whole}
 use Rattle.lvm_session.specs.Calls.{OpenGives, Opens, SubmitGives, TakeAt, TakeGives, TakesLanded, ask_fault, copy_fault, is_asked, submitted}
 use Rattle.lvm_session.specs.Dark.{all_dark, is_cut, landings}
@@ -158,7 +158,7 @@ same_epoch : (old new : Stored) → new ≡ old → KeepsEpoch old new
 same_epoch old new same = of_goes old new (at_once old new same)
 
 -- an update begins under the next stamp
-start_epoch : (old new : Session) → StartsStatus old new → KeepsEpoch old.core.status new.core.status
+start_epoch : (old new : State) → StartsStatus old new → KeepsEpoch old.core.status new.core.status
 start_epoch old new made = by made.begins
   where
     by : Begins old.core.status made.begun → KeepsEpoch old.core.status new.core.status
@@ -175,7 +175,7 @@ start_epoch old new made = by made.begins
           };
         }
 
-module _ (old new : Session) where
+module _ (old new : State) where
   dirty_epoch : (is : Bool) (lv : ℕ) → WantsDirtyIf is lv old.core.status new.core.status → KeepsEpoch old.core.status new.core.status
   dirty_epoch false lv same = same_epoch old.core.status new.core.status same
   dirty_epoch true lv dirty = of_goes old.core.status new.core.status
@@ -185,14 +185,14 @@ module _ (old new : Session) where
   still_epoch same = same_epoch old.core.status new.core.status same
 
   event_epoch : (it : Event) → Makes it old new → KeepsEpoch old.core.status new.core.status
-  event_epoch (event.Land place how) made = still_epoch (ap (λ (s : Session). s.core.status) made.is)
+  event_epoch (event.Land place how) made = still_epoch (ap (λ (s : State). s.core.status) made.is)
   event_epoch (event.Admit place) made = dirty_epoch _ _ made.dirty
-  event_epoch (event.Pin place) made = still_epoch (ap (λ (s : Session). s.core.status) made.is)
+  event_epoch (event.Pin place) made = still_epoch (ap (λ (s : State). s.core.status) made.is)
   event_epoch event.StartStatus made = start_epoch old new made
-  event_epoch (event.StartNote place disk) made = still_epoch (ap (λ (s : Session). s.core.status) made.is)
-  event_epoch (event.StartData place target) made = still_epoch (ap (λ (s : Session). s.core.status) made.is)
-  event_epoch event.ReadCopy made = still_epoch (ap (λ (s : Session). s.core.status) made.is)
-  event_epoch event.WriteCopy made = still_epoch (ap (λ (s : Session). s.core.status) made.is)
+  event_epoch (event.StartNote place disk) made = still_epoch (ap (λ (s : State). s.core.status) made.is)
+  event_epoch (event.StartData place target) made = still_epoch (ap (λ (s : State). s.core.status) made.is)
+  event_epoch event.ReadCopy made = still_epoch (ap (λ (s : State). s.core.status) made.is)
+  event_epoch event.WriteCopy made = still_epoch (ap (λ (s : State). s.core.status) made.is)
 
   dark_is : Darkens old new → new.core.power ≡ power.Dark
   dark_is it = ap (λ (c : Core). c.power) it.is
@@ -200,9 +200,9 @@ module _ (old new : Session) where
   finish_epoch : (new.core.power ≡ power.Dark → ⊥) → (answered : Turned) → FinishMakes old new answered → KeepsEpoch old.core.status new.core.status
   finish_epoch lit turned.Moved made = of_goes old.core.status new.core.status (learned_goes made.1.row.owner made.1.ok old.core new.core made.0 made.1.buf made.1.learns)
   finish_epoch lit turned.Idle (inl finds) = still_epoch (ap (λ (c : Core). c.status) finds.is)
-  finish_epoch lit turned.Idle (inr nothing) = still_epoch (ap (λ (s : Session). s.core.status) nothing.is)
+  finish_epoch lit turned.Idle (inr nothing) = still_epoch (ap (λ (s : State). s.core.status) nothing.is)
   finish_epoch lit turned.Dark made = absurd (lit (dark_is made.1))
-  finish_epoch lit turned.Off made = still_epoch (ap (λ (s : Session). s.core.status) made.is)
+  finish_epoch lit turned.Off made = still_epoch (ap (λ (s : State). s.core.status) made.is)
 
   on_epoch : (new.core.power ≡ power.Dark → ⊥) → (answered : Turned) → OnMakes old new answered → KeepsEpoch old.core.status new.core.status
   on_epoch lit answered (Moves it event made is) = event_epoch it made
@@ -210,8 +210,8 @@ module _ (old new : Session) where
   on_epoch lit answered (Finishes none made) = finish_epoch lit answered made
 
 pub turn_keeps_epoch : TurnKeepsEpoch
-turn_keeps_epoch old new answered (WasDark dark is same) lit = still_epoch old new (ap (λ (s : Session). s.core.status) same)
-turn_keeps_epoch old new answered (WasOff off is same) lit = still_epoch old new (ap (λ (s : Session). s.core.status) same)
+turn_keeps_epoch old new answered (WasDark dark is same) lit = still_epoch old new (ap (λ (s : State). s.core.status) same)
+turn_keeps_epoch old new answered (WasOff off is same) lit = still_epoch old new (ap (λ (s : State). s.core.status) same)
 turn_keeps_epoch old new answered (WasOn on made) lit = on_epoch old new lit answered made
 
 -- ---- the history
@@ -235,7 +235,7 @@ dark_later moment old new middle same is was =
     by true = later_joins moment old.history.facts (Cut ∷ []) was tt
     by false = was
 
-module _ (moment : ℕ) (old new : Session) (was : IsLater old.core.history.facts moment) where
+module _ (moment : ℕ) (old new : State) (was : IsLater old.core.history.facts moment) where
   same_later : new.core.history.facts ≡ old.core.history.facts → IsLater new.core.history.facts moment
   same_later same = subst (λ (fs : List Fact). IsLater fs moment) (sym same) was
 
@@ -243,21 +243,21 @@ module _ (moment : ℕ) (old new : Session) (was : IsLater old.core.history.fact
   cut_later it = dark_later moment old.core new.core (record old.core { status = new.core.status; cache = new.core.cache }) refl it.is was
 
   event_later : (it : Event) → Makes it old new → IsLater new.core.history.facts moment
-  event_later (event.Land place how) made = subst (λ (fs : List Fact). IsLater fs moment) (sym (ap (λ (s : Session). s.core.history.facts) made.is)) (later_joins moment old.core.history.facts _ was tt)
-  event_later (event.Admit place) made = same_later (ap (λ (s : Session). s.core.history.facts) made.is)
-  event_later (event.Pin place) made = same_later (ap (λ (s : Session). s.core.history.facts) made.is)
-  event_later event.StartStatus made = same_later (ap (λ (s : Session). s.core.history.facts) made.is)
-  event_later (event.StartNote place disk) made = same_later (ap (λ (s : Session). s.core.history.facts) made.is)
-  event_later (event.StartData place target) made = same_later (ap (λ (s : Session). s.core.history.facts) made.is)
-  event_later event.ReadCopy made = same_later (ap (λ (s : Session). s.core.history.facts) made.is)
-  event_later event.WriteCopy made = same_later (ap (λ (s : Session). s.core.history.facts) made.is)
+  event_later (event.Land place how) made = subst (λ (fs : List Fact). IsLater fs moment) (sym (ap (λ (s : State). s.core.history.facts) made.is)) (later_joins moment old.core.history.facts _ was tt)
+  event_later (event.Admit place) made = same_later (ap (λ (s : State). s.core.history.facts) made.is)
+  event_later (event.Pin place) made = same_later (ap (λ (s : State). s.core.history.facts) made.is)
+  event_later event.StartStatus made = same_later (ap (λ (s : State). s.core.history.facts) made.is)
+  event_later (event.StartNote place disk) made = same_later (ap (λ (s : State). s.core.history.facts) made.is)
+  event_later (event.StartData place target) made = same_later (ap (λ (s : State). s.core.history.facts) made.is)
+  event_later event.ReadCopy made = same_later (ap (λ (s : State). s.core.history.facts) made.is)
+  event_later event.WriteCopy made = same_later (ap (λ (s : State). s.core.history.facts) made.is)
 
   finish_later : (answered : Turned) → FinishMakes old new answered → IsLater new.core.history.facts moment
   finish_later turned.Moved made = same_later (ap (λ (g : Ground). g.2) (learned_same made.1.row.owner made.1.ok old.core new.core made.0 made.1.buf made.1.learns))
   finish_later turned.Idle (inl finds) = same_later (ap (λ (c : Core). c.history.facts) finds.is)
-  finish_later turned.Idle (inr nothing) = same_later (ap (λ (s : Session). s.core.history.facts) nothing.is)
+  finish_later turned.Idle (inr nothing) = same_later (ap (λ (s : State). s.core.history.facts) nothing.is)
   finish_later turned.Dark made = cut_later made.1
-  finish_later turned.Off made = subst (λ (fs : List Fact). IsLater fs moment) (sym (ap (λ (s : Session). s.core.history.facts) made.is))
+  finish_later turned.Off made = subst (λ (fs : List Fact). IsLater fs moment) (sym (ap (λ (s : State). s.core.history.facts) made.is))
       (later_joins moment old.core.history.facts (landings outcome.Off old.core.history.facts old.core.requests) was (landings_later moment outcome.Off old.core.history.facts old.core.requests))
 
   on_later : (answered : Turned) → OnMakes old new answered → IsLater new.core.history.facts moment
@@ -266,8 +266,8 @@ module _ (moment : ℕ) (old new : Session) (was : IsLater old.core.history.fact
   on_later answered (Finishes none made) = finish_later answered made
 
 pub turn_is_earlier : TurnIsEarlier
-turn_is_earlier moment old new answered (WasDark dark is same) was = same_later moment old new was (ap (λ (s : Session). s.core.history.facts) same)
-turn_is_earlier moment old new answered (WasOff off is same) was = same_later moment old new was (ap (λ (s : Session). s.core.history.facts) same)
+turn_is_earlier moment old new answered (WasDark dark is same) was = same_later moment old new was (ap (λ (s : State). s.core.history.facts) same)
+turn_is_earlier moment old new answered (WasOff off is same) was = same_later moment old new was (ap (λ (s : State). s.core.history.facts) same)
 turn_is_earlier moment old new answered (WasOn on made) was = on_later moment old new was answered made
 
 -- ---- what is left
@@ -311,7 +311,7 @@ some_status : (a b : Status) → Some a ≡ Some b → a ≡ b
 some_status a b e = cc
 
 -- the status that is written is valid
-module _ (old new : Session) (made : StartsStatus old new) (valid : AreValid old.core.status) where
+module _ (old new : State) (made : StartsStatus old new) (valid : AreValid old.core.status) where
   pub valid_started : IsValidStatus made.status
   valid_started = by made.begins
     where
@@ -328,7 +328,7 @@ module _ (old new : Session) (made : StartsStatus old new) (valid : AreValid old
           subst IsValidStatus (some_status old.core.status.wanted made.status (sym (ap (λ (x : Updates). x.in_flight) is) ∙ made.flies)) valid.wanted
 
 -- the write of an update is one of the session's moment
-module _ (moment : ℕ) (old new : Session) (made : StartsStatus old new) (on : new.core.power ≡ power.On) (sound : IsSound new) (stamped : IsStamped old.core.status) (valid : AreValid old.core.status)
+module _ (moment : ℕ) (old new : State) (made : StartsStatus old new) (on : new.core.power ≡ power.On) (sound : IsSound new) (stamped : IsStamped old.core.status) (valid : AreValid old.core.status)
     (earlier : old.core.status.stamp.epoch < moment) where
   abbrev f : Flight
   f = made.flight
@@ -378,7 +378,7 @@ module _ (moment : ℕ) (old new : Session) (made : StartsStatus old new) (on : 
         };
       })
 
-module _ (moment : ℕ) (old new : Session) (was_sound : IsSound old) (sound : IsSound new) (stamped : IsStamped old.core.status) (valid : AreValid old.core.status) (earlier : old.core.status.stamp.epoch < moment)
+module _ (moment : ℕ) (old new : State) (was_sound : IsSound old) (sound : IsSound new) (stamped : IsStamped old.core.status) (valid : AreValid old.core.status) (earlier : old.core.status.stamp.epoch < moment)
     (before : LeavesBefore (beginning_at moment) old.device) where
   still_left : new.device ≡ old.device → LeavesBefore (beginning_at moment) new.device
   still_left same = same_left (beginning_at moment) old.device new.device same before
@@ -395,10 +395,10 @@ module _ (moment : ℕ) (old new : Session) (was_sound : IsSound old) (sound : I
       omega (arith, sector)
 
   event_left : old.core.power ≡ power.On → (it : Event) → Makes it old new → LeavesBefore (beginning_at moment) new.device
-  event_left on (event.Land place how) made = still_left (ap (λ (s : Session). s.device) made.is)
-  event_left on (event.Admit place) made = still_left (ap (λ (s : Session). s.device) made.is)
-  event_left on (event.Pin place) made = still_left (ap (λ (s : Session). s.device) made.is)
-  event_left on event.StartStatus made = started_left made.flight made.launches.starts (status_brings moment old new made (ap (λ (s : Session). s.core.power) made.is ∙ on) sound stamped valid earlier)
+  event_left on (event.Land place how) made = still_left (ap (λ (s : State). s.device) made.is)
+  event_left on (event.Admit place) made = still_left (ap (λ (s : State). s.device) made.is)
+  event_left on (event.Pin place) made = still_left (ap (λ (s : State). s.device) made.is)
+  event_left on event.StartStatus made = started_left made.flight made.launches.starts (status_brings moment old new made (ap (λ (s : State). s.core.power) made.is ∙ on) sound stamped valid earlier)
   event_left on (event.StartNote place disk) made = started_left made.flight made.launches.starts (note_brings (beginning_at moment) made.flight made.writes.first made.writes.count)
   event_left on (event.StartData place target) made = started_left made.flight made.launches.starts
       (data_brings (beginning_at moment) made.flight (subst (λ n. data_start ≤ n) (sym made.moves.first) (data_low on place target made.its.request made.its.there waits made.its.aim made.its.aim_is)))
@@ -418,9 +418,9 @@ module _ (moment : ℕ) (old new : Session) (was_sound : IsSound old) (sound : I
   finish_left : (answered : Turned) → FinishMakes old new answered → LeavesBefore (beginning_at moment) new.device
   finish_left turned.Moved made = end_left made.0 made.1
   finish_left turned.Idle (inl finds) = no_more_left (beginning_at moment) old.device new.device (λ image may. subst (λ (d : Device). MayLeave d image) finds.waits.new_is may) before
-  finish_left turned.Idle (inr nothing) = still_left (ap (λ (s : Session). s.device) nothing.is)
+  finish_left turned.Idle (inr nothing) = still_left (ap (λ (s : State). s.device) nothing.is)
   finish_left turned.Dark made = dark_left (beginning_at moment) old.device new.device made.1.device before
-  finish_left turned.Off made = still_left (ap (λ (s : Session). s.device) made.is)
+  finish_left turned.Off made = still_left (ap (λ (s : State). s.device) made.is)
 
   on_left : old.core.power ≡ power.On → (answered : Turned) → OnMakes old new answered → LeavesBefore (beginning_at moment) new.device
   on_left on answered (Moves it event made is) = event_left on it made
@@ -428,8 +428,8 @@ module _ (moment : ℕ) (old new : Session) (was_sound : IsSound old) (sound : I
   on_left on answered (Finishes none made) = finish_left answered made
 
   turn_left : (answered : Turned) → TurnMakes old new answered → LeavesBefore (beginning_at moment) new.device
-  turn_left answered (WasDark dark is same) = still_left (ap (λ (s : Session). s.device) same)
-  turn_left answered (WasOff off is same) = still_left (ap (λ (s : Session). s.device) same)
+  turn_left answered (WasDark dark is same) = still_left (ap (λ (s : State). s.device) same)
+  turn_left answered (WasOff off is same) = still_left (ap (λ (s : State). s.device) same)
   turn_left answered (WasOn on made) = on_left on answered made
 
 pub turn_leaves_before : TurnLeavesBefore
@@ -470,7 +470,7 @@ module _ (old new : Core) where
       by None it = record { status = ap (λ (c : Core). c.status) it.1.is; later = λ moment was. subst (λ (fs : List Fact). IsLater fs moment) (sym (ap (λ (c : Core). c.history.facts) it.1.is)) was }
       by (Some why) it = same_of it.1
 
-arrange_stays : (old new : Session) (what : Arrange) (done : Bool) → Arranges old new what done → StaysOf old.core new.core
+arrange_stays : (old new : State) (what : Arrange) (done : Bool) → Arranges old new what done → StaysOf old.core new.core
 arrange_stays old new what done it = by (done && is_cut what) it.is
   where
     by : (b : Bool) → new.core ≡ (if b then all_dark old.core else old.core) → StaysOf old.core new.core

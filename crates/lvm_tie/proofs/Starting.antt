@@ -29,10 +29,10 @@ use Rattle.lvm_path.specs.Asks.{lv_of, at_of, is_write}
 use Rattle.lvm_path.specs.Targets.{is_begun}
 use Rattle.lvm_path.specs.Next.{next_write, next_chosen, next_data, next_read, next_in, next_of}
 use Rattle.lvm_session.specs.declared.open.Open.{Open}
-use Rattle.lvm_session.specs.State.{Core, State as Session, is_there}
+use Rattle.lvm_session.specs.State.{Core, State, is_there}
 use Rattle.lvm_session.specs.Judging.{copies_for, group_in, group_of, mode_of, is_usable, is_caught, is_missing, is_wanted_stale, is_settled, aims, pps_of, same_pps, has_names, has_dirty_mark, place_of, facts_of, IsWithin}
 use Rattle.lvm_session.specs.Enabled.{target_due, target_next}
-use Rattle.lvm_invariant.specs.State.{Stage, Todo, Ready, Groups, Marks, Queued, State, is_usable as sees_usable, is_settled_stale, HasPassed}
+use Rattle.lvm_invariant.specs.State.{Stage, Todo, Ready, Groups, Marks, Queued, ModelState, is_usable as sees_usable, is_settled_stale, HasPassed}
 use Rattle.lvm_invariant.specs.StartWrite.{MayStart}
 use Rattle.lvm_keeps.proofs.Noting.{first_start_is_noted}
 use Rattle.lvm_tie_shelf.proofs.Writing.{and_both}
@@ -116,11 +116,11 @@ start_tells k r number writes early is = by r.phase refl is
 
 -- ---- the start
 
-module _ (past : List Fact) (s : Session) (tied : IsTied past s) (o : Open) (number : ℕ) (t : Target) (q : Queued)
+module _ (past : List Fact) (s : State) (tied : IsTied past s) (o : Open) (number : ℕ) (t : Target) (q : Queued)
     (place : ℕ) (here : slice_get s.core.requests place ≡ Some o)
     (writes : is_write o.request.ask ≡ true) (early : is_begun o.request.targets.items ≡ false) (due : target_due s.core o ≡ Some number) (aim : slice_get o.request.targets.items number ≡ Some t)
     (there : tied.view.queue (place_of o.request.id) ≡ Some q) (sees : SeesRequest o q) where
-  abbrev v : State
+  abbrev v : ModelState
   v = tied.view
 
   abbrev core : Core

@@ -30,16 +30,16 @@ use Rattle.lvm_status.specs.Calls.{with_update, with_start}
 use Rattle.lvm_session.specs.declared.flown.Flown.{Flown}
 use Rattle.lvm_session.specs.declared.flown.Owner.{Owner}
 use Rattle.lvm_session.specs.declared.flown.Owner.TheVariants as owner
-use Rattle.lvm_session.specs.State.{Core, State as Session, state, is_there}
+use Rattle.lvm_session.specs.State.{Core, State, state, is_there}
 use Rattle.lvm_session.specs.Events.{StartsStatus, flown}
 use Rattle.lvm_session.specs.Sound.{IsSound}
-use Rattle.lvm_invariant.specs.State.{Marks, State}
+use Rattle.lvm_invariant.specs.State.{Marks, ModelState}
 use Rattle.lvm_invariant.specs.Found.{Votes}
 use Rattle.lvm_invariant.specs.Good.{Good}
 use Rattle.lvm_invariant.specs.MoveStatus.{moved}
 use Rattle.lvm_invariant.specs.Events.{MoveStatus}
 use Rattle.lvm_invariant.proofs.Each.{each_keeps}
-use Rattle.lvm_crash.specs.Session.{marks_of, as_marks, members_there, Describes}
+use Rattle.lvm_crash.specs.Session.{marks_of, as_marks, members_showing, Describes}
 use Rattle.lvm_tie_shelf.proofs.Flying.{of_one}
 use Rattle.lvm_tie_shelf.proofs.Owned.{What, what, Data, OfStep, OfNote, OfUpdate, in_slots}
 use Rattle.lvm_tie_shelf.proofs.Quiet.{quiet_lasts, updates_last, update_goes_on}
@@ -75,7 +75,7 @@ none_since device (Some w) None since is = absurd since
 none_since device (Some w) (Some u) since is = absurd cc
 
 -- nothing of the session but an update goes into the slots of statuses
-pub nothing_out : (past : List Fact) (old : Session) (tied : IsTied past old) (w : RecordWrite) → w.kind ≡ kind.Status → tied.write ≡ None → (d s : ℕ) (x : Sector) → IsInFlight old.device.flights d s x → IsOtherOrRecord w d s x
+pub nothing_out : (past : List Fact) (old : State) (tied : IsTied past old) (w : RecordWrite) → w.kind ≡ kind.Status → tied.write ≡ None → (d s : ℕ) (x : Sector) → IsInFlight old.device.flights d s x → IsOtherOrRecord w d s x
 nothing_out past old tied w is_status none d s x flies =
     let one = of_one old.device.flights d s x (tied_owns past old tied) flies in
     by (what tied.view old.core.descriptor tied.write (update_of old.core.status) old.device tied.since one.0 d s x one.1 one.2)
@@ -93,7 +93,7 @@ nothing_out past old tied w is_status none d s x flies =
     by (OfUpdate write is own inside) = absurd (let e : None ≡ Some write = sym none ∙ is in cc)
 
 -- what the update is, begun or going on
-pub record IsBegun (v : State) (votes : Votes) (group : Descriptor) (device : Device) (media : Media) (w : RecordWrite) (u : Stamped Status) (old new : Stored) : Type 0 where
+pub record IsBegun (v : ModelState) (votes : Votes) (group : Descriptor) (device : Device) (media : Media) (w : RecordWrite) (u : Stamped Status) (old new : Stored) : Type 0 where
   pub good : Good votes (record v { in_flight = Some (as_marks u) })
   pub describes : Describes (record v { in_flight = Some (as_marks u) }) v.facts group (Some u) (contents_of (image_of device.sizes media))
   pub since : UpdateSince device w u
@@ -102,10 +102,10 @@ pub record IsBegun (v : State) (votes : Votes) (group : Descriptor) (device : De
   pub written : (d : ℕ) → has new.writes.written d ≡ true → v.media.status d ≡ Some (as_marks u)
   pub held : (x : Stamped Status) → update_of new ≡ Some x → is_held (seen new) ≡ true → v.committed ≡ as_marks x
 
-module _ (past : List Fact) (old new : Session) (starts : StartsStatus old new) (tied : IsTied past old) (write : RecordWrite)
+module _ (past : List Fact) (old new : State) (starts : StartsStatus old new) (tied : IsTied past old) (write : RecordWrite)
     (may : old.core.status.in_flight ≡ None → MayBegin tied.view old.core.status.group old.core.descriptor (image_of old.device.sizes tied.media) write (record { stamp = new.core.status.stamp; value = starts.status }))
     (same : (old.core.status.in_flight ≡ None → ⊥) → tied.write ≡ Some write) (orderly : IsOrderly new (Some write)) where
-  abbrev v : State
+  abbrev v : ModelState
   v = tied.view
 
   abbrev group : Descriptor
@@ -163,13 +163,13 @@ module _ (past : List Fact) (old new : Session) (starts : StartsStatus old new) 
             held = λ x now enough. clash (is_held (seen status)) enough (ap is_held is ∙ its.none_has);
           }
 
-  abbrev v0 : State
+  abbrev v0 : ModelState
   v0 = record v { in_flight = Some (as_marks u) }
 
   abbrev flying : ℕ → Bool
   flying d = has status.writes.started d
 
-  abbrev w : State
+  abbrev w : ModelState
   w = moved v0 v0.media.status flying
 
   abbrev row : Flown
@@ -182,7 +182,7 @@ module _ (past : List Fact) (old new : Session) (starts : StartsStatus old new) 
   whole = starts.is
 
   orderly2 : IsOrderly (state new.device core2) (Some write)
-  orderly2 = subst (λ (x : Session). IsOrderly x (Some write)) whole orderly
+  orderly2 = subst (λ (x : State). IsOrderly x (Some write)) whole orderly
 
   -- the stamp is of the same moment
   epoch_is : status.stamp.epoch ≡ old.core.status.stamp.epoch
@@ -304,7 +304,7 @@ module _ (past : List Fact) (old new : Session) (starts : StartsStatus old new) 
     since = subst (λ (o : Option (Stamped Status)). OnlyUpdateSince new.device (Some write) o) (sym update_now) (update_goes_on write u old.device new.device (Started f starts.launches.starts) planned begun.since);
     recorded = record {
       next = subst (λ (sizes : List ℕ). MayUpdate group status old.core.homes (image_of sizes tied.media)) (sym sizes_are) next2;
-      members = λ d member first. subst (λ (sizes : List ℕ). IsTrue (members_there (contents_of (image_of sizes tied.media)) group d)) (sym sizes_are) (tied.recorded.members d member first);
+      members = λ d member first. subst (λ (sizes : List ℕ). IsTrue (members_showing (contents_of (image_of sizes tied.media)) group d)) (sym sizes_are) (tied.recorded.members d member first);
       records = subst (λ (sizes : List ℕ). ShowsRecords group status (contents_of (image_of sizes tied.media))) (sym sizes_are)
           (records_last group old.core.status status (contents_of (image_of old.device.sizes tied.media)) (contents_of (image_of old.device.sizes tied.media)) tied.recorded.records (λ d there. sym (missing_new d) ∙ there) (λ d. refl)
           (λ none. absurd (let e : None ≡ Some starts.status = sym none ∙ starts.flies in cc)));
@@ -318,15 +318,15 @@ module _ (past : List Fact) (old new : Session) (starts : StartsStatus old new) 
 
 -- ---- of a sound session
 
-module _ (past : List Fact) (old new : Session) (tied : IsTied past old) (sound : IsSound new) (valid : IsValidStatus old.core.status.wanted) (starts : StartsStatus old new) where
+module _ (past : List Fact) (old new : State) (tied : IsTied past old) (sound : IsSound new) (valid : IsValidStatus old.core.status.wanted) (starts : StartsStatus old new) where
   abbrev now : Stored
   now = new.core.status
 
   orderly_with : (w : RecordWrite) → IsUpdateWrite now old.core.homes starts.status w → IsOrderly new (Some w)
   orderly_with w update = record {
     sound = sound;
-    on = ap (λ (s : Session). s.core.power) starts.is ∙ tied.orderly.on;
-    update = subst (λ (h : Homes). IsWriteOf now h now.in_flight (Some w)) (sym (ap (λ (s : Session). s.core.homes) starts.is)) (subst (λ (m : Option Status). IsWriteOf now old.core.homes m (Some w)) (sym starts.flies) update);
+    on = ap (λ (s : State). s.core.power) starts.is ∙ tied.orderly.on;
+    update = subst (λ (h : Homes). IsWriteOf now h now.in_flight (Some w)) (sym (ap (λ (s : State). s.core.homes) starts.is)) (subst (λ (m : Option Status). IsWriteOf now old.core.homes m (Some w)) (sym starts.flies) update);
   }
 
   -- the first write of an update

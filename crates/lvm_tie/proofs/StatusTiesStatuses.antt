@@ -18,18 +18,18 @@ use Rattle.lvm_kept.specs.Torn.{RecordWrite}
 use Rattle.lvm_status.specs.Update.{Stored, Updates, is_held, is_owed, seen}
 use Rattle.lvm_status.specs.Calls.{comes_held, with_end as with_write_end}
 use Rattle.lvm_homes.specs.declared.homes.Homes.{Homes}
-use Rattle.lvm_session.specs.declared.bringing.OpenCopy.{OpenCopy as Bringing}
+use Rattle.lvm_session.specs.declared.bringing.OpenCopy.{OpenCopy}
 use Rattle.lvm_session.specs.declared.bringing.CopyEnd.{CopyEnd}
 use Rattle.lvm_session.specs.declared.flown.Flown.{Flown}
 use Rattle.lvm_session.specs.declared.flown.Owner.{Owner}
 use Rattle.lvm_session.specs.declared.flown.Owner.TheVariants as owner
-use Rattle.lvm_session.specs.State.{Core, State as Session, is_there, state}
+use Rattle.lvm_session.specs.State.{Core, State, is_there, state}
 use Rattle.lvm_session.specs.Bringing.{after_copy_end, with_end}
 use Rattle.lvm_session.specs.Ends.{Returns, StatusLearns}
 use Rattle.lvm_session.specs.Sound.{IsGoing, IsSound}
-use Rattle.lvm_invariant.specs.State.{Marks, State}
+use Rattle.lvm_invariant.specs.State.{Marks, ModelState}
 use Rattle.lvm_invariant.specs.Good.{Good}
-use Rattle.lvm_crash.specs.Session.{Describes, as_marks, marks_of, members_there}
+use Rattle.lvm_crash.specs.Session.{Describes, as_marks, marks_of, members_showing}
 use Rattle.lvm_tie_shelf.proofs.Quiet.{update_goes_on, updates_last}
 use Rattle.lvm_tie_shelf.proofs.Writing.{and_both}
 use Rattle.lvm_tie_shelf.specs.Owned.{OnlyUpdateSince}
@@ -55,7 +55,7 @@ same_power : (core : Core) (e : Option CopyEnd) → (with_end core e).power ≡ 
 same_power core None = refl
 same_power core (Some e) = by core.copy
   where
-    by : (m : Option Bringing) → (option_map_or (λ (c : Bringing). after_copy_end core c e) m core).power ≡ core.power
+    by : (m : Option OpenCopy) → (option_map_or (λ (c : OpenCopy). after_copy_end core c e) m core).power ≡ core.power
     by None = refl
     by (Some c) = refl
 
@@ -63,16 +63,16 @@ same_homes : (core : Core) (e : Option CopyEnd) → (with_end core e).homes ≡ 
 same_homes core None = refl
 same_homes core (Some e) = by core.copy
   where
-    by : (m : Option Bringing) → (option_map_or (λ (c : Bringing). after_copy_end core c e) m core).homes ≡ core.homes
+    by : (m : Option OpenCopy) → (option_map_or (λ (c : OpenCopy). after_copy_end core c e) m core).homes ≡ core.homes
     by None = refl
     by (Some c) = refl
 
-module _ (past : List Fact) (old new : Session) (index disk : ℕ) (ok : Bool) (row : Flown) (buf : Buffer) (its_owner : row.owner ≡ owner.Status disk) (returns : Returns old new index row ok buf) (tied : IsTied past old)
+module _ (past : List Fact) (old new : State) (index disk : ℕ) (ok : Bool) (row : Flown) (buf : Buffer) (its_owner : row.owner ≡ owner.Status disk) (returns : Returns old new index row ok buf) (tied : IsTied past old)
     (learns : StatusLearns old.core index disk ok buf new.core) (sectors : HasSectors new.device) (sound : IsSound new) where
   abbrev core : Core
   core = old.core
 
-  abbrev v : State
+  abbrev v : ModelState
   v = tied.view
 
   abbrev group : Descriptor
@@ -130,7 +130,7 @@ module _ (past : List Fact) (old new : Session) (index disk : ℕ) (ok : Bool) (
   abbrev over : Bool
   over = is_held mid && not (is_owed mid)
 
-  abbrev moved_view : State
+  abbrev moved_view : ModelState
   moved_view = v1 past old new index disk ok row buf its_owner returns tied learns
 
   stamp_is : status.stamp ≡ core.status.stamp
@@ -151,7 +151,7 @@ module _ (past : List Fact) (old new : Session) (index disk : ℕ) (ok : Bool) (
   notes : AreNotes core2
   notes d items flies = subst (λ (n : ℕ). IsNote (record { stamp = n; entries = items.items })) (sym (ap (λ st. st.epoch) stamp_is)) (tied.notes d items flies)
 
-  carries : (x : State) → ((j : ℕ) → x.queue j ≡ v.queue j) → (g : Flight) (o : Owner) → CarriesStep core v g o → CarriesStep core2 x g o
+  carries : (x : ModelState) → ((j : ℕ) → x.queue j ≡ v.queue j) → (g : Flight) (o : Owner) → CarriesStep core v g o → CarriesStep core2 x g o
   carries x same g (owner.Data id number) carried = carried
   carries x same g (owner.Status d) carried = carried
   carries x same g (owner.Note d) carried = carried
@@ -176,11 +176,11 @@ module _ (past : List Fact) (old new : Session) (index disk : ℕ) (ok : Bool) (
       (λ d. ap (λ (c : Contents). c.descriptor d) (kept past old new index disk ok row buf its_owner returns tied).rest) settled
 
   module _ (reviewed : IsReviewed past old new index disk ok row buf its_owner returns tied learns) where
-    abbrev v2 : State
+    abbrev v2 : ModelState
     v2 = after past old new index disk ok row buf its_owner returns tied learns reviewed.committed reviewed.missing
 
     -- the state with this update in flight
-    abbrev with_update_in : Option (Stamped Marks) → State
+    abbrev with_update_in : Option (Stamped Marks) → ModelState
     with_update_in x = record v2 { in_flight = x }
 
     sees : (x : Option (Stamped Marks)) → x ≡ option_map as_marks (update_of status) → ((d : ℕ) → has status.writes.written d ≡ true → moved_view.media.status d ≡ x)
@@ -207,7 +207,7 @@ module _ (past : List Fact) (old new : Session) (index disk : ℕ) (ok : Bool) (
     }
 
     orderly : (write : Option RecordWrite) → IsWriteOf status learns.homes status.in_flight write → IsOrderly (state new.device (with_end core2 end)) write
-    orderly write update = subst (λ (s : Session). IsOrderly s write) whole (record {
+    orderly write update = subst (λ (s : State). IsOrderly s write) whole (record {
       sound = sound;
       on = ap (λ (c : Core). c.power) core_is ∙ same_power core2 end ∙ tied.orderly.on;
       update = subst (λ (h : Homes). IsWriteOf status h status.in_flight write) (sym (ap (λ (c : Core). c.homes) core_is ∙ same_homes core2 end)) update;
@@ -237,8 +237,8 @@ module _ (past : List Fact) (old new : Session) (index disk : ℕ) (ok : Bool) (
       since = since;
       recorded = record {
         next = subst (λ (sizes : List ℕ). MayUpdate group status learns.homes (image_of sizes back.media)) (sym back.sizes) next;
-        members = λ d member first. subst (λ (sizes : List ℕ). IsTrue (members_there (contents_of (image_of sizes back.media)) group d)) (sym back.sizes)
-            (ap (λ (c : Contents). members_there c group d) (kept past old new index disk ok row buf its_owner returns tied).rest ∙ tied.recorded.members d member first);
+        members = λ d member first. subst (λ (sizes : List ℕ). IsTrue (members_showing (contents_of (image_of sizes back.media)) group d)) (sym back.sizes)
+            (ap (λ (c : Contents). members_showing c group d) (kept past old new index disk ok row buf its_owner returns tied).rest ∙ tied.recorded.members d member first);
         records = subst (λ (sizes : List ℕ). ShowsRecords group status (contents_of (image_of sizes back.media))) (sym back.sizes) (recorded settled);
       };
       notes = notes;

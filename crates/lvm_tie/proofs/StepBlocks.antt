@@ -13,10 +13,10 @@ use Rattle.lvm_map.proofs.PlaceLemmas.{mib_positive, volume_at}
 use Rattle.lvm_map.specs.Places.{place_on}
 use Rattle.lvm_kept.specs.Group.{IsBlockOf, IsOneOf}
 use Rattle.lvm_kept.proofs.Entries.{volume_is_row}
-use Rattle.lvm_session.specs.declared.bringing.OpenCopy.{OpenCopy as Bringing}
-use Rattle.lvm_session.specs.State.{Core, State as Session}
+use Rattle.lvm_session.specs.declared.bringing.OpenCopy.{OpenCopy}
+use Rattle.lvm_session.specs.State.{Core, State}
 use Rattle.lvm_session.specs.Bringing.{block_at, groups_of}
-use Rattle.lvm_invariant.specs.State.{Queued, State, covers}
+use Rattle.lvm_invariant.specs.State.{Queued, ModelState, covers}
 use Rattle.lvm_invariant.specs.Submit.{IsPlaced}
 use Rattle.lvm_tie_shelf.specs.Copies.{IsCopyOf}
 use Rattle.lvm_tie_shelf.proofs.Copies.{copy_placed}
@@ -31,14 +31,14 @@ same_meaning true b ax xa bx xb = sym (xb (ax refl))
 same_meaning false true ax xa bx xb = xa (bx refl)
 same_meaning false false ax xa bx xb = refl
 
-module _ (past : List Fact) (s : Session) (tied : IsTied past s) (c : Bringing) (its : IsOfItsPartition s.core c) (less : c.cursor < groups_of s.core) where
+module _ (past : List Fact) (s : State) (tied : IsTied past s) (c : OpenCopy) (its : IsOfItsPartition s.core c) (less : c.cursor < groups_of s.core) where
   abbrev core : Core
   core = s.core
 
   abbrev group : Descriptor
   group = core.descriptor
 
-  abbrev v : State
+  abbrev v : ModelState
   v = tied.view
 
   abbrev first : ℕ

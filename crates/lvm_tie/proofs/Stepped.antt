@@ -9,18 +9,18 @@ use Rattle.lvm_vol.specs.Facts.{Fact, Request as Asked}
 use Rattle.lvm_disk.specs.Device.{Flight}
 use Rattle.lvm_hold.specs.Waiting.{Waiting}
 use Rattle.lvm_session.specs.declared.open.Open.{Open}
-use Rattle.lvm_session.specs.declared.bringing.OpenCopy.{OpenCopy as Bringing}
+use Rattle.lvm_session.specs.declared.bringing.OpenCopy.{OpenCopy}
 use Rattle.lvm_session.specs.declared.bringing.Step.{Step}
 use Rattle.lvm_session.specs.declared.bringing.Step.TheVariants as step
 use Rattle.lvm_session.specs.declared.flown.Flown.{Flown}
 use Rattle.lvm_session.specs.declared.flown.Owner.{Owner}
 use Rattle.lvm_session.specs.declared.flown.Owner.TheVariants as owner
-use Rattle.lvm_session.specs.State.{Core, State as Session, state}
+use Rattle.lvm_session.specs.State.{Core, State, state}
 use Rattle.lvm_session.specs.Judging.{is_running, place_of}
 use Rattle.lvm_session.specs.Bringing.{block_at, groups_of, has_row, is_out, is_whole}
 use Rattle.lvm_session.specs.Ends.{Returns}
 use Rattle.lvm_session.specs.Sound.{IsCopy, IsSound}
-use Rattle.lvm_invariant.specs.State.{OpenCopy, Queued, State, has_landed}
+use Rattle.lvm_invariant.specs.State.{ModelCopy, Queued, ModelState, has_landed}
 use Rattle.lvm_invariant.specs.CopyWrite.{copied}
 use Rattle.lvm_invariant.specs.Updates.{put, with_block}
 use Rattle.lvm_tie.specs.Out.{CarriesStep, CarryTheirs}
@@ -32,7 +32,7 @@ use Rattle.lvm_tie.proofs.Ended.{HasEnded}
 use Rattle.lvm_tie.proofs.Leaving.{Stands, copy_over, gone, gone_here, gone_there, put_here, put_there, step_left}
 use Rattle.lvm_tie.proofs.Landed.{HasLanded, at_q, ended, hand, now, out, q, row_there, sees, since}
 
-step_none : (c : Bringing) (s : Step) → is_out s ≡ false → step_write_of c s ≡ None
+step_none : (c : OpenCopy) (s : Step) → is_out s ≡ false → step_write_of c s ≡ None
 step_none c step.Idle h = refl
 step_none c (step.Reading source) h = absurd (cc h)
 step_none c (step.Read buf) h = refl
@@ -41,7 +41,7 @@ step_none c step.Writing h = absurd (cc h)
 -- ---- what is seen
 
 -- where requests stay, this is the step that is left, if one is
-pub record IsStepped (core : Core) (v : State) (c d : Bringing) (queue : ℕ → Option Queued) (name : ℕ → Asked) (open_copy : Option OpenCopy) : Type 0 where
+pub record IsStepped (core : Core) (v : ModelState) (c d : OpenCopy) (queue : ℕ → Option Queued) (name : ℕ → Asked) (open_copy : Option ModelCopy) : Type 0 where
   pub rests : is_out d.step ≡ false
   pub queue_still : (k : ℕ) (p : Open) → slice_get core.requests k ≡ Some p → queue (place_of p.request.id) ≡ v.queue (place_of p.request.id)
   pub name_still : (k : ℕ) (p : Open) → slice_get core.requests k ≡ Some p → name (place_of p.request.id) ≡ v.name (place_of p.request.id)
@@ -49,19 +49,19 @@ pub record IsStepped (core : Core) (v : State) (c d : Bringing) (queue : ℕ →
   pub only : (j : ℕ) (q : Queued) → queue j ≡ Some q → ((j ≡ c.place → ⊥) × (v.queue j ≡ Some q)) ⊎ ((has_row core d ≡ true) × (d.place ≡ j))
   pub open_seen : SeesRunning (is_running d) (groups_of core) d open_copy
 
-module _ (past : List Fact) (core : Core) (v : State) (c d : Bringing) (pool : List Bool) (flying : List Flown) (waiting : Waiting) (queue : ℕ → Option Queued) (name : ℕ → Asked) (block : ℕ → ℕ → Pp → Sector) (open_copy : Option OpenCopy)
+module _ (past : List Fact) (core : Core) (v : ModelState) (c d : OpenCopy) (pool : List Bool) (flying : List Flown) (waiting : Waiting) (queue : ℕ → Option Queued) (name : ℕ → Asked) (block : ℕ → ℕ → Pp → Sector) (open_copy : Option ModelCopy)
     (sees_v : Sees past core v) (is : core.copy ≡ Some c) (its : IsStepped core v c d queue name open_copy) where
   abbrev core2 : Core
   core2 = record core { pool = pool; flying = flying; queue = waiting; copy = Some d }
 
-  abbrev w : State
+  abbrev w : ModelState
   w = record v { queue = queue; name = name; media = with_block v.media block; open_copy = open_copy; step_write = None }
 
   step_of_it : (r : has_row core d ≡ true) → (x : Queued) × (queue d.place ≡ Some x) × SeesStep core2 d x
   step_of_it r = its.a_step r
 
-  step_here : (e : Bringing) → d ≡ e → has_row core e ≡ true → (x : Queued) × (queue e.place ≡ Some x) × SeesStep core2 e x
-  step_here e same r = subst (λ (y : Bringing). (x : Queued) × (queue y.place ≡ Some x) × SeesStep core2 y x) same (step_of_it (subst (λ (y : Bringing). has_row core y ≡ true) (sym same) r))
+  step_here : (e : OpenCopy) → d ≡ e → has_row core e ≡ true → (x : Queued) × (queue e.place ≡ Some x) × SeesStep core2 e x
+  step_here e same r = subst (λ (y : OpenCopy). (x : Queued) × (queue y.place ≡ Some x) × SeesStep core2 y x) same (step_of_it (subst (λ (y : OpenCopy). has_row core y ≡ true) (sym same) r))
 
   pub sees_stepped : Sees past core2 w
   sees_stepped = record {
@@ -71,7 +71,7 @@ module _ (past : List Fact) (core : Core) (v : State) (c d : Bringing) (pool : L
       only = λ j x at. ⊎_elim
           (λ (was : (j ≡ c.place → ⊥) × (v.queue j ≡ Some x)). ⊎_elim
           (λ (r : IsRequestAt core j). inl r)
-          (λ (r : IsStepAt core j). let own : r.copy ≡ c = (let e : Some r.copy ≡ Some c = sym r.is_open ∙ is in cc) in absurd (was.0 (sym r.its ∙ ap (λ (y : Bringing). y.place) own)))
+          (λ (r : IsStepAt core j). let own : r.copy ≡ c = (let e : Some r.copy ≡ Some c = sym r.is_open ∙ is in cc) in absurd (was.0 (sym r.its ∙ ap (λ (y : OpenCopy). y.place) own)))
           (sees_v.queue.only j x was.1))
           (λ (here : (has_row core d ≡ true) × (d.place ≡ j)). inr (record { copy = d; is_open = refl; row = here.0; its = here.1 }))
           (its.only j x at);
@@ -85,12 +85,12 @@ module _ (past : List Fact) (core : Core) (v : State) (c d : Bringing) (pool : L
   }
 
 -- the copy goes on with the same track groups behind it
-running_on : (b : Bool) (groups : ℕ) (c : Bringing) (st : Step) (tried : ℕ) (open_copy : Option OpenCopy) → SeesRunning b groups c open_copy → SeesRunning b groups (record c { step = st; tried = tried }) open_copy
+running_on : (b : Bool) (groups : ℕ) (c : OpenCopy) (st : Step) (tried : ℕ) (open_copy : Option ModelCopy) → SeesRunning b groups c open_copy → SeesRunning b groups (record c { step = st; tried = tried }) open_copy
 running_on true groups c st tried open_copy sees = record { copy = sees.copy; is_open = sees.is_open; target = sees.target; passed = sees.passed }
 running_on false groups c st tried open_copy sees = sees
 
 -- what its transfer carried is carried no more
-pub carry_none : (core : Core) (v : State) (d : Bringing) (fs : List Flight) (rows : List Flown) → core.copy ≡ Some d → is_out d.step ≡ false → CarryTheirs core v fs rows
+pub carry_none : (core : Core) (v : ModelState) (d : OpenCopy) (fs : List Flight) (rows : List Flown) → core.copy ≡ Some d → is_out d.step ≡ false → CarryTheirs core v fs rows
 carry_none core v d [] rows is rests = tt
 carry_none core v d (f ∷ fs) [] is rests = tt
 carry_none core v d (f ∷ fs) (row ∷ rows) is rests = (by row.owner, carry_none core v d fs rows is rests)
@@ -99,16 +99,16 @@ carry_none core v d (f ∷ fs) (row ∷ rows) is rests = (by row.owner, carry_no
     by (owner.Data id n) = tt
     by (owner.Status disk) = tt
     by (owner.Note disk) = tt
-    by owner.Copy = λ e x at writing. absurd (let own : d ≡ e = (let k : Some d ≡ Some e = sym is ∙ at in cc) in let no : false ≡ true = sym rests ∙ ap (λ (y : Bringing). is_out y.step) own ∙ ap is_out writing in cc)
+    by owner.Copy = λ e x at writing. absurd (let own : d ≡ e = (let k : Some d ≡ Some e = sym is ∙ at in cc) in let no : false ≡ true = sym rests ∙ ap (λ (y : OpenCopy). is_out y.step) own ∙ ap is_out writing in cc)
 
 -- ---- the tie
 
-module _ (past : List Fact) (old new : Session) (at : ℕ) (row : Flown) (ok : Bool) (buf : Buffer) (tied : IsTied past old) (returns : Returns old new at row ok buf) (own : row.owner ≡ owner.Copy)
-    (c : Bringing) (is_open : old.core.copy ≡ Some c) where
+module _ (past : List Fact) (old new : State) (at : ℕ) (row : Flown) (ok : Bool) (buf : Buffer) (tied : IsTied past old) (returns : Returns old new at row ok buf) (own : row.owner ≡ owner.Copy)
+    (c : OpenCopy) (is_open : old.core.copy ≡ Some c) where
   abbrev core : Core
   core = old.core
 
-  abbrev v : State
+  abbrev v : ModelState
   v = tied.view
 
   abbrev i : ℕ
@@ -142,19 +142,19 @@ module _ (past : List Fact) (old new : Session) (at : ℕ) (row : Flown) (ok : B
       by step.Writing is flies = ap has_landed (hand past old new at row ok buf tied returns own c is_open step.Writing is).0
 
   -- the open copy is stale by what is wanted until it is whole
-  pub wanted_stale : is_running c ≡ true → is_whole old.core c ≡ false → (o : OpenCopy) → tied.view.open_copy ≡ Some o → IsTrue (tied.view.wanted.stale o.target)
+  pub wanted_stale : is_running c ≡ true → is_whole old.core c ≡ false → (o : ModelCopy) → tied.view.open_copy ≡ Some o → IsTrue (tied.view.wanted.stale o.target)
   wanted_stale runs part o opened =
       let its : IsCopy core c = copy_is past old tied c is_open in
-      let seen : SeesOpen (groups_of core) c v.open_copy = subst (λ (b : Bool). SeesRunning b (groups_of core) c v.open_copy) runs (subst (λ (m : Option Bringing). SeesCopy (groups_of core) m v.open_copy) is_open tied.sees.open_copy) in
+      let seen : SeesOpen (groups_of core) c v.open_copy = subst (λ (b : Bool). SeesRunning b (groups_of core) c v.open_copy) runs (subst (λ (m : Option OpenCopy). SeesCopy (groups_of core) m v.open_copy) is_open tied.sees.open_copy) in
       let same : seen.copy ≡ o = (let x : Some seen.copy ≡ Some o = sym seen.is_open ∙ opened in cc) in
-      subst (λ (p : Pp). IsTrue (v.wanted.stale p)) (sym seen.target ∙ ap (λ (x : OpenCopy). x.target) same) (wanted_seen past old tied c.pp ∙ (its.stale runs part).1)
+      subst (λ (p : Pp). IsTrue (v.wanted.stale p)) (sym seen.target ∙ ap (λ (x : ModelCopy). x.target) same) (wanted_seen past old tied c.pp ∙ (its.stale runs part).1)
 
-  module _ (d : Bringing) (pool : List Bool) (waiting : Waiting) where
+  module _ (d : OpenCopy) (pool : List Bool) (waiting : Waiting) where
     abbrev new_core : Core
     new_core = record old.core { pool = pool; flying = remove old.core.flying at; queue = waiting; copy = Some d }
 
     -- Where a good state describes what stands that is seen so, the session is tied.
-    pub stepped_ties : (oc : Option OpenCopy) (landed : HasLanded past old new at row ok buf tied returns own c is_open oc) (open_copy : Option OpenCopy) (queue : ℕ → Option Queued) (name : ℕ → Asked)
+    pub stepped_ties : (oc : Option ModelCopy) (landed : HasLanded past old new at row ok buf tied returns own c is_open oc) (open_copy : Option ModelCopy) (queue : ℕ → Option Queued) (name : ℕ → Asked)
         → IsStepped old.core tied.view c d queue name open_copy
         → Stands tied.votes old.core.descriptor (update_of old.core.status) (now past old new at row ok buf tied returns own c is_open)
         (record (copied tied.view landed.block open_copy None) { queue = queue; name = name })
@@ -181,13 +181,13 @@ module _ (past : List Fact) (old new : Session) (at : ℕ) (row : Flown) (ok : B
       };
       notes = tied.notes;
       copy_aimed = λ e there r. let same : d ≡ e = (let k : Some d ≡ Some e = there in cc) in
-          subst (λ (x : Bringing). IsTrue (v.is_copy x.lv (block_at core x) x.pp) × ((source : Pp) → x.step ≡ step.Reading source → IsTrue (v.is_copy x.lv (block_at core x) source))) same
+          subst (λ (x : OpenCopy). IsTrue (v.is_copy x.lv (block_at core x) x.pp) × ((source : Pp) → x.step ≡ step.Reading source → IsTrue (v.is_copy x.lv (block_at core x) source))) same
           (aimed ((λ t. has_row core (same t)) ∙ r), λ source reads. absurd (let k : true ≡ false = sym (ap is_out reads) ∙ its.rests in cc));
       carry = carry_none new_core (record (copied v landed.block open_copy None) { queue = queue; name = name }) d new.device.flights (remove core.flying at) refl its.rests;
     }
 
     -- It has ended, or ends with this: its step leaves the queue.
-    pub ended_ties : HasLanded past old new at row ok buf tied returns own c is_open tied.view.open_copy → ((o : OpenCopy) → tied.view.open_copy ≡ Some o → IsTrue (tied.view.wanted.stale o.target))
+    pub ended_ties : HasLanded past old new at row ok buf tied returns own c is_open tied.view.open_copy → ((o : ModelCopy) → tied.view.open_copy ≡ Some o → IsTrue (tied.view.wanted.stale o.target))
         → is_running d ≡ false → is_out d.step ≡ false → IsSound (state new.device new_core) → IsTied past (state new.device new_core)
     ended_ties landed stale over rests sound =
         stepped_ties v.open_copy landed None (gone v.queue i step_q) v.name
@@ -211,7 +211,7 @@ module _ (past : List Fact) (old new : Session) (at : ℕ) (row : Flown) (ok : B
         none = λ t. rests t || (over t && not (is_whole old.core d))
 
   module _ (st : Step) (tried : ℕ) (pool : List Bool) where
-    abbrev d : Bringing
+    abbrev d : OpenCopy
     d = record c { step = st; tried = tried }
 
     abbrev going_core : Core
@@ -232,6 +232,6 @@ module _ (past : List Fact) (old new : Session) (at : ℕ) (row : Flown) (ok : B
             | inl e ↦ inr (row_now, sym e)
             | inr ne ↦ inl (ne, sym (put_there v.queue i next j ne) ∙ there)
           ];
-          open_seen = running_on (is_running c) (groups_of core) c st tried v.open_copy (subst (λ (m : Option Bringing). SeesCopy (groups_of core) m v.open_copy) is_open tied.sees.open_copy);
+          open_seen = running_on (is_running c) (groups_of core) c st tried v.open_copy (subst (λ (m : Option OpenCopy). SeesCopy (groups_of core) m v.open_copy) is_open tied.sees.open_copy);
         })
         stands (λ r. (tied.copy_aimed c is_open (row_there past old new at row ok buf tied returns own c is_open)).0) sound

@@ -26,10 +26,10 @@ use Rattle.lvm_map.proofs.PlaceLemmas.{mib_positive, volume_at, lp_below}
 use Rattle.lvm_path.specs.declared.ask.Ask.{Ask}
 use Rattle.lvm_path.specs.Asks.{lv_of, at_of, count_of, is_write}
 use Rattle.lvm_session.specs.declared.open.Open.{Open}
-use Rattle.lvm_session.specs.declared.bringing.OpenCopy.{OpenCopy as Bringing}
+use Rattle.lvm_session.specs.declared.bringing.OpenCopy.{OpenCopy}
 use Rattle.lvm_session.specs.declared.flown.Owner.{Owner}
 use Rattle.lvm_session.specs.declared.flown.Owner.TheVariants as owner
-use Rattle.lvm_session.specs.State.{Core, State as Session, state}
+use Rattle.lvm_session.specs.State.{Core, State, state}
 use Rattle.lvm_session.specs.Judging.{is_running, place_of, IsWithin}
 use Rattle.lvm_session.specs.Bringing.{has_row, is_out, is_whole}
 use Rattle.lvm_session.specs.declared.bringing.Step.{Step}
@@ -38,7 +38,7 @@ use Rattle.lvm_session.specs.Calls.{ask_fault, new_open, submitted}
 use Rattle.lvm_session.specs.Asking.{IsAsking}
 use Rattle.lvm_session.specs.Sound.{IsSound}
 use Rattle.lvm_submit.proofs.Numbered.{below_next}
-use Rattle.lvm_invariant.specs.State.{Held, Queued, State, covers}
+use Rattle.lvm_invariant.specs.State.{Held, Queued, ModelState, covers}
 use Rattle.lvm_invariant.specs.Submit.{IsPlaced, Submits, submitted as sees_submitted}
 use Rattle.lvm_invariant.specs.Events.{Event, Submit}
 use Rattle.lvm_invariant.proofs.Each.{each_keeps}
@@ -62,7 +62,7 @@ pub record MaySubmit (past : List Fact) (core : Core) (ask : Ask) (bytes : Optio
   -- the numbers of the table are the history's, and the next one isn't there yet
   pub next : asked core.history.facts (next_id core.history) ≡ None
   pub table : (place : ℕ) (o : Open) → slice_get core.requests place ≡ Some o → (o.request.id < next_id core.history) × (is_some (asked core.history.facts o.request.id) ≡ true)
-  pub step : (c : Bringing) → core.copy ≡ Some c → has_row core c ≡ true → c.place < place_of (next_id core.history)
+  pub step : (c : OpenCopy) → core.copy ≡ Some c → has_row core c ≡ true → c.place < place_of (next_id core.history)
 
 some_of : {X : Type 0} (a b : X) → Some a ≡ Some b → a ≡ b
 some_of a b e = cc
@@ -107,8 +107,8 @@ same_partition mib b k some same =
     let fits : b % size + k < size = omega (arith, all, same) in
     (parts size (b + k) (b / size) (b % size + k) fits (omega (arith, all))).0
 
-module _ (past : List Fact) (old : Session) (client : ℕ) (ask : Ask) (bytes : Option (List ℕ)) (tied : IsTied past old) (may : MaySubmit past old.core ask bytes) where
-  abbrev v : State
+module _ (past : List Fact) (old : State) (client : ℕ) (ask : Ask) (bytes : Option (List ℕ)) (tied : IsTied past old) (may : MaySubmit past old.core ask bytes) where
+  abbrev v : ModelState
   v = tied.view
 
   abbrev core : Core
@@ -135,7 +135,7 @@ module _ (past : List Fact) (old : Session) (client : ℕ) (ask : Ask) (bytes : 
   abbrev new : Core
   new = submitted core client ask bytes
 
-  abbrev w : State
+  abbrev w : ModelState
   w = sees_submitted v i asks q
 
   abbrev row : LvRow
@@ -300,11 +300,11 @@ module _ (past : List Fact) (old : Session) (client : ℕ) (ask : Ask) (bytes : 
 
 -- ---- of a sound session
 
-module _ (past : List Fact) (s : Session) (client : ℕ) (ask : Ask) (bytes : Option (List ℕ)) (tied : IsTied past s) (asking : IsAsking ask bytes) (sound : IsSound (state s.device (submitted s.core client ask bytes))) where
+module _ (past : List Fact) (s : State) (client : ℕ) (ask : Ask) (bytes : Option (List ℕ)) (tied : IsTied past s) (asking : IsAsking ask bytes) (sound : IsSound (state s.device (submitted s.core client ask bytes))) where
   abbrev next : ℕ
   next = next_id s.core.history
 
-  abbrev after : Session
+  abbrev after : State
   after = state s.device (submitted s.core client ask bytes)
 
   orderly_then : IsOrderly after tied.write

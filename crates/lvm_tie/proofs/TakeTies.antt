@@ -10,21 +10,21 @@ use Rattle.lvm_vol.specs.declared.entry.Outcome.{Outcome}
 use Rattle.lvm_disk.specs.Device.{Flight, image_of}
 use Rattle.lvm_kept.specs.Contents.{contents_of}
 use Rattle.lvm_kept.specs.Torn.{RecordWrite}
-use Rattle.lvm_path.specs.declared.request.Phase.{Phase as RequestPhase}
+use Rattle.lvm_path.specs.declared.request.Phase.{Phase}
 use Rattle.lvm_path.specs.declared.request.Phase.TheVariants as phase
 use Rattle.lvm_path.specs.Targets.{is_begun}
 use Rattle.lvm_session.specs.declared.open.Open.{Open}
-use Rattle.lvm_session.specs.declared.bringing.OpenCopy.{OpenCopy as Bringing}
+use Rattle.lvm_session.specs.declared.bringing.OpenCopy.{OpenCopy}
 use Rattle.lvm_session.specs.declared.bringing.Step.{Step}
 use Rattle.lvm_session.specs.declared.flown.Owner.{Owner}
 use Rattle.lvm_session.specs.declared.flown.Owner.TheVariants as owner
-use Rattle.lvm_session.specs.State.{Core, State as Session, state}
+use Rattle.lvm_session.specs.State.{Core, State, state}
 use Rattle.lvm_session.specs.Judging.{is_running, place_of}
 use Rattle.lvm_session.specs.Bringing.{has_row, is_out, is_whole}
 use Rattle.lvm_session.specs.declared.answers.Taken.TheVariants as answers
 use Rattle.lvm_session.specs.Calls.{TakeAt, TakesLanded, after_take, is_asked}
 use Rattle.lvm_session.specs.Sound.{IsSound}
-use Rattle.lvm_invariant.specs.State.{Queued, State, has_landed}
+use Rattle.lvm_invariant.specs.State.{Queued, ModelState, has_landed}
 use Rattle.lvm_invariant.specs.Updates.{without}
 use Rattle.lvm_invariant.specs.Take.{Takes, taken}
 use Rattle.lvm_invariant.specs.Events.{Take}
@@ -62,11 +62,11 @@ is_left (y ∷ ys) zero (suc k) x h other = (k, h)
 is_left (y ∷ ys) (suc place) zero x h other = (0, h)
 is_left (y ∷ ys) (suc place) (suc k) x h other = let r = is_left ys place k x h (λ e. other (omega arith)) in (suc r.0, r.1)
 
-module _ (past : List Fact) (old : Session) (place : ℕ) (o : Open) (tied : IsTied past old) (there : slice_get old.core.requests place ≡ Some o) (numbers : HaveNumbers old.core) (over : o.request.phase ≡ phase.Landed) where
+module _ (past : List Fact) (old : State) (place : ℕ) (o : Open) (tied : IsTied past old) (there : slice_get old.core.requests place ≡ Some o) (numbers : HaveNumbers old.core) (over : o.request.phase ≡ phase.Landed) where
   abbrev core : Core
   core = old.core
 
-  abbrev v : State
+  abbrev v : ModelState
   v = tied.view
 
   abbrev i : ℕ
@@ -105,7 +105,7 @@ module _ (past : List Fact) (old : Session) (place : ℕ) (o : Open) (tied : IsT
   apart : (k : ℕ) (p : Open) → slice_get core.requests k ≡ Some p → (k ≡ place → ⊥) → place_of p.request.id ≡ i → ⊥
   apart k p is ne e = ne (numbers k place p o is there (omega arith))
 
-  step_apart : (c : Bringing) → core.copy ≡ Some c → has_row core c ≡ true → c.place ≡ i → ⊥
+  step_apart : (c : OpenCopy) → core.copy ≡ Some c → has_row core c ≡ true → c.place ≡ i → ⊥
   step_apart c is row e =
       let a = tied.sees.queue.a_step c is row in
       let same : a.0 ≡ q = some_of a.0 q (sym a.1 ∙ ap v.queue e ∙ at) in
@@ -134,9 +134,9 @@ module _ (past : List Fact) (old : Session) (place : ℕ) (o : Open) (tied : IsT
   }
 
   takes : Takes v i q
-  takes = record { there = at; landed = ap has_landed (sees.phase ∙ ap (λ (p : RequestPhase). phase_seen p (is_begun o.request.targets.items)) over) }
+  takes = record { there = at; landed = ap has_landed (sees.phase ∙ ap (λ (p : Phase). phase_seen p (is_begun o.request.targets.items)) over) }
 
-  abbrev w : State
+  abbrev w : ModelState
   w = record v { queue = left; facts = v.facts ++ Taken (v.name i) ∷ [] }
 
   w_is : w ≡ taken v i q
@@ -172,7 +172,7 @@ module _ (past : List Fact) (old : Session) (place : ℕ) (o : Open) (tied : IsT
 
 -- ---- of a sound session
 
-landed_phase : (s : Session) (write : Option RecordWrite) (orderly : IsOrderly s write) (place : ℕ) (o : Open) (how : Outcome) → slice_get s.core.requests place ≡ Some o → o.landed ≡ Some how → o.request.phase ≡ phase.Landed
+landed_phase : (s : State) (write : Option RecordWrite) (orderly : IsOrderly s write) (place : ℕ) (o : Open) (how : Outcome) → slice_get s.core.requests place ≡ Some o → o.landed ≡ Some how → o.request.phase ≡ phase.Landed
 landed_phase s write orderly place o how there landed = ((open_one s write orderly place o there).over (ap is_none landed)).phase_is
 
 pub take_ties : TakeTies

@@ -15,12 +15,12 @@ use Rattle.lvm_session.specs.declared.answers.Taken.{Taken as Answer}
 use Rattle.lvm_session.specs.declared.answers.Taken.TheVariants as answer
 use Rattle.lvm_session.specs.Calls.{is_asked, TakeAt, TakesLanded}
 use Rattle.lvm_session.specs.declared.open.Open.{Open}
-use Rattle.lvm_session.specs.State.{Core, State as Session}
+use Rattle.lvm_session.specs.State.{Core, State}
 use Rattle.lvm_session.specs.Sound.{IsAsked, IsSound}
 use Rattle.lvm_tie.proofs.Orderly.{all_at}
 use Rattle.lvm_tie.specs.Over.{TakeGoesOn}
 
-module _ (first : Moment) (old : Session) (sound : IsSound old) (span : Keeps old.core.history.run first (at old.device old.core.history.facts)) where
+module _ (first : Moment) (old : State) (sound : IsSound old) (span : Keeps old.core.history.run first (at old.device old.core.history.facts)) where
   abbrev facts : List Fact
   facts = old.core.history.facts
 

@@ -19,7 +19,7 @@ use Rattle.lvm_steps.specs.Moments.{Holds, Keeps}
 use Rattle.lvm_mwc.specs.Notes.{names_group}
 use Rattle.lvm_sched.specs.Writes.{is_waiting}
 use Rattle.lvm_sched.specs.declared.writes.TargetState.{TargetState}
-use Rattle.lvm_path.specs.declared.request.Phase.{Phase as RequestPhase}
+use Rattle.lvm_path.specs.declared.request.Phase.{Phase}
 use Rattle.lvm_path.specs.declared.request.Phase.TheVariants as phase
 use Rattle.lvm_path.specs.declared.target.Target.{Target}
 use Rattle.lvm_path.specs.Asks.{at_of, count_of, is_write}
@@ -28,13 +28,13 @@ use Rattle.lvm_session.specs.declared.open.Open.{Open}
 use Rattle.lvm_session.specs.declared.flown.Flown.{Flown}
 use Rattle.lvm_session.specs.declared.flown.Owner.{Owner}
 use Rattle.lvm_session.specs.declared.flown.Owner.TheVariants as owner
-use Rattle.lvm_session.specs.State.{Core, State as Session}
+use Rattle.lvm_session.specs.State.{Core, State}
 use Rattle.lvm_session.specs.Judging.{place_of, is_running}
 use Rattle.lvm_session.specs.Bringing.{has_row, is_out, is_whole}
-use Rattle.lvm_session.specs.declared.bringing.OpenCopy.{OpenCopy as Bringing}
+use Rattle.lvm_session.specs.declared.bringing.OpenCopy.{OpenCopy}
 use Rattle.lvm_session.specs.declared.bringing.Step.{Step}
 use Rattle.lvm_session.specs.declared.bringing.Step.TheVariants as step
-use Rattle.lvm_invariant.specs.State.{Flying, Going, Groups, Queued, State, is_past, Started}
+use Rattle.lvm_invariant.specs.State.{Flying, Going, Groups, Queued, ModelState, is_past, Started}
 use Rattle.lvm_invariant.specs.Updates.{is_pp}
 use Rattle.lvm_crash.specs.Flights.{Matches}
 use Rattle.lvm_crash.proofs.Images.{images_kept}
@@ -63,8 +63,8 @@ stage_found (u ∷ us) (suc number) t differ there = by (is_pp t.pp u.pp) refl (
 
 -- ---- owners
 
-module _ (past : List Fact) (s : Session) (tied : IsTied past s) where
-  abbrev v : State
+module _ (past : List Fact) (s : State) (tied : IsTied past s) where
+  abbrev v : ModelState
   v = tied.view
 
   abbrev core : Core
@@ -83,7 +83,7 @@ module _ (past : List Fact) (s : Session) (tied : IsTied past s) where
       let i : ℕ = place_of o.request.id in
       let orderly : HasTargets core o = targets_of s tied.write tied.orderly out.place o out.there out.waiting in
       let begun : is_begun o.request.targets.items ≡ true = begun_by o.request.targets.items number out.aim out.aim_is (ap is_waiting out.flies) in
-      let going : q.phase ≡ Going = its.phase ∙ ap (λ (p : RequestPhase). phase_seen p (is_begun o.request.targets.items)) out.moving ∙ ap (λ b. phase_seen phase.Data b) begun in
+      let going : q.phase ≡ Going = its.phase ∙ ap (λ (p : Phase). phase_seen p (is_begun o.request.targets.items)) out.moving ∙ ap (λ b. phase_seen phase.Data b) begun in
       let asked : Asked = request_of core.history.facts o.request.id in
       let name : v.name i ≡ asked = tied.sees.queue.names out.place o out.there in
       let count : f.count ≡ count_of o.request.ask = out.moves.count in
@@ -171,7 +171,7 @@ module _ (past : List Fact) (s : Session) (tied : IsTied past s) where
           let past : IsTrue (is_past q.phase) = ap is_past hand.0 in
           inr (inr (inl (record {
             step = record { target = out.copy.pp; place = out.copy.place };
-            flies = tied.sees.step_write ∙ ap (λ (c : Option Bringing). step_write_in c) out.is_open ∙ ap (step_write_of out.copy) is;
+            flies = tied.sees.step_write ∙ ap (λ (c : Option OpenCopy). step_write_in c) out.is_open ∙ ap (step_write_of out.copy) is;
             req = q;
             there = seen.1;
             read = seen.2.write;
@@ -204,14 +204,14 @@ tied_owns past s tied = all_owned past s tied s.device.flights s.core.flying (ou
 
 -- ---- the moments
 
-pub tied_matches : (past : List Fact) (s : Session) (tied : IsTied past s) → Matches tied.view tied.view.facts s.core.descriptor (update_of s.core.status) s.device tied.media
+pub tied_matches : (past : List Fact) (s : State) (tied : IsTied past s) → Matches tied.view tied.view.facts s.core.descriptor (update_of s.core.status) s.device tied.media
 tied_matches past s tied = record {
   told = tied.setting.told;
   describes = tied.describes;
   out = owners_have_out tied.view tied.view.facts s.core.descriptor tied.write (update_of s.core.status) s.device tied.media (valid_of s tied.write tied.orderly) tied.good.sound.tied tied.describes.volumes (tied_owns past s tied) tied.since;
 }
 
-tied_holds : (past : List Fact) (s : Session) → IsTied past s → Holds past (moment_of s)
+tied_holds : (past : List Fact) (s : State) → IsTied past s → Holds past (moment_of s)
 tied_holds past s tied = record {
   legal = subst Legal tied.sees.facts tied.good.told.legal;
   kept = λ image may. subst (Kept (contents_of image)) tied.sees.facts
@@ -221,7 +221,7 @@ tied_holds past s tied = record {
 pub good_upholds : GoodUpholds
 good_upholds run first s on good past begins = tied_holds past s (good on past begins)
 
-same_moment : (old new : Session) → new.device ≡ old.device → new.core.history.facts ≡ old.core.history.facts → moment_of new ≡ moment_of old
+same_moment : (old new : State) → new.device ≡ old.device → new.core.history.facts ≡ old.core.history.facts → moment_of new ≡ moment_of old
 same_moment old new device facts = λ t. record { device = device t; facts = facts t }
 
 pub good_goes_on : GoodGoesOn

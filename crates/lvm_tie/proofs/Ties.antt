@@ -19,21 +19,21 @@ use Rattle.lvm_path.specs.declared.target.Target.{Target}
 use Rattle.lvm_path.specs.Targets.{with_state}
 use Rattle.lvm_path.specs.Next.{with_start}
 use Rattle.lvm_session.specs.declared.open.Open.{Open}
-use Rattle.lvm_session.specs.declared.bringing.OpenCopy.{OpenCopy as Bringing}
+use Rattle.lvm_session.specs.declared.bringing.OpenCopy.{OpenCopy}
 use Rattle.lvm_session.specs.declared.bringing.Step.{Step}
 use Rattle.lvm_session.specs.declared.bringing.Step.TheVariants as step
 use Rattle.lvm_session.specs.declared.flown.Flown.{Flown}
 use Rattle.lvm_session.specs.declared.flown.Owner.{Owner}
 use Rattle.lvm_session.specs.declared.flown.Owner.TheVariants as owner
-use Rattle.lvm_session.specs.State.{Core, State as Session, state}
+use Rattle.lvm_session.specs.State.{Core, State, state}
 use Rattle.lvm_session.specs.Judging.{is_running, place_of}
 use Rattle.lvm_session.specs.Bringing.{is_out, is_whole}
 use Rattle.lvm_session.specs.Events.{with_open, with_flight, flown}
-use Rattle.lvm_invariant.specs.State.{Queued, State}
+use Rattle.lvm_invariant.specs.State.{Queued, ModelState}
 use Rattle.lvm_invariant.specs.Updates.{put}
-use Rattle.lvm_invariant.specs.Events.{Event, Step as GoodStep}
+use Rattle.lvm_invariant.specs.Events.{Event, ModelStep}
 use Rattle.lvm_invariant.proofs.Each.{each_keeps}
-use Rattle.lvm_crash.specs.Session.{members_there, Describes}
+use Rattle.lvm_crash.specs.Session.{members_showing, Describes}
 use Rattle.lvm_crash.specs.Lasting.{AsksOf}
 use Rattle.lvm_tie_shelf.proofs.Flying.{writes_at}
 use Rattle.lvm_tie_shelf.proofs.Quiet.{quiet_lasts, update_goes_on}
@@ -68,24 +68,24 @@ since_start old new f (Some w) None starts low since = absurd since
 since_start old new f None (Some u) starts low since = absurd since
 
 -- what steps carry goes on where the rows do
-pub carry_on : (core next : Core) (v w : State) (fs : List Flight) (rows : List Flown) → ((g : Flight) (o : Owner) → CarriesStep core v g o → CarriesStep next w g o) → CarryTheirs core v fs rows → CarryTheirs next w fs rows
+pub carry_on : (core next : Core) (v w : ModelState) (fs : List Flight) (rows : List Flown) → ((g : Flight) (o : Owner) → CarriesStep core v g o → CarriesStep next w g o) → CarryTheirs core v fs rows → CarryTheirs next w fs rows
 carry_on core next v w [] rows each carry = tt
 carry_on core next v w (f ∷ fs) [] each carry = tt
 carry_on core next v w (f ∷ fs) (row ∷ rows) each carry = (each f row.owner carry.0, carry_on core next v w fs rows each carry.1)
 
 -- what steps carry goes on, with one transfer more that isn't a step's
-pub carry_more : (core new : Core) (v w : State) (fs : List Flight) (rows : List Flown) (write : Option RecordWrite) (f : Flight) (row : Flown) → AreOut core write fs rows
+pub carry_more : (core new : Core) (v w : ModelState) (fs : List Flight) (rows : List Flown) (write : Option RecordWrite) (f : Flight) (row : Flown) → AreOut core write fs rows
     → ((g : Flight) (o : Owner) → CarriesStep core v g o → CarriesStep new w g o) → CarriesStep new w f row.owner → CarryTheirs core v fs rows → CarryTheirs new w (fs ++ f ∷ []) (rows ++ row ∷ [])
 carry_more core new v w [] [] write f row out each its carry = (its, tt)
 carry_more core new v w [] (r ∷ rs) write f row out each its carry = absurd out
 carry_more core new v w (g ∷ gs) [] write f row out each its carry = absurd out
 carry_more core new v w (g ∷ gs) (r ∷ rs) write f row out each its carry = (each g r.owner carry.0, carry_more core new v w gs rs write f row out.2 each its carry.1)
 
-module _ (past : List Fact) (old : Session) (device : Device) (place number : ℕ) (o : Open) (t : Target) (q q2 : Queued) (f : Flight) (pool : List Bool) (tied : IsTied past old)
+module _ (past : List Fact) (old : State) (device : Device) (place number : ℕ) (o : Open) (t : Target) (q q2 : Queued) (f : Flight) (pool : List Bool) (tied : IsTied past old)
     (numbers : HaveNumbers old.core) (there : slice_get old.core.requests place ≡ Some o) (aim_is : slice_get o.request.targets.items number ≡ Some t)
     (at : tied.view.queue (place_of o.request.id) ≡ Some q) (starts : Starts old.device device f) (low : data_start ≤ f.first)
     (sees2 : SeesRequest (record o { request = with_start o.request number }) q2) where
-  abbrev v : State
+  abbrev v : ModelState
   v = tied.view
 
   abbrev i : ℕ
@@ -100,7 +100,7 @@ module _ (past : List Fact) (old : Session) (device : Device) (place number : �
   abbrev new : Core
   new = record (with_flight (with_open old.core place o2) f (owner.Data o.request.id number)) { pool = pool }
 
-  abbrev w : State
+  abbrev w : ModelState
   w = record v { queue = put v.queue i q2 }
 
   carries : (g : Flight) (who : Owner) → CarriesStep old.core v g who → CarriesStep new w g who
@@ -109,7 +109,7 @@ module _ (past : List Fact) (old : Session) (device : Device) (place number : �
   carries g (owner.Note disk) its = tt
   carries g owner.Copy its = λ c p is writing here. its c p is writing (sym (elsewhere c is writing) ∙ here)
     where
-      elsewhere : (c : Bringing) → old.core.copy ≡ Some c → c.step ≡ step.Writing → w.queue c.place ≡ v.queue c.place
+      elsewhere : (c : OpenCopy) → old.core.copy ≡ Some c → c.step ≡ step.Writing → w.queue c.place ≡ v.queue c.place
       elsewhere c is writing = elim (cases_eq c.place i) [
         | inl e ↦ absurd (step_apart past old.core v place o o2 q2 pool (old.core.flying ++ row ∷ []) old.core.last old.core.queue old.core.cache.entries v.media.block tied.sees numbers there refl sees2 (λ lv g2. refl) c is
             (ap (λ (st : Step). is_out st || (is_running c && not (is_whole old.core c))) writing) e)
@@ -120,7 +120,7 @@ module _ (past : List Fact) (old : Session) (device : Device) (place number : �
   sizes_is = ap (λ (d : Device). d.sizes) starts.new_is
 
   -- Where the state makes an event that changes this request so, and nothing else, it is tied again.
-  pub started_ties : (event : Event) → GoodStep tied.votes event v w → AsksOf old.core.descriptor event → IsOrderly (state device new) tied.write → IsTied past (state device new)
+  pub started_ties : (event : Event) → ModelStep tied.votes event v w → AsksOf old.core.descriptor event → IsOrderly (state device new) tied.write → IsTied past (state device new)
   started_ties event step asks orderly = record {
     votes = tied.votes;
     media = tied.media;
@@ -138,7 +138,7 @@ module _ (past : List Fact) (old : Session) (device : Device) (place number : �
     since = since_start old.device device f tied.write (update_of old.core.status) starts low tied.since;
     recorded = record {
       next = subst (λ (sizes : List ℕ). MayUpdate old.core.descriptor old.core.status old.core.homes (image_of sizes tied.media)) (sym sizes_is) tied.recorded.next;
-      members = λ d member first. subst (λ (sizes : List ℕ). IsTrue (members_there (contents_of (image_of sizes tied.media)) old.core.descriptor d)) (sym sizes_is) (tied.recorded.members d member first);
+      members = λ d member first. subst (λ (sizes : List ℕ). IsTrue (members_showing (contents_of (image_of sizes tied.media)) old.core.descriptor d)) (sym sizes_is) (tied.recorded.members d member first);
       records = subst (λ (sizes : List ℕ). ShowsRecords old.core.descriptor old.core.status (contents_of (image_of sizes tied.media))) (sym sizes_is) tied.recorded.records;
     };
     orderly = orderly;

@@ -6,7 +6,7 @@ use Rattle.lvm_disk.specs.Paths.{Started, Waited}
 use Rattle.lvm_session.specs.declared.event.Event.{Event}
 use Rattle.lvm_session.specs.declared.event.Event.TheVariants as event
 use Rattle.lvm_session.specs.declared.open.Power.TheVariants as power
-use Rattle.lvm_session.specs.State.{Core, State as Session, state}
+use Rattle.lvm_session.specs.State.{Core, State, state}
 use Rattle.lvm_session.specs.declared.answers.Turned.{Turned}
 use Rattle.lvm_session.specs.declared.answers.Turned.TheVariants as turned
 use Rattle.lvm_session.specs.Turns.{Makes, Darkens, GoesOff, Finds, FindsNothing, FinishMakes, OnMakes, Moves as Made, NoStart, Finishes, WasDark, WasOff, WasOn}
@@ -27,24 +27,24 @@ use Rattle.lvm_tie.proofs.Ends.{end_ties}
 use Rattle.lvm_tie.proofs.Histories.{ends_history, ends_step}
 use Rattle.lvm_tie.proofs.Spanning.{goes_same, goes_still, goes_step, goes_entry, counted}
 
-module _ (run : ℕ) (old new : Session) (on : old.core.power ≡ power.On) (sound : IsSound new) (sectors : HasSectors new.device) where
+module _ (run : ℕ) (old new : State) (on : old.core.power ≡ power.On) (sound : IsSound new) (sectors : HasSectors new.device) where
   makes_goes_on : IsValidStatus old.core.status.wanted → (it : Event) → Makes it old new → GoesOn run old new
   makes_goes_on valid (event.Land place how) makes =
-      goes_entry run old new (λ past tied. land_ties place how past old new tied sound makes) on _ (ap (λ (n : Session). n.device) makes.is) (ap (λ (n : Session). n.core.history.facts) makes.is)
+      goes_entry run old new (λ past tied. land_ties place how past old new tied sound makes) on _ (ap (λ (n : State). n.device) makes.is) (ap (λ (n : State). n.core.history.facts) makes.is)
   makes_goes_on valid (event.Admit place) makes =
-      goes_still run old new (λ past tied. admit_ties place past old new tied sound makes) (λ e. on) (ap (λ (n : Session). n.device) makes.is) (ap (λ (n : Session). n.core.history.facts) makes.is)
+      goes_still run old new (λ past tied. admit_ties place past old new tied sound makes) (λ e. on) (ap (λ (n : State). n.device) makes.is) (ap (λ (n : State). n.core.history.facts) makes.is)
   makes_goes_on valid (event.Pin place) makes =
-      goes_still run old new (λ past tied. pin_ties place past old new tied sound makes) (λ e. on) (ap (λ (n : Session). n.device) makes.is) (ap (λ (n : Session). n.core.history.facts) makes.is)
+      goes_still run old new (λ past tied. pin_ties place past old new tied sound makes) (λ e. on) (ap (λ (n : State). n.device) makes.is) (ap (λ (n : State). n.core.history.facts) makes.is)
   makes_goes_on valid event.StartStatus makes =
-      goes_step run old new (λ past tied. status_start_ties past old new tied sound valid makes) on (Started makes.flight makes.launches.starts) (ap (λ (n : Session). n.core.history.facts) makes.is)
+      goes_step run old new (λ past tied. status_start_ties past old new tied sound valid makes) on (Started makes.flight makes.launches.starts) (ap (λ (n : State). n.core.history.facts) makes.is)
   makes_goes_on valid (event.StartNote place disk) makes =
-      goes_step run old new (λ past tied. note_start_ties place disk past old new tied sound makes) on (Started makes.flight makes.launches.starts) (ap (λ (n : Session). n.core.history.facts) makes.is)
+      goes_step run old new (λ past tied. note_start_ties place disk past old new tied sound makes) on (Started makes.flight makes.launches.starts) (ap (λ (n : State). n.core.history.facts) makes.is)
   makes_goes_on valid (event.StartData place target) makes =
-      goes_step run old new (λ past tied. data_start_ties place target past old new tied sound makes) on (Started makes.flight makes.launches.starts) (ap (λ (n : Session). n.core.history.facts) makes.is)
+      goes_step run old new (λ past tied. data_start_ties place target past old new tied sound makes) on (Started makes.flight makes.launches.starts) (ap (λ (n : State). n.core.history.facts) makes.is)
   makes_goes_on valid event.ReadCopy makes =
-      goes_step run old new (λ past tied. copy_read_ties past old new tied sound makes) on (Started makes.flight makes.launches.starts) (ap (λ (n : Session). n.core.history.facts) makes.is)
+      goes_step run old new (λ past tied. copy_read_ties past old new tied sound makes) on (Started makes.flight makes.launches.starts) (ap (λ (n : State). n.core.history.facts) makes.is)
   makes_goes_on valid event.WriteCopy makes =
-      goes_step run old new (λ past tied. copy_write_ties past old new tied sound makes) on (Started makes.flight makes.starts) (ap (λ (n : Session). n.core.history.facts) makes.is)
+      goes_step run old new (λ past tied. copy_write_ties past old new tied sound makes) on (Started makes.flight makes.starts) (ap (λ (n : State). n.core.history.facts) makes.is)
 
   darkens_goes_on : Darkens old new → GoesOn run old new
   darkens_goes_on makes first good = (
@@ -54,7 +54,7 @@ module _ (run : ℕ) (old new : Session) (on : old.core.power ≡ power.On) (sou
 
   off_goes : GoesOff old new → GoesOn run old new
   off_goes makes first good = (
-    λ now. absurd (let e : power.Off ≡ power.On = sym (ap (λ (n : Session). n.core.power) makes.is) ∙ now in cc),
+    λ now. absurd (let e : power.Off ≡ power.On = sym (ap (λ (n : State). n.core.power) makes.is) ∙ now in cc),
     off_goes_on run first old new on good makes,
   )
 

@@ -23,16 +23,17 @@ use Rattle.lvm_kept.specs.Torn.{IsOfRecord, IsOtherOrRecord, RecordWrite, Stands
 use Rattle.lvm_stamps.specs.Behind.{StampsBefore}
 use Rattle.lvm_stamps.specs.Laws.{IsWhole}
 use Rattle.lvm_stamps.proofs.Writes.{record_keeps_before}
-use Rattle.lvm_begin.proofs.Slots.{other_comes_next, slot_for_same}
+use Rattle.lvm_rec.proofs.NextLemmas.{slot_for_same}
+use Rattle.lvm_begin.proofs.Slots.{other_comes_next}
 use Rattle.lvm_commit.specs.Committed.{next_stamp}
-use Rattle.lvm_status.specs.Update.{Stored, members_there as there_by}
+use Rattle.lvm_status.specs.Update.{Stored, members_there}
 use Rattle.lvm_homes.specs.declared.homes.Homes.{Homes}
 use Rattle.lvm_homes.specs.Homes.{next_slot, second_slots}
 use Rattle.lvm_session.specs.declared.flown.Flown.{Flown}
 use Rattle.lvm_session.specs.declared.flown.Owner.TheVariants as owner
-use Rattle.lvm_session.specs.State.{Core, State as Session}
+use Rattle.lvm_session.specs.State.{Core, State}
 use Rattle.lvm_session.specs.Ends.{FlipsIf, Returns}
-use Rattle.lvm_invariant.specs.State.{State}
+use Rattle.lvm_invariant.specs.State.{ModelState}
 use Rattle.lvm_invariant.specs.Good.{Good}
 use Rattle.lvm_invariant.specs.MoveStatus.{moved}
 use Rattle.lvm_invariant.specs.Events.{MoveStatus}
@@ -58,7 +59,7 @@ use Rattle.lvm_tie.proofs.Ended.{HasEnded, IsRow, has_ended, is_row}
 -- ---- the update in flight
 
 -- the write is out, of the update in flight
-pub record IsWritten (device : Device) (core : Core) (v : State) (w : Option RecordWrite) (f : Flight) (disk : ℕ) : Type 0 where
+pub record IsWritten (device : Device) (core : Core) (v : ModelState) (w : Option RecordWrite) (f : Flight) (disk : ℕ) : Type 0 where
   pub write : RecordWrite
   pub write_is : w ≡ Some write
   pub value : Status
@@ -68,7 +69,7 @@ pub record IsWritten (device : Device) (core : Core) (v : State) (w : Option Rec
   pub out : IsStatusOut core write f disk
   pub update : IsUpdateWrite core.status core.homes value write
 
-is_written : (device : Device) (core : Core) (v : State) (w : Option RecordWrite) (f : Flight) (disk : ℕ) → OnlyUpdateSince device w (update_of core.status) → IsWriteOf core.status core.homes core.status.in_flight w
+is_written : (device : Device) (core : Core) (v : ModelState) (w : Option RecordWrite) (f : Flight) (disk : ℕ) → OnlyUpdateSince device w (update_of core.status) → IsWriteOf core.status core.homes core.status.in_flight w
     → ((d : ℕ) → v.status_flying d ≡ has core.status.writes.started d) → IsOfUpdateOut core w f disk → IsWritten device core v w f disk
 is_written device core v None f disk since update flying out = absurd out
 is_written device core v (Some w) f disk since update flying out = by core.status.in_flight refl since update
@@ -119,11 +120,11 @@ is_next s = grind (arith, nat_tests)
 
 -- ---- the write that has ended
 
-module _ (past : List Fact) (old new : Session) (index disk : ℕ) (ok : Bool) (row : Flown) (buf : Buffer) (its_owner : row.owner ≡ owner.Status disk) (returns : Returns old new index row ok buf) (tied : IsTied past old) where
+module _ (past : List Fact) (old new : State) (index disk : ℕ) (ok : Bool) (row : Flown) (buf : Buffer) (its_owner : row.owner ≡ owner.Status disk) (returns : Returns old new index row ok buf) (tied : IsTied past old) where
   abbrev core : Core
   core = old.core
 
-  abbrev v : State
+  abbrev v : ModelState
   v = tied.view
 
   abbrev group : Descriptor
@@ -135,7 +136,7 @@ module _ (past : List Fact) (old new : Session) (index disk : ℕ) (ok : Bool) (
   abbrev f : Flight
   f = ended.flight
 
-  pub its_row : (next : Core) (u : State) → IsRow core next tied.write v u ended.removes.before ended.removes.after f core.flying index row
+  pub its_row : (next : Core) (u : ModelState) → IsRow core next tied.write v u ended.removes.before ended.removes.after f core.flying index row
   its_row next u = is_row core next tied.write v u ended.removes.before ended.removes.after f core.flying index row
       (subst (λ (fs : List Flight). AreOut core tied.write fs core.flying) ended.removes.was (out_of old tied.write tied.orderly tied.notes)) (tickets_of old tied.write tied.orderly) returns.there ended.its
 
@@ -227,7 +228,7 @@ module _ (past : List Fact) (old new : Session) (index disk : ℕ) (ok : Bool) (
       (λ brings. clash (d == disk) (let e : f.disk ≡ d = (writes_at f d s (ended.media d s) brings).disk in let e2 : f.disk ≡ disk = written.out.disk_is in grind (arith, nat_tests)) other)
       (ended.lands.some d s)
 
-  spare_beside : (homes : Homes) → FlipsIf ok disk core.homes homes → (d : ℕ) → (d == disk) ≡ false → IsTrue (there_by group core.status.wanted d) → is_owed_on core.status d ≡ false
+  spare_beside : (homes : Homes) → FlipsIf ok disk core.homes homes → (d : ℕ) → (d == disk) ≡ false → IsTrue (members_there group core.status.wanted d) → is_owed_on core.status d ≡ false
       → next_slot kind.Status homes d ≡ slot_for status_of kind.Status (is.sector d)
   spare_beside homes flips d other there owed =
       slots_beside ok disk core.homes homes flips d other ∙ tied.recorded.next.spare d there owed ∙ sym (slot_for_same status_of kind.Status (was.sector d) (is.sector d) (λ slot s two low high. same_beside d s other))

@@ -9,7 +9,7 @@ use Rattle.lvm_vol.specs.Log.{request_of, landed_fact, is_got, got_without_bytes
 use Rattle.lvm_sched.specs.declared.writes.TargetState.{TargetState}
 use Rattle.lvm_sched.specs.declared.writes.TargetState.TheVariants as target
 use Rattle.lvm_sched.specs.Writes.{is_waiting as is_unstarted}
-use Rattle.lvm_path.specs.declared.request.Phase.{Phase as RequestPhase}
+use Rattle.lvm_path.specs.declared.request.Phase.{Phase}
 use Rattle.lvm_path.specs.declared.request.Phase.TheVariants as phase
 use Rattle.lvm_path.specs.declared.target.Target.{Target}
 use Rattle.lvm_path.specs.Targets.{is_begun, is_over}
@@ -18,7 +18,7 @@ use Rattle.lvm_session.specs.State.{Core}
 use Rattle.lvm_session.specs.Judging.{is_waiting, place_of}
 use Rattle.lvm_session.specs.Dark.{IsAscending, landings as all_landings}
 use Rattle.lvm_session.specs.Requests.{IsPhase, IsShaped}
-use Rattle.lvm_invariant.specs.State.{Queued, State, has_landed}
+use Rattle.lvm_invariant.specs.State.{Queued, ModelState, has_landed}
 use Rattle.lvm_invariant.specs.Over.{IsDistinct, AreOpen, is_going, landings}
 use Rattle.lvm_tie.specs.Seen.{phase_seen, SeesRequest, IsRequestAt}
 use Rattle.lvm_tie.proofs.Orderly.{all_at}
@@ -123,7 +123,7 @@ same_landings how none base name started (o ∷ os) named = by (is_waiting o) re
 
 -- ---- what the state says of them
 
-unlanded_seen : (p : RequestPhase) (begun : Bool) (o : Open) → IsPhase p o → has_landed (phase_seen p begun) ≡ false
+unlanded_seen : (p : Phase) (begun : Bool) (o : Open) → IsPhase p o → has_landed (phase_seen p begun) ≡ false
 unlanded_seen phase.Held begun o its = refl
 unlanded_seen phase.WantEntry begun o its = refl
 unlanded_seen phase.WantRecord begun o its = refl
@@ -146,7 +146,7 @@ some_started (t ∷ ts) test some all = by (is_over t.state) refl all
     by true is all = ap (λ c. c || is_begun ts) (over_started t.state is)
     by false is all = absurd (cc all)
 
-going_seen : (p : RequestPhase) (core : Core) (o : Open) → o.request.phase ≡ p → IsShaped core o → IsPhase p o → is_going (phase_seen p (is_begun o.request.targets.items)) ≡ is_begun o.request.targets.items
+going_seen : (p : Phase) (core : Core) (o : Open) → o.request.phase ≡ p → IsShaped core o → IsPhase p o → is_going (phase_seen p (is_begun o.request.targets.items)) ≡ is_begun o.request.targets.items
 going_seen phase.Held core o is shape its = ap is_begun (sym its.0)
 going_seen phase.WantEntry core o is shape its = sym its.0
 going_seen phase.WantRecord core o is shape its = sym its.0
@@ -159,7 +159,7 @@ going_seen phase.WantStatus core o is shape its = sym (some_started o.request.ta
 going_seen phase.Landed core o is shape its = absurd its
 
 -- a state whose requests are those of the table
-module _ (core : Core) (w : State) (rises : IsAscending core.requests)
+module _ (core : Core) (w : ModelState) (rises : IsAscending core.requests)
     (sees : (k : ℕ) (o : Open) → slice_get core.requests k ≡ Some o → (q : Queued) × (w.queue (place_of o.request.id) ≡ Some q) × SeesRequest o q)
     (only : (i : ℕ) (q : Queued) → w.queue i ≡ Some q → IsFalse q.step → IsRequestAt core i)
     (shaped : (k : ℕ) (o : Open) → slice_get core.requests k ≡ Some o → is_waiting o ≡ true → IsShaped core o)
@@ -192,7 +192,7 @@ module _ (core : Core) (w : State) (rises : IsAscending core.requests)
           let s = sees at.place at.request at.there in
           let same : s.0 ≡ r = same_row s.0 r (sym s.1 ∙ ap w.queue at.its ∙ there) in
           let has : has_landed r.phase ≡ true = ap (λ (q : Queued). has_landed q.phase) (sym same) ∙ ap has_landed s.2.phase
-          ∙ ap (λ (p : RequestPhase). has_landed (phase_seen p (is_begun at.request.request.targets.items))) (over at.place at.request at.there landed) in
+          ∙ ap (λ (p : Phase). has_landed (phase_seen p (is_begun at.request.request.targets.items))) (over at.place at.request at.there landed) in
           absurd (let e : ◌≡◌ {A = Bool} true false = sym has ∙ unlanded in cc)
 
   pub are_open : AreOpen w (places core.requests) started

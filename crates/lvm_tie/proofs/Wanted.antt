@@ -13,13 +13,13 @@ use Rattle.lvm_kept.specs.Contents.{Contents}
 use Rattle.lvm_kept.specs.Torn.{RecordWrite}
 use Rattle.lvm_stamps.specs.Behind.{StampsBefore}
 use Rattle.lvm_stale.specs.Table.{SameMissing}
-use Rattle.lvm_status.specs.Runs.{IsSound as IsSoundStatus}
+use Rattle.lvm_status.specs.Runs.{IsSoundStatus}
 use Rattle.lvm_status.specs.Update.{Stored, Updates, is_held, is_owed, no_disks, seen}
 use Rattle.lvm_commit.specs.Committed.{next_stamp}
 use Rattle.lvm_homes.specs.declared.homes.Homes.{Homes}
 use Rattle.lvm_session.specs.State.{Core, is_there}
 use Rattle.lvm_session.specs.Marks.{WantsDirty}
-use Rattle.lvm_invariant.specs.State.{State}
+use Rattle.lvm_invariant.specs.State.{ModelState}
 use Rattle.lvm_crash.specs.Session.{as_marks, marks_of}
 use Rattle.lvm_tie.specs.Seen.{Sees, update_of}
 use Rattle.lvm_tie.specs.Out.{IsWriteOf, MayUpdate, is_owed_on}
@@ -72,7 +72,7 @@ module _ (old new : Stored) (rest : seen new ≡ record (seen old) { wanted = ne
         slots = λ d owed. its.slots d (sym (owed_same d) ∙ owed);
       }
 
-  pub sees_wanted : (past : List Fact) (core : Core) (v : State) → core.status ≡ old → Sees past core v → Sees past (record core { status = new }) (record v { wanted = marks_of new.wanted })
+  pub sees_wanted : (past : List Fact) (core : Core) (v : ModelState) → core.status ≡ old → Sees past core v → Sees past (record core { status = new }) (record v { wanted = marks_of new.wanted })
   sees_wanted past core v its sees = record {
     queue = sees.queue;
     facts = sees.facts;

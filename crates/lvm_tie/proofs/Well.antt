@@ -16,15 +16,15 @@ use Rattle.lvm_mwc.specs.Cache.{after_end as after_note_end, ended as notes_ende
 use Rattle.lvm_mwc.specs.Notes.{names_group}
 use Rattle.lvm_session.specs.declared.flown.Owner.{Owner}
 use Rattle.lvm_session.specs.declared.flown.Owner.TheVariants as owner
-use Rattle.lvm_session.specs.State.{Core, State as Session, state, is_there}
+use Rattle.lvm_session.specs.State.{Core, State, state, is_there}
 use Rattle.lvm_session.specs.Ends.{with_return}
 use Rattle.lvm_session.specs.Sound.{IsSound}
 use Rattle.lvm_keeps_events.proofs.NoteEnd.{here, beside, none_here, flight_beside}
-use Rattle.lvm_invariant.specs.State.{Groups, State}
+use Rattle.lvm_invariant.specs.State.{Groups, ModelState}
 use Rattle.lvm_invariant.specs.EndNote.{after_note}
 use Rattle.lvm_invariant.specs.Events.{EndNote}
 use Rattle.lvm_invariant.proofs.Each.{each_keeps}
-use Rattle.lvm_crash.specs.Session.{members_there, Describes}
+use Rattle.lvm_crash.specs.Session.{members_showing, Describes}
 use Rattle.lvm_tie_shelf.specs.Owned.{IsNoteFlight}
 use Rattle.lvm_tie_shelf.specs.Records.{flying_after}
 use Rattle.lvm_tie.proofs.Orderly.{IsNoteOut, orderly_same}
@@ -39,11 +39,11 @@ use Rattle.lvm_session.specs.declared.flown.Flown.{Flown}
 use Rattle.lvm_session.specs.Ends.{Returns, NoteLearns}
 use Rattle.lvm_tie.proofs.EndedNotes.{apart, ended, has_notes, here_too, its_row, none_is_some, not_here, out, own, own_names, own_sector, room, since_ended, some_of}
 
-module _ (past : List Fact) (old new : Session) (at disk : ℕ) (row : Flown) (buf : Buffer) (its_owner : row.owner ≡ owner.Note disk) (returns : Returns old new at row true buf) (learned : NoteLearns old.core at disk true buf new.core) (tied : IsTied past old) (sound : IsSound new) where
+module _ (past : List Fact) (old new : State) (at disk : ℕ) (row : Flown) (buf : Buffer) (its_owner : row.owner ≡ owner.Note disk) (returns : Returns old new at row true buf) (learned : NoteLearns old.core at disk true buf new.core) (tied : IsTied past old) (sound : IsSound new) where
   abbrev core : Core
   core = old.core
 
-  abbrev v : State
+  abbrev v : ModelState
   v = tied.view
 
   abbrev next : Core
@@ -73,7 +73,7 @@ module _ (past : List Fact) (old new : Session) (at disk : ℕ) (row : Flown) (b
 
   -- ---- what the state sees then
 
-  abbrev w : State
+  abbrev w : ModelState
   w = after_note v landed.names landed.home (flying_after v f.disk)
 
   -- the notes of the disk are those that were in flight
@@ -135,7 +135,7 @@ module _ (past : List Fact) (old new : Session) (at disk : ℕ) (row : Flown) (b
   whole : new ≡ state new.device next
   whole = λ k. record { device = new.device; core = learned k }
 
-  members_now : (d : ℕ) → members_there (contents_of is) core.descriptor d ≡ members_there (contents_of was) core.descriptor d
+  members_now : (d : ℕ) → members_showing (contents_of is) core.descriptor d ≡ members_showing (contents_of was) core.descriptor d
   members_now d = same_members tied.votes v core.descriptor (update_of core.status) old.device new.device.flights tied.media its_end.media f true tied.good (tied_matches past old tied) its_end.removes its_own its_end.lands d
 
   next_now : MayUpdate core.descriptor core.status core.homes is
@@ -165,7 +165,7 @@ module _ (past : List Fact) (old new : Session) (at disk : ℕ) (row : Flown) (b
     since = since_ended past old new at disk true row buf its_owner returns tied tied.write (update_of core.status) tied.since;
     recorded = record {
       next = subst (λ (sizes : List ℕ). MayUpdate core.descriptor core.status core.homes (image_of sizes its_end.media)) (sym its_end.sizes) next_now;
-      members = λ d member first. subst (λ (sizes : List ℕ). IsTrue (members_there (contents_of (image_of sizes its_end.media)) core.descriptor d)) (sym its_end.sizes) (members_now d ∙ tied.recorded.members d member first);
+      members = λ d member first. subst (λ (sizes : List ℕ). IsTrue (members_showing (contents_of (image_of sizes its_end.media)) core.descriptor d)) (sym its_end.sizes) (members_now d ∙ tied.recorded.members d member first);
       records = subst (λ (sizes : List ℕ). ShowsRecords core.descriptor core.status (contents_of (image_of sizes its_end.media))) (sym its_end.sizes) records_now;
     };
     notes = notes_fit;

@@ -19,19 +19,19 @@ use Rattle.lvm_map.proofs.Parts.{parts}
 use Rattle.lvm_map.proofs.PlaceLemmas.{mib_positive, volume_at}
 use Rattle.lvm_stale.specs.Table.{SameMissing, is_pp as same_pp}
 use Rattle.lvm_status.specs.Calls.{BecomesFresh}
-use Rattle.lvm_status.specs.Runs.{IsSound as IsSoundStatus}
+use Rattle.lvm_status.specs.Runs.{IsSoundStatus}
 use Rattle.lvm_status.specs.Update.{Stored, Updates, no_disks, seen}
-use Rattle.lvm_session.specs.declared.bringing.OpenCopy.{OpenCopy as Bringing}
+use Rattle.lvm_session.specs.declared.bringing.OpenCopy.{OpenCopy}
 use Rattle.lvm_session.specs.declared.bringing.CopyEnd.{CopyEnd}
 use Rattle.lvm_session.specs.declared.bringing.CopyEnd.TheVariants as ending
-use Rattle.lvm_session.specs.State.{Core, State as Session, state}
+use Rattle.lvm_session.specs.State.{Core, State, state}
 use Rattle.lvm_session.specs.Judging.{is_missing, is_running, is_stale, is_wanted_stale, place_of}
 use Rattle.lvm_session.specs.Bringing.{copy_ends, end_by_sources, ends_if, groups_of, has_row, is_cleared, is_whole, marked_by_end, with_end}
 use Rattle.lvm_session.specs.Ends.{GoesOn, with_copy}
 use Rattle.lvm_session.specs.Marks.{Reviews, WantsFresh, can_replace, is_among, is_entailed, is_entailed_in, is_left_behind}
 use Rattle.lvm_session.specs.Sound.{IsSound}
 use Rattle.lvm_keeps_events.specs.EndsGroup.{EndsGroup}
-use Rattle.lvm_invariant.specs.State.{Marks, Queued, State}
+use Rattle.lvm_invariant.specs.State.{Marks, Queued, ModelState}
 use Rattle.lvm_invariant.specs.Clear.{Clears}
 use Rattle.lvm_invariant.specs.Events.{Clear}
 use Rattle.lvm_invariant.specs.Sound.{Complete}
@@ -74,19 +74,19 @@ entailed_fresh core p is =
     let b = and_both (is_among copies p && not (is_stale core p)) (is_missing core p.disk) a.0 in
     not_true (is_stale core p) (and_both (is_among copies p) (not (is_stale core p)) b.0).1
 
-module _ (past : List Fact) (old new : Session) (at : ℕ) (tied : IsTied past old) (sound : IsSound new) (sectors : HasSectors new.device) (event : EndsGroup old new at)
+module _ (past : List Fact) (old new : State) (at : ℕ) (tied : IsTied past old) (sound : IsSound new) (sectors : HasSectors new.device) (event : EndsGroup old new at)
     (full : is_whole old.core (d past old new at tied sectors event) ≡ true) where
   abbrev core : Core
   core = old.core
 
-  abbrev v : State
+  abbrev v : ModelState
   v = tied.view
 
-  abbrev c : Bringing
+  abbrev c : OpenCopy
   c = event.copy
 
   -- the copy, with all behind it
-  abbrev e : Bringing
+  abbrev e : OpenCopy
   e = d past old new at tied sectors event
 
   abbrev status : Stored
@@ -197,7 +197,7 @@ module _ (past : List Fact) (old new : Session) (at : ℕ) (tied : IsTied past o
       let same_lv : (lv == c.lv) ≡ true = (let k : lv ≡ c.lv = one.volume in grind (arith, nat_tests)) in
       so_within (groups_of core * c.lp) (c.cursor + 1) (track_group_of b) (lv == c.lv) same_lv (omega (arith, b_is, product)) (omega (arith, b_is, product, low, groups, enough))
 
-  abbrev was : State
+  abbrev was : ModelState
   was = left past old new at tied sectors event
 
   complete : Complete was c.pp
@@ -239,7 +239,7 @@ module _ (past : List Fact) (old new : Session) (at : ℕ) (tied : IsTied past o
           by true same_so = inr (pp_same p c.pp same_so)
           by false other = inl (others_same p other ∙ is)
 
-  abbrev w : State
+  abbrev w : ModelState
   w = record was { wanted = marks }
 
   stands : Stands tied.votes core.descriptor (update_of core.status) (now past old new at event.row true event.buf tied event.returns event.own c event.is_open) w

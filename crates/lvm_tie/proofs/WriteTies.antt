@@ -29,21 +29,21 @@ use Rattle.lvm_path.specs.Next.{with_end}
 use Rattle.lvm_path.specs.Targets.{are_over, end_state, is_begun, is_done, is_failed, with_state}
 use Rattle.lvm_session.specs.declared.bringing.CopyEnd.{CopyEnd}
 use Rattle.lvm_session.specs.declared.bringing.CopyEnd.TheVariants as ending
-use Rattle.lvm_session.specs.declared.bringing.OpenCopy.{OpenCopy as Bringing}
+use Rattle.lvm_session.specs.declared.bringing.OpenCopy.{OpenCopy}
 use Rattle.lvm_session.specs.declared.bringing.Step.{Step}
 use Rattle.lvm_session.specs.declared.bringing.Step.TheVariants as step
 use Rattle.lvm_session.specs.declared.flown.Owner.{Owner}
 use Rattle.lvm_session.specs.declared.flown.Owner.TheVariants as owner
 use Rattle.lvm_session.specs.declared.open.Open.{Open}
 use Rattle.lvm_session.specs.declared.open.Power.TheVariants as power
-use Rattle.lvm_session.specs.State.{Core, State as Session, state}
+use Rattle.lvm_session.specs.State.{Core, State, state}
 use Rattle.lvm_session.specs.Bringing.{after_copy_end, ends_if, is_done_end, is_out, is_whole, marked_by_end, with_back, with_end as with_copy_end}
 use Rattle.lvm_session.specs.Judging.{all_but_sure, is_kept, is_running, is_sure, is_waiting, place_of, pps_of}
 use Rattle.lvm_session.specs.Ends.{DataLearns, Ends, Learns, after_data, keeps_buffer, learned}
 use Rattle.lvm_session.specs.Events.{IsDataTransfer}
 use Rattle.lvm_session.specs.Marks.{Entails, WantsStale, due_of, due_targets, end_by_write, hits_copy, is_among}
 use Rattle.lvm_session.specs.Sound.{IsSound}
-use Rattle.lvm_invariant.specs.State.{Going, Marks, OpenCopy, Queued, Stage, State, covers}
+use Rattle.lvm_invariant.specs.State.{Going, Marks, ModelCopy, Queued, Stage, ModelState, covers}
 use Rattle.lvm_invariant.specs.Good.{Good}
 use Rattle.lvm_invariant.specs.Sound.{StaysFresh}
 use Rattle.lvm_invariant.specs.Events.{Event, Transfer, Want}
@@ -53,7 +53,7 @@ use Rattle.lvm_invariant.specs.Want.{Replaced, Wants, after_wants}
 use Rattle.lvm_invariant.proofs.Each.{each_keeps}
 use Rattle.lvm_invariant.proofs.Rules.{each_has}
 use Rattle.lvm_crash.specs.Left.{KeepsGroup}
-use Rattle.lvm_crash.specs.Session.{Describes, marks_of, members_there}
+use Rattle.lvm_crash.specs.Session.{Describes, marks_of, members_showing}
 use Rattle.lvm_tie_shelf.proofs.Owned.{covers_its}
 use Rattle.lvm_tie_shelf.proofs.Quiet.{quiet_lasts, update_goes_on}
 use Rattle.lvm_tie_shelf.proofs.Writing.{and_both, group_kept, pp_same, records_same, same_pp, write_ends}
@@ -104,7 +104,7 @@ sure_at : (core : Core) (x : Target) (p : Pp) → x.pp ≡ p → is_sure core p 
 sure_at core x p same sure = ap (is_sure core) same ∙ sure
 
 -- what is put in the queue is there
-put_there : (v : State) (i : ℕ) (q : Queued) → put v.queue i q i ≡ Some q
+put_there : (v : ModelState) (i : ℕ) (q : Queued) → put v.queue i q i ≡ Some q
 put_there v i q = let test : (i == i) ≡ true = grind (arith, nat_tests) in ap (λ b. if b then Some q else v.queue i) test
 
 going_either : (b : Bool) → phase_seen (if b then phase.WantStatus else phase.Data) true ≡ Going
@@ -126,11 +126,11 @@ ended_orderly : (device : Device) (core : Core) (e : Option CopyEnd) (write : Op
 ended_orderly device core None write sound on update = record { sound = sound; on = on; update = update }
 ended_orderly device core (Some how) write sound on update = by core.copy sound
   where
-    by : (m : Option Bringing) → IsSound (state device (option_map_or (λ (c : Bringing). after_copy_end core c how) m core)) → IsOrderly (state device (option_map_or (λ (c : Bringing). after_copy_end core c how) m core)) write
+    by : (m : Option OpenCopy) → IsSound (state device (option_map_or (λ (c : OpenCopy). after_copy_end core c how) m core)) → IsOrderly (state device (option_map_or (λ (c : OpenCopy). after_copy_end core c how) m core)) write
     by None sound_then = record { sound = sound_then; on = on; update = update }
     by (Some c) sound_then = record { sound = sound_then; on = on; update = update }
 
-module _ (past : List Fact) (old new : Session) (index : ℕ) (ends : Ends old new index) (id number : ℕ) (its_owner : ends.row.owner ≡ owner.Data id number) (learns : DataLearns old.core index id number ends.ok ends.buf new.core) (tied : IsTied past old)
+module _ (past : List Fact) (old new : State) (index : ℕ) (ends : Ends old new index) (id number : ℕ) (its_owner : ends.row.owner ≡ owner.Data id number) (learns : DataLearns old.core index id number ends.ok ends.buf new.core) (tied : IsTied past old)
     (writes : is_write learns.its.request.request.ask ≡ true) (sectors : HasSectors new.device) where
   abbrev o : Open
   o = learns.its.request
@@ -141,7 +141,7 @@ module _ (past : List Fact) (old new : Session) (index : ℕ) (ends : Ends old n
   abbrev ts : List Target
   ts = o.request.targets.items
 
-  abbrev v : State
+  abbrev v : ModelState
   v = tied.view
 
   abbrev i : ℕ
@@ -187,7 +187,7 @@ module _ (past : List Fact) (old new : Session) (index : ℕ) (ends : Ends old n
   sees : SeesRequest o q
   sees = (tied.sees.queue.requests learns.place o learns.its.there).2
 
-  its_row : (next : Core) (u : State) → IsRow old.core next tied.write v u ended.removes.before ended.removes.after f old.core.flying index ends.row
+  its_row : (next : Core) (u : ModelState) → IsRow old.core next tied.write v u ended.removes.before ended.removes.after f old.core.flying index ends.row
   its_row next u = is_row old.core next tied.write v u ended.removes.before ended.removes.after f old.core.flying index ends.row
       (subst (λ (fs : List Flight). AreOut old.core tied.write fs old.core.flying) ended.removes.was (out_of old tied.write tied.orderly tied.notes)) tickets ends.returns.there ended.its
 
@@ -247,7 +247,7 @@ module _ (past : List Fact) (old new : Session) (index : ℕ) (ends : Ends old n
   abbrev q2 : Queued
   q2 = record q { targets = staged q.targets t.pp (stage_of ends.ok) }
 
-  abbrev w : State
+  abbrev w : ModelState
   w = restaged v i q t.pp (stage_of ends.ok) block
 
   abbrev ts2 : List Target
@@ -280,13 +280,13 @@ module _ (past : List Fact) (old new : Session) (index : ℕ) (ends : Ends old n
     got = sees.got;
   }
 
-  carries : (status : Stored) (u : State) → u.queue ≡ w.queue → (g : Flight) (who : Owner) → CarriesStep old.core v g who → CarriesStep (record core2 { status = status }) u g who
+  carries : (status : Stored) (u : ModelState) → u.queue ≡ w.queue → (g : Flight) (who : Owner) → CarriesStep old.core v g who → CarriesStep (record core2 { status = status }) u g who
   carries status u same g (owner.Data n m) c = tt
   carries status u same g (owner.Status disk) c = tt
   carries status u same g (owner.Note disk) c = tt
   carries status u same g owner.Copy carried = λ c p is writing here. carried c p is writing (sym (elsewhere c is writing) ∙ ap (λ (queue : ℕ → Option Queued). queue c.place) (sym same) ∙ here)
     where
-      elsewhere : (c : Bringing) → old.core.copy ≡ Some c → c.step ≡ step.Writing → w.queue c.place ≡ v.queue c.place
+      elsewhere : (c : OpenCopy) → old.core.copy ≡ Some c → c.step ≡ step.Writing → w.queue c.place ≡ v.queue c.place
       elsewhere c is writing = elim (cases_eq c.place i) [
         | inl e ↦ absurd (step_apart past old.core v learns.place o o2 q2 core2.pool core2.flying old.core.last old.core.queue old.core.cache.entries block tied.sees numbers learns.its.there refl sees2 (λ lv g2. refl) c is
             (ap (λ (st : Step). is_out st || (is_running c && not (is_whole old.core c))) writing) e)
@@ -381,7 +381,7 @@ module _ (past : List Fact) (old new : Session) (index : ℕ) (ends : Ends old n
 
   -- it runs, and one of the targets is on it, where it ends so
   record IsHit (h : CopyEnd) : Type 0 where
-    copy : Bringing
+    copy : OpenCopy
     is_open : old.core.copy ≡ Some copy
     running : is_running copy ≡ true
     target : IsTargets copy.pp
@@ -390,7 +390,7 @@ module _ (past : List Fact) (old new : Session) (index : ℕ) (ends : Ends old n
   hit : (h : CopyEnd) → how ≡ Some h → IsHit h
   hit h is = by (option_map_or (hits_copy core2 o2 ends.ok t.pp) old.core.copy false) refl is
     where
-      which : (c : Bringing) → (not ends.ok && is_its t.pp c.pp || (are_over ts2 && not (is_kept core2 o2.request) && not o.older && is_among (due_of core2 o2.request) c.pp)) ≡ true → IsTargets c.pp
+      which : (c : OpenCopy) → (not ends.ok && is_its t.pp c.pp || (are_over ts2 && not (is_kept core2 o2.request) && not o.older && is_among (due_of core2 o2.request) c.pp)) ≡ true → IsTargets c.pp
       which c test = ⊎_elim
           (λ bad. record {
             one = record t { state = end_state ends.ok };
@@ -400,7 +400,7 @@ module _ (past : List Fact) (old new : Session) (index : ℕ) (ends : Ends old n
           (λ lost. due_one c.pp (and_both (are_over ts2 && not (is_kept core2 o2.request) && not o.older) (is_among (due_of core2 o2.request) c.pp) lost).1)
           (or_either (not ends.ok && is_its t.pp c.pp) (are_over ts2 && not (is_kept core2 o2.request) && not o.older && is_among (due_of core2 o2.request) c.pp) test)
 
-      of : ending.SyncFailed ≡ h → (m : Option Bringing) → old.core.copy ≡ m → option_map_or (hits_copy core2 o2 ends.ok t.pp) m false ≡ true → IsHit h
+      of : ending.SyncFailed ≡ h → (m : Option OpenCopy) → old.core.copy ≡ m → option_map_or (hits_copy core2 o2 ends.ok t.pp) m false ≡ true → IsHit h
       of so None none test = absurd (cc test)
       of so (Some c) open_is test =
           let outer = and_both (is_write o.request.ask && is_running c) (not ends.ok && is_its t.pp c.pp || (are_over ts2 && not (is_kept core2 o2.request) && not o.older && is_among (due_of core2 o2.request) c.pp)) test in
@@ -424,8 +424,8 @@ module _ (past : List Fact) (old new : Session) (index : ℕ) (ends : Ends old n
       by None none test = absurd (cc test)
       by (Some h) some test =
           let x : IsHit h = hit h some in
-          let both = and_both (not (is_done_end h)) (option_map_or (λ (c : Bringing). is_whole core2 c && is_its p c.pp) old.core.copy false) test in
-          let here : (is_whole old.core x.copy && is_its p x.copy.pp) ≡ true = sym (ap (λ (m : Option Bringing). option_map_or (λ (c : Bringing). is_whole old.core c && is_its p c.pp) m false) x.is_open) ∙ both.1 in
+          let both = and_both (not (is_done_end h)) (option_map_or (λ (c : OpenCopy). is_whole core2 c && is_its p c.pp) old.core.copy false) test in
+          let here : (is_whole old.core x.copy && is_its p x.copy.pp) ≡ true = sym (ap (λ (m : Option OpenCopy). option_map_or (λ (c : OpenCopy). is_whole old.core c && is_its p c.pp) m false) x.is_open) ∙ both.1 in
           let parts_of = and_both (is_whole old.core x.copy) (is_its p x.copy.pp) here in
           record { kind = h; its_hit = x; all = parts_of.0; same = pp_same p x.copy.pp parts_of.1 }
 
@@ -458,31 +458,31 @@ module _ (past : List Fact) (old new : Session) (index : ℕ) (ends : Ends old n
         (or_either (is_among (due_of core2 o2.request) p) (marked_by_end core2 how p) is)
 
     -- one that ends is wanted stale
-    ends_stale : (h : CopyEnd) → how ≡ Some h → (x : OpenCopy) → v.open_copy ≡ Some x → calls_stale status.wanted x.target ≡ true
+    ends_stale : (h : CopyEnd) → how ≡ Some h → (x : ModelCopy) → v.open_copy ≡ Some x → calls_stale status.wanted x.target ≡ true
     ends_stale h is x open_is =
         let its_hit = hit h is in
-        let c : Bringing = its_hit.copy in
+        let c : OpenCopy = its_hit.copy in
         let brought = (opened past old tied c its_hit.is_open its_hit.running).0 in
         ap (calls_stale status.wanted) (brought.target x open_is) ∙ wants.stale c.pp
         ∙ or_true (calls_stale old.core.status.wanted c.pp) (due c.pp) (by c its_hit.is_open brought.part (ap (λ (e : Option CopyEnd). marked_by_end core2 e c.pp) (is ∙ ap (λ (e : CopyEnd). Some e) its_hit.fails)) (is_whole old.core c) refl)
       where
-        by : (c : Bringing) → old.core.copy ≡ Some c → (is_whole old.core c ≡ false → calls_stale old.core.status.wanted c.pp ≡ true) → marked_by_end core2 how c.pp ≡ option_map_or (λ (y : Bringing). is_whole old.core y && is_its c.pp y.pp) old.core.copy false
+        by : (c : OpenCopy) → old.core.copy ≡ Some c → (is_whole old.core c ≡ false → calls_stale old.core.status.wanted c.pp ≡ true) → marked_by_end core2 how c.pp ≡ option_map_or (λ (y : OpenCopy). is_whole old.core y && is_its c.pp y.pp) old.core.copy false
             → (b : Bool) → is_whole old.core c ≡ b → (calls_stale old.core.status.wanted c.pp ≡ true) ⊎ (due c.pp ≡ true)
         by c here stale mark false part = inl (stale part)
         by c here stale mark true all = inr (or_true (is_among (due_of core2 o2.request) c.pp) (marked_by_end core2 how c.pp)
-            (inr (mark ∙ ap (λ (m : Option Bringing). option_map_or (λ (y : Bringing). is_whole old.core y && is_its c.pp y.pp) m false) here ∙ (λ k. all k && same_pp c.pp c.pp refl k))))
+            (inr (mark ∙ ap (λ (m : Option OpenCopy). option_map_or (λ (y : OpenCopy). is_whole old.core y && is_its c.pp y.pp) m false) here ∙ (λ k. all k && same_pp c.pp c.pp refl k))))
 
     -- ---- what the state wants
 
     still : (p : Pp) → IsTrue (w.wanted.stale p) → IsTrue (calls_stale status.wanted p)
     still p is = wants.stale p ∙ or_true (calls_stale old.core.status.wanted p) (due p) (inl (sym (ap (λ (m : Marks). m.stale p) tied.sees.status.wanted) ∙ is))
 
-    open_same : (e : Option CopyEnd) → ((h : CopyEnd) → e ≡ Some h → (x : OpenCopy) → v.open_copy ≡ Some x → calls_stale status.wanted x.target ≡ true)
-        → (open_after e v.open_copy ≡ v.open_copy) ⊎ ((open_after e v.open_copy ≡ None) × ((x : OpenCopy) → v.open_copy ≡ Some x → IsTrue (calls_stale status.wanted x.target)))
+    open_same : (e : Option CopyEnd) → ((h : CopyEnd) → e ≡ Some h → (x : ModelCopy) → v.open_copy ≡ Some x → calls_stale status.wanted x.target ≡ true)
+        → (open_after e v.open_copy ≡ v.open_copy) ⊎ ((open_after e v.open_copy ≡ None) × ((x : ModelCopy) → v.open_copy ≡ Some x → IsTrue (calls_stale status.wanted x.target)))
     open_same None each = inl refl
     open_same (Some h) each = inr (refl, each h refl)
 
-    open_there : (e : Option CopyEnd) (x : OpenCopy) → open_after e v.open_copy ≡ Some x → IsFalse (v.missing x.target.disk)
+    open_there : (e : Option CopyEnd) (x : ModelCopy) → open_after e v.open_copy ≡ Some x → IsFalse (v.missing x.target.disk)
     open_there None x is = good_w.sound.statuses.open_there x is
     open_there (Some h) x is = absurd (cc is)
 
@@ -500,7 +500,7 @@ module _ (past : List Fact) (old new : Session) (index : ℕ) (ends : Ends old n
     abbrev event : Event
     event = Want (marks_of status.wanted) w.missing (open_after how v.open_copy)
 
-    abbrev w1 : State
+    abbrev w1 : ModelState
     w1 = after_wants w (marks_of status.wanted) w.missing (open_after how v.open_copy)
 
     abbrev core3 : Core
@@ -530,8 +530,8 @@ module _ (past : List Fact) (old new : Session) (index : ℕ) (ends : Ends old n
       recorded = record {
         next = subst (λ (sizes : List ℕ). MayUpdate old.core.descriptor status old.core.homes (image_of sizes ended.media)) (sym ended.sizes)
             (next_same core2.status status wants.rest wants.missing old.core.descriptor old.core.homes (image_of old.device.sizes ended.media) next_w);
-        members = λ d member first. subst (λ (sizes : List ℕ). IsTrue (members_there (contents_of (image_of sizes ended.media)) old.core.descriptor d)) (sym ended.sizes)
-            (ap (λ (c : Contents). members_there c old.core.descriptor d) group_same.rest ∙ tied.recorded.members d member first);
+        members = λ d member first. subst (λ (sizes : List ℕ). IsTrue (members_showing (contents_of (image_of sizes ended.media)) old.core.descriptor d)) (sym ended.sizes)
+            (ap (λ (c : Contents). members_showing c old.core.descriptor d) group_same.rest ∙ tied.recorded.members d member first);
         records = subst (λ (sizes : List ℕ). ShowsRecords old.core.descriptor status (contents_of (image_of sizes ended.media))) (sym ended.sizes)
             (records_wanted core2.status status wants.rest wants.missing old.core.descriptor now
             (records_kept old.core.descriptor old.core.status (image_of old.device.sizes tied.media) (image_of old.device.sizes ended.media) same_records tied.recorded.records));

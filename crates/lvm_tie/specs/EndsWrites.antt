@@ -3,12 +3,12 @@ use Rattle.std.specs.Prelude.{◌≡◌, ℕ, true}
 use Rattle.lvm_disk.specs.Device.{HasSectors}
 use Rattle.lvm_path.specs.Asks.{is_write}
 use Rattle.lvm_session.specs.declared.flown.Owner.TheVariants as owner
-use Rattle.lvm_session.specs.State.{State as Session}
+use Rattle.lvm_session.specs.State.{State}
 use Rattle.lvm_session.specs.Ends.{DataLearns, Ends}
 use Rattle.lvm_tie.specs.Tied.{Ties}
 
 -- a transfer of a request that writes has ended, well or badly
-pub record EndsWriting (old new : Session) (at id target : ℕ) : Type 0 where
+pub record EndsWriting (old new : State) (at id target : ℕ) : Type 0 where
   pub ends : Ends old new at
   pub own : ends.row.owner ≡ owner.Data id target
   pub learns : DataLearns old.core at id target ends.ok ends.buf new.core
@@ -19,7 +19,7 @@ abbrev pub WriteEndTies : Type 0
 WriteEndTies = (at id target : ℕ) → Ties (λ old new. HasSectors new.device × EndsWriting old new at id target)
 
 -- a transfer of a request has ended, well or badly
-pub record EndsOfRequest (old new : Session) (at id target : ℕ) : Type 0 where
+pub record EndsOfRequest (old new : State) (at id target : ℕ) : Type 0 where
   pub ends : Ends old new at
   pub own : ends.row.owner ≡ owner.Data id target
 

@@ -7,7 +7,7 @@ use Rattle.lvm_disk.specs.Device.{HasSectors}
 use Rattle.lvm_kept.specs.Moments.{Moment}
 use Rattle.lvm_path.specs.declared.ask.Ask.{Ask}
 use Rattle.lvm_session.specs.declared.open.Power.TheVariants as power
-use Rattle.lvm_session.specs.State.{Core, State as Session, state}
+use Rattle.lvm_session.specs.State.{Core, State, state}
 use Rattle.lvm_session.specs.declared.answers.AskFault.{AskFault}
 use Rattle.lvm_session.specs.declared.answers.CopyFault.{CopyFault}
 use Rattle.lvm_session.specs.declared.answers.Taken.{Taken}
@@ -20,33 +20,33 @@ use Rattle.lvm_tie.specs.Tied.{IsGood, SpanGoesOn}
 
 -- From whatever moment its run is told: a good session is good after it, and a span goes on over what happens, so that at each moment of it the history is legal
 -- and each crash image kept with it.
-abbrev pub GoesOn : ℕ → Session → Session → Type 0
+abbrev pub GoesOn : ℕ → State → State → Type 0
 GoesOn run old new = (first : Moment) → IsGood run first old → IsGood run first new × SpanGoesOn run first old new
 
 -- So it is over a turn, where the shelf has whole sectors and what is wanted is a status that a record can have;
 abbrev pub TurnGoesOn : Type 0
 TurnGoesOn =
-    (run : ℕ) (old new : Session) (answer : Turned) → IsSound old → IsSound new → HasSectors new.device → IsValidStatus old.core.status.wanted → TurnMakes old new answer
+    (run : ℕ) (old new : State) (answer : Turned) → IsSound old → IsSound new → HasSectors new.device → IsValidStatus old.core.status.wanted → TurnMakes old new answer
     → GoesOn run old new
 
 -- over a request that is submitted, or isn't taken;
 abbrev pub SubmitGoesOn : Type 0
-SubmitGoesOn = (run : ℕ) (s : Session) (new : Core) (client : ℕ) (ask : Ask) (bytes : Option (List ℕ)) (answer : Result ℕ AskFault)
+SubmitGoesOn = (run : ℕ) (s : State) (new : Core) (client : ℕ) (ask : Ask) (bytes : Option (List ℕ)) (answer : Result ℕ AskFault)
     → (s.core.power ≡ power.Stuck → ⊥) → IsSound (state s.device new) → IsAsking ask bytes → SubmitGives s.core new client ask bytes answer → GoesOn run s (state s.device new)
 
 -- over an answer that is taken, or isn't there yet, where the span is of the session's run;
 abbrev pub AnswerGoesOn : Type 0
-AnswerGoesOn = (s : Session) (new : Core) (client id : ℕ) (answer : Taken)
+AnswerGoesOn = (s : State) (new : Core) (client id : ℕ) (answer : Taken)
     → IsSound s → IsSound (state s.device new) → TakeGives s.core new client id answer → GoesOn s.core.history.run s (state s.device new)
 
 -- over a copy that is opened, or isn't, or is closed;
 abbrev pub OpenGoesOn : Type 0
-OpenGoesOn = (run : ℕ) (s : Session) (new : Core) (counts : Counts) (lv lp number : ℕ) (answer : Result (Unit {0}) CopyFault)
+OpenGoesOn = (run : ℕ) (s : State) (new : Core) (counts : Counts) (lv lp number : ℕ) (answer : Result (Unit {0}) CopyFault)
     → IsSound (state s.device new) → OpenGives counts s.core new lv lp number answer → GoesOn run s (state s.device new)
 
 abbrev pub CloseGoesOn : Type 0
-CloseGoesOn = (run : ℕ) (s : Session) (new : Core) → IsSound (state s.device new) → Closes s.core new → GoesOn run s (state s.device new)
+CloseGoesOn = (run : ℕ) (s : State) (new : Core) → IsSound (state s.device new) → Closes s.core new → GoesOn run s (state s.device new)
 
 -- and over an order to the shelf.
 abbrev pub ArrangeGoesOn : Type 0
-ArrangeGoesOn = (run : ℕ) (old new : Session) (what : Arrange) (done : Bool) → IsSound old → IsSound new → Arranges old new what done → GoesOn run old new
+ArrangeGoesOn = (run : ℕ) (old new : State) (what : Arrange) (done : Bool) → IsSound old → IsSound new → Arranges old new what done → GoesOn run old new

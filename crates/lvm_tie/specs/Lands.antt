@@ -5,7 +5,7 @@ use Rattle.lvm_session.specs.declared.answers.Taken.{Taken}
 use Rattle.lvm_vol.specs.declared.entry.Outcome.{Outcome}
 use Rattle.lvm_session.specs.Calls.{TakeGives}
 use Rattle.lvm_session.specs.Events.{Lands}
-use Rattle.lvm_session.specs.State.{Core, State as Session, state}
+use Rattle.lvm_session.specs.State.{Core, State, state}
 use Rattle.lvm_session.specs.Sound.{IsSound}
 use Rattle.lvm_tie.specs.Tied.{IsTied, Ties}
 
@@ -16,5 +16,5 @@ LandTies = (place : ℕ) (how : Outcome) → Ties (λ old new. Lands old new pla
 -- So does an answer that is taken, or isn't there yet.
 abbrev pub TakeTies : Type 0
 TakeTies =
-    (past : List Fact) (s : Session) (new : Core) (client id : ℕ) (answer : Taken)
+    (past : List Fact) (s : State) (new : Core) (client id : ℕ) (answer : Taken)
     → IsTied past s → IsSound (state s.device new) → TakeGives s.core new client id answer → IsTied past (state s.device new)

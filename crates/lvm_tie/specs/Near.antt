@@ -4,12 +4,12 @@ use Rattle.lvm_vol.specs.Facts.{Fact}
 use Rattle.lvm_disk.specs.Device.{Media, Device, image_of}
 use Rattle.lvm_kept.specs.Contents.{contents_of}
 use Rattle.lvm_kept.specs.Torn.{RecordWrite}
-use Rattle.lvm_session.specs.declared.bringing.OpenCopy.{OpenCopy as Bringing}
+use Rattle.lvm_session.specs.declared.bringing.OpenCopy.{OpenCopy}
 use Rattle.lvm_session.specs.declared.bringing.CopyEnd.{CopyEnd}
 use Rattle.lvm_session.specs.State.{Core, state}
 use Rattle.lvm_session.specs.Judging.{is_running}
 use Rattle.lvm_session.specs.Bringing.{with_end}
-use Rattle.lvm_invariant.specs.State.{OpenCopy, State}
+use Rattle.lvm_invariant.specs.State.{ModelCopy, ModelState}
 use Rattle.lvm_invariant.specs.Found.{Votes}
 use Rattle.lvm_invariant.specs.Good.{Good}
 use Rattle.lvm_crash.specs.Session.{Describes}
@@ -20,12 +20,12 @@ use Rattle.lvm_tie.specs.Tied.{IsSetting, IsCopyAimed, IsOrderly, IsTied, HoldsR
 
 -- a copy is open, and it runs
 pub record IsRunning (core : Core) : Type 0 where
-  pub copy : Bringing
+  pub copy : OpenCopy
   pub is_open : core.copy ≡ Some copy
   pub runs : is_running copy ≡ true
 
 -- nothing is open once it has ended
-abbrev pub open_after : Option CopyEnd → Option OpenCopy → Option OpenCopy
+abbrev pub open_after : Option CopyEnd → Option ModelCopy → Option ModelCopy
 open_after None o = o
 open_after (Some how) o = None
 
@@ -34,8 +34,8 @@ pub record IsNear (past : List Fact) (device : Device) (core : Core) (how : Opti
   pub votes : Votes
   pub media : Media
   pub setting : IsSetting past core.history.run core.descriptor device.media votes media
-  pub view : State
-  pub open_copy : Option OpenCopy
+  pub view : ModelState
+  pub open_copy : Option ModelCopy
   pub sees : Sees past core (record view { open_copy = open_copy })
   pub ended : view.open_copy ≡ open_after how open_copy
   pub good : Good votes view

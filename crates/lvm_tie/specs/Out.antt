@@ -19,26 +19,26 @@ use Rattle.lvm_status.specs.Update.{Stored, members_there}
 use Rattle.lvm_commit.specs.Committed.{next_stamp}
 use Rattle.lvm_homes.specs.declared.homes.Homes.{Homes}
 use Rattle.lvm_homes.specs.Homes.{next_slot}
-use Rattle.lvm_session.specs.declared.bringing.OpenCopy.{OpenCopy as Bringing}
+use Rattle.lvm_session.specs.declared.bringing.OpenCopy.{OpenCopy}
 use Rattle.lvm_session.specs.declared.bringing.Step.TheVariants as step
 use Rattle.lvm_session.specs.declared.flown.Flown.{Flown}
 use Rattle.lvm_session.specs.declared.flown.Owner.{Owner}
 use Rattle.lvm_session.specs.declared.flown.Owner.TheVariants as owner
 use Rattle.lvm_session.specs.State.{Core}
-use Rattle.lvm_invariant.specs.State.{Queued, State}
+use Rattle.lvm_invariant.specs.State.{Queued, ModelState}
 
 -- ---- the step of a copy
 
 -- a write to the copy that is being brought up carries what its step has got
-abbrev pub CarriesStep : Core → State → Flight → Owner → Type 0
+abbrev pub CarriesStep : Core → ModelState → Flight → Owner → Type 0
 CarriesStep core v f (owner.Data id number) = Unit {0}
 CarriesStep core v f (owner.Status disk) = Unit {0}
 CarriesStep core v f (owner.Note disk) = Unit {0}
-CarriesStep core v f owner.Copy = (c : Bringing) (q : Queued) → core.copy ≡ Some c → c.step ≡ step.Writing → v.queue c.place ≡ Some q
+CarriesStep core v f owner.Copy = (c : OpenCopy) (q : Queued) → core.copy ≡ Some c → c.step ≡ step.Writing → v.queue c.place ≡ Some q
     → (value : ℕ → Sector) × (q.got ≡ Some value) × ((k : ℕ) → k < 256 → slice_get f.buf.sectors k ≡ Some (value (q.first + k)))
 
 -- so does each of those that are out
-abbrev pub CarryTheirs : Core → State → List Flight → List Flown → Type 0
+abbrev pub CarryTheirs : Core → ModelState → List Flight → List Flown → Type 0
 CarryTheirs core v [] rows = Unit {0}
 CarryTheirs core v (f ∷ fs) [] = Unit {0}
 CarryTheirs core v (f ∷ fs) (row ∷ rows) = CarriesStep core v f row.owner × CarryTheirs core v fs rows

@@ -17,19 +17,19 @@ use Rattle.lvm_mwc.specs.Cache.{Cached, notes_on, flight_on}
 use Rattle.lvm_status.specs.Update.{Stored, seen, is_held}
 use Rattle.lvm_sched.specs.declared.writes.TargetState.{TargetState}
 use Rattle.lvm_sched.specs.declared.writes.TargetState.TheVariants as target
-use Rattle.lvm_path.specs.declared.request.Phase.{Phase as RequestPhase}
+use Rattle.lvm_path.specs.declared.request.Phase.{Phase}
 use Rattle.lvm_path.specs.declared.request.Phase.TheVariants as phase
 use Rattle.lvm_path.specs.declared.target.Target.{Target}
 use Rattle.lvm_path.specs.Asks.{lv_of, at_of, count_of, is_write}
 use Rattle.lvm_path.specs.Targets.{is_begun}
 use Rattle.lvm_session.specs.declared.open.Open.{Open}
-use Rattle.lvm_session.specs.declared.bringing.OpenCopy.{OpenCopy as Bringing}
+use Rattle.lvm_session.specs.declared.bringing.OpenCopy.{OpenCopy}
 use Rattle.lvm_session.specs.declared.bringing.Step.{Step}
 use Rattle.lvm_session.specs.declared.bringing.Step.TheVariants as step
 use Rattle.lvm_session.specs.State.{Core, is_there}
 use Rattle.lvm_session.specs.Judging.{is_running, place_of}
 use Rattle.lvm_session.specs.Bringing.{groups_of, has_row, block_at}
-use Rattle.lvm_invariant.specs.State.{Stage, Todo, Flying, Well, Badly, Phase, Held, WantEntry, Ready, Going, Landed, Groups, Queued, OpenCopy, StepWrite, State, Marks, has_landed}
+use Rattle.lvm_invariant.specs.State.{Stage, Todo, Flying, Well, Badly, ModelPhase, Held, WantEntry, Ready, Going, Landed, Groups, Queued, ModelCopy, StepWrite, ModelState, Marks, has_landed}
 use Rattle.lvm_invariant.specs.Updates.{is_pp}
 use Rattle.lvm_crash.specs.Session.{marks_of, as_marks}
 
@@ -48,7 +48,7 @@ stage_at [] c = None
 stage_at (t ∷ ts) c = if is_pp c t.pp then Some (stage_seen t.state) else stage_at ts c
 
 -- How far a request is. One whose data may go out waits for its first transfer until that has started.
-abbrev pub phase_seen : RequestPhase → Bool → Phase
+abbrev pub phase_seen : Phase → Bool → ModelPhase
 phase_seen phase.Held begun = Held
 phase_seen phase.WantEntry begun = WantEntry
 phase_seen phase.WantRecord begun = Ready
@@ -71,35 +71,35 @@ pub record SeesRequest (o : Open) (q : Queued) : Type 0 where
 -- ---- the copy that is being brought up
 
 -- the track groups of its logical partition, each of which has so many, below its cursor
-abbrev pub passed_by : ℕ → Bringing → Groups
+abbrev pub passed_by : ℕ → OpenCopy → Groups
 passed_by groups c lv g = (lv == c.lv) && nat_le (groups * c.lp) g && nat_lt g (groups * c.lp + c.cursor)
 
 -- it is open, and has passed these
-pub record SeesOpen (groups : ℕ) (c : Bringing) (open_copy : Option OpenCopy) : Type 0 where
-  pub copy : OpenCopy
+pub record SeesOpen (groups : ℕ) (c : OpenCopy) (open_copy : Option ModelCopy) : Type 0 where
+  pub copy : ModelCopy
   pub is_open : open_copy ≡ Some copy
   pub target : copy.target ≡ c.pp
   pub passed : (lv g : ℕ) → copy.passed lv g ≡ passed_by groups c lv g
 
 -- while it is being brought up; nothing is open once it has ended
-abbrev pub SeesRunning : Bool → ℕ → Bringing → Option OpenCopy → Type 0
+abbrev pub SeesRunning : Bool → ℕ → OpenCopy → Option ModelCopy → Type 0
 SeesRunning true groups c open_copy = SeesOpen groups c open_copy
 SeesRunning false groups c open_copy = open_copy ≡ None
 
 -- so is the copy that is open, if one is
-abbrev pub SeesCopy : ℕ → Option Bringing → Option OpenCopy → Type 0
+abbrev pub SeesCopy : ℕ → Option OpenCopy → Option ModelCopy → Type 0
 SeesCopy groups None open_copy = open_copy ≡ None
 SeesCopy groups (Some c) open_copy = SeesRunning (is_running c) groups c open_copy
 
 -- a write of its step is out, to its partition, also where it has ended meanwhile
-abbrev pub step_write_of : Bringing → Step → Option StepWrite
+abbrev pub step_write_of : OpenCopy → Step → Option StepWrite
 step_write_of c step.Idle = None
 step_write_of c (step.Reading source) = None
 step_write_of c (step.Read buf) = None
 step_write_of c step.Writing = Some (record { target = c.pp; place = c.place })
 
 -- so is one of the copy that is open
-abbrev pub step_write_in : Option Bringing → Option StepWrite
+abbrev pub step_write_in : Option OpenCopy → Option StepWrite
 step_write_in None = None
 step_write_in (Some c) = step_write_of c c.step
 
@@ -111,7 +111,7 @@ SeesHand (step.Read buf) q = (q.phase ≡ Going) × (value : ℕ → Sector) × 
 SeesHand step.Writing q = (q.phase ≡ Going) × (value : ℕ → Sector) × (q.got ≡ Some value)
 
 -- Its step stands in the queue as a read of the whole track group at this block, whose failed sources are those that were tried in vain.
-pub record SeesReading (at : ℕ) (c : Bringing) (q : Queued) : Type 0 where
+pub record SeesReading (at : ℕ) (c : OpenCopy) (q : Queued) : Type 0 where
   pub lv : q.lv ≡ c.lv
   pub first : q.first ≡ at
   pub count : q.count ≡ 256
@@ -121,7 +121,7 @@ pub record SeesReading (at : ℕ) (c : Bringing) (q : Queued) : Type 0 where
   pub failed : (p : Pp) → q.targets p ≡ Some Badly → has c.tried p.disk ≡ true
 
 -- its step stands there as the read at its cursor
-abbrev pub SeesStep : Core → Bringing → Queued → Type 0
+abbrev pub SeesStep : Core → OpenCopy → Queued → Type 0
 SeesStep core c q = SeesReading (block_at core c) c q
 
 -- ---- notes
@@ -143,8 +143,8 @@ pub record IsPlaceOfRequest (requests : List Open) (i : ℕ) : Type 0 where
   pub its : place_of request.request.id ≡ i
 
 -- the step of the copy that is open has it, where this says of a copy whether its step has a place
-pub record IsPlaceOfStep (open_copy : Option Bringing) (has_place : Bringing → Bool) (i : ℕ) : Type 0 where
-  pub copy : Bringing
+pub record IsPlaceOfStep (open_copy : Option OpenCopy) (has_place : OpenCopy → Bool) (i : ℕ) : Type 0 where
+  pub copy : OpenCopy
   pub is_open : open_copy ≡ Some copy
   pub row : has_place copy ≡ true
   pub its : copy.place ≡ i
@@ -155,12 +155,12 @@ IsRequestAt core i = IsPlaceOfRequest core.requests i
 
 -- the step of the copy has it
 abbrev pub IsStepAt : Core → ℕ → Type 0
-IsStepAt core i = IsPlaceOfStep core.copy (λ (c : Bringing). has_row core c) i
+IsStepAt core i = IsPlaceOfStep core.copy (λ (c : OpenCopy). has_row core c) i
 
 -- Its places are those of the requests of this table and of the step of the copy, each under the name that the history gives it.
-pub record SeesQueue (table : List Open) (open_copy : Option Bringing) (has_place : Bringing → Bool) (block : Bringing → ℕ) (history : List Fact) (places : ℕ → Option Queued) (name : ℕ → Request) : Type 0 where
+pub record SeesQueue (table : List Open) (open_copy : Option OpenCopy) (has_place : OpenCopy → Bool) (block : OpenCopy → ℕ) (history : List Fact) (places : ℕ → Option Queued) (name : ℕ → Request) : Type 0 where
   pub requests : (place : ℕ) (o : Open) → slice_get table place ≡ Some o → (q : Queued) × (places (place_of o.request.id) ≡ Some q) × SeesRequest o q
-  pub a_step : (c : Bringing) → open_copy ≡ Some c → has_place c ≡ true → (q : Queued) × (places c.place ≡ Some q) × SeesReading (block c) c q
+  pub a_step : (c : OpenCopy) → open_copy ≡ Some c → has_place c ≡ true → (q : Queued) × (places c.place ≡ Some q) × SeesReading (block c) c q
   pub only : (i : ℕ) (q : Queued) → places i ≡ Some q → IsPlaceOfRequest table i ⊎ IsPlaceOfStep open_copy has_place i
   pub names : (place : ℕ) (o : Open) → slice_get table place ≡ Some o → name (place_of o.request.id) ≡ request_of history o.request.id
 
@@ -191,8 +191,8 @@ pub record SeesNotes (kept : Cached) (there : Disks) (groups : Groups) (at_home 
 -- ---- all of it
 
 -- After this earlier history, which its own follows, the session is this state, but for what the disks show.
-pub record Sees (past : List Fact) (core : Core) (v : State) : Type 0 where
-  pub queue : SeesQueue core.requests core.copy (λ (c : Bringing). has_row core c) (λ (c : Bringing). block_at core c) core.history.facts v.queue v.name
+pub record Sees (past : List Fact) (core : Core) (v : ModelState) : Type 0 where
+  pub queue : SeesQueue core.requests core.copy (λ (c : OpenCopy). has_row core c) (λ (c : OpenCopy). block_at core c) core.history.facts v.queue v.name
   pub facts : v.facts ≡ past ++ core.history.facts
   pub status : SeesStatus core.status (is_there core) v.committed v.in_flight v.wanted v.status_flying v.media.status v.missing
   pub notes : SeesNotes core.cache (is_there core) v.cache v.home_note v.flying_note

@@ -11,7 +11,7 @@ use Rattle.lvm_disk.specs.Device.{Device, IsInFlight, Media}
 use Rattle.lvm_kept.specs.Torn.{IsOutside}
 use Rattle.lvm_homes.specs.Homes.{next_slot}
 use Rattle.lvm_path.specs.declared.ask.Ask.{Ask}
-use Rattle.lvm_session.specs.State.{Core, State as Session, is_there, state}
+use Rattle.lvm_session.specs.State.{Core, State, is_there, state}
 use Rattle.lvm_session.specs.declared.answers.AskFault.{AskFault}
 use Rattle.lvm_session.specs.declared.answers.CopyFault.{CopyFault}
 use Rattle.lvm_session.specs.declared.answers.Taken.{Taken}
@@ -27,7 +27,7 @@ abbrev pub SparesOn : Core → Media → Type 0
 SparesOn core media = (d : ℕ) → IsTrue (is_there core d) → next_slot kind.Descriptor core.homes d ≡ slot_for descriptor_of kind.Descriptor (media d)
 
 -- So it is on those of its shelf, where it tells them.
-abbrev pub SparesDescriptors : Session → Type 0
+abbrev pub SparesDescriptors : State → Type 0
 SparesDescriptors s = IfSome s.device.media (SparesOn s.core)
 
 -- no transfer that is out goes to a slot of descriptors
@@ -38,19 +38,19 @@ LeavesDescriptors device = (d at : ℕ) (value : Sector) → IsInFlight device.f
 
 -- No transfer of a tied session does, nor of one that is over.
 abbrev pub TiedLeavesDescriptors : Type 0
-TiedLeavesDescriptors = (past : List Fact) (s : Session) → IsTied past s → LeavesDescriptors s.device
+TiedLeavesDescriptors = (past : List Fact) (s : State) → IsTied past s → LeavesDescriptors s.device
 
 abbrev pub OverLeavesDescriptors : Type 0
-OverLeavesDescriptors = (s : Session) → IsSound s → is_over s.core.power ≡ true → LeavesDescriptors s.device
+OverLeavesDescriptors = (s : State) → IsSound s → is_over s.core.power ≡ true → LeavesDescriptors s.device
 
 -- So the newest descriptors go on to be spared over each turn,
 abbrev pub TurnSparesDescriptors : Type 0
-TurnSparesDescriptors = (old new : Session) (answer : Turned) → LeavesDescriptors old.device → TurnMakes old new answer
+TurnSparesDescriptors = (old new : State) (answer : Turned) → LeavesDescriptors old.device → TurnMakes old new answer
     → SparesDescriptors old → SparesDescriptors new
 
 -- what a call of a client leaves of a session spares them too
-abbrev pub GoesOnSparing : (Session → Core → Type 0) → Type 0
-GoesOnSparing Call = (s : Session) (new : Core) → Call s new → SparesDescriptors s → SparesDescriptors (state s.device new)
+abbrev pub GoesOnSparing : (State → Core → Type 0) → Type 0
+GoesOnSparing Call = (s : State) (new : Core) → Call s new → SparesDescriptors s → SparesDescriptors (state s.device new)
 
 -- and over each call of a client.
 pub record CallsSpareDescriptors : Type 0 where
@@ -59,5 +59,5 @@ pub record CallsSpareDescriptors : Type 0 where
   pub open_copy : (counts : Counts) (lv lp number : ℕ) (answer : Result (Unit {0}) CopyFault)
       → GoesOnSparing (λ s new. OpenGives counts s.core new lv lp number answer)
   pub close_copy : GoesOnSparing (λ s new. Closes s.core new)
-  pub arrange : (old new : Session) (what : Arrange) (done : Bool) → LeavesDescriptors old.device → Arranges old new what done
+  pub arrange : (old new : State) (what : Arrange) (done : Bool) → LeavesDescriptors old.device → Arranges old new what done
       → SparesDescriptors old → SparesDescriptors new

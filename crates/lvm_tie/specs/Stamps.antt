@@ -10,7 +10,7 @@ use Rattle.lvm_stamps.specs.Behind.{beginning_at}
 use Rattle.lvm_stamps.specs.Laws.{LeavesBefore}
 use Rattle.lvm_status.specs.Update.{Stored}
 use Rattle.lvm_path.specs.declared.ask.Ask.{Ask}
-use Rattle.lvm_session.specs.State.{Core, State as Session}
+use Rattle.lvm_session.specs.State.{Core, State}
 use Rattle.lvm_session.specs.declared.answers.AskFault.{AskFault}
 use Rattle.lvm_session.specs.declared.answers.CopyFault.{CopyFault}
 use Rattle.lvm_session.specs.declared.answers.Taken.{Taken}
@@ -35,12 +35,12 @@ pub record AreValid (status : Stored) : Type 0 where
 
 -- Where all that a crash may leave is from before a moment after the session's own, it is so after each turn,
 abbrev pub TurnLeavesBefore : Type 0
-TurnLeavesBefore = (moment : ℕ) (old new : Session) (answer : Turned) → IsSound old → IsSound new → IsStamped old.core.status → AreValid old.core.status
+TurnLeavesBefore = (moment : ℕ) (old new : State) (answer : Turned) → IsSound old → IsSound new → IsStamped old.core.status → AreValid old.core.status
     → old.core.status.stamp.epoch < moment → LeavesBefore (beginning_at moment) old.device → TurnMakes old new answer → LeavesBefore (beginning_at moment) new.device
 
 -- and after an order of a client.
 abbrev pub ArrangeLeavesBefore : Type 0
-ArrangeLeavesBefore = (stamp : Stamp) (old new : Session) (what : Arrange) (done : Bool)
+ArrangeLeavesBefore = (stamp : Stamp) (old new : State) (what : Arrange) (done : Bool)
     → Arranges old new what done → LeavesBefore stamp old.device → LeavesBefore stamp new.device
 
 -- the stamp stays one of the same epoch
@@ -50,11 +50,11 @@ pub record KeepsEpoch (old new : Stored) : Type 0 where
 
 -- So it does over each turn, unless the power is found off.
 abbrev pub TurnKeepsEpoch : Type 0
-TurnKeepsEpoch = (old new : Session) (answer : Turned) → TurnMakes old new answer → (new.core.power ≡ power.Dark → ⊥) → KeepsEpoch old.core.status new.core.status
+TurnKeepsEpoch = (old new : State) (answer : Turned) → TurnMakes old new answer → (new.core.power ≡ power.Dark → ⊥) → KeepsEpoch old.core.status new.core.status
 
 -- A moment that is later than those of its history stays so.
 abbrev pub TurnIsEarlier : Type 0
-TurnIsEarlier = (moment : ℕ) (old new : Session) (answer : Turned) → TurnMakes old new answer → IsLater old.core.history.facts moment → IsLater new.core.history.facts moment
+TurnIsEarlier = (moment : ℕ) (old new : State) (answer : Turned) → TurnMakes old new answer → IsLater old.core.history.facts moment → IsLater new.core.history.facts moment
 
 -- the status stays as it is, and a moment that is later than those of the history stays so
 pub record StaysOf (old new : Core) : Type 0 where
@@ -68,4 +68,4 @@ pub record CallsStay : Type 0 where
   pub open_copy : (counts : Counts) (lv lp number : ℕ) (answer : Result (Unit {0}) CopyFault) (old new : Core)
       → OpenGives counts old new lv lp number answer → StaysOf old new
   pub close_copy : (old new : Core) → Closes old new → StaysOf old new
-  pub arrange : (old new : Session) (what : Arrange) (done : Bool) → Arranges old new what done → StaysOf old.core new.core
+  pub arrange : (old new : State) (what : Arrange) (done : Bool) → Arranges old new what done → StaysOf old.core new.core

@@ -2,7 +2,7 @@
 use Rattle.std.specs.Prelude.{◌≡◌, ℕ, Bool}
 use Rattle.lvm_disk.specs.Device.{HasSectors}
 use Rattle.lvm_session.specs.declared.flown.Owner.TheVariants as owner
-use Rattle.lvm_session.specs.State.{State as Session}
+use Rattle.lvm_session.specs.State.{State}
 use Rattle.lvm_session.specs.Ends.{CopyLearns, Ends}
 use Rattle.lvm_keeps_events.specs.Ends.{EndsMiss, EndsQuit, EndsRead, EndsWrite}
 use Rattle.lvm_keeps_events.specs.EndsGroup.{EndsGroup}
@@ -29,7 +29,7 @@ abbrev pub CopyGroupTies : Type 0
 CopyGroupTies = (at : ℕ) → Ties (λ old new. HasSectors new.device × EndsGroup old new at)
 
 -- a transfer of the copy that is open has ended, well or badly
-pub record EndsOfCopy (old new : Session) (at : ℕ) : Type 0 where
+pub record EndsOfCopy (old new : State) (at : ℕ) : Type 0 where
   pub ends : Ends old new at
   pub own : ends.row.owner ≡ owner.Copy
   pub learns : CopyLearns old.core at ends.ok ends.buf new.core

@@ -13,20 +13,20 @@ use Rattle.lvm_disk.specs.Paths.{DeviceStep}
 use Rattle.lvm_kept.specs.Contents.{Contents, contents_of}
 use Rattle.lvm_kept.specs.Moments.{Moment}
 use Rattle.lvm_kept.specs.Torn.{RecordWrite}
-use Rattle.lvm_status.specs.Update.{Stored, members_there as there_by}
+use Rattle.lvm_status.specs.Update.{Stored, members_there}
 use Rattle.lvm_steps.specs.Moments.{Begins, Upholds, Keeps}
-use Rattle.lvm_steps.specs.Requests.{at}
-use Rattle.lvm_session.specs.declared.bringing.OpenCopy.{OpenCopy as Bringing}
+use Rattle.lvm_session.specs.declared.bringing.OpenCopy.{OpenCopy}
 use Rattle.lvm_session.specs.declared.bringing.Step.TheVariants as step
 use Rattle.lvm_session.specs.declared.open.Power.TheVariants as power
 use Rattle.lvm_homes.specs.declared.homes.Homes.{Homes}
-use Rattle.lvm_session.specs.State.{Core, State as Session}
+use Rattle.lvm_session.specs.State.{Core, State}
+pub use Rattle.lvm_session.specs.State.{moment_of}
 use Rattle.lvm_session.specs.Bringing.{has_row, block_at}
 use Rattle.lvm_session.specs.Sound.{IsSound}
-use Rattle.lvm_invariant.specs.State.{State}
+use Rattle.lvm_invariant.specs.State.{ModelState}
 use Rattle.lvm_invariant.specs.Found.{Votes}
 use Rattle.lvm_invariant.specs.Good.{Good}
-use Rattle.lvm_crash.specs.Session.{AreVotesOf, members_there, Describes}
+use Rattle.lvm_crash.specs.Session.{AreVotesOf, members_showing, Describes}
 use Rattle.lvm_tie_shelf.specs.Owned.{OnlyUpdateSince, AllOwned}
 use Rattle.lvm_tie.specs.Out.{AreNotes, CarryTheirs, IsWriteOf, MayUpdate}
 use Rattle.lvm_tie.specs.Seen.{update_of, Sees}
@@ -34,22 +34,22 @@ use Rattle.lvm_tie.specs.Seen.{update_of, Sees}
 -- ---- the tie
 
 -- each block of the step of the copy that is open is one of its copy's, and of the copy's from which it is read
-abbrev pub IsCopyAimed : Core → State → Type 0
-IsCopyAimed core v = (c : Bringing) → core.copy ≡ Some c → has_row core c ≡ true
+abbrev pub IsCopyAimed : Core → ModelState → Type 0
+IsCopyAimed core v = (c : OpenCopy) → core.copy ≡ Some c → has_row core c ≡ true
     → IsTrue (v.is_copy c.lv (block_at core c) c.pp) × ((source : Pp) → c.step ≡ step.Reading source → IsTrue (v.is_copy c.lv (block_at core c) source))
 
 -- Each member that isn't missing shows this status, which is the committed one, and no disk a later one of the group.
 pub record ShowsStatus (group : Descriptor) (status : Stored) (c : Contents) : Type 0 where
   pub stands : Stamped Status
   pub committed : stands.value ≡ status.committed
-  pub stated : (d : ℕ) → IsTrue (there_by group status.wanted d) → c.status d ≡ Some stands
+  pub stated : (d : ℕ) → IsTrue (members_there group status.wanted d) → c.status d ≡ Some stands
   pub last : (d : ℕ) (r : Stamped Status) → c.status d ≡ Some r → r.value.id ≡ group.id → (stamp_lt r.stamp stands.stamp ≡ true) ⊎ (r ≡ stands)
 
 -- Each member that isn't missing shows the group's descriptor, no disk a later one of the group, and while no update is in flight so with the committed status.
 pub record ShowsRecords (group : Descriptor) (status : Stored) (c : Contents) : Type 0 where
   pub descriptor : Stamped Descriptor
   pub value : descriptor.value ≡ group
-  pub described : (d : ℕ) → IsTrue (there_by group status.wanted d) → c.descriptor d ≡ Some descriptor
+  pub described : (d : ℕ) → IsTrue (members_there group status.wanted d) → c.descriptor d ≡ Some descriptor
   pub latest : (d : ℕ) (r : Stamped Descriptor) → c.descriptor d ≡ Some r → r.value.id ≡ group.id → (stamp_lt r.stamp descriptor.stamp ≡ true) ⊎ (r ≡ descriptor)
   pub settled : status.in_flight ≡ None → ShowsStatus group status c
 
@@ -63,22 +63,22 @@ pub record IsSetting (past : List Fact) (run : ℕ) (group : Descriptor) (shown 
 -- the members that aren't missing show what is committed.
 pub record HoldsRecords (group : Descriptor) (first : Status) (status : Stored) (homes : Homes) (image : Image) : Type 0 where
   pub next : MayUpdate group status homes image
-  pub members : (d : ℕ) → is_member group d ≡ true → calls_missing first d ≡ false → IsTrue (members_there (contents_of image) group d)
+  pub members : (d : ℕ) → is_member group d ≡ true → calls_missing first d ≡ false → IsTrue (members_showing (contents_of image) group d)
   pub records : ShowsRecords group status (contents_of image)
 
 -- What is asked of the driver's session alone: it is on and sound, and its update in flight is written so.
-pub record IsOrderly (s : Session) (write : Option RecordWrite) : Type 0 where
+pub record IsOrderly (s : State) (write : Option RecordWrite) : Type 0 where
   pub sound : IsSound s
   pub on : s.core.power ≡ power.On
   pub update : IsWriteOf s.core.status s.core.homes s.core.status.in_flight write
 
 -- After this earlier history a session that is on and sound is seen as a good state, which describes what stands on the media. What is out is written since the
 -- update in flight began, a step writes what it has got, and notes fit.
-pub record IsTied (past : List Fact) (s : Session) : Type 0 where
+pub record IsTied (past : List Fact) (s : State) : Type 0 where
   pub votes : Votes
   pub media : Media
   pub setting : IsSetting past s.core.history.run s.core.descriptor s.device.media votes media
-  pub view : State
+  pub view : ModelState
   pub sees : Sees past s.core view
   pub good : Good votes view
   pub describes : Describes view view.facts s.core.descriptor (update_of s.core.status) (contents_of (image_of s.device.sizes media))
@@ -91,33 +91,29 @@ pub record IsTied (past : List Fact) (s : Session) : Type 0 where
   pub carry : CarryTheirs s.core view s.device.flights s.core.flying
 
 -- So it is, while the session is on, after each earlier history with which the run may have begun.
-abbrev pub IsGood : ℕ → Moment → Session → Type 0
+abbrev pub IsGood : ℕ → Moment → State → Type 0
 IsGood run first s = s.core.power ≡ power.On → (past : List Fact) → Begins run past first → IsTied past s
 
 -- an event that leaves a tied session sound leaves it tied
-abbrev pub Ties : (Session → Session → Type 0) → Type 0
-Ties Event = (past : List Fact) (old new : Session) → IsTied past old → IsSound new → Event old new → IsTied past new
+abbrev pub Ties : (State → State → Type 0) → Type 0
+Ties Event = (past : List Fact) (old new : State) → IsTied past old → IsSound new → Event old new → IsTied past new
 
 -- ---- what follows
 
--- the session as a moment of its run
-abbrev pub moment_of : Session → Moment
-moment_of s = at s.device s.core.history.facts
-
 -- a span that leads to the one leads on to the other
-abbrev pub SpanGoesOn : ℕ → Moment → Session → Session → Type 0
+abbrev pub SpanGoesOn : ℕ → Moment → State → State → Type 0
 SpanGoesOn run first old new = Keeps run first (moment_of old) → Keeps run first (moment_of new)
 
 -- Each transfer that is out has its owner in the state.
 abbrev pub TiedOwns : Type 0
-TiedOwns = (past : List Fact) (s : Session) (tied : IsTied past s) → AllOwned tied.view s.core.descriptor.mib tied.write s.device.flights
+TiedOwns = (past : List Fact) (s : State) (tied : IsTied past s) → AllOwned tied.view s.core.descriptor.mib tied.write s.device.flights
 
 -- The history is legal, and each crash image is kept with it.
 abbrev pub GoodUpholds : Type 0
-GoodUpholds = (run : ℕ) (first : Moment) (s : Session) → s.core.power ≡ power.On → IsGood run first s → Upholds run first (moment_of s)
+GoodUpholds = (run : ℕ) (first : Moment) (s : State) → s.core.power ≡ power.On → IsGood run first s → Upholds run first (moment_of s)
 
 -- So a span goes on over what changes neither shelf nor history, over a step of the shelf, and over an entry, where the session is good after it.
 pub record GoodGoesOn : Type 0 where
-  pub still : (run : ℕ) (first : Moment) (old new : Session) → new.device ≡ old.device → new.core.history.facts ≡ old.core.history.facts → SpanGoesOn run first old new
-  pub steps : (run : ℕ) (first : Moment) (old new : Session) → new.core.power ≡ power.On → IsGood run first new → DeviceStep old.device new.device → new.core.history.facts ≡ old.core.history.facts → SpanGoesOn run first old new
-  pub enters : (run : ℕ) (first : Moment) (old new : Session) (f : Fact) → new.core.power ≡ power.On → IsGood run first new → new.device ≡ old.device → new.core.history.facts ≡ old.core.history.facts ++ f ∷ [] → SpanGoesOn run first old new
+  pub still : (run : ℕ) (first : Moment) (old new : State) → new.device ≡ old.device → new.core.history.facts ≡ old.core.history.facts → SpanGoesOn run first old new
+  pub steps : (run : ℕ) (first : Moment) (old new : State) → new.core.power ≡ power.On → IsGood run first new → DeviceStep old.device new.device → new.core.history.facts ≡ old.core.history.facts → SpanGoesOn run first old new
+  pub enters : (run : ℕ) (first : Moment) (old new : State) (f : Fact) → new.core.power ≡ power.On → IsGood run first new → new.device ≡ old.device → new.core.history.facts ≡ old.core.history.facts ++ f ∷ [] → SpanGoesOn run first old new

@@ -17,7 +17,7 @@ use Rattle.lvm_commit.proofs.Found.{shows_group}
 use Rattle.lvm_mwc.specs.declared.notes.DiskNotes.{DiskNotes}
 use Rattle.lvm_mwc.specs.Cache.{flight_on, no_notes}
 use Rattle.lvm_status.specs.Update.{Updates}
-use Rattle.lvm_session.specs.State.{Core, State as Session, is_there}
+use Rattle.lvm_session.specs.State.{Core, State, is_there}
 use Rattle.lvm_session_start.specs.declared.parts.Parts.{Parts}
 use Rattle.lvm_session_start.specs.Parts.{IsReserved}
 use Rattle.lvm_tie.specs.Tied.{IsTied, moment_of}
@@ -25,14 +25,14 @@ use Rattle.lvm_tie_begins.specs.Begins.{BeginsGood, BeginsSound, BeginsTied, Fol
 use Rattle.lvm_tie_begins.proofs.Resting.{rest_ties}
 
 -- where no disk is missing but those that were at first, each other member shows the group
-pub first_members : (s : Session) (media : Media) → StandsAtRest s media → s.core.status.wanted ≡ s.core.origin.table → MembersShow s media
+pub first_members : (s : State) (media : Media) → StandsAtRest s media → s.core.status.wanted ≡ s.core.origin.table → MembersShow s media
 first_members s media stands first d member present =
     let core : Core = s.core in
     let there : IsTrue (is_there core d) = ap (λ (t : Status). is_member core.descriptor d && not (calls_missing t d)) first ∙ (λ k. member k && not (present k)) in
     member_of_parts (shown_to s media) all_disks core.descriptor.id core.descriptor d refl (shows_group (shown_to s media) core.descriptor core.status.committed (is_there core) stands.held.shows d there) (stands.held.shows.room d there)
 
 module _ (b : Start) (media : Media) (first : BeginsSound b) (stands : StandsAtRest (begun b) media) where
-  abbrev s : Session
+  abbrev s : State
   s = begun b
 
   abbrev core : Core
@@ -71,7 +71,7 @@ module _ (b : Start) (media : Media) (first : BeginsSound b) (stands : StandsAtR
   ties past follows = rest_ties past s media first.sound refl rests stands members follows
 
 -- where the span leads to it, it follows on each earlier history
-follows_on : (run : ℕ) (m : Moment) (s : Session) → s.core.history.run ≡ run → Keeps run m (moment_of s) → StaysCalm m (moment_of s) → (past : List Fact) → Begins run past m → FollowsOn past s
+follows_on : (run : ℕ) (m : Moment) (s : State) → s.core.history.run ≡ run → Keeps run m (moment_of s) → StaysCalm m (moment_of s) → (past : List Fact) → Begins run past m → FollowsOn past s
 follows_on run m s run_is keeps calm past begins = record {
   holds = let last : Upholds run m (moment_of s) = last-path keeps in last past begins;
   calm = calm past begins.calm;

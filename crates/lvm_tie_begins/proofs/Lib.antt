@@ -1,3 +1,4 @@
 pub mod Resting
 pub mod Beginning
 pub mod Rested
+pub mod Entailing

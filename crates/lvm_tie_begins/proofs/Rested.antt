@@ -19,11 +19,11 @@ use Rattle.lvm_kept.proofs.Finding.{finding_reads, images_within}
 use Rattle.lvm_mwc.specs.declared.notes.DiskNotes.{DiskNotes}
 use Rattle.lvm_mwc.specs.Cache.{notes_on, is_named as is_named_by}
 use Rattle.lvm_mwc.specs.Notes.{both_name}
-use Rattle.lvm_session.specs.declared.bringing.OpenCopy.{OpenCopy as Bringing}
-use Rattle.lvm_session.specs.State.{Core, State as Session, is_there}
+use Rattle.lvm_session.specs.declared.bringing.OpenCopy.{OpenCopy}
+use Rattle.lvm_session.specs.State.{Core, State, is_there}
 use Rattle.lvm_session.specs.Bringing.{groups_of}
 use Rattle.lvm_session.specs.Sound.{IsOn}
-use Rattle.lvm_invariant.specs.State.{Groups, Marks, Queued, State}
+use Rattle.lvm_invariant.specs.State.{Groups, Marks, Queued, ModelState}
 use Rattle.lvm_invariant.specs.Found.{Found}
 use Rattle.lvm_crash.specs.Session.{as_marks, marks_of, marks_shown, Describes}
 use Rattle.lvm_rest.specs.Rest.{IsAtRest, IsIdle, SeesThat}
@@ -37,7 +37,7 @@ use Rattle.lvm_tie.proofs.Recorded.{shown_of, shows_own}
 use Rattle.lvm_tie.proofs.Words.{not_true}
 use Rattle.lvm_tie.specs.Seen.{IsRequestAt, IsStepAt, SeesCopy, SeesNote, step_write_in, update_of}
 use Rattle.lvm_tie.specs.Tied.{IsTied, ShowsRecords, ShowsStatus}
-use Rattle.lvm_tie_begins.specs.Begins.{AreNotesHome, IsResting, ShowsIts, TiedRests, shown_to}
+use Rattle.lvm_tie_begins.specs.Begins.{NotesAreHomeIn, IsResting, ShowsIts, TiedRests, shown_to}
 use Rattle.lvm_tie_begins.proofs.Resting.{names_written, none_at, some_is_none}
 
 note_none : (n : Option Groups) → SeesNote n None → n ≡ None
@@ -47,11 +47,11 @@ note_none (Some n) sees = absurd sees
 not_both : (a b : Stamp) {X : Type 0} → stamp_lt a b ≡ true → stamp_lt b a ≡ true → X
 not_both a b before after = absurd (let no : stamp_lt b a ≡ false = grind (arith, nat_tests) in let e : true ≡ false = sym after ∙ no in cc)
 
-module _ (past : List Fact) (s : Session) (tied : IsTied past s) (rests : IsResting s.core) (enough : CanWrite s.core.descriptor (is_there s.core)) where
+module _ (past : List Fact) (s : State) (tied : IsTied past s) (rests : IsResting s.core) (enough : CanWrite s.core.descriptor (is_there s.core)) where
   abbrev core : Core
   core = s.core
 
-  abbrev v : State
+  abbrev v : ModelState
   v = tied.view
 
   abbrev group : Descriptor
@@ -79,7 +79,7 @@ module _ (past : List Fact) (s : Session) (tied : IsTied past s) (rests : IsRest
     wanted = tied.sees.status.wanted ∙ ap marks_of (sym rests.committed) ∙ sym tied.sees.status.committed;
     no_status = λ d. tied.sees.status.started d ∙ (on.going.status.idle rests.in_flight d).1;
     no_note = λ d. note_none (v.flying_note d) (subst (SeesNote (v.flying_note d)) (rests.notes d) (tied.sees.notes.flying d));
-    no_copy = subst (λ (o : Option Bringing). SeesCopy (groups_of core) o v.open_copy) rests.copy tied.sees.open_copy;
+    no_copy = subst (λ (o : Option OpenCopy). SeesCopy (groups_of core) o v.open_copy) rests.copy tied.sees.open_copy;
     no_step = tied.sees.step_write ∙ ap step_write_in rests.copy;
   }
     where
@@ -205,7 +205,7 @@ module _ (past : List Fact) (s : Session) (tied : IsTied past s) (rests : IsRest
   rest = good_is_rest tied.votes v group core.status.committed (is_there core) c tied.setting.are_votes (valid_of s tied.write tied.orderly) (images_within image) shows idle sees tied.good
       (subst (λ (u : Option (Stamped Status)). Describes v v.facts group u c) no_update tied.describes)
 
-  home : AreNotesHome core c
+  home : NotesAreHomeIn core c
   home d lv g there = by (notes_on core.cache d) refl (tied.orderly.sound.fitting.notes d ∙ member)
     where
       left : (a b : Bool) → a && b ≡ true → a ≡ true

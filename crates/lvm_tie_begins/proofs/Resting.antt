@@ -19,16 +19,16 @@ use Rattle.lvm_mwc.specs.declared.notes.DiskNotes.{DiskNotes}
 use Rattle.lvm_mwc.specs.Entries.{has_entry}
 use Rattle.lvm_mwc.specs.Notes.{both_name, names_group}
 use Rattle.lvm_mwc.specs.Cache.{flight_on, notes_on}
-use Rattle.lvm_session.specs.declared.bringing.OpenCopy.{OpenCopy as Bringing}
+use Rattle.lvm_session.specs.declared.bringing.OpenCopy.{OpenCopy}
 use Rattle.lvm_session.specs.declared.flown.Flown.{Flown}
 use Rattle.lvm_session.specs.declared.open.Power.TheVariants as power
-use Rattle.lvm_session.specs.State.{Core, State as Session, is_there}
+use Rattle.lvm_session.specs.State.{Core, State, is_there}
 use Rattle.lvm_session.specs.Bringing.{groups_of}
 use Rattle.lvm_session.specs.Sound.{IsOn, IsSound}
-use Rattle.lvm_invariant.specs.State.{Groups, Marks, State}
+use Rattle.lvm_invariant.specs.State.{Groups, Marks, ModelState}
 use Rattle.lvm_invariant.specs.Found.{Votes}
 use Rattle.lvm_invariant.specs.Good.{Good}
-use Rattle.lvm_crash.specs.Session.{AreVotesOf, Describes, as_marks, marks_of, members_there}
+use Rattle.lvm_crash.specs.Session.{AreVotesOf, Describes, as_marks, marks_of, members_showing}
 use Rattle.lvm_crash.proofs.Worked.{groups_have_votes}
 use Rattle.lvm_rest.specs.Rest.{AreClosed, HasCopies, IsAtRest, IsIdle, SeesThat}
 use Rattle.lvm_rest.proofs.Closed.{calm_is_closed}
@@ -62,7 +62,7 @@ names_written lv g n none = ap (λ (o : Option (ArrayVec NoteEntry)). names_grou
     and_true true = refl
     and_true false = refl
 
-module _ (past : List Fact) (s : Session) (media : Media) (sound : IsSound s) (power_is : s.core.power ≡ power.On) (rests : IsResting s.core) (stands : StandsAtRest s media) (follows : FollowsOn past s) where
+module _ (past : List Fact) (s : State) (media : Media) (sound : IsSound s) (power_is : s.core.power ≡ power.On) (rests : IsResting s.core) (stands : StandsAtRest s media) (follows : FollowsOn past s) where
   abbrev core : Core
   core = s.core
 
@@ -83,10 +83,10 @@ module _ (past : List Fact) (s : Session) (media : Media) (sound : IsSound s) (p
 
   -- ---- what it is seen as
 
-  found : (v : State) × (v.facts ≡ facts) × IsIdle v × SeesThat v core.descriptor stated (is_there core) c
+  found : (v : ModelState) × (v.facts ≡ facts) × IsIdle v × SeesThat v core.descriptor stated (is_there core) c
   found = rest_is_seen facts core.descriptor stated (is_there core) c sound.fitting.valid
 
-  abbrev first : State
+  abbrev first : ModelState
   first = found.0
 
   idle_first : IsIdle first
@@ -96,13 +96,13 @@ module _ (past : List Fact) (s : Session) (media : Media) (sound : IsSound s) (p
   seen_first = found.3
 
   -- with the session's cache
-  abbrev v : State
+  abbrev v : ModelState
   v = record first { cache = λ lv g. has_entry core.cache.entries lv g }
 
   idle : IsIdle v
   idle = record { queue = idle_first.queue; in_flight = idle_first.in_flight; wanted = idle_first.wanted; no_status = idle_first.no_status; no_note = idle_first.no_note; no_copy = idle_first.no_copy; no_step = idle_first.no_step }
 
-  copies : HasCopies v core.descriptor (members_there c core.descriptor)
+  copies : HasCopies v core.descriptor (members_showing c core.descriptor)
   copies = record { copies = seen_first.copies.copies; inside = seen_first.copies.inside; notes = seen_first.copies.notes; mark = seen_first.copies.mark }
 
   sees_that : SeesThat v core.descriptor stated (is_there core) c
@@ -182,8 +182,8 @@ module _ (past : List Fact) (s : Session) (media : Media) (sound : IsSound s) (p
       home = home;
       flying = λ d. subst (λ (x : Option Groups). SeesNote x (flight_on core.cache d)) (sym (idle_first.no_note d)) (subst (SeesNote None) (sym (rests.notes d)) tt);
     };
-    open_copy = subst (λ (o : Option Bringing). SeesCopy (groups_of core) o v.open_copy) (sym rests.copy) idle_first.no_copy;
-    step_write = idle_first.no_step ∙ sym (ap (λ (o : Option Bringing). step_write_in o) rests.copy);
+    open_copy = subst (λ (o : Option OpenCopy). SeesCopy (groups_of core) o v.open_copy) (sym rests.copy) idle_first.no_copy;
+    step_write = idle_first.no_step ∙ sym (ap (λ (o : Option OpenCopy). step_write_in o) rests.copy);
   }
 
   none_carried : (rows : List Flown) (fs : List Flight) → rows ≡ [] → CarryTheirs core v fs rows

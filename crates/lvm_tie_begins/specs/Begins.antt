@@ -17,11 +17,11 @@ use Rattle.lvm_commit.specs.LawsOfVolumes.{IsOneByAllOn}
 use Rattle.lvm_mwc.specs.Cache.{flight_on, is_named as is_named_by}
 use Rattle.lvm_homes.specs.declared.homes.Homes.{Homes}
 use Rattle.lvm_session.specs.declared.open.Power.TheVariants as power
-use Rattle.lvm_session.specs.State.{Core, State as Session, state, is_there}
+use Rattle.lvm_session.specs.State.{Core, State, state, is_there}
 use Rattle.lvm_session.specs.Sound.{IsSound}
 use Rattle.lvm_session_start.specs.declared.parts.Parts.{Parts}
 use Rattle.lvm_session_start.specs.Beginning.{MayBegin, first_core}
-use Rattle.lvm_crash.specs.Session.{members_there}
+use Rattle.lvm_crash.specs.Session.{members_showing}
 use Rattle.lvm_rest.specs.Rest.{IsAtRest, IsEven, NoneIsBehind}
 use Rattle.lvm_tie.specs.Spares.{SparesDescriptors}
 use Rattle.lvm_tie.specs.Tied.{IsGood, IsTied, moment_of}
@@ -38,16 +38,16 @@ pub record IsResting (core : Core) : Type 0 where
   pub notes : (disk : ℕ) → flight_on core.cache disk ≡ None
 
 -- what its disks show where this stands on them
-abbrev pub shown_to : Session → Media → Contents
+abbrev pub shown_to : State → Media → Contents
 shown_to s media = contents_of (image_of s.device.sizes media)
 
 -- the note of each member that isn't missing names the track groups that the session's cache says it does
-abbrev pub AreNotesHome : Core → Contents → Type 0
-AreNotesHome core c = (d lv group : ℕ) → IsTrue (is_there core d) → is_named c d lv group ≡ is_named_by core.cache d lv group
+abbrev pub NotesAreHomeIn : Core → Contents → Type 0
+NotesAreHomeIn core c = (d lv group : ℕ) → IsTrue (is_there core d) → is_named c d lv group ≡ is_named_by core.cache d lv group
 
 -- What stands on the disks of a session at rest: they hold what it says is committed, on each crash image at most one group has a quorum among all disks,
 -- notes are home, the usable copies are even, and none is left behind.
-pub record StandsAtRest (s : Session) (media : Media) : Type 0 where
+pub record StandsAtRest (s : State) (media : Media) : Type 0 where
   pub told : s.device.media ≡ Some media
   pub sectors : AreSectors s.device.sizes media
   pub some_epoch : s.core.status.stamp.epoch ≢ 0
@@ -55,29 +55,29 @@ pub record StandsAtRest (s : Session) (media : Media) : Type 0 where
   pub votes : CanWrite s.core.descriptor (is_there s.core)
   pub held : HoldsCommitted (image_of s.device.sizes media) s.core.descriptor s.core.status.committed (is_there s.core) s.core.status.stamp s.core.homes
   pub only : IsOneByAllOn s.device
-  pub notes : AreNotesHome s.core (shown_to s media)
+  pub notes : NotesAreHomeIn s.core (shown_to s media)
   pub even : IsEven (shown_to s media) s.core.descriptor (Some held.shows.stands) (is_there s.core)
   pub behind : NoneIsBehind (shown_to s media) s.core.descriptor (Some held.shows.stands) (is_there s.core)
 
 -- With this earlier history each crash image is kept, no write is open, and it has no request of this run.
-pub record FollowsOn (past : List Fact) (s : Session) : Type 0 where
+pub record FollowsOn (past : List Fact) (s : State) : Type 0 where
   pub holds : Holds past (moment_of s)
   pub calm : Calm (past ++ s.core.history.facts)
   pub own : count_by (begins_in s.core.history.run) past ≡ 0
 
 -- each member that wasn't missing when it began shows the group and has room for its records
-abbrev pub MembersShow : Session → Media → Type 0
+abbrev pub MembersShow : State → Media → Type 0
 MembersShow s media = (d : ℕ) → is_member s.core.descriptor d ≡ true → calls_missing s.core.origin.table d ≡ false
-    → IsTrue (members_there (shown_to s media) s.core.descriptor d)
+    → IsTrue (members_showing (shown_to s media) s.core.descriptor d)
 
 -- Then a sound session that is on is tied.
 abbrev pub RestTies : Type 0
-RestTies = (past : List Fact) (s : Session) (media : Media) → IsSound s → s.core.power ≡ power.On → IsResting s.core → StandsAtRest s media
+RestTies = (past : List Fact) (s : State) (media : Media) → IsSound s → s.core.power ≡ power.On → IsResting s.core → StandsAtRest s media
     → MembersShow s media → FollowsOn past s → IsTied past s
 
 -- The next descriptor of each member that isn't missing spares the newest one there.
 abbrev pub RestSpares : Type 0
-RestSpares = (s : Session) (media : Media) → StandsAtRest s media → SparesDescriptors s
+RestSpares = (s : State) (media : Media) → StandsAtRest s media → SparesDescriptors s
 
 -- ---- as it begins
 
@@ -91,7 +91,7 @@ pub record Start : Type 0 where
   pub faults : List ℕ
 
 -- the session that begins with it
-abbrev pub begun : Start → Session
+abbrev pub begun : Start → State
 begun b = state b.device (first_core b.parts b.history b.stamp b.homes b.faults)
 
 -- it may, and then is sound
@@ -111,16 +111,16 @@ BeginsGood = (first : Moment) (b : Start) (media : Media) → BeginsSound b → 
 -- ---- and back
 
 -- the disks show what the session says is committed
-abbrev pub ShowsIts : Session → Media → Type 0
+abbrev pub ShowsIts : State → Media → Type 0
 ShowsIts s media = ShowsCommitted (shown_to s media) s.core.descriptor s.core.status.committed (is_there s.core)
 
 -- they keep the history, the usable copies are even, and the notes are home
-pub record IsRested (past : List Fact) (s : Session) (media : Media) (shows : ShowsIts s media) : Type 0 where
+pub record IsRested (past : List Fact) (s : State) (media : Media) (shows : ShowsIts s media) : Type 0 where
   pub told : s.device.media ≡ Some media
   pub rest : IsAtRest (shown_to s media) (past ++ s.core.history.facts) s.core.descriptor (Some shows.stands) (is_there s.core)
-  pub notes : AreNotesHome s.core (shown_to s media)
+  pub notes : NotesAreHomeIn s.core (shown_to s media)
 
 -- So they do where a tied session is at rest, and its members that aren't missing have votes enough to write.
 abbrev pub TiedRests : Type 0
-TiedRests = (past : List Fact) (s : Session) (tied : IsTied past s) → IsResting s.core → CanWrite s.core.descriptor (is_there s.core)
+TiedRests = (past : List Fact) (s : State) (tied : IsTied past s) → IsResting s.core → CanWrite s.core.descriptor (is_there s.core)
     → (shows : ShowsIts s tied.media) × IsRested past s tied.media shows

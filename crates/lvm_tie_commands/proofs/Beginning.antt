@@ -14,7 +14,7 @@ use Rattle.lvm_kept.proofs.Chaining.{span_told}
 use Rattle.lvm_steps.specs.Moments.{Begins, Holds, Upholds}
 use Rattle.lvm_status.specs.Update.{Updates}
 use Rattle.lvm_commit.specs.LawsOfVolumes.{IsOneByAllOn}
-use Rattle.lvm_session.specs.State.{Core, State as Session, is_there}
+use Rattle.lvm_session.specs.State.{Core, State, is_there}
 use Rattle.lvm_core.specs.Committing.{moment_of}
 use Rattle.lvm_core.specs.Held.{NotesAreHome, StartsHeld}
 use Rattle.lvm_core.proofs.Held.{empty_names_none}
@@ -36,7 +36,7 @@ use Rattle.lvm_tie_commands.proofs.Standing.{Held, members_show, of_told, ties}
 holds_empty : (device : Device) (core : Core) → core.descriptor.lvs ≡ [] → StartsHeld device core → HoldsEmpty device core
 holds_empty device core none held = record { held = held.held; notes = held.notes }
 
-module _ (run : ℕ) (first : Moment) (s : Session) (begun : HasBegun run first s) (table : s.core.status.wanted ≡ s.core.origin.table) (whole : HasSectors s.device)
+module _ (run : ℕ) (first : Moment) (s : State) (begun : HasBegun run first s) (table : s.core.status.wanted ≡ s.core.origin.table) (whole : HasSectors s.device)
     (one : IsOneByAllOn s.device) (none : HasNoPassive s.core.descriptor) (quiet : (d lv track_group : ℕ) → is_named_by s.core.cache d lv track_group ≡ false) (past : List Fact) (begins : Begins run past first) where
   told : (media : Media) × (s.device.media ≡ Some media)
   told = some_told s.device.media (span_told begun.keeps begins.told)

@@ -17,7 +17,7 @@ use Rattle.lvm_kept.specs.Plans.{ChangesBy}
 use Rattle.lvm_steps.specs.Moments.{Begins, Holds, Keeps, Upholds}
 use Rattle.lvm_steps.proofs.Booleans.{join, split}
 use Rattle.lvm_commit.specs.LawsOfVolumes.{IsOneByAllOn}
-use Rattle.lvm_session.specs.State.{Core, State as Session, is_there, state}
+use Rattle.lvm_session.specs.State.{Core, State, is_there, state}
 use Rattle.lvm_session.specs.Judging.{is_missing}
 use Rattle.lvm_session.specs.Sound.{IsSound}
 use Rattle.lvm_core.specs.Committing.{moment_of}
@@ -62,16 +62,16 @@ told_next (Some w) None R x told both = absurd both
 told_next (Some w) (Some y) R x told both = (y, refl)
 
 -- whatever stands on the disks, what was even before is so for the volumes after it
-abbrev pub KeepsEven : Session → Session → Type 0
+abbrev pub KeepsEven : State → State → Type 0
 KeepsEven old new = (was is : Media) (stood stands : Stamped Status) → old.device.media ≡ Some was → new.device.media ≡ Some is → AreWanted old new stood stands
     → IsEven (shown_to old was) old.core.descriptor (Some stood) (is_there old.core) → IsEven (shown_to new is) new.core.descriptor (Some stands) (is_there new.core)
 
-module _ (run : ℕ) (first : Moment) (old new : Session) (may : MayBeCommanded run first old) (began : IsSettled old.core) where
+module _ (run : ℕ) (first : Moment) (old new : State) (may : MayBeCommanded run first old) (began : IsSettled old.core) where
   -- where a volume's making or removal is entered, no other group is found, if at most one has a quorum where it is the group's first
   pub is_alone : (old.core.descriptor.lvs ≡ [] → EntersVolumes old.core.history.facts new.core.history.facts → IsOneByAllOn old.device) → IfAlone old new run first
   is_alone one enters past begins = (carries run first old may began past begins (λ none. one none enters)).1.only
 
-module _ (run : ℕ) (first : Moment) (old new : Session) (may : MayBeCommanded run first old) (began : IsSettled old.core)
+module _ (run : ℕ) (first : Moment) (old new : State) (may : MayBeCommanded run first old) (began : IsSettled old.core)
     (scope : Scope) (before after : ℕ) (leaves : Leaves scope before after old new) where
   -- ---- whatever its answer
 

@@ -11,13 +11,13 @@ use Rattle.lvm_steps.specs.Moments.{Begins}
 use Rattle.lvm_commit.specs.LawsOfVolumes.{IsOneByAllOn, IsOnlyGroupOn}
 use Rattle.lvm_commit.proofs.Others.{one_by_all_is_only_since}
 use Rattle.lvm_commit.proofs.Still.{still_holds_committed}
-use Rattle.lvm_session.specs.State.{State as Session, is_there}
+use Rattle.lvm_session.specs.State.{State, is_there}
 use Rattle.lvm_core.specs.Held.{AreNotesHome, IsHeld, NotesAreHome}
 use Rattle.lvm_core.specs.Settled.{IsSettled}
 use Rattle.lvm_rest.specs.Rest.{IsEven}
 use Rattle.lvm_even.proofs.OffLemmas.{off_is_even}
 use Rattle.lvm_handover.specs.passed.Tie.{SparesDescriptors, SparesOn, IsTied}
-use Rattle.lvm_handover.specs.passed.TieBegins.{IsRested, IsResting, AreNotesHome as AreHome, shown_to}
+use Rattle.lvm_handover.specs.passed.TieBegins.{IsRested, IsResting, NotesAreHomeIn as AreHome, shown_to}
 use Rattle.lvm_tie_groups.proofs.Leaving.{its_disks_hold, its_rest}
 use Rattle.lvm_tie_commands.specs.Commands.{MayBeCommanded}
 use Rattle.lvm_tie_commands.specs.Standing.{HoldsEmpty, StandsAfter}
@@ -34,22 +34,22 @@ some_told None told = absurd (cc told)
 some_told (Some x) told = (x, refl)
 
 -- The disks hold what the session says, their notes are home, no other group is found on them, and the usable copies are even.
-pub record Carries (s : Session) (media : Media) : Type 0 where
+pub record Carries (s : State) (media : Media) : Type 0 where
   pub told : s.device.media ≡ Some media
   pub held : Held s media
   pub notes : AreHome s.core (shown_to s media)
   pub only : IsOnlyGroupOn s.device s.core.descriptor.id
   pub even : IsEven (shown_to s media) s.core.descriptor (Some held.shows.stands) (is_there s.core)
 
-pub is_held : (s : Session) (media : Media) → s.device.media ≡ Some media → Held s media → IsHeld s.device s.core
+pub is_held : (s : State) (media : Media) → s.device.media ≡ Some media → Held s media → IsHeld s.device s.core
 is_held s media told held = subst (λ (o : Option Media). IfSome o (λ (m : Media). Held s m)) (sym told) held
 
-pub are_home : (s : Session) (media : Media) → s.device.media ≡ Some media → AreHome s.core (shown_to s media) → AreNotesHome s.device s.core
+pub are_home : (s : State) (media : Media) → s.device.media ≡ Some media → AreHome s.core (shown_to s media) → AreNotesHome s.device s.core
 are_home s media told notes = subst (λ (o : Option Media). IfSome o (λ (m : Media). NotesAreHome s.core (image_of s.device.sizes m))) (sym told) notes
 
 -- ---- with a volume
 
-module _ (past : List Fact) (s : Session) (tied : IsTied past s) (settled : IsSettled s.core) (spares : SparesDescriptors s) where
+module _ (past : List Fact) (s : State) (tied : IsTied past s) (settled : IsSettled s.core) (spares : SparesDescriptors s) where
   resting : IsResting s.core
   resting = rests s tied.orderly.sound settled
 
@@ -73,7 +73,7 @@ module _ (past : List Fact) (s : Session) (tied : IsTied past s) (settled : IsSe
 
 -- ---- either way
 
-module _ (run : ℕ) (first : Moment) (s : Session) (may : MayBeCommanded run first s) (settled : IsSettled s.core) (past : List Fact) (begins : Begins run past first) where
+module _ (run : ℕ) (first : Moment) (s : State) (may : MayBeCommanded run first s) (settled : IsSettled s.core) (past : List Fact) (begins : Begins run past first) where
   standing : StandsAfter past s.device s.core
   standing = may.stands past begins
 

@@ -11,7 +11,7 @@ use Rattle.lvm_kept.specs.Moments.{Moment}
 use Rattle.lvm_steps.specs.Moments.{Keeps}
 use Rattle.lvm_commit.specs.LawsOfData.{IsFree}
 use Rattle.lvm_commit.specs.LawsOfVolumes.{IsOneByAllOn}
-use Rattle.lvm_session.specs.State.{Core, State as Session, is_there}
+use Rattle.lvm_session.specs.State.{Core, State, is_there}
 use Rattle.lvm_core.specs.Committing.{moment_of}
 use Rattle.lvm_core.specs.Leaves.{EntersVolumes}
 use Rattle.lvm_core.specs.Settled.{IsSettled}
@@ -33,17 +33,17 @@ use Rattle.lvm_tie_commands.specs.Commands.{IsAloneAtFirst, IsLeftStandingSince,
 use Rattle.lvm_tie_commands.proofs.Commands.{KeepsEven, is_alone, keeps_on, left_standing, on_all}
 
 -- the descriptor has the volume, and its making was entered
-record IsMade (v : NewVolume) (old new : Session) : Type 0 where
+record IsMade (v : NewVolume) (old new : State) : Type 0 where
   lv : ℕ
   map : List Pp
   is : new.core.descriptor ≡ with_volume old.core.descriptor (row_for v lv map)
   enters : EntersVolumes old.core.history.facts new.core.history.facts
   zeros : AreZeroed old.core.descriptor.mib map new.device
 
-abbrev IsMadeOrNot : NewVolume → Session → Session → Type 0
+abbrev IsMadeOrNot : NewVolume → State → State → Type 0
 IsMadeOrNot v old new = (new.core.descriptor ≡ old.core.descriptor) ⊎ IsMade v old new
 
-made : (v : NewVolume) (lv : ℕ) (old new : Session) → IsVolumeMade v lv old new → IsMadeOrNot v old new
+made : (v : NewVolume) (lv : ℕ) (old new : State) → IsVolumeMade v lv old new → IsMadeOrNot v old new
 made v lv old new it = inr (record {
   lv = lv;
   map = it.map;
@@ -54,10 +54,10 @@ made v lv old new it = inr (record {
       let two = enters_one (making v lv old).facts (Made lv) refl in omega (arith, one, two));
 })
 
-refused : (v : NewVolume) (old new : Session) → new ≡ old → IsMadeOrNot v old new
-refused v old new same = inl (ap (λ (s : Session). s.core.descriptor) same)
+refused : (v : NewVolume) (old new : State) → new ≡ old → IsMadeOrNot v old new
+refused v old new same = inl (ap (λ (s : State). s.core.descriptor) same)
 
-made_or_not : (v : NewVolume) (before : ℕ) (old new : Session) (answer : Result ℕ GroupFault) → MklvGives v before old new answer → IfOn answer (IsMadeOrNot v old new)
+made_or_not : (v : NewVolume) (before : ℕ) (old new : State) (answer : Result ℕ GroupFault) → MklvGives v before old new answer → IfOn answer (IsMadeOrNot v old new)
 made_or_not v before old new (Ok lv) gives = made v lv old new gives
 made_or_not v before old new (Err fault.Dark) gives = tt
 made_or_not v before old new (Err (fault.WentOff have total)) gives = tt
@@ -73,7 +73,7 @@ made_or_not v before old new (Err (fault.NoRoom free)) gives = refused v old new
 made_or_not v before old new (Err fault.HistoryFull) gives = refused v old new gives.0
 made_or_not v before old new (Err fault.Memory) gives = refused v old new gives.0
 
-module _ (run : ℕ) (first : Moment) (v : NewVolume) (before after : ℕ) (old new : Session) (answer : Result ℕ GroupFault)
+module _ (run : ℕ) (first : Moment) (v : NewVolume) (before after : ℕ) (old new : State) (answer : Result ℕ GroupFault)
     (may : MayBeCommanded run first old) (one : IsAloneAtFirst old new) (c : IsCommanded (to_make v old.core) before after old new answer) where
   keeps : Keeps run first (moment_of new)
   keeps = keeps_on run first old new may c.began (to_make v old.core) before after c.leaves (is_alone run first old new may c.began one)

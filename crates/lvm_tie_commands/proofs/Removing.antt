@@ -7,7 +7,7 @@ use Rattle.lvm_num.specs.Descriptor.{is_member, volume_of}
 use Rattle.lvm_kept.specs.Moments.{Moment}
 use Rattle.lvm_steps.specs.Moments.{Keeps}
 use Rattle.lvm_commit.specs.LawsOfVolumes.{IsOneByAllOn}
-use Rattle.lvm_session.specs.State.{Core, State as Session, is_there}
+use Rattle.lvm_session.specs.State.{Core, State, is_there}
 use Rattle.lvm_core.specs.Committing.{moment_of}
 use Rattle.lvm_core.specs.Leaves.{EntersVolumes}
 use Rattle.lvm_core.specs.Settled.{IsSettled}
@@ -24,10 +24,10 @@ use Rattle.lvm_tie_commands.specs.Commands.{IsLeftStandingSince, MayBeCommanded,
 use Rattle.lvm_tie_commands.proofs.Commands.{KeepsEven, is_alone, keeps_on, left_standing, on_all}
 
 -- nothing has happened, or the group had the volume
-abbrev HadOrNot : ℕ → Session → Session → Type 0
+abbrev HadOrNot : ℕ → State → State → Type 0
 HadOrNot lv old new = (new ≡ old) ⊎ IsSome (volume_of old.core.descriptor lv)
 
-had_or_not : (lv before : ℕ) (old new : Session) (answer : Result (Unit {0}) GroupFault) → RmlvGives lv before old new answer → HadOrNot lv old new
+had_or_not : (lv before : ℕ) (old new : State) (answer : Result (Unit {0}) GroupFault) → RmlvGives lv before old new answer → HadOrNot lv old new
 had_or_not lv before old new (Ok done) gives = inr gives.may.there
 had_or_not lv before old new (Err fault.Dark) gives = ⊎_elim (λ refused. inl refused.0) (λ ended. inr ended.may.there) gives
 had_or_not lv before old new (Err (fault.WentOff have total)) gives = ⊎_elim (λ refused. inl refused.0) (λ ended. inr ended.may.there) gives
@@ -44,13 +44,13 @@ had_or_not lv before old new (Err fault.HistoryFull) gives = inl gives.0
 had_or_not lv before old new (Err fault.Memory) gives = inl gives.0
 
 -- the descriptor is as it was, or without the volume
-abbrev IsRemovedOrNot : ℕ → Session → Session → Type 0
+abbrev IsRemovedOrNot : ℕ → State → State → Type 0
 IsRemovedOrNot lv old new = (new.core.descriptor ≡ old.core.descriptor) ⊎ (new.core.descriptor ≡ without_volume old.core.descriptor lv)
 
-refused : (lv : ℕ) (old new : Session) → new ≡ old → IsRemovedOrNot lv old new
-refused lv old new same = inl (ap (λ (s : Session). s.core.descriptor) same)
+refused : (lv : ℕ) (old new : State) → new ≡ old → IsRemovedOrNot lv old new
+refused lv old new same = inl (ap (λ (s : State). s.core.descriptor) same)
 
-removed_or_not : (lv before : ℕ) (old new : Session) (answer : Result (Unit {0}) GroupFault) → RmlvGives lv before old new answer → IfOn answer (IsRemovedOrNot lv old new)
+removed_or_not : (lv before : ℕ) (old new : State) (answer : Result (Unit {0}) GroupFault) → RmlvGives lv before old new answer → IfOn answer (IsRemovedOrNot lv old new)
 removed_or_not lv before old new (Ok done) gives = inr (ap (λ (c : Core). c.descriptor) gives.is)
 removed_or_not lv before old new (Err fault.Dark) gives = tt
 removed_or_not lv before old new (Err (fault.WentOff have total)) gives = tt
@@ -67,11 +67,11 @@ removed_or_not lv before old new (Err fault.HistoryFull) gives = refused lv old 
 removed_or_not lv before old new (Err fault.Memory) gives = refused lv old new gives.0
 
 -- a group without volumes has none of the number, so no removal is entered
-not_entered : (lv : ℕ) (old new : Session) → HadOrNot lv old new → old.core.descriptor.lvs ≡ [] → EntersVolumes old.core.history.facts new.core.history.facts → ⊥
-not_entered lv old new (inl same) none enters = absurd (let lower = subst (λ (s : Session). EntersVolumes old.core.history.facts s.core.history.facts) same enters in omega (arith, lower))
+not_entered : (lv : ℕ) (old new : State) → HadOrNot lv old new → old.core.descriptor.lvs ≡ [] → EntersVolumes old.core.history.facts new.core.history.facts → ⊥
+not_entered lv old new (inl same) none enters = absurd (let lower = subst (λ (s : State). EntersVolumes old.core.history.facts s.core.history.facts) same enters in omega (arith, lower))
 not_entered lv old new (inr had) none enters = absurd (let no = subst (λ (rows : List LvRow). IsSome (find (λ (r : LvRow). r.number == lv) rows)) none had in cc no)
 
-module _ (run : ℕ) (first : Moment) (lv before after : ℕ) (old new : Session) (answer : Result (Unit {0}) GroupFault)
+module _ (run : ℕ) (first : Moment) (lv before after : ℕ) (old new : State) (answer : Result (Unit {0}) GroupFault)
     (may : MayBeCommanded run first old) (c : IsCommanded (to_remove lv old.core) before after old new answer) where
   keeps : HadOrNot lv old new → Keeps run first (moment_of new)
   keeps had = keeps_on run first old new may c.began (to_remove lv old.core) before after c.leaves (is_alone run first old new may c.began (λ none enters. absurd (not_entered lv old new had none enters)))

@@ -1,6 +1,6 @@
 -- A settled session that is sound with requests rests, and what its history tells of has landed.
 use Rattle.std.proofs.Common.{◌≡◌, List, [], ap, ◌∙◌}
-use Rattle.lvm_session.specs.State.{State as Session}
+use Rattle.lvm_session.specs.State.{State}
 use Rattle.lvm_session.specs.Sound.{IsGoing, IsSound, waits}
 use Rattle.lvm_session.specs.declared.open.Open.{Open}
 use Rattle.lvm_core.specs.Settled.{IsSettled}
@@ -11,7 +11,7 @@ use Rattle.lvm_handover.proofs.Entailing.{none_left}
 use Rattle.lvm_handover.proofs.Serving.{nobody_flies, none_flying}
 use Rattle.lvm_handover.specs.passed.TieBegins.{IsResting}
 
-module _ (s : Session) (sound : IsSound s) (settled : IsSettled s.core) where
+module _ (s : State) (sound : IsSound s) (settled : IsSettled s.core) where
   going : IsGoing s.core
   going = (sound.on settled.power).going
 

@@ -17,13 +17,13 @@ use Rattle.lvm_status.specs.Update.{members_there}
 use Rattle.lvm_commit.specs.Committed.{HoldsCommitted}
 use Rattle.lvm_commit.specs.LawsOfVolumes.{IsOneByAllOn}
 use Rattle.lvm_commit.proofs.Found.{shows_group}
-use Rattle.lvm_session.specs.State.{Core, State as Session, is_there}
+use Rattle.lvm_session.specs.State.{Core, State, is_there}
 use Rattle.lvm_session.specs.Sound.{IsSound}
 use Rattle.lvm_core.specs.Settled.{IsSettled}
 use Rattle.lvm_rest.specs.Rest.{IsEven, NoneIsBehind}
 use Rattle.lvm_rest.proofs.Marking.{none_is_left_behind}
 use Rattle.lvm_handover.specs.passed.Tie.{SparesDescriptors, IsTied, moment_of}
-use Rattle.lvm_handover.specs.passed.TieBegins.{AreNotesHome, MembersShow, StandsAtRest, shown_to}
+use Rattle.lvm_handover.specs.passed.TieBegins.{NotesAreHomeIn, MembersShow, StandsAtRest, shown_to}
 use Rattle.lvm_handover.proofs.passed.TieBegins.{rest_spares, rest_ties}
 use Rattle.lvm_tie_commands.proofs.Resting.{left, rests}
 
@@ -32,19 +32,19 @@ pub of_told : {A : Type 0} (P : A → Type 0) (o : Option A) (x : A) → o ≡ S
 of_told {A = A} P o x told holds = subst (λ (o : Option A). IfSome o P) told holds
 
 -- the disks hold what a session says, where this stands on them
-abbrev pub Held : Session → Media → Type 0
+abbrev pub Held : State → Media → Type 0
 Held s media = HoldsCommitted (image_of s.device.sizes media) s.core.descriptor s.core.status.committed (is_there s.core) s.core.status.stamp s.core.homes
 
 -- members that are there show the group, and so do those that weren't missing at its beginning where each of these is
-pub members_show : (s : Session) (media : Media) → Held s media
+pub members_show : (s : State) (media : Media) → Held s media
     → ((d : ℕ) → is_member s.core.descriptor d ≡ true → calls_missing s.core.origin.table d ≡ false → calls_missing s.core.status.wanted d ≡ false) → MembersShow s media
 members_show s media held stays d member present =
     let core : Core = s.core in
     let there : IsTrue (is_there core d) = join (is_member core.descriptor d) (not (calls_missing core.status.wanted d)) member (ap not (stays d member present)) in
     member_of_parts (shown_to s media) all_disks core.descriptor.id core.descriptor d refl (shows_group (shown_to s media) core.descriptor core.status.committed (is_there core) held.shows d there) (held.shows.room d there)
 
-module _ (s : Session) (media : Media) (sound : IsSound s) (settled : IsSettled s.core) (epoch : s.core.status.stamp.epoch < 2 ^ 64) (whole : HasSectors s.device)
-    (told : s.device.media ≡ Some media) (held : Held s media) (notes : AreNotesHome s.core (shown_to s media)) (one : IsOneByAllOn s.device)
+module _ (s : State) (media : Media) (sound : IsSound s) (settled : IsSettled s.core) (epoch : s.core.status.stamp.epoch < 2 ^ 64) (whole : HasSectors s.device)
+    (told : s.device.media ≡ Some media) (held : Held s media) (notes : NotesAreHomeIn s.core (shown_to s media)) (one : IsOneByAllOn s.device)
     (even : IsEven (shown_to s media) s.core.descriptor (Some held.shows.stands) (is_there s.core)) where
   behind : NoneIsBehind (shown_to s media) s.core.descriptor (Some held.shows.stands) (is_there s.core)
   behind = subst (λ (set : Disks). NoneIsBehind (shown_to s media) s.core.descriptor (Some held.shows.stands) set) (ap (λ (g : Descriptor). members_there g s.core.status.wanted) sound.fitting.group)

@@ -6,7 +6,7 @@ use Rattle.lvm_vol.specs.Log.{Log}
 use Rattle.lvm_kept.specs.Moments.{Moment}
 use Rattle.lvm_steps.specs.Moments.{Keeps}
 use Rattle.lvm_commit.specs.LawsOfVolumes.{IsOneByAllOn}
-use Rattle.lvm_session.specs.State.{State as Session}
+use Rattle.lvm_session.specs.State.{State}
 use Rattle.lvm_session.specs.Sound.{IsSound}
 use Rattle.lvm_core.specs.declared.parts.Room.{Room}
 use Rattle.lvm_core.specs.Committing.{moment_of}
@@ -19,7 +19,7 @@ use Rattle.lvm_recover.specs.Recovered.{HasNoPassive}
 use Rattle.lvm_tie_commands.specs.Standing.{StandsAfter, StandsSince}
 
 -- The session of this run has begun, settled and sound, a span leads to it, and its disks hold what it says.
-pub record HasBegun (run : ℕ) (first : Moment) (s : Session) : Type 0 where
+pub record HasBegun (run : ℕ) (first : Moment) (s : State) : Type 0 where
   pub sound : IsSound s
   pub settled : IsSettled s.core
   pub stamped : IsStamped s.core.status
@@ -29,11 +29,11 @@ pub record HasBegun (run : ℕ) (first : Moment) (s : Session) : Type 0 where
 
 -- Where a varyon has begun it: with a volume, where on each crash image at most one group has a quorum among all disks, and no volume is in mode passive.
 abbrev pub VariedOnStands : Type 0
-VariedOnStands = (run : ℕ) (first : Moment) (was : Log) (name : List ℕ) (moment : ℕ) (room : Room) (old : Device) (s : Session)
+VariedOnStands = (run : ℕ) (first : Moment) (was : Log) (name : List ℕ) (moment : ℕ) (room : Room) (old : Device) (s : State)
     → ComesOn old s.device was name moment room s.core → HasBegun run first s → HasSectors s.device
     → (s.core.descriptor.lvs ≢ [] → IsOneByAllOn s.device × HasNoPassive s.core.descriptor) → StandsSince run first s
 
 -- Where a mkvg has: the group has no volume.
 abbrev pub MadeStands : Type 0
-MadeStands = (past : List Fact) (was : Log) (w : NewGroup) (room : Room) (old : Device) (s : Session)
+MadeStands = (past : List Fact) (was : Log) (w : NewGroup) (room : Room) (old : Device) (s : State)
     → IsMade w room was old s.device s.core → StartsHeld s.device s.core → StandsAfter past s.device s.core

@@ -6,7 +6,7 @@ use Rattle.lvm_vol.specs.Facts.{Fact}
 use Rattle.lvm_kept.specs.Moments.{Moment}
 use Rattle.lvm_steps.specs.Moments.{Begins, Keeps}
 use Rattle.lvm_commit.specs.LawsOfVolumes.{IsOneByAllOn}
-use Rattle.lvm_session.specs.State.{Core, State as Session, state}
+use Rattle.lvm_session.specs.State.{Core, State, state}
 use Rattle.lvm_session.specs.Sound.{IsSound}
 use Rattle.lvm_core.specs.Committing.{moment_of}
 use Rattle.lvm_core.specs.Leaves.{EntersVolumes}
@@ -18,7 +18,7 @@ use Rattle.lvm_handover.specs.passed.Tie.{IsStamped}
 use Rattle.lvm_tie_commands.specs.Standing.{HoldsEmpty, StandsAfter, StandsSince}
 
 -- Before it the session of this run is sound, a span leads to it, and what stands on its disks does so after each earlier history.
-pub record MayBeCommanded (run : ℕ) (first : Moment) (s : Session) : Type 0 where
+pub record MayBeCommanded (run : ℕ) (first : Moment) (s : State) : Type 0 where
   pub sound : IsSound s
   pub run_is : s.core.history.run ≡ run
   pub stamped : IsStamped s.core.status
@@ -26,26 +26,26 @@ pub record MayBeCommanded (run : ℕ) (first : Moment) (s : Session) : Type 0 wh
   pub stands : StandsSince run first s
 
 -- where the making of a group's first volume is entered, at most one group has a quorum among all disks on each crash image
-abbrev pub IsAloneAtFirst : Session → Session → Type 0
+abbrev pub IsAloneAtFirst : State → State → Type 0
 IsAloneAtFirst old new = old.core.descriptor.lvs ≡ [] → EntersVolumes old.core.history.facts new.core.history.facts → IsOneByAllOn old.device
 
 -- After it that stands as it is where the group has no volume, and in any case once the session takes requests again, whatever copies were added.
-pub record IsLeftStanding (past : List Fact) (new : Session) : Type 0 where
+pub record IsLeftStanding (past : List Fact) (new : State) : Type 0 where
   pub empty : new.core.descriptor.lvs ≡ [] → HoldsEmpty new.device new.core
   pub served : (added : List Pp) (core : Core) → IsServed added new.core core → IsSound (state new.device core) → StandsAfter past new.device core
 
 -- after each earlier history, where the shelf has whole sectors
-abbrev pub IsLeftStandingSince : ℕ → Moment → Session → Type 0
+abbrev pub IsLeftStandingSince : ℕ → Moment → State → Type 0
 IsLeftStandingSince run first new = HasSectors new.device → (past : List Fact) → Begins run past first → IsLeftStanding past new
 
 -- A span goes on over the making of a volume, whatever its answer, and where the session does, it is left so;
 abbrev pub MklvGoesOn : Type 0
-MklvGoesOn = (run : ℕ) (first : Moment) (v : NewVolume) (before after : ℕ) (old new : Session) (answer : Result ℕ GroupFault)
+MklvGoesOn = (run : ℕ) (first : Moment) (v : NewVolume) (before after : ℕ) (old new : State) (answer : Result ℕ GroupFault)
     → MayBeCommanded run first old → IsAloneAtFirst old new → IsCommanded (to_make v old.core) before after old new answer → MklvGives v before old new answer
     → Keeps run first (moment_of new) × IfOn answer (IsLeftStandingSince run first new)
 
 -- and so it is over the removal of one.
 abbrev pub RmlvGoesOn : Type 0
-RmlvGoesOn = (run : ℕ) (first : Moment) (lv before after : ℕ) (old new : Session) (answer : Result (Unit {0}) GroupFault)
+RmlvGoesOn = (run : ℕ) (first : Moment) (lv before after : ℕ) (old new : State) (answer : Result (Unit {0}) GroupFault)
     → MayBeCommanded run first old → IsCommanded (to_remove lv old.core) before after old new answer → RmlvGives lv before old new answer
     → Keeps run first (moment_of new) × IfOn answer (IsLeftStandingSince run first new)

@@ -4,7 +4,7 @@ use Rattle.lvm_disk.specs.Device.{Device}
 use Rattle.lvm_vol.specs.Facts.{Fact}
 use Rattle.lvm_kept.specs.Moments.{Moment}
 use Rattle.lvm_steps.specs.Moments.{Begins}
-use Rattle.lvm_session.specs.State.{Core, State as Session, state}
+use Rattle.lvm_session.specs.State.{Core, State, state}
 use Rattle.lvm_core.specs.Held.{AreNotesHome, IsHeld}
 use Rattle.lvm_handover.specs.passed.Tie.{SparesDescriptors, IsTied}
 
@@ -20,5 +20,5 @@ pub record StandsAfter (past : List Fact) (device : Device) (core : Core) : Type
   pub spares : core.descriptor.lvs ≢ [] → SparesDescriptors (state device core)
 
 -- and that after each earlier history with which the run may have begun
-abbrev pub StandsSince : ℕ → Moment → Session → Type 0
+abbrev pub StandsSince : ℕ → Moment → State → Type 0
 StandsSince run first s = (past : List Fact) → Begins run past first → StandsAfter past s.device s.core

@@ -16,7 +16,7 @@ use Rattle.lvm_steps.specs.Moments.{Keeps}
 use Rattle.lvm_commit.specs.LawsOfVolumes.{IsOneByAllOn}
 use Rattle.lvm_map.specs.FirstFit.{IsAllocated, more_copies}
 use Rattle.lvm_map.proofs.OneAnswer.{map_is_one}
-use Rattle.lvm_session.specs.State.{Core, State as Session, is_there}
+use Rattle.lvm_session.specs.State.{Core, State, is_there}
 use Rattle.lvm_core.specs.Committing.{moment_of}
 use Rattle.lvm_core.specs.Leaves.{NoPartition}
 use Rattle.lvm_core.specs.Settled.{IsSettled}
@@ -48,13 +48,13 @@ same_further lv copies core row pps p places further =
 -- ---- what is left
 
 -- the descriptor is as it was, or the volume has more copies
-abbrev AreAddedOrNot : ℕ → ℕ → Session → Session → Type 0
+abbrev AreAddedOrNot : ℕ → ℕ → State → State → Type 0
 AreAddedOrNot lv copies old new = (new.core.descriptor ≡ old.core.descriptor) ⊎ ((added : List Pp) × AreAdded lv copies old new added)
 
-refused : (lv copies : ℕ) (old new : Session) → new ≡ old → AreAddedOrNot lv copies old new
-refused lv copies old new same = inl (ap (λ (s : Session). s.core.descriptor) same)
+refused : (lv copies : ℕ) (old new : State) → new ≡ old → AreAddedOrNot lv copies old new
+refused lv copies old new same = inl (ap (λ (s : State). s.core.descriptor) same)
 
-added_or_not : (lv copies before : ℕ) (old new : Session) (answer : Result (List Pp) GroupFault) → MklvcopyGives lv copies before old new answer → IfOn answer (AreAddedOrNot lv copies old new)
+added_or_not : (lv copies before : ℕ) (old new : State) (answer : Result (List Pp) GroupFault) → MklvcopyGives lv copies before old new answer → IfOn answer (AreAddedOrNot lv copies old new)
 added_or_not lv copies before old new (Ok added) gives = inr (added, gives)
 added_or_not lv copies before old new (Err fault.Dark) gives = tt
 added_or_not lv copies before old new (Err (fault.WentOff have total)) gives = tt
@@ -74,7 +74,7 @@ added_or_not lv copies before old new (Err fault.Memory) gives = refused lv copi
 pub no_volume : (d : Descriptor) (lv : ℕ) (row : LvRow) → d.lvs ≡ [] → volume_of d lv ≡ Some row → ⊥
 no_volume d lv row none some = absurd (let no : None ≡ Some row = sym (ap (λ (rows : List LvRow). find (λ (r : LvRow). r.number == lv) rows) none) ∙ some in cc no)
 
-module _ (run : ℕ) (first : Moment) (lv copies before after : ℕ) (old new : Session) (answer : Result (List Pp) GroupFault)
+module _ (run : ℕ) (first : Moment) (lv copies before after : ℕ) (old new : State) (answer : Result (List Pp) GroupFault)
     (may : MayBeCommanded run first old) (c : IsCommanded (to_add lv copies old.core) before after old new answer) where
   keeps : Keeps run first (moment_of new)
   keeps = keeps_on run first old new may c.began (to_add lv copies old.core) before after c.leaves tt

@@ -7,7 +7,7 @@ use Rattle.lvm_num.specs.declared.status.Status.{Status}
 use Rattle.lvm_num.specs.Descriptor.{IsValid}
 use Rattle.lvm_status.specs.Calls.{IsMarkable}
 use Rattle.lvm_status.specs.Members.{HasItsRows}
-use Rattle.lvm_session.specs.State.{Core, State as Session, is_there}
+use Rattle.lvm_session.specs.State.{Core, State, is_there}
 use Rattle.lvm_core.specs.Committing.{AreUnused}
 use Rattle.lvm_core.proofs.Commits.{unused_markable}
 use Rattle.lvm_copy_plan.specs.Copies.{further_copies, with_copies, with_map}
@@ -16,7 +16,7 @@ use Rattle.lvm_copy_plan.proofs.Rows.{named}
 use Rattle.lvm_mirrors.specs.Mirrors.{AreAdded}
 use Rattle.lvm_tie_copies.proofs.Adding.{no_volume}
 
-module _ (lv copies : ℕ) (old new : Session) (added : List Pp) (it : AreAdded lv copies old new added) where
+module _ (lv copies : ℕ) (old new : State) (added : List Pp) (it : AreAdded lv copies old new added) where
   abbrev d : Descriptor
   d = old.core.descriptor
 

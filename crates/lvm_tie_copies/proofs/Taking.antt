@@ -9,7 +9,7 @@ use Rattle.lvm_kept.specs.Contents.{contents_of}
 use Rattle.lvm_kept.specs.Moments.{Moment}
 use Rattle.lvm_steps.specs.Moments.{Keeps}
 use Rattle.lvm_commit.specs.LawsOfVolumes.{IsOneByAllOn}
-use Rattle.lvm_session.specs.State.{Core, State as Session, is_there}
+use Rattle.lvm_session.specs.State.{Core, State, is_there}
 use Rattle.lvm_core.specs.Committing.{moment_of}
 use Rattle.lvm_core.specs.Leaves.{NoPartition}
 use Rattle.lvm_core.specs.Settled.{IsSettled}
@@ -29,10 +29,10 @@ use Rattle.lvm_tie_copies.specs.Copies.{KeepsShownIfTaken, RmlvcopyGoesOn}
 use Rattle.lvm_tie_copies.proofs.Adding.{no_volume}
 
 -- nothing has happened, or nothing stood against it
-abbrev MightOrNot : ℕ → ℕ → Session → Session → Type 0
+abbrev MightOrNot : ℕ → ℕ → State → State → Type 0
 MightOrNot lv copies old new = (new ≡ old) ⊎ ((row : LvRow) × MayBeTaken lv copies old.core row)
 
-might_or_not : (lv copies before : ℕ) (old new : Session) (answer : Result (Unit {0}) GroupFault) → RmlvcopyGives lv copies before old new answer → MightOrNot lv copies old new
+might_or_not : (lv copies before : ℕ) (old new : State) (answer : Result (Unit {0}) GroupFault) → RmlvcopyGives lv copies before old new answer → MightOrNot lv copies old new
 might_or_not lv copies before old new (Ok done) gives = inr (gives.row, gives.may)
 might_or_not lv copies before old new (Err fault.Dark) gives = ⊎_elim (λ refused. inl refused.0) (λ ended. inr (ended.row, ended.may)) gives
 might_or_not lv copies before old new (Err (fault.WentOff have total)) gives = ⊎_elim (λ refused. inl refused.0) (λ ended. inr (ended.row, ended.may)) gives
@@ -49,13 +49,13 @@ might_or_not lv copies before old new (Err fault.HistoryFull) gives = inl gives.
 might_or_not lv copies before old new (Err fault.Memory) gives = inl gives.0
 
 -- the descriptor is as it was, or the volume has fewer copies
-abbrev AreTakenOrNot : ℕ → ℕ → Session → Session → Type 0
+abbrev AreTakenOrNot : ℕ → ℕ → State → State → Type 0
 AreTakenOrNot lv copies old new = (new.core.descriptor ≡ old.core.descriptor) ⊎ AreTaken lv copies old new
 
-refused : (lv copies : ℕ) (old new : Session) → new ≡ old → AreTakenOrNot lv copies old new
-refused lv copies old new same = inl (ap (λ (s : Session). s.core.descriptor) same)
+refused : (lv copies : ℕ) (old new : State) → new ≡ old → AreTakenOrNot lv copies old new
+refused lv copies old new same = inl (ap (λ (s : State). s.core.descriptor) same)
 
-taken_or_not : (lv copies before : ℕ) (old new : Session) (answer : Result (Unit {0}) GroupFault) → RmlvcopyGives lv copies before old new answer → IfOn answer (AreTakenOrNot lv copies old new)
+taken_or_not : (lv copies before : ℕ) (old new : State) (answer : Result (Unit {0}) GroupFault) → RmlvcopyGives lv copies before old new answer → IfOn answer (AreTakenOrNot lv copies old new)
 taken_or_not lv copies before old new (Ok done) gives = inr gives
 taken_or_not lv copies before old new (Err fault.Dark) gives = tt
 taken_or_not lv copies before old new (Err (fault.WentOff have total)) gives = tt
@@ -71,11 +71,11 @@ taken_or_not lv copies before old new (Err (fault.NoRoom free)) gives = absurd g
 taken_or_not lv copies before old new (Err fault.HistoryFull) gives = refused lv copies old new gives.0
 taken_or_not lv copies before old new (Err fault.Memory) gives = refused lv copies old new gives.0
 
-module _ (run : ℕ) (first : Moment) (lv copies before after : ℕ) (old new : Session) (answer : Result (Unit {0}) GroupFault)
+module _ (run : ℕ) (first : Moment) (lv copies before after : ℕ) (old new : State) (answer : Result (Unit {0}) GroupFault)
     (may : MayBeCommanded run first old) (shown : KeepsShownIfTaken run first lv copies old new) (c : IsCommanded (to_take lv copies old.core) before after old new answer) where
   keeps : MightOrNot lv copies old new → Keeps run first (moment_of new)
   keeps might = ⊎_elim
-      (λ (same : new ≡ old). subst (λ (s : Session). Keeps run first (moment_of s)) (sym same) may.keeps)
+      (λ (same : new ≡ old). subst (λ (s : State). Keeps run first (moment_of s)) (sym same) may.keeps)
       (λ (it : (row : LvRow) × MayBeTaken lv copies old.core row). keeps_on run first old new may c.began (to_take lv copies old.core) before after c.leaves (shown it.0 it.1))
       might
 

@@ -4,7 +4,7 @@ use Rattle.lvm_num.specs.declared.descriptor.LvRow.{LvRow}
 use Rattle.lvm_num.specs.declared.place.Pp.{Pp}
 use Rattle.lvm_kept.specs.Moments.{Moment}
 use Rattle.lvm_steps.specs.Moments.{Keeps}
-use Rattle.lvm_session.specs.State.{State as Session}
+use Rattle.lvm_session.specs.State.{State}
 use Rattle.lvm_core.specs.Committing.{moment_of}
 use Rattle.lvm_volume_plan.specs.declared.fault.GroupFault.{GroupFault}
 use Rattle.lvm_volumes.specs.Endings.{IfOn}
@@ -16,20 +16,20 @@ use Rattle.lvm_tie_commands.specs.Commands.{IsLeftStandingSince, MayBeCommanded}
 
 -- A span goes on over the addition of copies, whatever its answer, and where the session does, what stood stands again;
 abbrev pub MklvcopyGoesOn : Type 0
-MklvcopyGoesOn = (run : ℕ) (first : Moment) (lv copies before after : ℕ) (old new : Session) (answer : Result (List Pp) GroupFault)
+MklvcopyGoesOn = (run : ℕ) (first : Moment) (lv copies before after : ℕ) (old new : State) (answer : Result (List Pp) GroupFault)
     → MayBeCommanded run first old → IsCommanded (to_add lv copies old.core) before after old new answer → MklvcopyGives lv copies before old new answer
     → Keeps run first (moment_of new) × IfOn answer (IsLeftStandingSince run first new)
 
 -- where each logical partition keeps a fresh copy on a member that shows the group, unless the removal is refused
-abbrev pub KeepsShownIfTaken : ℕ → Moment → ℕ → ℕ → Session → Session → Type 0
+abbrev pub KeepsShownIfTaken : ℕ → Moment → ℕ → ℕ → State → State → Type 0
 KeepsShownIfTaken run first lv copies old new = (row : LvRow) → MayBeTaken lv copies old.core row → IfShown lv copies old new run first
 
 -- and so it is over the removal of copies.
 abbrev pub RmlvcopyGoesOn : Type 0
-RmlvcopyGoesOn = (run : ℕ) (first : Moment) (lv copies before after : ℕ) (old new : Session) (answer : Result (Unit {0}) GroupFault)
+RmlvcopyGoesOn = (run : ℕ) (first : Moment) (lv copies before after : ℕ) (old new : State) (answer : Result (Unit {0}) GroupFault)
     → MayBeCommanded run first old → KeepsShownIfTaken run first lv copies old new → IsCommanded (to_take lv copies old.core) before after old new answer → RmlvcopyGives lv copies before old new answer
     → Keeps run first (moment_of new) × IfOn answer (IsLeftStandingSince run first new)
 
 -- where the volume of the name may be left with so many copies, each logical partition keeps a fresh one on a member that shows the group
-abbrev pub KeepsShownOf : List ℕ → ℕ → Session → Type 0
+abbrev pub KeepsShownOf : List ℕ → ℕ → State → Type 0
 KeepsShownOf name copies s = (lv : ℕ) (row : LvRow) → IsNumberOf s.core.descriptor.lvs name lv → MayBeTaken lv copies s.core row → KeepsShown lv copies s

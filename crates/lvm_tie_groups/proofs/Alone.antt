@@ -19,7 +19,7 @@ use Rattle.lvm_status.specs.Update.{Updates, members_there}
 use Rattle.lvm_commit.specs.Committed.{HoldsCommitted}
 use Rattle.lvm_commit.specs.LawsOfVolumes.{IsOneByAllOn}
 use Rattle.lvm_commit.proofs.Still.{still_image}
-use Rattle.lvm_session.specs.State.{Core, State as Session, is_there}
+use Rattle.lvm_session.specs.State.{Core, State, is_there}
 use Rattle.lvm_begin.specs.Beginning.{Beginning, IsOfParts, Part, TheDescriptor, TheNotes, TheStatus, new_order}
 use Rattle.lvm_core.specs.declared.parts.Room.{Room}
 use Rattle.lvm_group.specs.Made.{IsMade, beginning_for}
@@ -48,7 +48,7 @@ same_shown : (old new : Image) (d : ℕ) → SameDisks old new → ((s : ℕ) �
 unfolding descriptor_on
 same_shown old new d same sectors = λ t. if room-same old new same d t then newest_on descriptor_of kind.Descriptor (λ s. sectors s t) else None
 
-module _ (w : NewGroup) (room : Room) (was : Log) (old : Device) (s : Session) (media : Media) (made : IsMade w room was old s.device s.core) (told : s.device.media ≡ Some media)
+module _ (w : NewGroup) (room : Room) (was : Log) (old : Device) (s : State) (media : Media) (made : IsMade w room was old s.device s.core) (told : s.device.media ≡ Some media)
     (held : HoldsCommitted (image_of s.device.sizes media) s.core.descriptor s.core.status.committed (is_there s.core) s.core.status.stamp s.core.homes) (unforced : w.force ≡ false) where
   abbrev c : Contents
   c = contents_of (image_of s.device.sizes media)

@@ -19,7 +19,7 @@ use Rattle.lvm_steps.proofs.Spans.{spans_join}
 use Rattle.lvm_stamps.specs.Behind.{ClockIsAhead}
 use Rattle.lvm_status.specs.Members.{HasItsRows}
 use Rattle.lvm_status.specs.Calls.{first_updates}
-use Rattle.lvm_status.specs.Runs.{SetStamp, IsSound as IsSoundStatus}
+use Rattle.lvm_status.specs.Runs.{SetStamp, IsSoundStatus}
 use Rattle.lvm_status.specs.Update.{Updates, members_there, seen}
 use Rattle.lvm_status.proofs.Sound.{first_is_sound, steps_stay_sound}
 use Rattle.lvm_hold.specs.Waiting.{Waiting}
@@ -28,7 +28,7 @@ use Rattle.lvm_homes.specs.declared.homes.Homes.{Homes}
 use Rattle.lvm_commit.specs.Committed.{HoldsCommitted}
 use Rattle.lvm_commit.specs.LawsOfVolumes.{IsOneByAllOn}
 use Rattle.lvm_commit.specs.Settling.{NoneIsLeft}
-use Rattle.lvm_session.specs.State.{Core, State as Session, state, is_there}
+use Rattle.lvm_session.specs.State.{Core, State, state, is_there}
 use Rattle.lvm_session_start.specs.declared.parts.Parts.{Parts}
 use Rattle.lvm_session_start.specs.declared.parts.Room.{Room as SessionRoom}
 use Rattle.lvm_session_start.specs.Beginning.{MayBegin, first_core}
@@ -55,7 +55,7 @@ use Rattle.lvm_tie_begins.specs.Begins.{BeginsSound, StandsAtRest, Start, begun,
 use Rattle.lvm_tie_begins.proofs.Beginning.{begins_good}
 use Rattle.lvm_tie_groups.specs.Coming.{IsBegun, IsDriven, IsMadeEven, LeadsTo, MadeServes, VariedIsMadeEven, VariedOnServes}
 use Rattle.lvm_keeps.proofs.Updates.{few_updates}
-use Rattle.lvm_tie_groups.proofs.Entailing.{not_entailed}
+use Rattle.lvm_tie_begins.proofs.Entailing.{not_entailed}
 
 -- what holds of the media that is told
 of_told : {A : Type 0} (P : A → Type 0) (o : Option A) (x : A) → o ≡ Some x → IfSome o P → P x
@@ -79,14 +79,14 @@ abbrev second : ℕ → Stamp
 second moment = record { epoch = moment; seq = 2 }
 
 -- What a call has begun with.
-pub record Begins (log : Log) (moment : ℕ) (s : Session) : Type 0 where
+pub record Begins (log : Log) (moment : ℕ) (s : State) : Type 0 where
   pub parts : Parts
   pub homes : Homes
   pub reserved : IsReserved parts.descriptor parts.table parts.room parts
   pub fits : IsSessionRoom parts.room
   pub is : s.core ≡ first_core parts log (second moment) homes s.core.origin.faults
 
-module _ (was log : Log) (moment : ℕ) (room : Room) (old : Device) (s : Session) (media : Media) (same_run : log.run ≡ was.run) (b : Begins log moment s)
+module _ (was log : Log) (moment : ℕ) (room : Room) (old : Device) (s : State) (media : Media) (same_run : log.run ≡ was.run) (b : Begins log moment s)
     (it : IsBegun was moment room old s) (low : moment < 2 ^ 64) (driven : IsDriven s media) where
   abbrev p : Parts
   p = b.parts
@@ -241,15 +241,15 @@ module _ (was log : Log) (moment : ℕ) (room : Room) (old : Device) (s : Sessio
       calm past none = it.leaves.calm past (leads.calm past none)
 
       pub serves : IsGood was.run m s
-      serves = subst (λ (x : Session). IsGood was.run m x) (sym same) (subst (λ (run : ℕ). IsGood run m (begun start)) same_run
-          (begins_good m start media begins (subst (λ (x : Session). StandsAtRest x media) same stands)
-          (subst (λ (run : ℕ). Keeps run m (moment_of (begun start))) (sym same_run) (subst (λ (x : Session). Keeps was.run m (moment_of x)) same keeps))
-          (subst (λ (x : Session). StaysCalm m (moment_of x)) same calm)))
+      serves = subst (λ (x : State). IsGood was.run m x) (sym same) (subst (λ (run : ℕ). IsGood run m (begun start)) same_run
+          (begins_good m start media begins (subst (λ (x : State). StandsAtRest x media) same stands)
+          (subst (λ (run : ℕ). Keeps run m (moment_of (begun start))) (sym same_run) (subst (λ (x : State). Keeps was.run m (moment_of x)) same keeps))
+          (subst (λ (x : State). StaysCalm m (moment_of x)) same calm)))
 
 -- ---- where there is nothing to recover
 
 -- the notes are home, as the session begins
-home : (was : Log) (moment : ℕ) (room : Room) (old : Device) (s : Session) (media : Media) → IsBegun was moment room old s → ClockIsAhead was.run moment old was.facts → s.device.media ≡ Some media → NotesAreHome s.core (image_of s.device.sizes media)
+home : (was : Log) (moment : ℕ) (room : Room) (old : Device) (s : State) (media : Media) → IsBegun was moment room old s → ClockIsAhead was.run moment old was.facts → s.device.media ≡ Some media → NotesAreHome s.core (image_of s.device.sizes media)
 home was moment room old s media it clock told = of_told (λ (m : Media). NotesAreHome s.core (image_of s.device.sizes m)) s.device.media media told (it.started.held clock).notes
 
 pub varied_is_made_even : VariedIsMadeEven

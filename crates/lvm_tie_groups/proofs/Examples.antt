@@ -15,9 +15,9 @@ use Rattle.lvm_stale.specs.Table.{is_pp}
 use Rattle.lvm_kept.specs.Moments.{Calm}
 use Rattle.lvm_steps.proofs.Members.{member_of_parts}
 use Rattle.lvm_commit.proofs.Found.{shows_group}
-use Rattle.lvm_status.specs.Runs.{IsSound as IsSoundStatus}
+use Rattle.lvm_status.specs.Runs.{IsSoundStatus}
 use Rattle.lvm_status.specs.Update.{seen}
-use Rattle.lvm_session.specs.State.{Core, State as Session, is_there}
+use Rattle.lvm_session.specs.State.{Core, State, is_there}
 use Rattle.lvm_session.specs.Marks.{is_entailed}
 use Rattle.lvm_session.specs.Causes.{faults_at_first}
 use Rattle.lvm_session.specs.Sound.{IsSound}
@@ -72,7 +72,7 @@ module _ (mode : Mode) (dirty lost cut : Bool) where
   abbrev x : Pair
   x = even_pair mode dirty lost zero_sector
 
-  abbrev s : Session
+  abbrev s : State
   s = session_of x
 
   abbrev core : Core

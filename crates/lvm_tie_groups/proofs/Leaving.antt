@@ -21,13 +21,13 @@ use Rattle.lvm_session.specs.declared.bringing.OpenCopy.{OpenCopy}
 use Rattle.lvm_session.specs.declared.flown.Flown.{Flown}
 use Rattle.lvm_session.specs.declared.open.Open.{Open}
 use Rattle.lvm_session.specs.declared.open.Power.TheVariants as power
-use Rattle.lvm_session.specs.State.{Core, State as Session, is_there}
+use Rattle.lvm_session.specs.State.{Core, State, is_there}
 use Rattle.lvm_session.specs.Judging.{is_missing}
 use Rattle.lvm_session.specs.Dark.{hand_of_copy}
 use Rattle.lvm_session.specs.Owners.{AreRows}
 use Rattle.lvm_session.specs.Placed.{ArePlaced}
 use Rattle.lvm_session.specs.Sound.{IsOn, IsSound, count_if, has_number, hands_with, is_dark, is_hand, out_with, waits}
-use Rattle.lvm_core.specs.Sound.{HaveAllLanded, IsFitting, IsQuiet, IsSound as IsSoundBetween}
+use Rattle.lvm_core.specs.Sound.{HaveAllLanded, IsFitting, IsQuiet, IsSoundBetween}
 use Rattle.lvm_core.specs.Settled.{IsSettled}
 use Rattle.lvm_settled.specs.Settled.{IsKnown}
 use Rattle.lvm_tie.specs.Seen.{update_of}
@@ -65,7 +65,7 @@ large_enough image d r shown = by (has_records image d) refl shown
 
 -- ---- what its disks hold
 
-module _ (past : List Fact) (s : Session) (tied : IsTied past s) (resting : IsResting s.core) (votes : CanWrite s.core.descriptor (is_there s.core)) (spares : SparesOn s.core tied.media) where
+module _ (past : List Fact) (s : State) (tied : IsTied past s) (resting : IsResting s.core) (votes : CanWrite s.core.descriptor (is_there s.core)) (spares : SparesOn s.core tied.media) where
   left : (shows : ShowsIts s tied.media) × IsRested past s tied.media shows
   left = tied_rests past s tied resting votes
 
@@ -92,7 +92,7 @@ tied_holds past s tied resting votes spares =
 
 -- ---- and what it carries
 
-module _ (past : List Fact) (s : Session) (tied : IsTied past s) (may : MayBeLeft past s tied.media) where
+module _ (past : List Fact) (s : State) (tied : IsTied past s) (may : MayBeLeft past s tied.media) where
   abbrev core : Core
   core = s.core
 

@@ -1,7 +1,6 @@
 pub mod Landing
 pub mod Serving
 pub mod Leaving
-pub mod Entailing
 pub mod Coming
 pub mod PairSectors
 pub mod Examples

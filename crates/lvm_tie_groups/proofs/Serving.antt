@@ -5,7 +5,7 @@ use Rattle.lvm_disk.specs.Device.{Flight, Media}
 use Rattle.lvm_vol.specs.Facts.{Fact}
 use Rattle.lvm_vol.specs.Legal.{begins_in}
 use Rattle.lvm_session.specs.declared.flown.Flown.{Flown}
-use Rattle.lvm_session.specs.State.{Core, State as Session}
+use Rattle.lvm_session.specs.State.{Core, State}
 use Rattle.lvm_session.specs.Owners.{AreRows}
 use Rattle.lvm_tie.specs.Tied.{IsTied}
 use Rattle.lvm_tie_begins.specs.Begins.{FollowsOn, IsResting, StandsAtRest}
@@ -18,7 +18,7 @@ none_flown core [] flights are none = refl
 none_flown core (row ∷ rows) [] are none = absurd are
 none_flown core (row ∷ rows) (f ∷ flights) are none = absurd (cc none)
 
-module _ (past : List Fact) (s : Session) (media : Media) (is : IsSettledAfter past s media) (may : MayServe s media)
+module _ (past : List Fact) (s : State) (media : Media) (is : IsSettledAfter past s media) (may : MayServe s media)
     (own : count_by (begins_in s.core.history.run) past ≡ 0) where
   rests : IsResting s.core
   rests = record {

@@ -10,12 +10,12 @@ use Rattle.lvm_steps.specs.Moments.{Keeps}
 use Rattle.lvm_steps.specs.Requests.{at}
 use Rattle.lvm_stamps.specs.Behind.{ClockIsAhead}
 use Rattle.lvm_commit.specs.LawsOfVolumes.{IsOneByAllOn}
-use Rattle.lvm_session.specs.State.{State as Session, is_there}
+use Rattle.lvm_session.specs.State.{State, is_there}
 use Rattle.lvm_session_start.specs.Beginning.{AreFaults}
 use Rattle.lvm_core.specs.declared.parts.Room.{Room}
 use Rattle.lvm_core.specs.Coming.{BringsOn, IsStarted}
 use Rattle.lvm_core.specs.Held.{NotesAreHome}
-use Rattle.lvm_core.specs.Sound.{IsSound as IsSoundBetween}
+use Rattle.lvm_core.specs.Sound.{IsSoundBetween}
 use Rattle.lvm_core.specs.Starting.{IsRoom}
 use Rattle.lvm_varyon.specs.Varied.{ComesOn}
 use Rattle.lvm_group.specs.Made.{IsMade}
@@ -28,7 +28,7 @@ use Rattle.lvm_tie_begins.specs.Begins.{ShowsIts, shown_to}
 -- ---- what their contracts say
 
 -- What both contracts say of a session that has begun over this shelf and after this history, and what holds of its driver.
-pub record IsBegun (was : Log) (moment : ℕ) (room : Room) (old : Device) (s : Session) : Type 0 where
+pub record IsBegun (was : Log) (moment : ℕ) (room : Room) (old : Device) (s : State) : Type 0 where
   pub before : ℕ
   pub after : ℕ
   pub room_is : IsRoom room
@@ -46,20 +46,20 @@ pub record LeadsTo (first : Moment) (was : Log) (moment : ℕ) (old : Device) : 
 -- ---- what they don't say
 
 -- What each shelf that tells its media, and each history give: whole sectors, and entries in their order with room for numbers of four bytes.
-pub record IsDriven (s : Session) (media : Media) : Type 0 where
+pub record IsDriven (s : State) (media : Media) : Type 0 where
   pub told : s.device.media ≡ Some media
   pub sectors : AreSectors s.device.sizes media
   pub ordered : Ordered s.core.history.run [] s.core.history.facts
   pub few : s.core.history.room < 2 ^ 32
 
 -- What recovery leaves: the notes are home, and the usable copies are even.
-pub record IsMadeEven (s : Session) (media : Media) : Type 0 where
+pub record IsMadeEven (s : State) (media : Media) : Type 0 where
   pub notes : NotesAreHome s.core (image_of s.device.sizes media)
   pub even : (shows : ShowsIts s media) → IsEven (shown_to s media) s.core.descriptor (Some shows.stands) (is_there s.core)
 
 -- So it is where no volume is in mode passive: once the notes name nothing, what the disks keep makes the usable copies even.
 abbrev pub VariedIsMadeEven : Type 0
-VariedIsMadeEven = (past : List Fact) (was : Log) (name : List ℕ) (moment : ℕ) (room : Room) (old : Device) (s : Session) (media : Media)
+VariedIsMadeEven = (past : List Fact) (was : Log) (name : List ℕ) (moment : ℕ) (room : Room) (old : Device) (s : State) (media : Media)
     → ComesOn old s.device was name moment room s.core → IsBegun was moment room old s → ClockIsAhead was.run moment old was.facts → s.device.media ≡ Some media
     → HasNoPassive s.core.descriptor → Kept (shown_to s media) past → IsMadeEven s media
 
@@ -67,18 +67,18 @@ VariedIsMadeEven = (past : List Fact) (was : Log) (name : List ℕ) (moment : �
 
 -- Where a varyon has begun it, on each crash image at most one group has a quorum among all disks, and its copies are made even.
 abbrev pub VariedOnServes : Type 0
-VariedOnServes = (first : Moment) (was : Log) (name : List ℕ) (moment : ℕ) (room : Room) (old : Device) (s : Session) (media : Media)
+VariedOnServes = (first : Moment) (was : Log) (name : List ℕ) (moment : ℕ) (room : Room) (old : Device) (s : State) (media : Media)
     → ComesOn old s.device was name moment room s.core → IsBegun was moment room old s → LeadsTo first was moment old
     → IsDriven s media → IsOneByAllOn s.device → IsMadeEven s media → IsGood was.run first s
 
 -- Where a mkvg has: the group has no volume.
 abbrev pub MadeServes : Type 0
-MadeServes = (first : Moment) (was : Log) (w : NewGroup) (room : Room) (old : Device) (s : Session) (media : Media)
+MadeServes = (first : Moment) (was : Log) (w : NewGroup) (room : Room) (old : Device) (s : State) (media : Media)
     → IsMade w room was old s.device s.core → IsBegun was w.moment room old s → LeadsTo first was w.moment old
     → IsDriven s media → IsOneByAllOn s.device → IsGood was.run first s
 
 -- Without force at most one group has a quorum among all disks on each crash image, since no disk showed one before.
 abbrev pub MadeAlone : Type 0
-MadeAlone = (was : Log) (w : NewGroup) (room : Room) (old : Device) (s : Session) (media : Media)
+MadeAlone = (was : Log) (w : NewGroup) (room : Room) (old : Device) (s : State) (media : Media)
     → IsMade w room was old s.device s.core → IsBegun was w.moment room old s → ClockIsAhead was.run w.moment old was.facts
     → s.device.media ≡ Some media → w.force ≡ false → IsOneByAllOn s.device

@@ -4,7 +4,7 @@ use Rattle.lvm_num.specs.declared.descriptor.Mode.{Mode}
 use Rattle.lvm_num.specs.Buffer.{zero_sector}
 use Rattle.lvm_vol.specs.Legal.{begins_in}
 use Rattle.lvm_commit.specs.LawsOfVolumes.{IsOneByAllOn}
-use Rattle.lvm_session.specs.State.{State as Session, state}
+use Rattle.lvm_session.specs.State.{State, state}
 use Rattle.lvm_session_start.specs.Beginning.{AreFaults}
 use Rattle.lvm_rest.specs.Examples.{Pair, device_of, even_pair, media_of, past_of}
 use Rattle.lvm_settled.specs.Examples.{core_of}
@@ -13,7 +13,7 @@ use Rattle.lvm_tie_groups.specs.Coming.{IsDriven, IsMadeEven}
 use Rattle.lvm_tie_groups.specs.Settled.{IsSettledAfter, MayBeLeft, MayServe}
 
 -- the session that has come on over these disks, and nothing has happened since
-abbrev pub session_of : Pair → Session
+abbrev pub session_of : Pair → State
 session_of pair = state (device_of pair) (core_of pair)
 
 -- With this earlier history it is settled and may serve, so it is tied; and it may be left. What the calls that begin a session don't say of it holds of it too.

@@ -8,7 +8,7 @@ use Rattle.lvm_kept.specs.Contents.{contents_of}
 use Rattle.lvm_kept.proofs.Contained.{blocks_are_sectors}
 use Rattle.lvm_invariant.specs.CopyWrite.{CopyWrites, copied}
 use Rattle.lvm_invariant.specs.Events.{CopyWrite}
-use Rattle.lvm_crash.specs.Session.{members_there}
+use Rattle.lvm_crash.specs.Session.{members_showing}
 use Rattle.lvm_crash.proofs.Lasting.{description_lasts}
 use Rattle.lvm_tie_shelf.specs.Writing.{after_write}
 use Rattle.lvm_tie_shelf.specs.Bringing.{ReadLeaves, ReadGets, StepEnds}
@@ -22,7 +22,7 @@ read_leaves f well m n read lands =
 
 pub read_gets : ReadGets
 read_gets votes s i r c group in_flight sizes m f buf valid good describes there aimed reading reads lv b over =
-    let members = members_there (contents_of (image_of sizes m)) group in
+    let members = members_showing (contents_of (image_of sizes m)) group in
     let its = covered r lv b over in
     let low : r.first ≤ b = its.1 in
     let high : b < r.first + r.count = its.2 in

@@ -15,7 +15,7 @@ use Rattle.lvm_kept.specs.Contents.{Contents, contents_of, has_records, status_o
 use Rattle.lvm_kept.specs.Group.{names_if, is_named}
 use Rattle.lvm_kept.proofs.Contained.{note-same, blocks_are_sectors}
 use Rattle.lvm_kept.proofs.Records.{newest_stays}
-use Rattle.lvm_invariant.specs.State.{Groups, State}
+use Rattle.lvm_invariant.specs.State.{Groups, ModelState}
 use Rattle.lvm_invariant.specs.Found.{Votes}
 use Rattle.lvm_invariant.specs.Good.{Good}
 use Rattle.lvm_invariant.specs.Events.{EndNote}
@@ -28,7 +28,7 @@ use Rattle.lvm_crash.proofs.Lasting.{description_lasts}
 use Rattle.lvm_crash.proofs.Statuses.{statuses_last}
 use Rattle.lvm_tie_shelf.specs.Owned.{IsNoteFlight}
 use Rattle.lvm_tie_shelf.specs.Writing.{Lands}
-use Rattle.lvm_tie_shelf.specs.Records.{home_after, flying_after, NoteEnded, NoteEnds}
+use Rattle.lvm_tie_shelf.specs.Records.{home_after, flying_after, NoteEnded, NoteEndMatches}
 use Rattle.lvm_tie_shelf.proofs.Flying.{writes_at, at_writes}
 use Rattle.lvm_tie_shelf.proofs.Owned.{its_note}
 use Rattle.lvm_tie_shelf.proofs.Records.{may_leave}
@@ -38,7 +38,7 @@ some_is a b e = cc
 
 -- ---- notes
 
-module _ (votes : Votes) (s : State) (group : Descriptor) (in_flight : Option (Stamped Status)) (device : Device) (rest : List Flight) (m n : Media) (f : Flight) (well : Bool)
+module _ (votes : Votes) (s : ModelState) (group : Descriptor) (in_flight : Option (Stamped Status)) (device : Device) (rest : List Flight) (m n : Media) (f : Flight) (well : Bool)
     (good : Good votes s) (matches : Matches s s.facts group in_flight device m) (removes : Removes f device.flights rest) (own : IsNoteFlight s f) (lands : Lands f well m n)
     (room : has_records (image_of device.sizes m) f.disk ≡ true) (how : IsTrue well ⊎ IsTrue (s.missing f.disk)) where
   abbrev was : Image
@@ -184,5 +184,5 @@ module _ (votes : Votes) (s : State) (group : Descriptor) (in_flight : Option (S
       by (Old bad same) = ended false (λ ends. absurd (clash well ends bad)) (named_old bad same)
       by (New new) = ended true (λ ends. refl) (named_new new)
 
-pub note_ends : NoteEnds
+pub note_ends : NoteEndMatches
 note_ends = note_ended

@@ -18,10 +18,10 @@ use Rattle.lvm_disk.specs.Device.{Flight, Device, image_of, written}
 use Rattle.lvm_kept.specs.Contents.{note_sector, Contents, contents_of}
 use Rattle.lvm_kept.specs.Group.{names_if, is_of, passes, has_room}
 use Rattle.lvm_kept.specs.Torn.{RecordWrite, IsOfRecord, IsOutside}
-use Rattle.lvm_invariant.specs.State.{Groups, Queued, State, covers}
+use Rattle.lvm_invariant.specs.State.{Groups, Queued, ModelState, covers}
 use Rattle.lvm_invariant.specs.Crash.{Brings, CopyBrings}
 use Rattle.lvm_invariant.specs.Sound.{Tied}
-use Rattle.lvm_crash.specs.Session.{members_there, HasVolumes}
+use Rattle.lvm_crash.specs.Session.{members_showing, HasVolumes}
 use Rattle.lvm_crash.specs.Flights.{OnlyUpdateIsOut}
 use Rattle.lvm_tie_shelf.specs.Copies.{IsCopyOf}
 use Rattle.lvm_tie_shelf.specs.Owned.{IsTransfer, IsDataFlight, IsStepFlight, IsNoteFlight, IsStatusFlight, IsOfUpdate, IsOwned, UpdateSince, OnlyUpdateSince, OwnersHaveOut}
@@ -48,7 +48,7 @@ covers_its r k lt =
     let high : nat_lt (r.first + k) (r.first + r.count) ≡ true = grind (arith, nat_tests) in
     λ t. own t && low t && high t
 
-module _ (group : Descriptor) (valid : IsValid group) (s : State) (facts : List Fact) (members : Disks) (tied : Tied s) (volumes : HasVolumes s facts group members) where
+module _ (group : Descriptor) (valid : IsValid group) (s : ModelState) (facts : List Fact) (members : Disks) (tied : Tied s) (volumes : HasVolumes s facts group members) where
   -- a copy of the state is one of the group, on a member that is there
   pub copy_of : (lv b : ℕ) (p : Pp) → IsTrue (s.is_copy lv b p) → IsCopyOf group lv b p × IsTrue (members p.disk)
   copy_of lv b p copy =
@@ -108,7 +108,7 @@ pub record InSlots (w : RecordWrite) (d at : ℕ) (x : Sector) : Type 0 where
   pub high : at < 192
   pub its : IsOfRecord w d at x
 
-pub in_slots : (s : State) (device : Device) (w : RecordWrite) (u : Stamped Status) (f : Flight) (d at : ℕ) (x : Sector) → UpdateSince device w u → IsStatusFlight s w f → written f d at ≡ Some x → InSlots w d at x
+pub in_slots : (s : ModelState) (device : Device) (w : RecordWrite) (u : Stamped Status) (f : Flight) (d at : ℕ) (x : Sector) → UpdateSince device w u → IsStatusFlight s w f → written f d at ≡ Some x → InSlots w d at x
 in_slots s device w u f d at x since own brings =
     let is = writes_at f d at x brings in
     let low : f.first ≤ at = is.low in
@@ -134,13 +134,13 @@ in_slots s device w u f d at x since own brings =
     }
 
 -- a note's transfer writes its sector alone
-pub record IsItsNote (s : State) (d at : ℕ) (x : Sector) : Type 0 where
+pub record IsItsNote (s : ModelState) (d at : ℕ) (x : Sector) : Type 0 where
   pub place : at ≡ note_sector
   pub note : Groups
   pub flies : s.flying_note d ≡ Some note
   pub names : (lv track_group : ℕ) → names_if (note_in x) lv track_group ≡ note lv track_group
 
-pub its_note : (s : State) (f : Flight) (d at : ℕ) (x : Sector) → IsNoteFlight s f → written f d at ≡ Some x → IsItsNote s d at x
+pub its_note : (s : ModelState) (f : Flight) (d at : ℕ) (x : Sector) → IsNoteFlight s f → written f d at ≡ Some x → IsItsNote s d at x
 its_note s f d at x own brings =
     let is = writes_at f d at x brings in
     let low : f.first ≤ at = is.low in
@@ -160,13 +160,13 @@ pub reads_none : (f : Flight) (d at : ℕ) (x : Sector) → f.write ≡ false �
 reads_none f d at x read brings = let is = writes_at f d at x brings in let e : ◌≡◌ {A = Bool} false true = sym read ∙ is.write in absurd cc
 
 -- What a transfer that is out writes at a sector: data of a copy, a note, or a part of the update.
-pub data What (s : State) (group : Descriptor) (w : Option RecordWrite) (f : Flight) (d at : ℕ) (x : Sector) : Type 0 where
+pub data What (s : ModelState) (group : Descriptor) (w : Option RecordWrite) (f : Flight) (d at : ℕ) (x : Sector) : Type 0 where
   Data : IsDataFlight s group.mib f → data_start ≤ at → What s group w f d at x
   OfStep : IsStepFlight s group.mib f → data_start ≤ at → What s group w f d at x
   OfNote : IsItsNote s d at x → What s group w f d at x
   OfUpdate : (write : RecordWrite) → w ≡ Some write → IsStatusFlight s write f → InSlots write d at x → What s group w f d at x
 
-module _ (s : State) (group : Descriptor) (w : Option RecordWrite) (in_flight : Option (Stamped Status)) (device : Device) (since : OnlyUpdateSince device w in_flight) where
+module _ (s : ModelState) (group : Descriptor) (w : Option RecordWrite) (in_flight : Option (Stamped Status)) (device : Device) (since : OnlyUpdateSince device w in_flight) where
   pub what : (f : Flight) (d at : ℕ) (x : Sector) → IsOwned s group.mib w f → written f d at ≡ Some x → What s group w f d at x
   what f d at x (inl read) brings = absurd (reads_none f d at x read brings)
   what f d at x (inr (inl own)) brings = Data own (high own.copy.pp own.req.first own.transfer.first)
@@ -194,7 +194,7 @@ none_there : (test : Bool) (x y : Bool) → x ≡ false → IsTrue (test && x &&
 none_there true x y is h = let e : IsTrue (false && y) = sym (ap (λ t. t && y) is) ∙ h in absurd cc
 none_there false x y is h = absurd cc
 
-pub not_member : (contents : Contents) (group : Descriptor) (d : ℕ) → contents.descriptor d ≡ None → IsTrue (members_there contents group d) → ⊥
+pub not_member : (contents : Contents) (group : Descriptor) (d : ℕ) → contents.descriptor d ≡ None → IsTrue (members_showing contents group d) → ⊥
 not_member contents group d none is = none_there true (passes (is_of group.id) (contents.descriptor d)) (has_room contents d group) (ap (passes (is_of group.id)) none) is
 
 -- a part of the update isn't in the data
@@ -219,10 +219,10 @@ owners_have_out s facts group w in_flight device media valid tied volumes all si
   where
     block : (lv b : ℕ) (p : Pp) (x : Sector) → IsTrue (s.is_copy lv b p) → (f : Flight) → written f p.disk (sector_of group.mib p.pp b) ≡ Some x → What s group w f p.disk (sector_of group.mib p.pp b) x → Brings s lv b p x ⊎ CopyBrings s lv b p x
     block lv b p x copy f brings (Data own high) =
-        let h = hits group valid s facts (members_there (contents_of (image_of device.sizes media)) group) tied volumes own.place own.req own.req.value own.copy f lv b p x own.started.there own.aimed own.transfer copy brings in
+        let h = hits group valid s facts (members_showing (contents_of (image_of device.sizes media)) group) tied volumes own.place own.req own.req.value own.copy f lv b p x own.started.there own.aimed own.transfer copy brings in
         inl (record { id = own.place; req = own.req; started = own.started; over = h.over; flies = ap own.req.targets h.copy ∙ own.flies; is = h.is })
     block lv b p x copy f brings (OfStep own high) =
-        let h = hits group valid s facts (members_there (contents_of (image_of device.sizes media)) group) tied volumes own.step.place own.req own.value own.step.target f lv b p x own.there own.aimed own.transfer copy brings in
+        let h = hits group valid s facts (members_showing (contents_of (image_of device.sizes media)) group) tied volumes own.step.place own.req own.value own.step.target f lv b p x own.there own.aimed own.transfer copy brings in
         inr (record { step = own.step; flies = own.flies; target = sym h.copy; id = own.step.place; place = refl; req = own.req; values = own.value; there = own.there; read = own.read; past = own.past; got = own.got; over = h.over; is = h.is })
     block lv b p x copy f brings (OfNote note) = let e : sector_of group.mib p.pp b ≡ 8 = note.place in absurd (omega arith)
     block lv b p x copy f brings (OfUpdate write is own slots) = let e : sector_of group.mib p.pp b < 192 = slots.high in absurd (omega arith)
@@ -270,12 +270,12 @@ owners_have_out s facts group w in_flight device media valid tied volumes all si
 
     raw : (d at : ℕ) (x : Sector) → (contents_of (image_of device.sizes media)).descriptor d ≡ None → data_start ≤ at → (f : Flight) → written f d at ≡ Some x → What s group w f d at x → ⊥
     raw d at x none low f brings (Data own high) =
-        let c = (copy_of group valid s facts (members_there (contents_of (image_of device.sizes media)) group) tied volumes own.req.lv own.req.first own.copy own.aimed).1 in
+        let c = (copy_of group valid s facts (members_showing (contents_of (image_of device.sizes media)) group) tied volumes own.req.lv own.req.first own.copy own.aimed).1 in
         let same : own.copy.disk ≡ d = sym own.transfer.disk ∙ (writes_at f d at x brings).disk in
-        not_member (contents_of (image_of device.sizes media)) group d none (subst (λ n. IsTrue (members_there (contents_of (image_of device.sizes media)) group n)) same c)
+        not_member (contents_of (image_of device.sizes media)) group d none (subst (λ n. IsTrue (members_showing (contents_of (image_of device.sizes media)) group n)) same c)
     raw d at x none low f brings (OfStep own high) =
-        let c = (copy_of group valid s facts (members_there (contents_of (image_of device.sizes media)) group) tied volumes own.req.lv own.req.first own.step.target own.aimed).1 in
+        let c = (copy_of group valid s facts (members_showing (contents_of (image_of device.sizes media)) group) tied volumes own.req.lv own.req.first own.step.target own.aimed).1 in
         let same : own.step.target.disk ≡ d = sym own.transfer.disk ∙ (writes_at f d at x brings).disk in
-        not_member (contents_of (image_of device.sizes media)) group d none (subst (λ n. IsTrue (members_there (contents_of (image_of device.sizes media)) group n)) same c)
+        not_member (contents_of (image_of device.sizes media)) group d none (subst (λ n. IsTrue (members_showing (contents_of (image_of device.sizes media)) group n)) same c)
     raw d at x none low f brings (OfNote its) = let e : at ≡ 8 = its.place in absurd (omega arith)
     raw d at x none low f brings (OfUpdate write is own slots) = let e : at < 192 = slots.high in absurd (omega arith)

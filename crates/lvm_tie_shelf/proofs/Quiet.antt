@@ -5,7 +5,7 @@ use Rattle.lvm_num.specs.Record.{Stamped}
 use Rattle.lvm_kept.specs.Contents.{Contents}
 use Rattle.lvm_kept.specs.Torn.{IsOtherOrRecord}
 use Rattle.lvm_kept.proofs.Planned.{step_keeps}
-use Rattle.lvm_invariant.specs.State.{Marks, View, State}
+use Rattle.lvm_invariant.specs.State.{Marks, View, ModelState}
 use Rattle.lvm_invariant.specs.BeginUpdate.{Begins}
 use Rattle.lvm_invariant.specs.Events.{BeginUpdate, EndUpdate}
 use Rattle.lvm_invariant.proofs.Each.{each_keeps}
@@ -31,7 +31,7 @@ quiet_lasts votes event s new group in_flight c step good asks describes media c
 pub updates_last : UpdatesLast
 updates_last = record {
   begins = λ votes s group c u good describes own value later stands.
-      let new : State = record s { in_flight = Some (as_marks u) } in
+      let new : ModelState = record s { in_flight = Some (as_marks u) } in
       let may : Begins s (as_marks u) = record { none = describes.shown.statuses.same; value = value; later = later } in (
         each_keeps votes (BeginUpdate (as_marks u)) s new (may, refl) good,
         description_lasts votes (BeginUpdate (as_marks u)) s new group None (Some u) c c (may, refl) good tt describes (keeps_same c) (record {
@@ -42,7 +42,7 @@ updates_last = record {
         }),
       );
   ends = λ votes s group c u good describes committed ended.
-      let new : State = record s { in_flight = None } in
+      let new : ModelState = record s { in_flight = None } in
       let flies : s.in_flight ≡ Some s.committed = describes.shown.statuses.same ∙ ap (λ (x : Stamped Marks). Some x) (sym committed) in (
         each_keeps votes EndUpdate s new (record { committed = flies; ended = ended }, refl) good,
         description_lasts votes EndUpdate s new group (Some u) None c c (record { committed = flies; ended = ended }, refl) good tt describes (keeps_same c) (record {

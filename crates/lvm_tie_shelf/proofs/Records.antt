@@ -15,7 +15,7 @@ use Rattle.lvm_kept.specs.Group.{names_if}
 use Rattle.lvm_kept.specs.Torn.{RecordWrite, StandsOn, written as as_written}
 use Rattle.lvm_kept.proofs.Contained.{note-same, blocks_are_sectors}
 use Rattle.lvm_kept.proofs.Records.{whole_is_new}
-use Rattle.lvm_invariant.specs.State.{State}
+use Rattle.lvm_invariant.specs.State.{ModelState}
 use Rattle.lvm_invariant.specs.Found.{Votes}
 use Rattle.lvm_invariant.specs.Good.{Good}
 use Rattle.lvm_invariant.specs.Events.{MoveStatus}
@@ -28,7 +28,7 @@ use Rattle.lvm_crash.proofs.Lasting.{description_lasts}
 use Rattle.lvm_crash.proofs.Statuses.{statuses_last}
 use Rattle.lvm_tie_shelf.specs.Owned.{IsStatusFlight, UpdateSince}
 use Rattle.lvm_tie_shelf.specs.Writing.{Lands}
-use Rattle.lvm_tie_shelf.specs.Records.{statuses_of, StatusEnded, StatusEnds}
+use Rattle.lvm_tie_shelf.specs.Records.{statuses_of, StatusEnded, StatusEndMatches}
 use Rattle.lvm_tie_shelf.proofs.Flying.{at_writes}
 use Rattle.lvm_tie_shelf.proofs.Owned.{in_slots}
 
@@ -54,7 +54,7 @@ status_is id u own = let test : (u.value.id == id) ≡ true = grind (arith, nat_
 some_is : {X : Type 0} (a b : X) → Some a ≡ Some b → a ≡ b
 some_is a b e = cc
 
-module _ (votes : Votes) (s : State) (group : Descriptor) (w : RecordWrite) (u : Stamped Status) (device : Device) (rest : List Flight) (m n : Media) (f : Flight) (well : Bool) (flying : ℕ → Bool)
+module _ (votes : Votes) (s : ModelState) (group : Descriptor) (w : RecordWrite) (u : Stamped Status) (device : Device) (rest : List Flight) (m n : Media) (f : Flight) (well : Bool) (flying : ℕ → Bool)
     (good : Good votes s) (matches : Matches s s.facts group (Some u) device m) (removes : Removes f device.flights rest) (own : IsStatusFlight s w f) (since : UpdateSince device w u) (lands : Lands f well m n) where
   abbrev was : Image
   was = image_of device.sizes m
@@ -131,5 +131,5 @@ module _ (votes : Votes) (s : State) (group : Descriptor) (w : RecordWrite) (u :
     stands = stands;
   }
 
-pub status_ends : StatusEnds
+pub status_ends : StatusEndMatches
 status_ends = status_ended

@@ -16,13 +16,13 @@ use Rattle.lvm_kept.specs.Contents.{Contents, contents_of, descriptor_on, status
 use Rattle.lvm_kept.specs.Group.{block_at, names_if}
 use Rattle.lvm_kept.specs.Places.{SameRecords}
 use Rattle.lvm_kept.proofs.Contained.{descriptor-same, status-same, note-same, blocks_are_sectors}
-use Rattle.lvm_invariant.specs.State.{Flying, Well, Queued, State, covers}
+use Rattle.lvm_invariant.specs.State.{Flying, Well, Queued, ModelState, covers}
 use Rattle.lvm_invariant.specs.Updates.{is_pp}
 use Rattle.lvm_invariant.specs.Found.{Votes}
 use Rattle.lvm_invariant.specs.Good.{Good}
 use Rattle.lvm_invariant.specs.Events.{Transfer}
 use Rattle.lvm_invariant.specs.Transfer.{Restages, restaged}
-use Rattle.lvm_crash.specs.Session.{marks_shown, Shows, members_there, Describes}
+use Rattle.lvm_crash.specs.Session.{marks_shown, Shows, members_showing, Describes}
 use Rattle.lvm_crash.specs.Left.{KeepsGroup}
 use Rattle.lvm_crash.proofs.Lasting.{description_lasts}
 use Rattle.lvm_crash.proofs.Statuses.{statuses_last}
@@ -90,7 +90,7 @@ module _ (sizes : List ℕ) (m n : Media) where
   }
 
   -- the state goes on showing them
-  pub shows_records : (s new : State) (group : Descriptor) (in_flight : Option (Stamped Status)) → SameRecords was is → Shows s group in_flight old
+  pub shows_records : (s new : ModelState) (group : Descriptor) (in_flight : Option (Stamped Status)) → SameRecords was is → Shows s group in_flight old
       → new.in_flight ≡ s.in_flight → ((d lv g : ℕ) → new.media.names d lv g ≡ s.media.names d lv g) → ((d : ℕ) → new.media.status d ≡ s.media.status d)
       → ((lv b : ℕ) (p : Pp) → IsTrue (new.is_copy lv b p) → new.media.block lv b p ≡ block_at now group.mib p b) → Shows new group in_flight now
   shows_records s new group in_flight same shows flight names status blocks = record {
@@ -120,7 +120,7 @@ pp_same a b h =
 pub same_pp : (a b : Pp) → a ≡ b → IsTrue (is_pp a b)
 same_pp a b e = let own : IsTrue (is_pp a a) = let d : (a.disk == a.disk) ≡ true = grind (arith, nat_tests) in let p : (a.pp == a.pp) ≡ true = grind (arith, nat_tests) in λ t. d t && p t in subst (λ x. IsTrue (is_pp a x)) e own
 
-module _ (votes : Votes) (s : State) (i : ℕ) (r : Queued) (c : Pp) (value : ℕ → Sector) (group : Descriptor) (in_flight : Option (Stamped Status)) (sizes : List ℕ) (m n : Media) (f : Flight) (well : Bool)
+module _ (votes : Votes) (s : ModelState) (i : ℕ) (r : Queued) (c : Pp) (value : ℕ → Sector) (group : Descriptor) (in_flight : Option (Stamped Status)) (sizes : List ℕ) (m n : Media) (f : Flight) (well : Bool)
     (valid : IsValid group) (good : Good votes s) (describes : Describes s s.facts group in_flight (contents_of (image_of sizes m)))
     (there : s.queue i ≡ Some r) (aimed : IsTrue (s.is_copy r.lv r.first c)) (transfer : IsTransfer group.mib r value c f) (lands : Lands f well m n) where
   abbrev before : Contents
@@ -130,7 +130,7 @@ module _ (votes : Votes) (s : State) (i : ℕ) (r : Queued) (c : Pp) (value : �
   after = contents_of (image_of sizes n)
 
   abbrev members : Disks
-  members = members_there before group
+  members = members_showing before group
 
   -- it writes data, on a disk that shows a descriptor
   in_data : (d at : ℕ) (x : Sector) → written f d at ≡ Some x → (data_start ≤ at) × (d ≡ c.disk)

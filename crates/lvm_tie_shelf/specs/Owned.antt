@@ -17,9 +17,9 @@ use Rattle.lvm_kept.specs.Contents.{note_sector, contents_of}
 use Rattle.lvm_kept.specs.Group.{names_if}
 use Rattle.lvm_kept.specs.Plans.{IsUnderWay}
 use Rattle.lvm_kept.specs.Torn.{RecordWrite, IsOtherOrRecord, MayWriteAll}
-use Rattle.lvm_invariant.specs.State.{Groups, Flying, Queued, StepWrite, State, is_past, Started}
+use Rattle.lvm_invariant.specs.State.{Groups, Flying, Queued, StepWrite, ModelState, is_past, Started}
 use Rattle.lvm_invariant.specs.Sound.{Tied}
-use Rattle.lvm_crash.specs.Session.{members_there, HasVolumes}
+use Rattle.lvm_crash.specs.Session.{members_showing, HasVolumes}
 use Rattle.lvm_crash.specs.Flights.{HasOut}
 
 -- It writes these blocks of a request to a copy.
@@ -31,7 +31,7 @@ pub record IsTransfer (mib : ℕ) (r : Queued) (value : ℕ → Sector) (c : Pp)
   pub carries : (k : ℕ) → k < r.count → slice_get f.buf.sectors k ≡ Some (value (r.first + k))
 
 -- a write of the queue that has started, to one of its targets
-pub record IsDataFlight (s : State) (mib : ℕ) (f : Flight) : Type 0 where
+pub record IsDataFlight (s : ModelState) (mib : ℕ) (f : Flight) : Type 0 where
   pub place : ℕ
   pub req : Queued
   pub started : Started s place req
@@ -41,7 +41,7 @@ pub record IsDataFlight (s : State) (mib : ℕ) (f : Flight) : Type 0 where
   pub transfer : IsTransfer mib req req.value copy f
 
 -- what a step has got, to the copy that it is for
-pub record IsStepFlight (s : State) (mib : ℕ) (f : Flight) : Type 0 where
+pub record IsStepFlight (s : ModelState) (mib : ℕ) (f : Flight) : Type 0 where
   pub step : StepWrite
   pub flies : s.step_write ≡ Some step
   pub req : Queued
@@ -54,7 +54,7 @@ pub record IsStepFlight (s : State) (mib : ℕ) (f : Flight) : Type 0 where
   pub transfer : IsTransfer mib req value step.target f
 
 -- the note of a disk
-pub record IsNoteFlight (s : State) (f : Flight) : Type 0 where
+pub record IsNoteFlight (s : ModelState) (f : Flight) : Type 0 where
   pub write : f.write ≡ true
   pub first : f.first ≡ note_sector
   pub count : f.count ≡ 1
@@ -65,7 +65,7 @@ pub record IsNoteFlight (s : State) (f : Flight) : Type 0 where
   pub names : (lv track_group : ℕ) → names_if (note_in sector) lv track_group ≡ note lv track_group
 
 -- the update of the status, whole
-pub record IsStatusFlight (s : State) (w : RecordWrite) (f : Flight) : Type 0 where
+pub record IsStatusFlight (s : ModelState) (w : RecordWrite) (f : Flight) : Type 0 where
   pub write : f.write ≡ true
   pub flies : IsTrue (s.status_flying f.disk)
   pub target : IsTrue (w.targets f.disk)
@@ -73,14 +73,14 @@ pub record IsStatusFlight (s : State) (w : RecordWrite) (f : Flight) : Type 0 wh
   pub count : f.count ≡ record_sectors (length w.framed.content)
   pub carries : (k : ℕ) → k < f.count → slice_get f.buf.sectors k ≡ Some (frame w.kind w.framed.stamp w.framed.content k)
 
-abbrev pub IsOfUpdate : State → Option RecordWrite → Flight → Type 0
+abbrev pub IsOfUpdate : ModelState → Option RecordWrite → Flight → Type 0
 IsOfUpdate s None f = ⊥
 IsOfUpdate s (Some w) f = IsStatusFlight s w f
 
-abbrev pub IsOwned : State → ℕ → Option RecordWrite → Flight → Type 0
+abbrev pub IsOwned : ModelState → ℕ → Option RecordWrite → Flight → Type 0
 IsOwned s mib w f = (f.write ≡ false) ⊎ IsDataFlight s mib f ⊎ IsStepFlight s mib f ⊎ IsNoteFlight s f ⊎ IsOfUpdate s w f
 
-abbrev pub AllOwned : State → ℕ → Option RecordWrite → List Flight → Type 0
+abbrev pub AllOwned : ModelState → ℕ → Option RecordWrite → List Flight → Type 0
 AllOwned s mib w flights = AllByRecursion (IsOwned s mib w) flights
 
 -- This update of the status has been written since that image, over which nothing else has gone into the slots of statuses.
@@ -100,6 +100,6 @@ OnlyUpdateSince device None (Some u) = ⊥
 -- Where each transfer that is out is one of these, what is out is what the state has out.
 abbrev pub OwnersHaveOut : Type 0
 OwnersHaveOut =
-    (s : State) (facts : List Fact) (group : Descriptor) (w : Option RecordWrite) (in_flight : Option (Stamped Status)) (device : Device) (media : Media)
-    → IsValid group → Tied s → HasVolumes s facts group (members_there (contents_of (image_of device.sizes media)) group)
+    (s : ModelState) (facts : List Fact) (group : Descriptor) (w : Option RecordWrite) (in_flight : Option (Stamped Status)) (device : Device) (media : Media)
+    → IsValid group → Tied s → HasVolumes s facts group (members_showing (contents_of (image_of device.sizes media)) group)
     → AllOwned s group.mib w device.flights → OnlyUpdateSince device w in_flight → HasOut s group in_flight device media

@@ -4,7 +4,7 @@ ghost use Rattle.lvm_tie_shelf.specs.Copies.{OneBlock};
 ghost use Rattle.lvm_tie_shelf.specs.Owned.{OwnersHaveOut};
 ghost use Rattle.lvm_tie_shelf.specs.Bringing.{ReadLeaves, ReadGets, StepEnds};
 ghost use Rattle.lvm_tie_shelf.specs.Writing.{EndsLand, WriteEnds};
-ghost use Rattle.lvm_tie_shelf.specs.Records.{StatusEnds, NoteEnds, QuietLasts, UpdatesLast, UpdateGoesOn};
+ghost use Rattle.lvm_tie_shelf.specs.Records.{StatusEndMatches, NoteEndMatches, QuietLasts, UpdatesLast, UpdateGoesOn};
 
 /// A sector of data is one block of one copy at most.
 pub fn places_of_copies()
@@ -26,8 +26,8 @@ pub fn writes_end()
 /// Where a write of the update or of a note ends, the session's state describes what stands then; and it does
 /// where nothing on the media changes.
 pub fn records_end()
-    ensures statuses { StatusEnds }
-    ensures notes { NoteEnds }
+    ensures statuses { StatusEndMatches }
+    ensures notes { NoteEndMatches }
     ensures quiet { QuietLasts }
     ensures updates { UpdatesLast }
     ensures since { UpdateGoesOn }

@@ -21,7 +21,7 @@ use Rattle.lvm_mwc.specs.declared.notes.DiskNotes.{DiskNotes}
 use Rattle.lvm_mwc.specs.Entries.{AreEntries}
 use Rattle.lvm_mwc.specs.Cache.{has_disk, flight_on, no_notes}
 use Rattle.lvm_status.specs.Update.{seen}
-use Rattle.lvm_status.specs.Runs.{IsSound as IsSoundStatus}
+use Rattle.lvm_status.specs.Runs.{IsSoundStatus}
 use Rattle.lvm_session.specs.State.{Core}
 use Rattle.lvm_session.specs.Judging.{is_missing, is_stale}
 use Rattle.lvm_session.specs.Marks.{is_among, can_replace, is_entailed}

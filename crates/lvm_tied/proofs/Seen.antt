@@ -14,7 +14,7 @@ use Rattle.lvm_mwc.specs.declared.notes.DiskNotes.{DiskNotes}
 use Rattle.lvm_mwc.specs.Notes.{names_group}
 use Rattle.lvm_mwc.specs.Cache.{notes_on, no_notes}
 use Rattle.lvm_session.specs.State.{is_there}
-use Rattle.lvm_invariant.specs.State.{Marks, State}
+use Rattle.lvm_invariant.specs.State.{Marks, ModelState}
 use Rattle.lvm_invariant.specs.Found.{Votes}
 use Rattle.lvm_invariant.specs.Good.{Good}
 use Rattle.lvm_invariant.specs.First.{two_disks, first_copy, second_copy, is_either, marks_with, at_rest}
@@ -32,7 +32,7 @@ use Rattle.lvm_tied.specs.Worked.{shown, table, making, core_of}
 use Rattle.lvm_tied.proofs.Parts.{no_note_flies, none_missing}
 
 -- all disks but the two are missing to it
-abbrev pub seen_as : Mode → Bool → State
+abbrev pub seen_as : Mode → Bool → ModelState
 seen_as mode stale = record (at_rest mode stale) { missing = λ d. not (two_disks d) }
 
 -- ---- it is good

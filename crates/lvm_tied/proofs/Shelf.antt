@@ -22,7 +22,7 @@ use Rattle.lvm_stamps.specs.Behind.{StampsBefore}
 use Rattle.lvm_stamps.specs.Laws.{IsWhole}
 use Rattle.lvm_commit.specs.Committed.{next_stamp}
 use Rattle.lvm_homes.specs.Homes.{next_slot}
-use Rattle.lvm_crash.specs.Session.{members_there}
+use Rattle.lvm_crash.specs.Session.{members_showing}
 use Rattle.lvm_crash.specs.Worked.{Shown, framed_group, framed_status, media_of, status_shown}
 use Rattle.lvm_crash.proofs.Worked.{base, behind}
 use Rattle.lvm_crash.proofs.Lists.{left_of, right_of}
@@ -121,11 +121,11 @@ module _ (mode : Mode) (stale : Bool) where
   -- ---- members
 
   -- a member shows the group and has room for its records, where it shows its descriptor
-  shows_group : (d : ℕ) → IsTrue (members_there (record (contents_of (image w)) { descriptor = (base mode).descriptor }) (two mode) d) → IsTrue (members_there (contents_of (image w)) (two mode) d)
+  shows_group : (d : ℕ) → IsTrue (members_showing (record (contents_of (image w)) { descriptor = (base mode).descriptor }) (two mode) d) → IsTrue (members_showing (contents_of (image w)) (two mode) d)
   shows_group d is = ap (λ o. passes (is_of 50) o && has_room (contents_of (image w)) d (two mode)) (descriptors w d) ∙ is
 
-  pub members : (d : ℕ) → is_member (two mode) d ≡ true → IsTrue (members_there (contents_of (image w)) (two mode) d)
-  members d is = at_both mode (λ (n : ℕ). IsTrue (members_there (contents_of (image w)) (two mode) n)) (shows_group 0 refl) (shows_group 1 refl) d is
+  pub members : (d : ℕ) → is_member (two mode) d ≡ true → IsTrue (members_showing (contents_of (image w)) (two mode) d)
+  members d is = at_both mode (λ (n : ℕ). IsTrue (members_showing (contents_of (image w)) (two mode) n)) (shows_group 0 refl) (shows_group 1 refl) d is
 
   -- ---- records
 

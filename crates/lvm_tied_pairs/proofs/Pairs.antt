@@ -13,7 +13,7 @@ use Rattle.lvm_disk.specs.Device.{AreSectors}
 use Rattle.lvm_kept.specs.Contents.{note_sector}
 use Rattle.lvm_kept.proofs.Standing.{zeros-sector}
 use Rattle.lvm_crash.proofs.Lists.{left_of, right_of}
-use Rattle.lvm_session.specs.State.{State as Session, state}
+use Rattle.lvm_session.specs.State.{State, state}
 use Rattle.lvm_rest.specs.Examples.{Pair, device_of, even_pair, framed_group, framed_status, media_of, naming, pair_sizes, past_of}
 use Rattle.lvm_settled.specs.Examples.{IsSettledPair, core_of, noted_core}
 use Rattle.lvm_settled.proofs.Examples.{pairs_settle}
@@ -69,7 +69,7 @@ module _ (mode : Mode) (dirty lost cut : Bool) where
   abbrev first : Pair
   first = even_pair mode dirty lost zero_sector
 
-  abbrev first_session : Session
+  abbrev first_session : State
   first_session = state (device_of first) (core_of first)
 
   settled : IsSettledPair (core_of first) first mode cut
@@ -102,7 +102,7 @@ module _ (mode : Mode) (dirty lost cut : Bool) where
   abbrev noted : Pair
   noted = even_pair mode dirty lost naming
 
-  abbrev noted_session : Session
+  abbrev noted_session : State
   noted_session = state (device_of noted) (noted_core noted)
 
   written : IsSettledPair (noted_core noted) noted mode cut

@@ -11,8 +11,8 @@ use Rattle.lvm_num.specs.Votes.{votes_by}
 use Rattle.lvm_num.proofs.DisksLemmas.{has-zero}
 use Rattle.lvm_stale.specs.Table.{is_pp}
 use Rattle.lvm_status.specs.Update.{seen}
-use Rattle.lvm_status.specs.Runs.{IsSound as IsSoundStatus}
-use Rattle.lvm_session.specs.State.{Core, State as Session, state}
+use Rattle.lvm_status.specs.Runs.{IsSoundStatus}
+use Rattle.lvm_session.specs.State.{Core, State, state}
 use Rattle.lvm_session.specs.Judging.{is_missing, is_stale}
 use Rattle.lvm_session.specs.Marks.{can_replace, is_among}
 use Rattle.lvm_session.specs.Left.{updates_left}
@@ -39,7 +39,7 @@ module _ (mode : Mode) (dirty lost : Bool) where
   abbrev core : Core
   core = core_of pair
 
-  abbrev s : Session
+  abbrev s : State
   s = state (device_of pair) core
 
   settled : IsSettledPair core pair mode false

@@ -2,7 +2,7 @@
 use Rattle.std.specs.Prelude.{Bool}
 use Rattle.lvm_num.specs.declared.descriptor.Mode.{Mode}
 use Rattle.lvm_num.specs.Buffer.{zero_sector}
-use Rattle.lvm_session.specs.State.{State as Session, state}
+use Rattle.lvm_session.specs.State.{State, state}
 use Rattle.lvm_session.specs.Sound.{IsSound}
 use Rattle.lvm_rest.specs.Examples.{Pair, device_of, even_pair, media_of, naming, past_of}
 use Rattle.lvm_settled.specs.Examples.{core_of, noted_core}
@@ -10,14 +10,14 @@ use Rattle.lvm_tie.specs.Tied.{IsTied}
 use Rattle.lvm_tie_begins.specs.Begins.{FollowsOn, IsResting, MembersShow, StandsAtRest}
 
 -- what stands on its disks is what is asked of a session at rest
-pub record IsRestingPair (s : Session) (pair : Pair) (mode : Mode) (cut : Bool) : Type 0 where
+pub record IsRestingPair (s : State) (pair : Pair) (mode : Mode) (cut : Bool) : Type 0 where
   pub rests : IsResting s.core
   pub stands : StandsAtRest s (media_of pair)
   pub members : MembersShow s (media_of pair)
   pub follows : FollowsOn (past_of mode cut) s
 
 -- and it is sound, so that it is tied
-pub record IsTiedPair (s : Session) (pair : Pair) (mode : Mode) (cut : Bool) : Type 0 where
+pub record IsTiedPair (s : State) (pair : Pair) (mode : Mode) (cut : Bool) : Type 0 where
   pub resting : IsRestingPair s pair mode cut
   pub sound : IsSound s
   pub tied : IsTied (past_of mode cut) s

@@ -38,8 +38,7 @@ use Rattle.lvm_line.specs.passed.VolumeLines.{StaysOn, NoGroupForMklv, BusyMklv,
 use Rattle.lvm_line.specs.passed.VolumeLines.{UndrainedRmlv, NoVolumeForRmlv, RemovesVolume, RmlvFails, wanted}
 use Rattle.lvm_line.specs.passed.ReplyVariants as reply
 use Rattle.lvm_volume_plan.specs.declared.new_volume.NewVolume.{NewVolume}
-use Rattle.lvm_line.specs.Causes.{IsDrained}
-use Rattle.lvm_top.specs.Standing.{IsToCommit, StoodBefore, is_group_command, is_acknowledged, StandsOf, IsCommitted, OfAnother}
+use Rattle.lvm_top.specs.Standing.{IsToCommit, StoodBefore, is_group_command, is_acknowledged, StandsOf, IsCommitted, OfAnother, WasDrained}
 use Rattle.lvm_top.proofs.Volumes.{as_group, held_mid}
 use Rattle.lvm_top.proofs.Copying.{fewer_id, more_id}
 use Rattle.lvm_volume_plan.specs.NewVolume.{without_volume}
@@ -81,17 +80,17 @@ made_is w room patience was old left core (WentQuiet may once) =
     ap (λ (c : Core). c.descriptor) once.goes.core_is ∙ once.goes.parts.descriptor ∙ ap (λ (sizes : List ℕ). new_group sizes w) (ends_only once.quiesces.ends).sizes
 
 -- a descriptor with a volume more is of the group that is on
-with_id : (old : State) (core : Core) → old.session ≡ Some core → (w : NewVolume) (k : Descriptor) → (c : Core) × (mid : Core) × IsDrained old c mid × IsWith w mid k → k.id ≡ core.descriptor.id
+with_id : (old : State) (core : Core) → old.session ≡ Some core → (w : NewVolume) (k : Descriptor) → (c : Core) × (mid : Session) × WasDrained old c mid × IsWith w mid.core k → k.id ≡ core.descriptor.id
 with_id old core some w k (c, mid, drained, is) =
     let same : c ≡ core = let e = sym drained.on ∙ some in cc e in
-    ap (λ (d : Descriptor). d.id) is.2.2 ∙ ap (λ (d : Descriptor). d.id) drained.descriptor ∙ ap (λ (c : Core). c.descriptor.id) same
+    ap (λ (d : Descriptor). d.id) is.2.2 ∙ ap (λ (d : Descriptor). d.id) drained.drains.runs.leaves.keeps.descriptor ∙ ap (λ (c : Core). c.descriptor.id) same
 
 -- one in which a volume has more copies too
 with_more_id : (old : State) (core : Core) → old.session ≡ Some core → (name : List ℕ) (copies : ℕ) (k : Descriptor)
-    → (c : Core) × (mid : Core) × IsDrained old c mid × ((lv : ℕ) × IsNumberOf c.descriptor.lvs name lv × IsWithMore lv copies mid k) → k.id ≡ core.descriptor.id
+    → (c : Core) × (mid : Session) × WasDrained old c mid × ((lv : ℕ) × IsNumberOf c.descriptor.lvs name lv × IsWithMore lv copies mid.core k) → k.id ≡ core.descriptor.id
 with_more_id old core some name copies k (c, mid, drained, (lv, its, more)) =
     let same : c ≡ core = let e = sym drained.on ∙ some in cc e in
-    more_id lv copies mid k more ∙ ap (λ (d : Descriptor). d.id) drained.descriptor ∙ ap (λ (c : Core). c.descriptor.id) same
+    more_id lv copies mid.core k more ∙ ap (λ (d : Descriptor). d.id) drained.drains.runs.leaves.keeps.descriptor ∙ ap (λ (c : Core). c.descriptor.id) same
 
 -- what holds of the session that is on
 told_and : {X : Type 0} (o : Option X) (P : X → Type 0) (x : X) → o ≡ Some x → IsSomeAnd o P → P x

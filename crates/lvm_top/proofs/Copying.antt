@@ -16,10 +16,9 @@ use Rattle.lvm_line.specs.passed.ReplyVariants as reply
 use Rattle.lvm_line.specs.passed.VolumeLines.{Drains, ends_session, refusal_for}
 use Rattle.lvm_line.specs.passed.CopyLines.{MklvcopyDoes, NoGroupForMklvcopy, BusyMklvcopy, UndrainedMklvcopy, NoVolumeForMklvcopy, AddsCopies, MklvcopyFails, MklvcopyEnds}
 use Rattle.lvm_line.specs.passed.CopyLines.{RmlvcopyDoes, NoGroupForRmlvcopy, BusyRmlvcopy, UndrainedRmlvcopy, NoVolumeForRmlvcopy, RemovesCopies, RmlvcopyFails, RmlvcopyEnds}
-use Rattle.lvm_line.specs.Causes.{IsDrained}
-use Rattle.lvm_top.specs.Standing.{MayHaveCommitted, StoodBefore}
+use Rattle.lvm_top.specs.Standing.{MayHaveCommitted, StoodBefore, WasDrained}
 use Rattle.lvm_top.proofs.Devices.{same_nothing}
-use Rattle.lvm_top.proofs.Volumes.{done_finds, drained, idle_nothing, undrained_nothing}
+use Rattle.lvm_top.proofs.Volumes.{done_finds, idle_nothing, undrained_nothing}
 use Rattle.lvm_volume_plan.specs.declared.fault.GroupFault.{GroupFault}
 use Rattle.lvm_volume_plan.specs.declared.fault.GroupFault.TheVariants as fault
 
@@ -38,8 +37,8 @@ module _ (run : ℕ) (old new : State) (leaves : LeavesDescriptors old.moment.de
   FoundByMklvcopy = (id : ℕ) (k : Descriptor) → MayBeFound new.moment.device id k → MayBeFound old.moment.device id k ⊎ MayHaveCommitted (Ok (Some (command.Mklvcopy name copies))) answer old new id k
 
   module _ (core : Core) (left : ℕ) (mid : Session) (on : old.session ≡ Some core) (drains : Drains core old left mid) (lv : ℕ) (its : IsNumberOf mid.core.descriptor.lvs name lv) where
-    with_more : (k : Descriptor) → IsWithMore lv copies mid.core k → (c : Core) × (m : Core) × IsDrained old c m × ((n : ℕ) × IsNumberOf c.descriptor.lvs name n × IsWithMore n copies m k)
-    with_more k is = (core, mid.core, drained run old new leaves named stood core left mid on drains, (lv, subst (λ (d : Descriptor). IsNumberOf d.lvs name lv) drains.runs.leaves.keeps.descriptor its, is))
+    with_more : (k : Descriptor) → IsWithMore lv copies mid.core k → (c : Core) × (m : Session) × WasDrained old c m × ((n : ℕ) × IsNumberOf c.descriptor.lvs name n × IsWithMore n copies m.core k)
+    with_more k is = (core, mid, record { on = on; left = left; drains = drains }, (lv, subst (λ (d : Descriptor). IsNumberOf d.lvs name lv) drains.runs.leaves.keeps.descriptor its, is))
 
     tried_mklvcopy : (given : Result (List Pp) GroupFault) (over : Bool) → (answer ≡ reply.Ok) ⊎ IsBrokenOff answer → MklvcopyEnds lv copies given over left mid old new → FoundByMklvcopy
     tried_mklvcopy given over tried done id k it = ⊎_elim

@@ -59,8 +59,7 @@ use Rattle.lvm_line.specs.passed.VolumeLines.{ends_session, wanted}
 use Rattle.lvm_line.specs.passed.CopyLines.{MklvcopyDoes, NoGroupForMklvcopy, BusyMklvcopy, UndrainedMklvcopy, NoVolumeForMklvcopy, AddsCopies, MklvcopyFails}
 use Rattle.lvm_line.specs.passed.CopyLines.{RmlvcopyDoes, NoGroupForRmlvcopy, BusyRmlvcopy, UndrainedRmlvcopy, NoVolumeForRmlvcopy, RemovesCopies, RmlvcopyFails}
 use Rattle.lvm_top.specs.OneGroup.{FindsNoPassive}
-use Rattle.lvm_line.specs.Causes.{IsDrained}
-use Rattle.lvm_top.specs.Standing.{MayHaveCommitted, StoodBefore}
+use Rattle.lvm_top.specs.Standing.{MayHaveCommitted, StoodBefore, WasDrained}
 use Rattle.lvm_top.proofs.Acknowledged.{begun_by}
 use Rattle.lvm_top.proofs.Volumes.{as_group, held_mid, some_of}
 
@@ -71,12 +70,12 @@ HasNoPassiveOn s = IfSome s.session (λ core. HasNoPassive core.descriptor)
 -- ---- what a line commits
 
 with_off : (line : List ℕ) (name : List ℕ) (copies : ℕ) (mode : _) (policy : _) (group : List ℕ) (lps : ℕ) → line_of line ≡ Ok (Some (command.Mklv name copies mode policy group lps)) → (old : State) → HasNoPassiveOn old → (k : Descriptor)
-    → (core : Core) × (mid : Core) × IsDrained old core mid × IsWith (wanted name copies mode policy lps) mid k → HasNoPassive k
+    → (core : Core) × (mid : Session) × WasDrained old core mid × IsWith (wanted name copies mode policy lps) mid.core k → HasNoPassive k
 with_off line name copies mode policy group lps is old off k (core, mid, drained, with) row volume =
     ⊎_elim
     (λ same passive. (line_is_within line (command.Mklv name copies mode policy group lps) is).1 (sym (ap (λ (r : LvRow). r.mode) same) ∙ passive))
-    (λ before. its row (subst (λ (d : Descriptor). IsOneOf d.lvs row) drained.descriptor before))
-    (one_insert mid.descriptor.lvs (with.2.0 - 1) (row_for (wanted name copies mode policy lps) with.2.0 with.0) row (subst (λ (d : Descriptor). IsOneOf d.lvs row) with.2.2 volume))
+    (λ before. its row (subst (λ (d : Descriptor). IsOneOf d.lvs row) drained.drains.runs.leaves.keeps.descriptor before))
+    (one_insert mid.core.descriptor.lvs (with.2.0 - 1) (row_for (wanted name copies mode policy lps) with.2.0 with.0) row (subst (λ (d : Descriptor). IsOneOf d.lvs row) with.2.2 volume))
   where
     its : HasNoPassive core.descriptor
     its = subst (λ (o : Option Core). IfSome o (λ c. HasNoPassive c.descriptor)) drained.on off
@@ -102,9 +101,9 @@ rows_off lv copies pps (x ∷ xs) off row one = by_test (x.number == lv) (rows_o
 copies_off : (d k : Descriptor) (lv copies : ℕ) (pps : List Pp) → k ≡ with_copies d lv copies pps → HasNoPassive d → HasNoPassive k
 copies_off d k lv copies pps same off = λ row volume. rows_off lv copies pps d.lvs off row (subst (λ (g : Descriptor). IsOneOf g.lvs row) same volume)
 
-with_more_off : (name : List ℕ) (copies : ℕ) (old : State) → HasNoPassiveOn old → (k : Descriptor) → (core : Core) × (mid : Core) × IsDrained old core mid × ((lv : ℕ) × IsNumberOf core.descriptor.lvs name lv × IsWithMore lv copies mid k) → HasNoPassive k
+with_more_off : (name : List ℕ) (copies : ℕ) (old : State) → HasNoPassiveOn old → (k : Descriptor) → (core : Core) × (mid : Session) × WasDrained old core mid × ((lv : ℕ) × IsNumberOf core.descriptor.lvs name lv × IsWithMore lv copies mid.core k) → HasNoPassive k
 with_more_off name copies old off k (core, mid, drained, (lv, its, (row, (pps, places, same)))) =
-    copies_off mid.descriptor k lv copies pps same (subst HasNoPassive (sym drained.descriptor) (subst (λ (o : Option Core). IfSome o (λ c. HasNoPassive c.descriptor)) drained.on off))
+    copies_off mid.core.descriptor k lv copies pps same (subst HasNoPassive (sym drained.drains.runs.leaves.keeps.descriptor) (subst (λ (o : Option Core). IfSome o (λ c. HasNoPassive c.descriptor)) drained.on off))
 
 with_fewer_off : (name : List ℕ) (copies : ℕ) (o : Option Core) (k : Descriptor) → IfSome o (λ c. HasNoPassive c.descriptor) → IsSomeAnd o (λ c. (lv : ℕ) × IsNumberOf c.descriptor.lvs name lv × IsWithFirst lv copies c k) → HasNoPassive k
 with_fewer_off name copies None k off is = absurd is

@@ -18,7 +18,7 @@ module _ (log : Log) (room : Room) where
   line_caused line (reply.Refused why) old new it = has_cause log room _ why old new it.between it.does
   line_caused line other old new it = tt
 
-  line_complete : (line : List ℕ) (answer : Reply) (old new : State) → IsLine log room line answer old new → NothingFailed (line_of line) old new → IsWell answer
+  line_complete : (line : List ℕ) (answer : Reply) (old new : State) → IsLine log room line answer old new → NothingFailed (line_of line) old new → IsWell old answer
   line_complete line (reply.Refused why) old new it nothing = lines_complete log room line why old new it nothing
   line_complete line other old new it nothing = tt
 

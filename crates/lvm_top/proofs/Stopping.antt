@@ -20,7 +20,7 @@ use Rattle.lvm_top.proofs.Firsts.{first_upheld}
 use Rattle.lvm_top.proofs.Concluding.{at_rest_still, concluded, entry_between, off_still, ran_ahead, run_upheld}
 use Rattle.lvm_top.proofs.Recovering.{varyon_recovers}
 use Rattle.lvm_top.proofs.Refusing.{run_causes}
-use Rattle.lvm_top.proofs.Scripting.{Ended, told_same, nothing_done, nothing_broken, nothing_heard, lines_ended}
+use Rattle.lvm_top.proofs.Scripting.{Ended, told_same, nothing_done, nothing_broken, nothing_heard, nothing_left, lines_ended}
 use Rattle.lvm_top.specs.Statuses.{status_of, at_end, IsAtEnd, GoesUntil}
 use Rattle.lvm_top.specs.declared.status.ExitStatus.{ExitStatus}
 use Rattle.lvm_top.specs.declared.status.ExitStatus.TheVariants as ended
@@ -84,7 +84,7 @@ pub nothing_ran : (last : ℕ) (room : Room) (device : Device) (input output : S
 nothing_ran last room device input output ready = record {
   ready = ready;
   history_is = tt;
-  none = (refl, refl, refl);
+  none = (refl, refl, refl, refl, refl);
   read_words = λ is. cc (is);
   counted = λ end. absurd end;
   end = entry_state device 0;
@@ -93,6 +93,8 @@ nothing_ran last room device input output ready = record {
   whole = λ end. absurd end;
   between = λ no_sink no_stuck. nothing_broken (empty_log 0 room) room (entry_state device 0) input output refl;
   wanting = λ is. tt;
+  behind = λ is. absurd (cc (is));
+  beyond = λ cause. nothing_left (empty_log 0 room) room (entry_state device 0) input output refl 65536;
   source = λ is. absurd (cc (is));
   sink = λ is. absurd (cc (is));
   read_well = λ no. refl;
@@ -127,6 +129,8 @@ module _ (run last : ℕ) (room : Room) (entry exit : Device) (input output : Pa
     whole = λ end. goes.whole (at_its_end why refused end);
     between = λ no_sink no_stuck. goes.between (λ is. no_sink (says_so is)) (λ is. no_stuck (says_so is));
     wanting = λ is. goes.wanting (why_at why refused ended.Memory is);
+    behind = λ is. goes.behind (why_at why refused ended.SourceFault is);
+    beyond = λ cause. goes.beyond (⊎_elim (λ is. inl (why_at why refused ended.TooLong is)) (λ is. inr (why_at why refused ended.Memory is)) cause);
     source = λ is. goes.source (why_at why refused ended.SourceFault is);
     sink = λ is. goes.sink (why_at why refused ended.SinkFault is);
     read_well = λ no. goes.read_well (λ is. no (says_so is));

@@ -32,7 +32,6 @@ use Rattle.lvm_line.specs.passed.VolumeLines.{Drains, IsDone, IsUndrained, Stays
 use Rattle.lvm_line.specs.passed.VolumeLines.{MakesVolume, MklvFails, NoGroupForRmlv, BusyRmlv, UndrainedRmlv, NoVolumeForRmlv, RemovesVolume}
 use Rattle.lvm_line.specs.passed.VolumeLines.{RmlvFails, MklvEnds, RmlvEnds, ends_session, refusal_for, wanted}
 use Rattle.lvm_line.specs.passed.ReplyVariants as reply
-use Rattle.lvm_line.specs.Causes.{IsDrained}
 use Rattle.lvm_line.specs.Lines.{IsLine, LineDoes}
 use Rattle.lvm_top.specs.Standing.{MayHaveCommitted, StoodBefore, HeldAtRest, StandsSince}
 use Rattle.lvm_top.proofs.Devices.{NothingNew, then_nothing, same_nothing}
@@ -99,10 +98,6 @@ module _ (run : ℕ) (old new : State) (leaves : LeavesDescriptors old.moment.de
       let found : MayBeFound mid.device mid.core.descriptor.id mid.core.descriptor = (image_of mid.device.sizes m.0, media_may mid.device m.0 m.1, (all_disks, shown.shows.found)) in
       drained_nothing core left mid drains core.descriptor.id core.descriptor (subst (λ (d : Descriptor). MayBeFound mid.device d.id d) drains.runs.leaves.keeps.descriptor found)
 
-  -- what is told of the session of the command
-  pub drained : (core : Core) (left : ℕ) (mid : Session) → old.session ≡ Some core → Drains core old left mid → IsDrained old core mid.core
-  drained core left mid some drains = record { on = some; descriptor = drains.runs.leaves.keeps.descriptor; still = λ rest. ap (λ (s : Session). s.core) (drains.still rest) }
-
   -- where the turns end otherwise
   pub undrained_nothing : (core : Core) (why : DrainFault) (answer : Reply) → IsUndrained core old new why answer → NothingNew old.moment.device new.moment.device
   undrained_nothing core why answer un =
@@ -134,7 +129,7 @@ module _ (run : ℕ) (old new : State) (leaves : LeavesDescriptors old.moment.de
         tried_mklv : (given : Result ℕ GroupFault) (over : Bool) → (answer ≡ reply.Ok) ⊎ IsBrokenOff answer → MklvEnds (wanted name copies mode policy lps) given over left mid old new → FoundByMklv
         tried_mklv given over tried done id k it = ⊎_elim
             (λ before. inl before)
-            (λ next. inr (record { tried = tried; own = next.0; is = (core, mid.core, drained core left mid on drains, next.1) }))
+            (λ next. inr (record { tried = tried; own = next.0; is = (core, mid, record { on = on; left = left; drains = drains }, next.1) }))
             (done_finds core left mid on drains done id k it)
 
         failed_mklv : (why : GroupFault) → answer ≡ reply.Refused (refusal_for why) → MklvEnds (wanted name copies mode policy lps) (Err why) (ends_session why) left mid old new → FoundByMklv

@@ -33,16 +33,16 @@ abbrev pub EndsInTime : {log : Log} {room : Room} {mid last : State} {done : Lis
 EndsInTime (AtLine same) = Unit {0}
 EndsInTime {mid = mid} {last = last} (InLine line answer said front rest says split does) = RoseBy patience_of_line mid.moment.device.counts.waits last.moment.device.counts.waits → ⊥
 
--- a line is refused for nothing that the shelf did, if it is; how each post was answered is no refusal of the `wait` that tells it
-abbrev pub IsWell : Reply → Type 0
-IsWell (reply.Refused why) = IsOwn why
-IsWell other = Unit {0}
+-- a line is refused for nothing that the shelf did in it, if it is; how each post was answered is no refusal of the `wait` that tells it
+abbrev pub IsWell : State → Reply → Type 0
+IsWell old (reply.Refused why) = IsOwn old why
+IsWell old other = Unit {0}
 
 -- so is each of the lines of a script in which nothing failed
 abbrev pub AreComplete : {log : Log} {room : Room} {first : State} {lines : List (List ℕ)} {replies : List Reply} {last : State}
     → Script log room first lines replies last → Type 0
 AreComplete NoLine = Unit {0}
-AreComplete (NextLine {mid = mid} {new = new} line answer said goes says before does) = AreComplete before × (NothingFailed (line_of line) mid new → IsWell answer)
+AreComplete (NextLine {mid = mid} {new = new} line answer said goes says before does) = AreComplete before × (NothingFailed (line_of line) mid new → IsWell mid answer)
 
 -- In whatever script that is so.
 abbrev pub ScriptsAreComplete : Type 0

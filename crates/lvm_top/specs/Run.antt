@@ -1,5 +1,5 @@
 -- A run of a script: how it ends, and why.
-use Rattle.std.specs.Prelude.{◌≡◌, ◌<◌, ◌≤◌, ◌+◌, ◌++◌, ◌∷◌, ℕ, [], List, length, Option, IfNone, IfSome, IsSomeAnd, None, Some, Ok, true}
+use Rattle.std.specs.Prelude.{◌≡◌, ◌⊎◌, ◌<◌, ◌≤◌, ◌+◌, ◌++◌, ◌∷◌, ℕ, [], List, length, Option, IfNone, IfSome, IsSomeAnd, None, Some, Ok, true}
 use Rattle.lvm_steps.specs.Moments.{ImagesKept, IsUpheld}
 use Rattle.lvm_disk.specs.Device.{Device, IsReady}
 use Rattle.lvm_io.specs.Count.{Rose}
@@ -18,7 +18,7 @@ use Rattle.lvm_line.specs.passed.Stage.{IsAlone, OfRequests, Reply, State}
 use Rattle.lvm_line.specs.passed.Varyon.{IsRecovered}
 use Rattle.lvm_top.specs.Ending.{Concludes}
 use Rattle.lvm_top.specs.Refused.{AreForCause, EndsForCause}
-use Rattle.lvm_top.specs.Script.{Passage, AreDone, AreAllRead, IsLineLeft, EndsHeard, EndsStuck, StaysAlone, EndsAlone, MakeRequests, empty_log, entry_state, facts_of, run_of}
+use Rattle.lvm_top.specs.Script.{Passage, AreDone, AreAllRead, AreDoneBut, IsLineLeft, EndsHeard, EndsStuck, StaysAlone, EndsAlone, MakeRequests, empty_log, entry_state, facts_of, run_of}
 use Rattle.lvm_top.specs.Statuses.{at_end, IsAtEnd}
 use Rattle.lvm_top.specs.declared.status.ExitStatus.{ExitStatus}
 use Rattle.lvm_top.specs.declared.status.ExitStatus.TheVariants as ended
@@ -61,11 +61,13 @@ LinesOf r end = AreDone (empty_log r.named r.room) r.room (entry_state r.entry r
 -- The lines that were done are the input's first, each as it should be. At the input's end all of it was read and done, and the status says whether a line
 -- was refused. Any other status has its cause: a read failed, or a write did, which come at no other status but a write's where the last line was answered
 -- Stuck; that it was; exactly that too much was read; and for want of memory, which is free, that a line was left. But for a write and Stuck the run ended
--- between two lines. Nothing was under way at entry. Without a history no memory was found for a run, and nothing was done.
+-- between two lines: where a read failed, behind each line that had been read whole; for want of memory or where too much was read, behind each but those that end
+-- in what the last read gave, 65,536 bytes at most. Nothing was under way at entry. Without a history no memory was found for a run, and nothing was done, read
+-- or written.
 pub record IsRun (r : Run) : Type 0 where
   pub ready : IsReady r.entry
   pub history_is : IfSome r.history (λ log. log ≡ record (empty_log r.named r.room) { facts = log.facts })
-  pub none : IfNone r.history ((r.status ≡ ended.Memory) × (r.refused ≡ 0) × (r.exit ≡ r.entry))
+  pub none : IfNone r.history ((r.status ≡ ended.Memory) × (r.refused ≡ 0) × (r.exit ≡ r.entry) × (r.output.after ≡ r.output.before) × (r.input.after ≡ r.input.before))
   pub read_words : r.status ≡ ended.Usage → ⊥
   pub counted : IsAtEnd r.status → r.status ≡ at_end r.refused
   pub end : State
@@ -74,6 +76,8 @@ pub record IsRun (r : Run) : Type 0 where
   pub whole : IsAtEnd r.status → AreAllRead lines r.input
   pub between : (r.status ≡ ended.SinkFault → ⊥) → (r.status ≡ ended.Stuck → ⊥) → lines.done ≡ []
   pub wanting : r.status ≡ ended.Memory → IfSome r.history (λ log. IsLineLeft lines r.input)
+  pub behind : r.status ≡ ended.SourceFault → AreDoneBut 0 lines r.input
+  pub beyond : (r.status ≡ ended.TooLong) ⊎ (r.status ≡ ended.Memory) → AreDoneBut 65536 lines r.input
   pub source : r.status ≡ ended.SourceFault → Rose r.input.before.faults r.input.after.faults
   pub sink : r.status ≡ ended.SinkFault → Rose r.output.before.faults r.output.after.faults
   pub read_well : (r.status ≡ ended.SourceFault → ⊥) → r.input.after.faults ≡ r.input.before.faults

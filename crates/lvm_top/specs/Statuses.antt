@@ -1,11 +1,11 @@
 -- How a run's status says why it ended.
-use Rattle.std.specs.Prelude.{◌≡◌, ◌==◌, if◌then◌else◌, ◌<◌, ◌≤◌, ◌+◌, ℕ, [], length, Option, Some, None}
+use Rattle.std.specs.Prelude.{◌≡◌, ◌⊎◌, ◌==◌, if◌then◌else◌, ◌<◌, ◌≤◌, ◌+◌, ℕ, [], length, Option, Some, None}
 use Rattle.lvm_io.specs.Count.{Rose}
 use Rattle.lvm_io.specs.Stream.{WhereTold}
 use Rattle.lvm_vol.specs.Log.{Log}
 use Rattle.lvm_core.specs.declared.parts.Room.{Room}
 use Rattle.lvm_line.specs.passed.Stage.{State}
-use Rattle.lvm_top.specs.Script.{Passage, AreDone, AreAllRead, IsLineLeft, EndsHeard, EndsStuck}
+use Rattle.lvm_top.specs.Script.{Passage, AreDone, AreAllRead, AreDoneBut, IsLineLeft, EndsHeard, EndsStuck}
 use Rattle.lvm_top.specs.declared.status.ExitStatus.{ExitStatus}
 use Rattle.lvm_top.specs.declared.status.ExitStatus.TheVariants as ended
 use Rattle.lvm_top.specs.declared.script.Stop.{Stop}
@@ -47,6 +47,8 @@ pub record GoesUntil (why : Option Stop) (log : Log) (room : Room) (first last :
   pub whole : why ≡ None → AreAllRead lines input
   pub between : (why ≡ Some stop.SinkFault → ⊥) → (why ≡ Some stop.Stuck → ⊥) → lines.done ≡ []
   pub wanting : why ≡ Some stop.Memory → IsLineLeft lines input
+  pub behind : why ≡ Some stop.SourceFault → AreDoneBut 0 lines input
+  pub beyond : (why ≡ Some stop.TooLong) ⊎ (why ≡ Some stop.Memory) → AreDoneBut 65536 lines input
   pub source : why ≡ Some stop.SourceFault → Rose input.before.faults input.after.faults
   pub sink : why ≡ Some stop.SinkFault → Rose output.before.faults output.after.faults
   pub read_well : (why ≡ Some stop.SourceFault → ⊥) → input.after.faults ≡ input.before.faults

@@ -1,7 +1,7 @@
 -- How a line of a run is read, and how its reply is written.
-use Rattle.std.specs.Prelude.{◌≡◌, ◌↔◌, ◌⊎◌, ◌≤◌, ◌<◌, ◌+◌, ◌++◌, ℕ, [], ◌∷◌, List, Option, Some, None, IfSome}
+use Rattle.std.specs.Prelude.{◌≡◌, ◌↔◌, ◌⊎◌, ◌≤◌, ◌<◌, ◌+◌, ◌++◌, ℕ, [], ◌∷◌, List, Option, Some, None, IfSome, false, length}
 use Rattle.lvm_io.specs.Count.{Rose}
-use Rattle.lvm_io.specs.Lines.{lines_of}
+use Rattle.lvm_io.specs.Lines.{TakesFirst, has_feed}
 use Rattle.lvm_io.specs.Reading.{Reading, to_come, lines_left, CountsGiven}
 use Rattle.lvm_io.specs.Stream.{WhereTold}
 use Rattle.lvm_line.specs.passed.Stage.{reply_text, refusals_of, IsStuck, Reply}
@@ -15,11 +15,17 @@ Comes old new input P = WhereTold (to_come old input.before.content) (to_come ne
 
 -- the next line was read
 pub record ReadsLine (old new : Reading) (input : Passage) (line : List ℕ) : Type 0 where
-  pub line_is : Comes old new input (λ a b. lines_of a ≡ line ∷ lines_of b)
+  pub line_is : Comes old new input (TakesFirst line)
   pub fewer : lines_left new < lines_left old
   pub given : CountsGiven old new input.before.content input.after.content
   pub within : new.given ≤ 16777216
   pub well : input.after.faults ≡ input.before.faults
+
+-- no byte was given out, and of what was read nothing is left but the front of a line and at most so many bytes more
+pub record KeepsFront (most : ℕ) (old new : Reading) (input : Passage) : Type 0 where
+  pub same : Comes old new input (λ a b. b ≡ a)
+  pub clean : has_feed new.front ≡ false
+  pub few : length new.block ≤ most
 
 -- no line was read, since none is left or for this reason
 pub record ReadsNone (old new : Reading) (input : Passage) (why : Option Stop) : Type 0 where
@@ -29,6 +35,8 @@ pub record ReadsNone (old new : Reading) (input : Passage) (why : Option Stop) :
   pub unstuck : why ≡ Some stop.Stuck → ⊥
   pub ends : why ≡ None → Comes old new input (λ a b. (a ≡ []) × (b ≡ []))
   pub wanting : why ≡ Some stop.Memory → Comes old new input (λ a b. (b ≡ a) × (a ≡ [] → ⊥))
+  pub behind : why ≡ Some stop.SourceFault → KeepsFront 0 old new input
+  pub beyond : (why ≡ Some stop.TooLong) ⊎ (why ≡ Some stop.Memory) → KeepsFront 65536 old new input
   pub failed : why ≡ Some stop.SourceFault → Rose input.before.faults input.after.faults
   pub well : (why ≡ Some stop.SourceFault → ⊥) → input.after.faults ≡ input.before.faults
 

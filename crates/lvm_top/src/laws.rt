@@ -17,7 +17,7 @@ pub fn varyons_recover()
 {}
 
 /// A line of a script in which no transfer failed, the power wasn't cut and the shelf didn't wait a million times is refused, if it
-/// is, by a rule of its own, for want of memory, or since the votes are lost.
+/// is, by a rule of its own, for want of memory, or since the votes were lost before it.
 pub fn scripts_are_complete()
     ensures { ScriptsAreComplete }
 {}

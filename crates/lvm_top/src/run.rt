@@ -172,8 +172,8 @@ pub fn conclude<S: Shelf>(stage: Stage<S>) -> Closed<S>
 }
 
 /// Runs a script: reads a line, does it, writes its reply, and goes on. The moment at which the run begins
-/// names it in its history. The clock is asked for it, and once in each line that varies a group on. At the end a
-/// session that is on makes turns until one doesn't move, and is closed without a write.
+/// names it in its history. At the end a session that is on makes turns until one doesn't move, and is closed
+/// without a write.
 pub fn run_script<S: Shelf, I: Source, O: Sink, C: Clock>(
     alloc: Global,
     input: &mut I,

@@ -30,7 +30,7 @@ use Rattle.lvm_homes.specs.declared.homes.Homes.{Homes}
 use Rattle.lvm_write.specs.Homes.{SparesNewest}
 use Rattle.lvm_write.specs.Written.{KeepsShelf}
 use Rattle.lvm_write.proofs.Writing.{both_from, both_then, changes_then, if_told, told_at}
-use Rattle.lvm_begin.proofs.Slots.{slot_for_same}
+use Rattle.lvm_rec.proofs.NextLemmas.{slot_for_same}
 use Rattle.lvm_recovery.specs.declared.copying.Recopy.{Recopy}
 use Rattle.lvm_recovery.specs.Copying.{IsOfCopies}
 use Rattle.lvm_recovery.specs.Planned.{ArePlanned}

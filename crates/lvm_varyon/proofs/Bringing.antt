@@ -36,7 +36,7 @@ use Rattle.lvm_varyon.specs.declared.plan.Plan.{Plan}
 use Rattle.lvm_varyon.specs.Chosen.{answering}
 use Rattle.lvm_varyon.specs.Equal.{AllWritesGive, BrokeOff, IsEqualled, OneFailed}
 use Rattle.lvm_varyon.specs.Writing.{beginning, IsStillOut}
-use Rattle.lvm_varyon.specs.Varied.{HasWritten, AtChoice, WasStopped, Stops, IsAheadOfDisks, IsBrought, BringGives, brought_of}
+use Rattle.lvm_varyon.specs.Varied.{HasWritten, AtChoice, WasStopped, VaryonStops, IsAheadOfDisks, IsBrought, BringGives, brought_of}
 use Rattle.lvm_varyon.specs.Parts.{IsSurveyOf, StopsReading, NotChosen, IsPlan}
 use Rattle.lvm_varyon.proofs.Seeing.{if_told, answered_by, found_at}
 use Rattle.lvm_varyon.proofs.Beginning.{spared, may_begin, target_answers}
@@ -46,7 +46,7 @@ use Rattle.lvm_varyon.proofs.Wrote.{HasWrote, same_misses, same_sizes, wrote}
 
 -- ---- it stopped before the first write
 
-pub stops_reading : (old new : Device) (name : List ℕ) (moment patience : ℕ) (why : Cause) → StopsReading patience old new why → Stops old new name moment patience why
+pub stops_reading : (old new : Device) (name : List ℕ) (moment patience : ℕ) (why : Cause) → StopsReading patience old new why → VaryonStops old new name moment patience why
 stops_reading old new name moment patience cause.Dark is = record { how = is.1; when = inl is.0 }
 stops_reading old new name moment patience cause.Stuck is = record { how = is.1; when = inl is.0 }
 stops_reading old new name moment patience cause.Memory is = is
@@ -69,7 +69,7 @@ at_choice old new survey is Why why = record {
   why = why;
 }
 
-pub stops_choosing : (old new : Device) (name : List ℕ) (moment patience : ℕ) (survey : Survey) → IsSurveyOf old new survey → (why : Cause) → NotChosen (surveyed survey) name moment why → Stops old new name moment patience why
+pub stops_choosing : (old new : Device) (name : List ℕ) (moment patience : ℕ) (survey : Survey) → IsSurveyOf old new survey → (why : Cause) → NotChosen (surveyed survey) name moment why → VaryonStops old new name moment patience why
 stops_choosing old new name moment patience survey is cause.NoRecord why = at_choice old new survey is _ why
 stops_choosing old new name moment patience survey is cause.Ambiguous why = at_choice old new survey is _ why
 stops_choosing old new name moment patience survey is (cause.NoQuorum have total) why = at_choice old new survey is _ why
@@ -153,7 +153,7 @@ module _ (old read : Device) (survey : Survey) (is : IsSurveyOf old read survey)
     broken : (How : Type 0) → How → HasWrote b plan.copies read new → BrokeOff b plan.copies read new → WasStopped old new name moment How
     broken How how it off = record { how = how; when = inr (has_written new (same_misses b plan.copies read new it) (λ b copies r. BrokeOff b copies r new) off) }
 
-    stops_writing : (why : Cause) → AllWritesGive between b plan.copies read new (Err why) → HasWrote b plan.copies read new → Stops old new name moment before why
+    stops_writing : (why : Cause) → AllWritesGive between b plan.copies read new (Err why) → HasWrote b plan.copies read new → VaryonStops old new name moment before why
     stops_writing (cause.DiskFailed disk) bad it = has_written new (same_misses b plan.copies read new it) (λ b copies r. OneFailed b copies disk r new) bad
     stops_writing cause.Dark off it = broken (IsCutOff old new) (cut_off off.0) it off.1
     stops_writing cause.Stuck off it = broken (IsStillOut before old new) (left_out off.0) it off.1

@@ -27,7 +27,7 @@ use Rattle.lvm_next.specs.Next.{IsNextStatus}
 use Rattle.lvm_recovery.specs.Plan.{ArePlannedInOrder}
 use Rattle.lvm_recovery.specs.Planned.{ArePlanned}
 use Rattle.lvm_varyon.specs.declared.plan.Plan.{Plan}
-use Rattle.lvm_varyon.specs.Chosen.{Holds, IsClockBack}
+use Rattle.lvm_varyon.specs.Chosen.{Holds, IsClockBehindGroup}
 use Rattle.lvm_varyon.specs.Parts.{IsPlanFor, IsPlan}
 
 -- a status that is found is valid
@@ -67,10 +67,10 @@ module _ (s : Survey) (name : List ℕ) (choice : Choice) (is : IsChosenGroup (s
   greatest = subst (λ (n : ℕ). IsGreatestEpoch (surveyed s) n choice.seen) own_id is.seen
 
   -- the moment isn't later than all records, or it is the last one
-  pub not_later : (moment : ℕ) → moment ≤ choice.seen → IsClockBack (surveyed s) name moment choice.seen
+  pub not_later : (moment : ℕ) → moment ≤ choice.seen → IsClockBehindGroup (surveyed s) name moment choice.seen
   not_later moment le = record { group = choice.descriptor; was = is.status; holds = holds; back = inl (greatest, le) }
 
-  pub at_last : (moment : ℕ) → moment ≡ last_moment → IsClockBack (surveyed s) name moment moment
+  pub at_last : (moment : ℕ) → moment ≡ last_moment → IsClockBehindGroup (surveyed s) name moment moment
   at_last moment e = record { group = choice.descriptor; was = is.status; holds = holds; back = inr (e, e) }
 
   pub planned : (moment : ℕ) (room : Room) (homes : Homes) (plan : Plan) → IsSurveyValid s → choice.seen < moment → moment < last_moment → SpareNewest s homes → IsPlanFor s choice homes room plan → IsPlan s name moment room plan

@@ -6,10 +6,10 @@ use Rattle.lvm_core.specs.declared.parts.Room.{Room}
 use Rattle.lvm_core.specs.declared.refused.Cause.{Cause}
 use Rattle.lvm_core.specs.declared.refused.Cause.TheVariants as cause
 use Rattle.lvm_core.specs.declared.refused.Refused.{Refused}
-use Rattle.lvm_varyon.specs.Varied.{Refuses, Stops, VariesOnAt, log_after}
+use Rattle.lvm_varyon.specs.Varied.{Refuses, VaryonStops, VariesOnAt, log_after}
 
 -- where the history has room it is refused for what stops it
-pub refuses_so : (old new : Device) (name : List ℕ) (moment patience : ℕ) (log : Log) (why : Cause) → 1 ≤ spare_entries log → Stops old new name moment patience why → Refuses old new name moment patience log why
+pub refuses_so : (old new : Device) (name : List ℕ) (moment patience : ℕ) (log : Log) (why : Cause) → 1 ≤ spare_entries log → VaryonStops old new name moment patience why → Refuses old new name moment patience log why
 refuses_so old new name moment patience log cause.HistoryFull spare stops = absurd stops
 refuses_so old new name moment patience log cause.NoRecord spare stops = (spare, stops)
 refuses_so old new name moment patience log cause.Ambiguous spare stops = (spare, stops)

@@ -29,7 +29,7 @@ pub record MayComeOn (c : Contents) (name : List ℕ) (moment : ℕ) (group : De
   pub early : moment < last_moment
 
 -- So it is, but the moment isn't later than all records of the group, the last of which is of the one that is told; or it is the last one, which is then told.
-pub record IsClockBack (c : Contents) (name : List ℕ) (moment seen : ℕ) : Type 0 where
+pub record IsClockBehindGroup (c : Contents) (name : List ℕ) (moment seen : ℕ) : Type 0 where
   pub group : Descriptor
   pub was : Stamped Status
   pub holds : Holds c name group was

@@ -33,7 +33,7 @@ use Rattle.lvm_next.specs.Next.{IsNextStatus}
 use Rattle.lvm_recovery.specs.declared.copying.Recopy.{Recopy}
 use Rattle.lvm_recovery.specs.Plan.{ArePlannedInOrder}
 use Rattle.lvm_recovery.specs.Planned.{ArePlanned}
-use Rattle.lvm_varyon.specs.Chosen.{answering, MayComeOn, IsClockBack}
+use Rattle.lvm_varyon.specs.Chosen.{answering, MayComeOn, IsClockBehindGroup}
 use Rattle.lvm_varyon.specs.Writing.{AllWritten, WasBrokenOff, OneWriteFailed, IsStillOut}
 
 -- ---- the reading
@@ -75,7 +75,7 @@ abbrev pub NotChosen : Contents → List ℕ → ℕ → Cause → Type 0
 NotChosen c name moment cause.NoRecord = HasNoRecord c name
 NotChosen c name moment cause.Ambiguous = HasRecord c name × IsAmbiguous c name
 NotChosen c name moment (cause.NoQuorum have total) = LacksQuorum c name have total
-NotChosen c name moment (cause.ClockBack seen) = IsClockBack c name moment seen
+NotChosen c name moment (cause.ClockBack seen) = IsClockBehindGroup c name moment seen
 NotChosen c name moment cause.Memory = Unit {0}
 NotChosen c name moment cause.HistoryFull = ⊥
 NotChosen c name moment cause.Dark = ⊥

@@ -26,7 +26,7 @@ use Rattle.lvm_session.specs.State.{Core}
 use Rattle.lvm_begin.specs.Beginning.{Beginning, MayBeginAgain}
 use Rattle.lvm_varyon.specs.Found.{Found, HaveAnswered}
 use Rattle.lvm_next.specs.Next.{IsNextStatus}
-use Rattle.lvm_varyon.specs.Chosen.{answering, MayComeOn, IsClockBack}
+use Rattle.lvm_varyon.specs.Chosen.{answering, MayComeOn, IsClockBehindGroup}
 use Rattle.lvm_next.specs.Restated.{Restated}
 use Rattle.lvm_recover.specs.Recovered.{HasNoPassive}
 use Rattle.lvm_recovery.specs.declared.copying.Recopy.{Recopy}
@@ -98,25 +98,25 @@ pub record WasStopped (old new : Device) (name : List ℕ) (moment : ℕ) (How :
 
 module _ (old new : Device) (name : List ℕ) (moment patience : ℕ) where
   -- Why no group came on where the history has room: each refusal where it holds and those before it don't; want of memory is free. The others are of other commands.
-  abbrev pub Stops : Cause → Type 0
-  Stops cause.NoRecord = AtChoice old new (λ c. HasNoRecord c name)
-  Stops cause.Ambiguous = AtChoice old new (λ c. HasRecord c name × IsAmbiguous c name)
-  Stops (cause.NoQuorum have total) = AtChoice old new (λ c. LacksQuorum c name have total)
-  Stops (cause.ClockBack seen) = AtChoice old new (λ c. IsClockBack c name moment seen)
-  Stops (cause.DiskFailed disk) = HasWritten old new name moment (λ b copies read. OneFailed b copies disk read new)
-  Stops cause.Dark = WasStopped old new name moment (IsCutOff old new)
-  Stops cause.Stuck = WasStopped old new name moment (IsStillOut patience old new)
-  Stops cause.Memory = IsUnwritten old new × IsRested old new
-  Stops cause.HistoryFull = ⊥
-  Stops (cause.NoDisk disk) = ⊥
-  Stops (cause.TooMany limit) = ⊥
-  Stops (cause.TooSmall disk) = ⊥
-  Stops cause.GroupExists = ⊥
+  abbrev pub VaryonStops : Cause → Type 0
+  VaryonStops cause.NoRecord = AtChoice old new (λ c. HasNoRecord c name)
+  VaryonStops cause.Ambiguous = AtChoice old new (λ c. HasRecord c name × IsAmbiguous c name)
+  VaryonStops (cause.NoQuorum have total) = AtChoice old new (λ c. LacksQuorum c name have total)
+  VaryonStops (cause.ClockBack seen) = AtChoice old new (λ c. IsClockBehindGroup c name moment seen)
+  VaryonStops (cause.DiskFailed disk) = HasWritten old new name moment (λ b copies read. OneFailed b copies disk read new)
+  VaryonStops cause.Dark = WasStopped old new name moment (IsCutOff old new)
+  VaryonStops cause.Stuck = WasStopped old new name moment (IsStillOut patience old new)
+  VaryonStops cause.Memory = IsUnwritten old new × IsRested old new
+  VaryonStops cause.HistoryFull = ⊥
+  VaryonStops (cause.NoDisk disk) = ⊥
+  VaryonStops (cause.TooMany limit) = ⊥
+  VaryonStops (cause.TooSmall disk) = ⊥
+  VaryonStops cause.GroupExists = ⊥
 
   -- Why none came on: the history is full, or it isn't and this.
   abbrev pub Refuses : Log → Cause → Type 0
   Refuses log cause.HistoryFull = (spare_entries log ≡ 0) × (new ≡ old)
-  Refuses log why = (1 ≤ spare_entries log) × Stops why
+  Refuses log why = (1 ≤ spare_entries log) × VaryonStops why
 
 -- the history after a refusal: a cut of the power is entered
 abbrev pub log_after : Cause → Log → Log
@@ -163,7 +163,7 @@ pub record IsBrought (old new : Device) (name : List ℕ) (moment : ℕ) (room :
 
 abbrev pub BringGives : Device → Device → List ℕ → ℕ → ℕ → Room → Result (Parts × Homes) Cause → Type 0
 BringGives old new name moment patience room (Ok got) = IsBrought old new name moment room got.0 got.1
-BringGives old new name moment patience room (Err why) = Stops old new name moment patience why
+BringGives old new name moment patience room (Err why) = VaryonStops old new name moment patience why
 
 -- what the session of these parts begins with, where its records were written
 abbrev pub brought_of : Parts → Result Homes Cause → Result (Parts × Homes) Cause

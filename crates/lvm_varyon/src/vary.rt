@@ -9,7 +9,7 @@ ghost use Rattle.lvm_core.specs.Sound.{HaveAllLanded};
 ghost use Rattle.lvm_core.specs.Starting.{IsRoom};
 ghost use Rattle.lvm_core.specs.State.{state_of};
 ghost use Rattle.lvm_core.specs.Coming.{BringsOn, IsStarted, shelf_left, history_left};
-ghost use Rattle.lvm_varyon.specs.Varied.{VariesOnAt, BringGives, IsAheadOfDisks, brought_of, log_after, Stops};
+ghost use Rattle.lvm_varyon.specs.Varied.{VariesOnAt, BringGives, IsAheadOfDisks, brought_of, log_after, VaryonStops};
 ghost use Rattle.lvm_area.specs.Reading.{OnlyReads};
 ghost use Rattle.lvm_write.specs.Parts.{Spends};
 ghost use Rattle.lvm_varyon.specs.Parts.{IsPlannedBy, plan_beginning};
@@ -156,7 +156,7 @@ fn read_plan<S: Shelf>(
     requires ready { IsReady (S.device shelf.old) }
     requires room { IsRoom room }
     ensures planned { IfOk result (λ got. IsPlannedBy (S.device shelf.old) (S.device shelf.new) name moment room got.0) }
-    ensures stops { IfErr result (Stops (S.device shelf.old) (S.device shelf.new) name moment patience.old.left) }
+    ensures stops { IfErr result (VaryonStops (S.device shelf.old) (S.device shelf.new) name moment patience.old.left) }
     ensures only { OnlyReads patience.old.left patience.new.left (S.device shelf.old) (S.device shelf.new) }
 {
     let (survey, buf) = read_disks(alloc, shelf, patience)?;

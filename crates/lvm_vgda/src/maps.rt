@@ -12,9 +12,8 @@ ghost use Rattle.lvm_fields.specs.Reading.{Gives, rest_of};
 ghost use Rattle.lvm_vgda.specs.Used.{Uses, is_free, free_at};
 
 use crate::used::UsedPps;
-use lvm_descriptor::has_member;
 use lvm_fields::{Fault, Unread, u16_at};
-use lvm_num::{LvRow, Pp, PvRow, Rows, is_on};
+use lvm_num::{LvRow, Pp, PvRow, Rows, has_member, is_on};
 use std::alloc::Global;
 
 /// The rows with the partitions of each.

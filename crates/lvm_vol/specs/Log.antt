@@ -1,5 +1,5 @@
 -- What a history keeps and how much room is left in it.
-use Rattle.std.specs.Prelude.{ℕ, ◌+◌, ◌-◌, ◌*◌, Bool, true, false, ◌&&◌, ◌==◌, not, if◌then◌else◌, List, [], ◌∷◌, ◌++◌, count_by, Option, Some, None, is_some, unwrap_or, slice_index_or, replicate}
+use Rattle.std.specs.Prelude.{◌≡◌, ℕ, ◌+◌, ◌-◌, ◌*◌, Bool, true, false, ◌&&◌, ◌==◌, not, if◌then◌else◌, List, [], ◌∷◌, ◌++◌, count_by, Option, Some, None, is_some, unwrap_or, slice_index_or, replicate}
 use Rattle.std.specs.List.{find, filter_map, flat_map, list_any, sum_by}
 use Rattle.std.specs.Simd.{first_chunks}
 use Rattle.lvm_num.specs.Buffer.{zero_sector}
@@ -22,6 +22,14 @@ pub record Log : Type 0 where
 -- a history of a run, with this room and no entries
 abbrev pub empty_log : ℕ → ℕ → ℕ → Log
 empty_log run room bytes = record { run = run; facts = []; room = room; bytes = bytes }
+
+-- the history with these entries
+abbrev pub log_with : Log → List Fact → Log
+log_with log facts = record log { facts = facts }
+
+-- the history's run and rooms alone
+abbrev pub without_facts : Log → Log
+without_facts log = log_with log []
 
 -- the history with one entry more
 abbrev pub with_fact : Log → Fact → Log
@@ -81,6 +89,10 @@ takes_id id (On moment) = false
 -- the request has begun and not landed
 abbrev pub is_open : List Fact → ℕ → Bool
 is_open facts id = is_some (asked facts id) && not (list_any (lands_id id) facts)
+
+-- each request that has begun has landed
+abbrev pub HaveAllLanded : List Fact → Type 0
+HaveAllLanded facts = (id : ℕ) → is_open facts id ≡ false
 
 -- how many blocks an open read waits for
 abbrev pub awaited : List Fact → ℕ → Option ℕ

@@ -28,7 +28,7 @@ use Rattle.lvm_session.specs.State.{Core, State as Session, state, votes_there}
 use Rattle.lvm_core.specs.Committing.{moment_of, StaysBehind}
 use Rattle.lvm_core.specs.Leaves.{EntersVolumes, KeepsHistory, Leaves, Scope}
 use Rattle.lvm_core.specs.Settled.{IsSettled as IsSettledCore}
-use Rattle.lvm_core.specs.Sound.{HaveAllLanded, IsSound as IsSoundBetween}
+use Rattle.lvm_core.specs.Sound.{HaveAllLanded, IsSoundBetween}
 use Rattle.lvm_commit.specs.LawsOfVolumes.{IsOneByAllOn}
 use Rattle.lvm_range_lines.proofs.passed.Quiesce.{each_is_behind, still_is_behind_each}
 use Rattle.lvm_posts.specs.declared.posts.Post.{Post}

@@ -8,7 +8,7 @@ use Rattle.lvm_transfer.specs.Transfer.{Relights}
 use Rattle.lvm_write.specs.Written.{IsGivenUp}
 use Rattle.lvm_commit.specs.Settling.{HasLostQuorum}
 use Rattle.lvm_session.specs.declared.open.Power.TheVariants as power
-use Rattle.lvm_session.specs.State.{Core, State as Session}
+use Rattle.lvm_session.specs.State.{Core, State}
 use Rattle.lvm_stale.specs.Table.{has_row}
 use Rattle.lvm_status.specs.Members.{HasItsRows}
 use Rattle.lvm_range_lines.specs.passed.Volumes.{MklvGives, RmlvGives}
@@ -24,7 +24,7 @@ use Rattle.lvm_volume_plan.specs.declared.new_volume.NewVolume.{NewVolume}
 -- ---- what is known by the answer
 
 -- what has happened to the shelf where a fault comes from it; else nothing has
-abbrev pub FaultFacts : GroupFault → ℕ → Session → Session → Type 0
+abbrev pub FaultFacts : GroupFault → ℕ → State → State → Type 0
 FaultFacts fault.Dark patience old new = (new.device.flights ≡ []) × Rose old.device.counts.cuts new.device.counts.cuts
 FaultFacts (fault.WentOff have total) patience old new = HasLostQuorum old.core.status new.core.status old.device new.device have total × IsReady new.device
 FaultFacts fault.Stuck patience old new = IsGivenUp 0 patience old.device new.device
@@ -39,11 +39,11 @@ FaultFacts (fault.NoRoom free) patience old new = new ≡ old
 FaultFacts fault.HistoryFull patience old new = new ≡ old
 FaultFacts fault.Memory patience old new = new ≡ old
 
-abbrev pub Facts : {X : Type 0} → Result X GroupFault → ℕ → Session → Session → Type 0
+abbrev pub Facts : {X : Type 0} → Result X GroupFault → ℕ → State → State → Type 0
 Facts (Ok done) patience old new = IsReady new.device
 Facts (Err why) patience old new = FaultFacts why patience old new
 
-module _ (v : NewVolume) (patience : ℕ) (old new : Session) (on : old.core.power ≡ power.On) where
+module _ (v : NewVolume) (patience : ℕ) (old new : State) (on : old.core.power ≡ power.On) where
   pub mklv_facts : (given : Result ℕ GroupFault) → MklvGives v patience old new given → Facts given patience old new
   mklv_facts (Ok lv) made = made.ready
   mklv_facts (Err fault.Dark) (inl refused) = absurd (let dark = refused.1 in cc (on, dark))
@@ -62,7 +62,7 @@ module _ (v : NewVolume) (patience : ℕ) (old new : Session) (on : old.core.pow
   mklv_facts (Err fault.HistoryFull) refused = refused.0
   mklv_facts (Err fault.Memory) refused = refused.0
 
-module _ (lv patience : ℕ) (old new : Session) (on : old.core.power ≡ power.On) where
+module _ (lv patience : ℕ) (old new : State) (on : old.core.power ≡ power.On) where
   pub rmlv_facts : (given : Result (Unit {0}) GroupFault) → RmlvGives lv patience old new given → Facts given patience old new
   rmlv_facts (Ok done) removed = removed.ready
   rmlv_facts (Err fault.Dark) (inl refused) = absurd (let dark = refused.1 in cc (on, dark))
@@ -83,10 +83,10 @@ module _ (lv patience : ℕ) (old new : Session) (on : old.core.power ≡ power.
 
 -- ---- what follows for the shelf
 
-as_is : (old new : Session) → IsReady old.device → new ≡ old → IsReady new.device
-as_is old new ready same = subst (λ (s : Session). IsReady s.device) (sym same) ready
+as_is : (old new : State) → IsReady old.device → new ≡ old → IsReady new.device
+as_is old new ready same = subst (λ (s : State). IsReady s.device) (sym same) ready
 
-module _ {X : Type 0} (patience : ℕ) (old new : Session) where
+module _ {X : Type 0} (patience : ℕ) (old new : State) where
   -- where the power was cut nothing is out,
   pub dark_still : (given : Result X GroupFault) → Facts given patience old new → given ≡ Err fault.Dark → new.device.flights ≡ []
   dark_still given facts dark = (subst (λ (r : Result X GroupFault). Facts r patience old new) dark facts).0
@@ -130,14 +130,14 @@ module _ {X : Type 0} (patience : ℕ) (old new : Session) where
 -- ---- what stays of the session
 
 -- its beginning, and the members of its group
-pub record SameShape (old new : Session) : Type 0 where
+pub record SameShape (old new : State) : Type 0 where
   pub origin : new.core.origin ≡ old.core.origin
   pub pvs : new.core.descriptor.pvs ≡ old.core.descriptor.pvs
 
-shape_as : (old new : Session) → new ≡ old → SameShape old new
-shape_as old new same = record { origin = ap (λ (s : Session). s.core.origin) same; pvs = ap (λ (s : Session). s.core.descriptor.pvs) same }
+shape_as : (old new : State) → new ≡ old → SameShape old new
+shape_as old new same = record { origin = ap (λ (s : State). s.core.origin) same; pvs = ap (λ (s : State). s.core.descriptor.pvs) same }
 
-pub mklv_shape : (v : NewVolume) (patience : ℕ) (old new : Session) (given : Result ℕ GroupFault) → MklvGives v patience old new given → is_over given ≡ false → SameShape old new
+pub mklv_shape : (v : NewVolume) (patience : ℕ) (old new : State) (given : Result ℕ GroupFault) → MklvGives v patience old new given → is_over given ≡ false → SameShape old new
 mklv_shape v patience old new (Ok lv) made goes = record { origin = ap (λ (c : Core). c.origin) made.is; pvs = ap (λ (c : Core). c.descriptor.pvs) made.is }
 mklv_shape v patience old new (Err fault.Dark) gives goes = absurd (cc (goes))
 mklv_shape v patience old new (Err (fault.WentOff have total)) gives goes = absurd (cc (goes))
@@ -153,7 +153,7 @@ mklv_shape v patience old new (Err (fault.NoRoom free)) refused goes = shape_as 
 mklv_shape v patience old new (Err fault.HistoryFull) refused goes = shape_as old new refused.0
 mklv_shape v patience old new (Err fault.Memory) refused goes = shape_as old new refused.0
 
-pub rmlv_shape : (lv patience : ℕ) (old new : Session) (given : Result (Unit {0}) GroupFault) → RmlvGives lv patience old new given → is_over given ≡ false → SameShape old new
+pub rmlv_shape : (lv patience : ℕ) (old new : State) (given : Result (Unit {0}) GroupFault) → RmlvGives lv patience old new given → is_over given ≡ false → SameShape old new
 rmlv_shape lv patience old new (Ok done) made goes = record { origin = ap (λ (c : Core). c.origin) made.is; pvs = ap (λ (c : Core). c.descriptor.pvs) made.is }
 rmlv_shape lv patience old new (Err fault.Dark) gives goes = absurd (cc (goes))
 rmlv_shape lv patience old new (Err (fault.WentOff have total)) gives goes = absurd (cc (goes))
@@ -170,5 +170,5 @@ rmlv_shape lv patience old new (Err fault.HistoryFull) refused goes = shape_as o
 rmlv_shape lv patience old new (Err fault.Memory) refused goes = shape_as old new refused.0
 
 -- so the status with which it began has the rows of the members
-pub rows_stay : (old new : Session) → SameShape old new → HasItsRows old.core.descriptor old.core.origin.table → HasItsRows new.core.descriptor new.core.origin.table
+pub rows_stay : (old new : State) → SameShape old new → HasItsRows old.core.descriptor old.core.origin.table → HasItsRows new.core.descriptor new.core.origin.table
 rows_stay old new same rows disk = ap (λ o. has_row o.table disk) same.origin ∙ rows disk ∙ ap (λ (pvs : List PvRow). list_any (λ (row : PvRow). row.disk == disk) pvs) (sym same.pvs)

@@ -7,7 +7,7 @@ use Rattle.lvm_vol.specs.declared.entry.Vol.TheVariants.{Lv}
 use Rattle.lvm_vol.specs.Facts.{Fact, Making, Made, Removing, Removed}
 use Rattle.lvm_vol.specs.Log.{Log}
 use Rattle.lvm_core.specs.Sound.{HaveAllLanded}
-use Rattle.lvm_session.specs.State.{Core, State as Session}
+use Rattle.lvm_session.specs.State.{Core, State}
 use Rattle.lvm_posts.specs.declared.asked.Asked.{Asked}
 use Rattle.lvm_posts.specs.Posts.{AreAnswered}
 use Rattle.lvm_range_lines.specs.passed.Volumes.{MklvGives, RmlvGives, HasEntered, making, removing}
@@ -46,7 +46,7 @@ module _ (P : List Fact → Type 0) (bears : BearsVolumes P) where
   as_is : (log is : Log) → is ≡ log → P log.facts → P is.facts
   as_is log is same holds = subst (λ (l : Log). P l.facts) (sym same) holds
 
-  module _ (v : NewVolume) (patience : ℕ) (old new : Session) (holds : P old.core.history.facts) where
+  module _ (v : NewVolume) (patience : ℕ) (old new : State) (holds : P old.core.history.facts) where
     with_making : (lv : ℕ) → P (making v lv old).facts
     with_making lv = bears.making old.core.history.facts lv (volume_blocks old.core.descriptor.mib v.lps) v.mode holds
 
@@ -55,7 +55,7 @@ module _ (P : List Fact → Type 0) (bears : BearsVolumes P) where
     entered map log (inr made) = as_is (making v made.0 old) log made.2 (with_making made.0)
 
     unchanged : new ≡ old → P new.core.history.facts
-    unchanged same = subst (λ (s : Session). P s.core.history.facts) (sym same) holds
+    unchanged same = subst (λ (s : State). P s.core.history.facts) (sym same) holds
 
     pub mklv_bears : (given : Result ℕ GroupFault) → MklvGives v patience old new given → P new.core.history.facts
     mklv_bears (Ok lv) made = subst (λ (c : Core). P c.history.facts) (sym made.is) (bears.made (making v lv old).facts lv (with_making lv))
@@ -75,12 +75,12 @@ module _ (P : List Fact → Type 0) (bears : BearsVolumes P) where
     mklv_bears (Err fault.HistoryFull) refused = unchanged refused.0
     mklv_bears (Err fault.Memory) refused = unchanged refused.0
 
-  module _ (lv patience : ℕ) (old new : Session) (holds : P old.core.history.facts) where
+  module _ (lv patience : ℕ) (old new : State) (holds : P old.core.history.facts) where
     with_removing : P (removing lv old).facts
     with_removing = bears.removing old.core.history.facts lv holds
 
     kept : new ≡ old → P new.core.history.facts
-    kept same = subst (λ (s : Session). P s.core.history.facts) (sym same) holds
+    kept same = subst (λ (s : State). P s.core.history.facts) (sym same) holds
 
     pub rmlv_bears : (given : Result (Unit {0}) GroupFault) → RmlvGives lv patience old new given → P new.core.history.facts
     rmlv_bears (Ok done) made = subst (λ (c : Core). P c.history.facts) (sym made.is) (bears.removed (removing lv old).facts lv with_removing)

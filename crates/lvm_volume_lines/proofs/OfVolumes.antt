@@ -31,7 +31,7 @@ use Rattle.lvm_volume_lines.specs.Commands.{HasRested, IsCarriedOut, IsHeldAgain
 use Rattle.lvm_volume_lines.specs.Volumes.{Drains, IsDone, StaysOn, is_over, volume_reply}
 use Rattle.lvm_volume_lines.proofs.Commanding.{Acts, AtMid, ClosesWell, Promised, empty_or, goes_off, goes_on, promised_by, ready_mid, rows_mid}
 use Rattle.lvm_volume_lines.proofs.Ending.{Facts, SameShape, closes_after, one_answer, ready_still, rows_stay}
-use Rattle.lvm_volume_lines.proofs.Resting.{IsStill, still_turns, turns_keep}
+use Rattle.lvm_volume_lines.proofs.Resting.{IsStill, TurnsKeep, still_turns, turns_keep}
 
 -- ---- by the answer
 
@@ -117,6 +117,9 @@ module _ {S : Type 0} (device : S → Device) (stage : Stage S) (fits : IsFittin
     abbrev leaves : LeavesSession first mid
     leaves = rested.turned.runs.leaves
 
+    turned : TurnsKeep first mid
+    turned = turns_keep first mid (was_on core its).sound rested.turned.turns
+
     pub at_mid : (last : ℕ) → AtMid (state_in device stage last) core mid
     at_mid last = record {
       session = its;
@@ -128,15 +131,17 @@ module _ {S : Type 0} (device : S → Device) (stage : Stage S) (fits : IsFittin
       sound = rested.turned.sound;
       settled = rested.settled;
       rest = rested.between;
-      answers = λ range was k less. (turns_keep first mid (was_on core its).sound rested.turned.turns).table.answered 1 (range.first + k) (was k less);
+      answers = λ range was k less. turned.table.answered 1 (range.first + k) (was k less);
     }
 
     pub drains : (last : ℕ) → Drains core (state_in device stage last) patience mid
     drains last = record {
       none = no_requests core its;
+      turns = rested.turned.turns;
       runs = rested.turned.runs;
       still = λ rest. still_turns first mid (still rest) rested.turned.turns rested.settled.power;
       empty = rested.empty;
+      missing = turned.missing;
       sound = rested.turned.sound;
       settled = rested.settled;
       few = rested.turned.few;

@@ -5,14 +5,14 @@ use Rattle.lvm_disk.specs.Device.{Device}
 use Rattle.lvm_disk.specs.Paths.{Path, Here}
 use Rattle.lvm_disk.proofs.Rising.{rose_by_none}
 use Rattle.lvm_session.specs.declared.open.Power.TheVariants as power
-use Rattle.lvm_session.specs.State.{Core, State as Session}
+use Rattle.lvm_session.specs.State.{Core, State}
 use Rattle.lvm_core.specs.Settled.{IsSettled}
-use Rattle.lvm_core.specs.Sound.{IsSound as IsSoundBetween}
+use Rattle.lvm_core.specs.Sound.{IsSoundBetween}
 use Rattle.lvm_core.specs.State.{state_of}
 use Rattle.lvm_range_lines.specs.passed.Driver.{DrainFault, FailsSo, IsAny, IsDrained, IsTurn}
 use Rattle.lvm_range_lines.specs.passed.Running.{RunsOn}
 use Rattle.lvm_range_lines.proofs.passed.Running.{runs_none}
-use Rattle.lvm_range_lines.specs.passed.Handover.{MaySettle}
+use Rattle.lvm_range_lines.specs.passed.Handover.{MayHandOver}
 use Rattle.lvm_range_lines.specs.passed.Stage.{IsOfKind, open_in, session_of, shelf_of, IsOnBetween, Holder}
 use Rattle.lvm_range_lines.specs.passed.HolderVariants as holder
 use Rattle.lvm_volume_lines.specs.Commands.{HasBrokenOff, HasRested}
@@ -23,7 +23,7 @@ no_open [] none = refl
 no_open (x ∷ xs) none = absurd (cc (none))
 
 -- a session that was drained may be settled
-pub may_settle : (old new : Session) → IsOnBetween old.device old.core → length old.core.requests ≡ 0 → Path IsTurn IsAny old new → RunsOn old new → IsDrained new → MaySettle new
+pub may_settle : (old new : State) → IsOnBetween old.device old.core → length old.core.requests ≡ 0 → Path IsTurn IsAny old new → RunsOn old new → IsDrained new → MayHandOver new
 may_settle old new on none path runs drained = record {
   drained = drained;
   none = record {
@@ -62,7 +62,7 @@ module _ {S : Type 0} (device : S → Device) where
     pub was_on : IsOnBetween (device driver.0) driver.1
     was_on = subst (λ (h : Holder S). IfSome (session_of h) (IsOnBetween (device (shelf_of h)))) is on
 
-    pub may_drained : IsDrained (state_of device new) → MaySettle (state_of device new)
+    pub may_drained : IsDrained (state_of device new) → MayHandOver (state_of device new)
     may_drained drained = may_settle (state_of device driver) (state_of device new) was_on (sym (ap (λ (h : Holder S). open_in (session_of h)) is) ∙ none) turns runs drained
 
     pub serving_rests : (before after : ℕ) → after ≤ before → RoseBy (before - after) (device driver.0).counts.waits (device new.0).counts.waits → (left : S × Core) → left ≡ new → IsSettled new.1

@@ -10,7 +10,9 @@ use Rattle.lvm_num.specs.declared.status.Status.{Status}
 use Rattle.lvm_num.specs.declared.status.StatusRow.{StatusRow}
 use Rattle.lvm_num.specs.Disks.{has}
 use Rattle.lvm_disk.specs.Device.{Flight}
+use Rattle.lvm_disk.specs.Counts.{NoneFalls}
 use Rattle.lvm_disk.specs.Paths.{Path, Here, Then}
+use Rattle.lvm_disk.proofs.Rising.{none_falls_at_once, none_falls_on}
 use Rattle.lvm_session.specs.declared.answers.Turned.{Turned}
 use Rattle.lvm_session.specs.declared.answers.Turned.TheVariants as turned
 use Rattle.lvm_session.specs.declared.bringing.OpenCopy.{OpenCopy}
@@ -19,30 +21,42 @@ use Rattle.lvm_session.specs.declared.event.Event.TheVariants as event
 use Rattle.lvm_session.specs.declared.flown.Flown.{Flown}
 use Rattle.lvm_session.specs.declared.open.Open.{Open}
 use Rattle.lvm_session.specs.declared.open.Power.TheVariants as power
-use Rattle.lvm_session.specs.State.{Core, State as Session}
+use Rattle.lvm_session.specs.State.{Core, State}
 use Rattle.lvm_session.specs.Enabled.{admission_at, data_at, first_event, first_from, first_of, has_buffer, is_lost, is_status_due, landing, landing_at, may_read, may_write, note_at, or_next, parts_to_settle, parts_to_start, pinning_at, same_rows, same_status}
+use Rattle.lvm_session.specs.Judging.{is_missing}
 use Rattle.lvm_session.specs.Sound.{IsSound}
 use Rattle.lvm_session.specs.Turns.{FinishMakes, OnMakes, TurnMakes, WasDark, WasOff, WasOn, Moves, NoStart, Finishes}
 use Rattle.lvm_range_lines.specs.passed.Driver.{IsAny, IsTurn}
+use Rattle.lvm_turn_answers.proofs.Stepping.{turn_counts}
 use Rattle.lvm_keeps_turn.proofs.Turning.{turn_keeps}
+use Rattle.lvm_turn_marks.proofs.Turning.{turn_marks}
+use Rattle.lvm_turn_losses.specs.Losing.{LosesByFaults}
+use Rattle.lvm_turn_losses.proofs.Losing.{loses_both, loses_none, turn_loses}
 use Rattle.lvm_range_lines.proofs.passed.Handover.{none_flown}
 use Rattle.lvm_range_lines.specs.passed.Ranges.{KeepsTable}
 use Rattle.lvm_range_lines.proofs.passed.Ranges.{table_same, table_then, turn_table}
 
 -- ---- the table
 
--- turns leave it sound, with the same requests
-pub record TurnsKeep (old new : Session) : Type 0 where
+-- turns leave it sound, with the same requests, and make disks missing by faults alone, whose counts never fall, and for good
+pub record TurnsKeep (old new : State) : Type 0 where
   pub sound : IsSound new
   pub table : KeepsTable old.core new.core
+  pub counts : NoneFalls old.device.counts new.device.counts
+  pub loses : LosesByFaults old new
+  pub missing : (disk : ℕ) → is_missing old.core disk ≡ true → is_missing new.core disk ≡ true
 
-pub turns_keep : (old new : Session) → IsSound old → Path IsTurn IsAny old new → TurnsKeep old new
-turns_keep old _ sound (Here any) = record { sound = sound; table = table_same old.core }
+pub turns_keep : (old new : State) → IsSound old → Path IsTurn IsAny old new → TurnsKeep old new
+turns_keep old _ sound (Here any) = record { sound = sound; table = table_same old.core; counts = none_falls_at_once old.device.counts; loses = loses_none old; missing = λ disk is. is }
 turns_keep old new sound (Then {m = mid} path turn any) =
     let before = turns_keep old mid sound path in
+    let counts = turn_counts mid new turn.0 turn.1 in
     record {
       sound = turn_keeps mid new turn.0 before.sound turn.1;
       table = table_then old.core mid.core new.core before.table (turn_table mid new turn.0 before.sound turn.1);
+      counts = none_falls_on before.counts counts;
+      loses = loses_both old mid new before.counts counts before.loses (turn_loses mid new turn.0 before.sound turn.1);
+      missing = λ disk is. (turn_marks mid new before.sound turn.0 turn.1).missing disk (before.missing disk is);
     }
 
 -- a table without requests stays so
@@ -74,7 +88,7 @@ status_same s =
     either false = refl
 
 -- Nothing is under way in a session that is on, and nothing is wanted that isn't committed.
-pub record IsStill (s : Session) : Type 0 where
+pub record IsStill (s : State) : Type 0 where
   pub sound : IsSound s
   pub on : s.core.power ≡ power.On
   pub requests : s.core.requests ≡ []
@@ -84,7 +98,7 @@ pub record IsStill (s : Session) : Type 0 where
   pub votes : is_lost s.core ≡ false
   pub idle : s.device.flights ≡ []
 
-module _ (s : Session) (still : IsStill s) where
+module _ (s : State) (still : IsStill s) where
   abbrev core : Core
   core = s.core
 
@@ -131,7 +145,7 @@ module _ (s : Session) (still : IsStill s) where
   none_flies = none_flown core core.flying s.device.flights (still.sound.on still.on).rows still.idle
 
   -- a turn finds nothing, unless the power is cut
-  finishes : (new : Session) (answer : Turned) → FinishMakes s new answer → (new ≡ s) ⊎ (new.core.power ≡ power.Dark)
+  finishes : (new : State) (answer : Turned) → FinishMakes s new answer → (new ≡ s) ⊎ (new.core.power ≡ power.Dark)
   finishes new turned.Moved ends = absurd (nobody ends.0 ends.1.row (ap (λ (rows : List Flown). slice_get rows ends.0) (sym none_flies) ∙ ends.1.returns.there))
     where
       nobody : (at : ℕ) (row : Flown) → slice_get [] at ≡ Some row → ⊥
@@ -141,43 +155,43 @@ module _ (s : Session) (still : IsStill s) where
   finishes new turned.Dark dark = inr (ap (λ (c : Core). c.power) dark.1.is)
   finishes new turned.Off off = absurd (let e : false ≡ true = sym still.votes ∙ off.lost in cc e)
 
-  makes : (new : Session) (answer : Turned) → OnMakes s new answer → (new ≡ s) ⊎ (new.core.power ≡ power.Dark)
+  makes : (new : State) (answer : Turned) → OnMakes s new answer → (new ≡ s) ⊎ (new.core.power ≡ power.Dark)
   makes new answer (Moves it first made is) = no_some it first
   makes new answer (NoStart it first start dark is) = no_some it first
   makes new answer (Finishes none made) = finishes new answer made
 
-  still_turn : (new : Session) (answer : Turned) → TurnMakes s new answer → (new ≡ s) ⊎ (new.core.power ≡ power.Dark)
+  still_turn : (new : State) (answer : Turned) → TurnMakes s new answer → (new ≡ s) ⊎ (new.core.power ≡ power.Dark)
   still_turn new answer (WasDark dark is same) = inl same
   still_turn new answer (WasOff off is same) = inl same
   still_turn new answer (WasOn on made) = makes new answer made
 
 -- what is on after a turn was on before it
-on_before : (old new : Session) (answer : Turned) → TurnMakes old new answer → new.core.power ≡ power.On → old.core.power ≡ power.On
-on_before old new answer (WasDark dark is same) on = ap (λ (s : Session). s.core.power) (sym same) ∙ on
-on_before old new answer (WasOff off is same) on = ap (λ (s : Session). s.core.power) (sym same) ∙ on
+on_before : (old new : State) (answer : Turned) → TurnMakes old new answer → new.core.power ≡ power.On → old.core.power ≡ power.On
+on_before old new answer (WasDark dark is same) on = ap (λ (s : State). s.core.power) (sym same) ∙ on
+on_before old new answer (WasOff off is same) on = ap (λ (s : State). s.core.power) (sym same) ∙ on
 on_before old new answer (WasOn was made) on = was
 
 -- so turns of such a session that is on after them have changed nothing
-pub still_turns : (old new : Session) → IsStill old → Path IsTurn IsAny old new → new.core.power ≡ power.On → new ≡ old
+pub still_turns : (old new : State) → IsStill old → Path IsTurn IsAny old new → new.core.power ≡ power.On → new ≡ old
 still_turns old _ still (Here any) on = refl
 still_turns old new still (Then {m = mid} path turn any) on =
     let same = still_turns old mid still path (on_before mid new turn.0 turn.1 on) in
-    by same (still_turn old still new turn.0 (subst (λ (s : Session). TurnMakes s new turn.0) same turn.1))
+    by same (still_turn old still new turn.0 (subst (λ (s : State). TurnMakes s new turn.0) same turn.1))
   where
     by : mid ≡ old → (new ≡ old) ⊎ (new.core.power ≡ power.Dark) → new ≡ old
     by same (inl is) = is
     by same (inr dark) = absurd (let e : power.On ≡ power.Dark = sym on ∙ dark in cc e)
 
 -- and else the power was cut
-pub dark_or_still : (old new : Session) → IsStill old → Path IsTurn IsAny old new → (new ≡ old) ⊎ (new.core.power ≡ power.Dark)
+pub dark_or_still : (old new : State) → IsStill old → Path IsTurn IsAny old new → (new ≡ old) ⊎ (new.core.power ≡ power.Dark)
 dark_or_still old _ still (Here any) = inl refl
 dark_or_still old new still (Then {m = mid} path turn any) = by (dark_or_still old mid still path)
   where
     by : (mid ≡ old) ⊎ (mid.core.power ≡ power.Dark) → (new ≡ old) ⊎ (new.core.power ≡ power.Dark)
-    by (inl same) = still_turn old still new turn.0 (subst (λ (s : Session). TurnMakes s new turn.0) same turn.1)
+    by (inl same) = still_turn old still new turn.0 (subst (λ (s : State). TurnMakes s new turn.0) same turn.1)
     by (inr dark) = inr (stays turn.1)
       where
         stays : TurnMakes mid new turn.0 → new.core.power ≡ power.Dark
-        stays (WasDark was is same) = ap (λ (s : Session). s.core.power) same ∙ dark
-        stays (WasOff off is same) = ap (λ (s : Session). s.core.power) same ∙ dark
+        stays (WasDark was is same) = ap (λ (s : State). s.core.power) same ∙ dark
+        stays (WasOff off is same) = ap (λ (s : State). s.core.power) same ∙ dark
         stays (WasOn on made) = absurd (let e : power.On ≡ power.Dark = sym on ∙ dark in cc e)

@@ -11,6 +11,7 @@ use Rattle.lvm_session.specs.Sound.{is_dark}
 use Rattle.lvm_session.specs.declared.open.Power.{Power}
 use Rattle.lvm_session.specs.declared.open.Power.TheVariants as power
 use Rattle.lvm_session.specs.State.{Core, State as Session, state, votes_there}
+use Rattle.lvm_turn_losses.proofs.Votes.{votes_go}
 use Rattle.lvm_core.specs.Settled.{IsSettled as IsSettledCore}
 use Rattle.lvm_core.specs.Sound.{HaveAllLanded}
 use Rattle.lvm_core.specs.State.{state_of}
@@ -29,7 +30,7 @@ use Rattle.lvm_volume_lines.specs.Commands.{HasBrokenOff}
 use Rattle.lvm_volume_lines.specs.Volumes.{IsUndrained, drain_refusal}
 use Rattle.lvm_volume_lines.proofs.Commanding.{Acts}
 use Rattle.lvm_volume_lines.proofs.OfVolumes.{its_history, no_requests, was_on}
-use Rattle.lvm_volume_lines.proofs.Resting.{IsStill, dark_or_still, turns_keep}
+use Rattle.lvm_volume_lines.proofs.Resting.{IsStill, TurnsKeep, dark_or_still, turns_keep}
 
 none_of_kind : {S : Type 0} (by : Holder S) → session_of by ≡ None → IsOfKind by
 none_of_kind (holder.Off shelf history) none = tt
@@ -54,6 +55,9 @@ module _ {S : Type 0} (role : Role) (acts : Acts role) (device : S → Device) (
   its : session_in stage ≡ Some core
   its = broken.turned.its
 
+  turned : TurnsKeep first end
+  turned = turns_keep first end (was_on device stage fits between none core its).sound broken.turned.turns
+
   run : (last : ℕ) → IsRun role (state_in device stage last) core end
   run last = record {
     alone = λ new alone. acts (state_in device stage last) new alone;
@@ -66,7 +70,7 @@ module _ {S : Type 0} (role : Role) (acts : Acts role) (device : S → Device) (
   }
 
   answers : LeavesAnswers (history_in stage).facts driver.1.history.facts
-  answers range was k less = (turns_keep first end (was_on device stage fits between none core its).sound broken.turned.turns).table.answered 1 (range.first + k)
+  answers range was k less = turned.table.answered 1 (range.first + k)
       (subst (λ (l : Log). AreAnswered l.facts range) (its_history device stage fits between none core its) was k less)
 
   facts : (history_in it).facts ≡ driver.1.history.facts
@@ -160,7 +164,9 @@ module _ {S : Type 0} (role : Role) (acts : Acts role) (device : S → Device) (
   undrained last = record {
     none = no_requests device stage fits between none core its;
     end = end;
+    turns = broken.turned.turns;
     runs = broken.turned.runs;
+    votes = votes_go first end leaves.keeps.descriptor turned.loses;
     sound = broken.turned.sound;
     left = patience;
     fails = broken.fails;

@@ -5,7 +5,7 @@ use Rattle.lvm_num.specs.declared.descriptor.Policy.TheVariants as policy
 use Rattle.lvm_disk.specs.Device.{Device, HasSectors}
 use Rattle.lvm_vol.specs.Log.{Log}
 use Rattle.lvm_session.specs.State.{Core, State as Session}
-use Rattle.lvm_core.specs.Looking.{HasNoVolume}
+use Rattle.lvm_core.specs.Looking.{HasNoVolumeNamed}
 use Rattle.lvm_core.specs.State.{state_of}
 use Rattle.lvm_range_lines.specs.passed.Handover.{IsCommanded}
 use Rattle.lvm_range_lines.specs.passed.TieCopies.{MayServeWith}
@@ -26,7 +26,7 @@ use Rattle.lvm_volume_lines.proofs.Commanding.{Acts, Promised, goes_on, promised
 use Rattle.lvm_volume_lines.proofs.OfVolumes.{at_mid, drains, its_history, rows_again, stands_again}
 
 module _ {S : Type 0} (device : S → Device) (stage : Stage S) (fits : IsFitting stage) (between : IsBetweenStage device stage) (none : open_in (session_in stage) ≡ 0) (patience : ℕ) (driver : S × Core)
-    (rested : HasRested device stage.holder patience_of_line patience driver) (name : List ℕ) (unnamed : HasNoVolume driver.1.descriptor.lvs name) where
+    (rested : HasRested device stage.holder patience_of_line patience driver) (name : List ℕ) (unnamed : HasNoVolumeNamed driver.1.descriptor.lvs name) where
   abbrev core : Core
   core = rested.turned.core
 

@@ -6,11 +6,11 @@ use Rattle.lvm_disk.specs.Counts.{RoseBy}
 use Rattle.lvm_disk.specs.Device.{Device}
 use Rattle.lvm_disk.specs.Paths.{Path}
 use Rattle.lvm_transfer.specs.Transfer.{Relights}
-use Rattle.lvm_session.specs.State.{Core, State as Session, state}
+use Rattle.lvm_session.specs.State.{Core, State, state}
 use Rattle.lvm_session.specs.Sound.{IsSound}
 use Rattle.lvm_core.specs.Leaves.{Scope}
 use Rattle.lvm_core.specs.Settled.{IsSettled}
-use Rattle.lvm_core.specs.Sound.{IsSound as IsSoundBetween}
+use Rattle.lvm_core.specs.Sound.{IsSoundBetween}
 use Rattle.lvm_core.specs.State.{state_of}
 use Rattle.lvm_range_lines.specs.passed.Driver.{DrainFault, FailsSo, IsAny, IsTurn}
 use Rattle.lvm_range_lines.specs.passed.Running.{RunsOn}
@@ -24,7 +24,7 @@ use Rattle.lvm_volume_lines.specs.Volumes.{is_over, volume_reply}
 -- ---- before it
 
 -- the session of a holder
-abbrev pub session_at : {S : Type 0} → (S → Device) → Holder S → Core → Session
+abbrev pub session_at : {S : Type 0} → (S → Device) → Holder S → Core → State
 session_at device holder core = state (device (shelf_of holder)) core
 
 -- Turns have run the session on, and so much patience is left.
@@ -88,7 +88,7 @@ abbrev pub none_added : {X : Type 0} → Result X GroupFault → List Pp
 none_added given = []
 
 -- The command was answered so, which added these copies, and left this of the session.
-pub record IsCarriedOut {S X : Type 0} (device : S → Device) (Gives : Session → Session → Result X GroupFault → Type 0) (added : Result X GroupFault → List Pp) (scope : Scope) (before : ℕ) (driver : S × Core)
+pub record IsCarriedOut {S X : Type 0} (device : S → Device) (Gives : State → State → Result X GroupFault → Type 0) (added : Result X GroupFault → List Pp) (scope : Scope) (before : ℕ) (driver : S × Core)
     (posts : Vec Post Global) (bytes : Vec ℕ Global) (stage : Stage S) (answer : Reply) : Type 0 where
   pub given : Result X GroupFault
   pub left : S × Core

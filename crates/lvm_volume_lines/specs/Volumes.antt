@@ -4,15 +4,18 @@ use Rattle.lvm_num.specs.declared.descriptor.Mode.{Mode}
 use Rattle.lvm_num.specs.declared.descriptor.Policy.{Policy}
 use Rattle.lvm_disk.specs.Counts.{RoseBy}
 use Rattle.lvm_disk.specs.Device.{IsReady}
+use Rattle.lvm_disk.specs.Paths.{Path}
 use Rattle.lvm_transfer.specs.Transfer.{Relights}
 use Rattle.lvm_write.specs.Written.{KeepsShelf}
+use Rattle.lvm_session.specs.Judging.{is_missing}
 use Rattle.lvm_session.specs.Sound.{IsSound}
 use Rattle.lvm_session.specs.State.{Core, State as Session, state, is_there}
+use Rattle.lvm_turn_losses.specs.Losing.{LosesVotesByFaults}
 use Rattle.lvm_core.specs.Held.{IsHeld}
 use Rattle.lvm_core.specs.Leaves.{IsOfCommand, KeepsStatus, FindsOnly, Scope}
-use Rattle.lvm_core.specs.Looking.{IsNumberOf, HasNoVolume}
+use Rattle.lvm_core.specs.Looking.{IsNumberOf, HasNoVolumeNamed}
 use Rattle.lvm_core.specs.Settled.{IsSettled}
-use Rattle.lvm_range_lines.specs.passed.Driver.{DrainFault, FailsSo}
+use Rattle.lvm_range_lines.specs.passed.Driver.{DrainFault, FailsSo, IsAny, IsTurn}
 use Rattle.lvm_range_lines.specs.passed.DrainFaultVariants as drain_fault
 use Rattle.lvm_range_lines.specs.passed.Running.{RunsOn}
 use Rattle.lvm_volume_plan.specs.declared.fault.GroupFault.{GroupFault}
@@ -96,22 +99,27 @@ IsLeft false left old new = StaysOn left old new
 
 -- ---- before a command
 
--- No request is open. Where the group has a volume turns were made until nothing was left, and so much patience is; else, and at rest, nothing has changed.
+-- No request is open. Where the group has a volume turns were made until nothing was left, and so much patience is; else, and at rest, nothing has changed. A
+-- missing disk stays missing.
 pub record Drains (core : Core) (old : State) (left : ℕ) (mid : Session) : Type 0 where
   pub none : core.requests ≡ []
+  pub turns : Path IsTurn IsAny (state old.moment.device core) mid
   pub runs : RunsOn (state old.moment.device core) mid
   pub still : IsAtRest old → mid ≡ state old.moment.device core
   pub empty : core.descriptor.lvs ≡ [] → mid ≡ state old.moment.device core
+  pub missing : (disk : ℕ) → is_missing core disk ≡ true → is_missing mid.core disk ≡ true
   pub sound : IsSound mid
   pub settled : IsSettled mid.core
   pub few : left ≤ patience_of_line
   pub waited : RoseBy (patience_of_line - left) old.moment.device.counts.waits mid.device.counts.waits
 
--- No request is open, and the turns ended before nothing was left, for this.
+-- No request is open, and the turns ended before nothing was left, for this. They lose the votes by faults alone.
 pub record IsUndrained (core : Core) (old new : State) (why : DrainFault) (answer : Reply) : Type 0 where
   pub none : core.requests ≡ []
   pub end : Session
+  pub turns : Path IsTurn IsAny (state old.moment.device core) end
   pub runs : RunsOn (state old.moment.device core) end
+  pub votes : LosesVotesByFaults (state old.moment.device core) end
   pub sound : IsSound end
   pub left : ℕ
   pub fails : FailsSo left end why
@@ -167,7 +175,7 @@ pub data RmlvDoes (name : List ℕ) (old new : State) (answer : Reply) : Type 0 
   NoGroupForRmlv : old.session ≡ None → IsRefused refusal.NoGroup answer old new → RmlvDoes name old new answer
   BusyRmlv : 1 ≤ open_in old.session → IsRefused refusal.Busy answer old new → RmlvDoes name old new answer
   UndrainedRmlv : (core : Core) (why : DrainFault) → old.session ≡ Some core → IsUndrained core old new why answer → RmlvDoes name old new answer
-  NoVolumeForRmlv : (core : Core) (left : ℕ) (mid : Session) → old.session ≡ Some core → Drains core old left mid → HasNoVolume mid.core.descriptor.lvs name → StaysOn mid old new → new.last ≡ old.last
+  NoVolumeForRmlv : (core : Core) (left : ℕ) (mid : Session) → old.session ≡ Some core → Drains core old left mid → HasNoVolumeNamed mid.core.descriptor.lvs name → StaysOn mid old new → new.last ≡ old.last
       → answer ≡ reply.Refused refusal.NoVolume → RmlvDoes name old new answer
   RemovesVolume : (core : Core) (left : ℕ) (mid : Session) (lv : ℕ) → old.session ≡ Some core → Drains core old left mid → IsNumberOf mid.core.descriptor.lvs name lv → RmlvEnds lv (Ok tt) false left mid old new
       → answer ≡ reply.Ok → RmlvDoes name old new answer

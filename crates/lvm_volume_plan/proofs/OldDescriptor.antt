@@ -11,6 +11,7 @@ use Rattle.lvm_num.specs.Descriptor.{IsVolume, IsPartitionOf, IsLaidOut, IsValid
 use Rattle.lvm_num.proofs.Pairs.{All-left, All-right, AllPairs-left, AllPairs-right, AllPairs-across, AllPairs-append}
 use Rattle.lvm_kept.specs.Group.{IsOneOf}
 use Rattle.lvm_steps.specs.Committing.{DiffersInVolume}
+use Rattle.lvm_map.proofs.Validity.{with_volumes}
 use Rattle.lvm_volume_plan.specs.NewVolume.{without_volume}
 use Rattle.lvm_volume_plan.proofs.Sublists.{pairs_filter, one_filter}
 
@@ -52,29 +53,18 @@ module _ (p : LvRow → Bool) where
 -- ---- it is valid
 
 pub valid_without : (d : Descriptor) (lv : ℕ) → IsValid d → IsValid (without_volume d lv)
-valid_without d lv valid = record {
-  head = record {
-    some_id = valid.head.some_id;
-    id = valid.head.id;
-    name = valid.head.name;
-    size = valid.head.size;
-    even = valid.head.even;
-    a_member = valid.head.a_member;
-    members = valid.head.members;
-    volumes = omega (arith, valid.head.volumes, fewer p d.lvs);
-  };
-  members = valid.members;
-  volumes = record {
-    each = All-filter p (IsVolume d.big) d.lvs valid.volumes.each;
-    numbers_rise = pairs_filter (λ (a b : LvRow). a.number < b.number) p d.lvs valid.volumes.numbers_rise;
-    names_differ = pairs_filter (λ (a b : LvRow). a.name ≢ b.name) p d.lvs valid.volumes.names_differ;
-  };
-  maps = record {
-    places = all_parts p (IsPartitionOf d) d.lvs valid.maps.places;
-    laid_out = All-filter p IsLaidOut d.lvs valid.maps.laid_out;
-    used_once = pairs_parts p (λ (a b : Pp). a ≢ b) d.lvs valid.maps.used_once;
-  };
-}
+valid_without d lv valid = with_volumes d (filter p d.lvs) valid
+    (record {
+      each = All-filter p (IsVolume d.big) d.lvs valid.volumes.each;
+      numbers_rise = pairs_filter (λ (a b : LvRow). a.number < b.number) p d.lvs valid.volumes.numbers_rise;
+      names_differ = pairs_filter (λ (a b : LvRow). a.name ≢ b.name) p d.lvs valid.volumes.names_differ;
+    })
+    (omega (arith, valid.head.volumes, fewer p d.lvs))
+    (record {
+      places = all_parts p (IsPartitionOf d) d.lvs valid.maps.places;
+      laid_out = All-filter p IsLaidOut d.lvs valid.maps.laid_out;
+      used_once = pairs_parts p (λ (a b : Pp). a ≢ b) d.lvs valid.maps.used_once;
+    })
   where
     p : LvRow → Bool
     p row = not (row.number == lv)

@@ -9,7 +9,7 @@ use Rattle.lvm_core.specs.declared.fault.CommitFault.{CommitFault}
 use Rattle.lvm_core.specs.declared.fault.CommitFault.TheVariants as commit
 use Rattle.lvm_session.specs.declared.open.Power.TheVariants as power
 use Rattle.lvm_session.specs.State.{Core, State, is_there, votes_there}
-use Rattle.lvm_core.specs.Looking.{IsNumberOf, HasNoVolume}
+use Rattle.lvm_core.specs.Looking.{IsNumberOf, HasNoVolumeNamed}
 use Rattle.lvm_volume_plan.specs.declared.fault.GroupFault.{GroupFault}
 use Rattle.lvm_volume_plan.specs.declared.fault.GroupFault.TheVariants as fault
 use Rattle.lvm_volume_plan.specs.declared.new_volume.NewVolume.{NewVolume}
@@ -40,7 +40,7 @@ pub record HasSpareRoom (core : Core) : Type 0 where
 -- The session takes a command, and the group has no volume of the name;
 pub record HasNewName (v : NewVolume) (core : Core) : Type 0 where
   pub takes : TakesCommands core
-  pub new : HasNoVolume core.descriptor.lvs v.name
+  pub new : HasNoVolumeNamed core.descriptor.lvs v.name
 
 -- a volume may have so many copies
 abbrev pub MayHaveCopies : ℕ → Type 0

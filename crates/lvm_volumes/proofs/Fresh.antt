@@ -14,7 +14,7 @@ use Rattle.lvm_kept.specs.Group.{IsOneOf}
 use Rattle.lvm_kept.proofs.Entries.{volume_is_row}
 use Rattle.lvm_steps.specs.Committing.{DiffersInVolume}
 use Rattle.lvm_commit.specs.LawsOfData.{IsFree}
-use Rattle.lvm_commit.specs.Settling.{IsPassed}
+use Rattle.lvm_commit.specs.Settling.{IsPassedOver}
 use Rattle.lvm_commit.proofs.Copies.{IsOnePlace, contains, of_map, one_place}
 use Rattle.lvm_session.specs.Judging.{copies_in, is_wanted_stale}
 use Rattle.lvm_session.specs.State.{Core, State}
@@ -101,7 +101,7 @@ one_place_with d v lv map valid free once row other lp at p one two a b = ⊎_el
 
 -- The descriptor is the group's now, and further ones of its copies are stale only where they were passed.
 module _ (d : Descriptor) (a b : State) (is : b.core.descriptor ≡ d) (places : HasOnePlaceEach d)
-    (only : (row : LvRow) (lp : ℕ) (p : Pp) → IsOneOf d.lvs row → IsOneOf (copies_of row lp) p → IsTrue (calls_stale b.core.status.wanted p) → IsTrue (calls_stale a.core.status.wanted p) ⊎ IsPassed d a.core.status b.core.status p) where
+    (only : (row : LvRow) (lp : ℕ) (p : Pp) → IsOneOf d.lvs row → IsOneOf (copies_of row lp) p → IsTrue (calls_stale b.core.status.wanted p) → IsTrue (calls_stale a.core.status.wanted p) ⊎ IsPassedOver d a.core.status b.core.status p) where
   abbrev fresh_now : Pp → Bool
   fresh_now p = not (is_wanted_stale b.core p)
 
@@ -115,17 +115,18 @@ module _ (d : Descriptor) (a b : State) (is : b.core.descriptor ≡ d) (places :
       volume : IsOneOf d.lvs its.row
       volume = volume_is_row d lv its.row its.volume
 
-      other_is : (passed : IsPassed d a.core.status b.core.status p) → IsOneOf (copies_in d lv lp) passed.other
+      other_is : (passed : IsPassedOver d a.core.status b.core.status p) → IsOneOf (copies_in d lv lp) passed.its.other
       other_is passed =
-          let place = places its.row passed.row lp passed.lp p volume passed.volume its.one passed.one in
-          let same : copies_in d lv lp ≡ copies_of passed.row passed.lp = copies_by lp (volume_of d lv) (Some its.row) its.volume ∙ (λ t. copies_of (place.row_is t) (place.lp_is t)) in
-          subst (λ (ps : List Pp). IsOneOf ps passed.other) (sym same) passed.among
+          let found = passed.its in
+          let place = places its.row found.row lp found.lp p volume found.volume its.one found.one in
+          let same : copies_in d lv lp ≡ copies_of found.row found.lp = copies_by lp (volume_of d lv) (Some its.row) its.volume ∙ (λ t. copies_of (place.row_is t) (place.lp_is t)) in
+          subst (λ (ps : List Pp). IsOneOf ps found.other) (sym same) found.among
 
       by_mark : (t : Bool) → calls_stale b.core.status.wanted p ≡ t → IsTrue (list_any fresh_now (copies_in d lv lp))
       by_mark false fresh = one_any fresh_now (copies_in d lv lp) p one (ap not fresh)
       by_mark true stale = ⊎_elim
           (λ before. absurd (false≢true (sym was ∙ before)))
-          (λ passed. one_any fresh_now (copies_in d lv lp) passed.other (other_is passed) (ap not passed.fresh))
+          (λ passed. one_any fresh_now (copies_in d lv lp) passed.its.other (other_is passed) (ap not passed.fresh))
           (only its.row lp p volume its.one stale)
 
   -- so it is of a volume that is as it was

@@ -74,16 +74,10 @@ module _ (V W : Scope) (next : (d : Descriptor) → V.next d → W.next d) (zero
   behind_wider pp is = record {
     group = is.group;
     known = ⊎_elim (λ same. inl same) (λ its. inr (next is.group its)) is.known;
-    row = is.row;
-    lp = is.lp;
-    volume = is.volume;
-    inside = is.inside;
-    one = is.one;
+    its = is.its;
     absent = is.absent;
-    other = is.other;
-    among = is.among;
     apart = is.apart;
-    usable = λ out. is.usable (λ its. out (fresh is.other its));
+    usable = λ out. is.usable (λ its. out (fresh is.its.other its));
     was_there = is.was_there;
   }
 
@@ -196,14 +190,8 @@ module _ (N : Descriptor → Type 0) (Z : Pp → Type 0) where
   behind_first F a b c less p is = record {
     group = is.group;
     known = is.known;
-    row = is.row;
-    lp = is.lp;
-    volume = is.volume;
-    inside = is.inside;
-    one = is.one;
+    its = is.its;
     absent = outside (there c.core.status p.disk) (there b.core.status p.disk) (less p.disk) is.absent;
-    other = is.other;
-    among = is.among;
     apart = is.apart;
     usable = is.usable;
     was_there = is.was_there;
@@ -218,17 +206,11 @@ module _ (N : Descriptor → Type 0) (Z : Pp → Type 0) where
         (λ (same : is.group ≡ b.core.descriptor). ⊎_elim (λ (was : b.core.descriptor ≡ a.core.descriptor). inl (same ∙ was)) (λ (its : N b.core.descriptor). inr (subst N (sym same) its)) from)
         (λ (its : N is.group). inr its)
         is.known;
-    row = is.row;
-    lp = is.lp;
-    volume = is.volume;
-    inside = is.inside;
-    one = is.one;
+    its = is.its;
     absent = is.absent;
-    other = is.other;
-    among = is.among;
     apart = is.apart;
-    usable = λ out. outside (calls_stale a.core.status.wanted is.other) (calls_stale b.core.status.wanted is.other) (stale is.other out) (is.usable out);
-    was_there = less is.other.disk is.was_there;
+    usable = λ out. outside (calls_stale a.core.status.wanted is.its.other) (calls_stale b.core.status.wanted is.its.other) (stale is.its.other out) (is.usable out);
+    was_there = less is.its.other.disk is.was_there;
   }
 
   -- a command that may also make such partitions stale, under such a premise

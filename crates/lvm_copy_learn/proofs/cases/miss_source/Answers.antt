@@ -1,6 +1,6 @@
 use Rattle.std.proofs.Common.{◌∙◌, Option, Some, ap, refl, subst, sym}
 use Rattle.lvm_status.specs.Members.{HasItsRows}
-use Rattle.lvm_status.specs.Runs.{IsSound as IsSoundStatus}
+use Rattle.lvm_status.specs.Runs.{IsSoundStatus}
 use Rattle.lvm_status.specs.Update.{seen}
 use Rattle.lvm_session.specs.declared.bringing.OpenCopy.{OpenCopy}
 use Rattle.lvm_session.specs.declared.bringing.Step.TheVariants as stage

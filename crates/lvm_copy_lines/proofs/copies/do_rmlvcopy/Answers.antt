@@ -1,6 +1,6 @@
 use Rattle.std.proofs.Common.{◌≡◌, ◌≤◌, ◌∙◌, ℕ, refl, sym, ap, subst, arith}
 use Rattle.lvm_disk.specs.Paths.{Path}
-use Rattle.lvm_session.specs.State.{Core, State as Session, state}
+use Rattle.lvm_session.specs.State.{Core, State, state}
 use Rattle.lvm_core.specs.Settled.{IsSettled}
 use Rattle.lvm_volume_lines.specs.passed.Driver.{IsAny, IsTurn}
 use Rattle.lvm_core.specs.State.{state_of}
@@ -92,7 +92,7 @@ returns-in-Some g c =
       shape = rmlvcopy_shape lv copies left mid new done.given done.gives;
       goes = λ allowed m may alone. rmlvcopy_goes_on rested.turned.core.history.run m lv copies left done.after mid new done.given may
           (λ row taken past begins.
-          on_some (λ (core : Core). (s : Session) → Path IsTurn IsAny (state (g.S.Shelf.device (shelf_in c.args.stage)) core) s → IsSettled s.core → KeepsShownOf c.args.name copies s) (session_in c.args.stage) rested.turned.core allowed rested.turned.its
+          on_some (λ (core : Core). (s : State) → Path IsTurn IsAny (state (g.S.Shelf.device (shelf_in c.args.stage)) core) s → IsSettled s.core → KeepsShownOf c.args.name copies s) (session_in c.args.stage) rested.turned.core allowed rested.turned.its
           mid rested.turned.turns rested.settled lv row c.in-Some.ensures.some taken)
           done.commanded done.gives;
     })

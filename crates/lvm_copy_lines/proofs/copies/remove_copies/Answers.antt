@@ -1,5 +1,5 @@
 use Rattle.std.proofs.Common.{[], Ok, Err, sym, subst}
-use Rattle.lvm_session.specs.State.{State as Session}
+use Rattle.lvm_session.specs.State.{State}
 use Rattle.lvm_core.specs.State.{state_of}
 use Rattle.lvm_volume_lines.specs.passed.VolumePlan.{GroupFault}
 use Rattle.lvm_volume_lines.specs.passed.Mirrors.{to_take}
@@ -13,24 +13,24 @@ rmlvcopy-requires g c = record { settled = λ takes. c.requires.settled }
 
 pub go_on-requires-clause-rows : goal.go_on-requires-clause-rows
 go_on-requires-clause-rows g c =
-    let old : Session = state_of g.S.Shelf.device c.args.driver in
-    let new : Session = state_of g.S.Shelf.device c.rmlvcopy.new.driver in
+    let old : State = state_of g.S.Shelf.device c.args.driver in
+    let new : State = state_of g.S.Shelf.device c.rmlvcopy.new.driver in
     let commanded : IsCommanded (to_take c.args.lv c.args.copies c.args.driver.1) c.args.patience.now.left c.rmlvcopy.new.patience.left old new (Ok tt) =
     record { began = c.requires.settled; on = c.in-Ok.ensures.settled (record { on = c.requires.settled.power; requests = c.requires.settled.quiet.requests }); still = c.in-Ok.ensures.held; fresh = c.in-Ok.ensures.fresh; leaves = c.rmlvcopy.ensures.leaves } in
     removed_rows c.args.lv c.args.copies c.args.patience.now.left c.rmlvcopy.new.patience.left old new c.requires.sound c.requires.rows commanded c.in-Ok.ensures.gives
 
 pub go_on-requires-clause-may : goal.go_on-requires-clause-may
 go_on-requires-clause-may g c =
-    let old : Session = state_of g.S.Shelf.device c.args.driver in
-    let new : Session = state_of g.S.Shelf.device c.rmlvcopy.new.driver in
+    let old : State = state_of g.S.Shelf.device c.args.driver in
+    let new : State = state_of g.S.Shelf.device c.rmlvcopy.new.driver in
     let commanded : IsCommanded (to_take c.args.lv c.args.copies c.args.driver.1) c.args.patience.now.left c.rmlvcopy.new.patience.left old new (Ok tt) =
     record { began = c.requires.settled; on = c.in-Ok.ensures.settled (record { on = c.requires.settled.power; requests = c.requires.settled.quiet.requests }); still = c.in-Ok.ensures.held; fresh = c.in-Ok.ensures.fresh; leaves = c.rmlvcopy.ensures.leaves } in
     removed_may c.args.lv c.args.copies c.args.patience.now.left c.rmlvcopy.new.patience.left old new c.requires.sound c.requires.rows commanded c.in-Ok.ensures.gives
 
 pub after_fault-requires : goal.after_fault-requires
 after_fault-requires g c =
-    let old : Session = state_of g.S.Shelf.device c.args.driver in
-    let new : Session = state_of g.S.Shelf.device c.rmlvcopy.new.driver in
+    let old : State = state_of g.S.Shelf.device c.args.driver in
+    let new : State = state_of g.S.Shelf.device c.rmlvcopy.new.driver in
     let why : GroupFault = c.in-Err.why in
     let commanded : IsCommanded (to_take c.args.lv c.args.copies c.args.driver.1) c.args.patience.now.left c.rmlvcopy.new.patience.left old new (Err why) =
     record { began = c.requires.settled; on = c.in-Err.ensures.settled (record { on = c.requires.settled.power; requests = c.requires.settled.quiet.requests }); still = c.in-Err.ensures.held; fresh = c.in-Err.ensures.fresh; leaves = c.rmlvcopy.ensures.leaves } in
@@ -39,8 +39,8 @@ after_fault-requires g c =
 
 pub returns-in-Ok : goal.returns-in-Ok
 returns-in-Ok g c =
-    let old : Session = state_of g.S.Shelf.device c.args.driver in
-    let new : Session = state_of g.S.Shelf.device c.rmlvcopy.new.driver in
+    let old : State = state_of g.S.Shelf.device c.args.driver in
+    let new : State = state_of g.S.Shelf.device c.rmlvcopy.new.driver in
     record {
       given = Ok tt;
       left = c.rmlvcopy.new.driver;
@@ -53,8 +53,8 @@ returns-in-Ok g c =
 
 pub returns-in-Err : goal.returns-in-Err
 returns-in-Err g c =
-    let old : Session = state_of g.S.Shelf.device c.args.driver in
-    let new : Session = state_of g.S.Shelf.device c.rmlvcopy.new.driver in
+    let old : State = state_of g.S.Shelf.device c.args.driver in
+    let new : State = state_of g.S.Shelf.device c.rmlvcopy.new.driver in
     record {
       given = Err c.in-Err.why;
       left = c.rmlvcopy.new.driver;

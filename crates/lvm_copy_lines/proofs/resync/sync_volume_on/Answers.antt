@@ -1,6 +1,6 @@
 use Rattle.std.proofs.Common.{refl, subst}
 use Rattle.lvm_num.specs.declared.descriptor.Descriptor.{Descriptor}
-use Rattle.lvm_core.specs.Looking.{HasNoVolume}
+use Rattle.lvm_core.specs.Looking.{HasNoVolumeNamed}
 use Rattle.lvm_volume_lines.specs.passed.RangeLines.{serving}
 use Rattle.lvm_volume_lines.specs.passed.Stage.{OfRequests}
 use Rattle.lvm_volume_lines.specs.passed.RefusalVariants as refusal
@@ -12,4 +12,4 @@ pub returns-in-None : goal.returns-in-None
 returns-in-None g c =
     refused_ends g.S.Shelf.device (λ log. SyncVolumeDoes c.args.name) ⊥ OfRequests (serving c.args.driver c.args.posts c.args.bytes) c.refused.result.stage c.refused.result.reply
     c.requires.fits c.requires.between c.refused.ensures.stage refusal.NoVolume c.refused.ensures.reply
-    (λ last is. NoVolumeForSync c.args.driver.1 refl (subst (λ (d : Descriptor). HasNoVolume d.lvs c.args.name) c.descriptor.ensures.same c.in-None.ensures.none) is)
+    (λ last is. NoVolumeForSync c.args.driver.1 refl (subst (λ (d : Descriptor). HasNoVolumeNamed d.lvs c.args.name) c.descriptor.ensures.same c.in-None.ensures.none) is)

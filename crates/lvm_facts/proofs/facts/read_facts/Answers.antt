@@ -1,7 +1,6 @@
-use Rattle.std.proofs.Common.{◌≡◌, ⊎_elim, refl, ◌∙◌, ap}
+use Rattle.std.proofs.Common.{refl, ◌∙◌, ap}
 use Rattle.std.specs.List.{list_any}
 use Rattle.lvm_path.specs.declared.facts.Facts.{Facts}
-use Rattle.lvm_path.specs.declared.request.Phase.{Phase}
 use Rattle.lvm_path.specs.declared.request.Phase.TheVariants as phase
 use Rattle.lvm_path.specs.Next.{next_in}
 use Rattle.lvm_session.specs.Fields.{core_of}
@@ -17,11 +16,12 @@ returns-in-Held c =
     (ap (λ (k : Facts). next_in phase.Held k r) c.held_facts.ensures ∙ held_same (is_held_back core r) (is_pending core r) (list_any (is_usable core) (copies_for core r.ask)))
 
 pub returns-in-WantEntry : goal.returns-in-WantEntry
-returns-in-WantEntry c =
+returns-in-WantEntry c = by_phase c.args.request.now c.entry_facts.result (facts_of (core_of c.args.session.now) c.args.request.now) phase.WantEntry c.in-WantEntry.is c.entry_facts.ensures
+
+pub returns-in-WantRecord : goal.returns-in-WantRecord
+returns-in-WantRecord c =
     let r = c.args.request.now in
-    let all = facts_of (core_of c.args.session.now) r in
-    ⊎_elim (λ (is : r.phase ≡ phase.WantEntry). by_phase r c.chosen_facts.result all phase.WantEntry is (ap (λ (k : Facts). next_in phase.WantEntry k r) c.chosen_facts.ensures))
-    (λ (is : r.phase ≡ phase.WantRecord). by_phase r c.chosen_facts.result all phase.WantRecord is (ap (λ (k : Facts). next_in phase.WantRecord k r) c.chosen_facts.ensures)) c.in-WantEntry.is
+    by_phase r c.chosen_facts.result (facts_of (core_of c.args.session.now) r) phase.WantRecord c.in-WantRecord.is (ap (λ (k : Facts). next_in phase.WantRecord k r) c.chosen_facts.ensures)
 
 pub returns-in-Data : goal.returns-in-Data
 returns-in-Data c = by_phase c.args.request.now c.data_facts.result (facts_of (core_of c.args.session.now) c.args.request.now) phase.Data c.in-Data.is c.data_facts.ensures

@@ -1,4 +1,4 @@
-use Rattle.std.proofs.Common.{inl}
+use Rattle.std.proofs.Common.{inl, arith}
 use Rattle.lvm_session.specs.Fields.{core_of}
 use Rattle.lvm_session.specs.State.{state}
 use Rattle.lvm_launch.proofs.Hands.{may_end}
@@ -18,3 +18,10 @@ learn-requires g c =
 
 pub darken-requires : goal.darken-requires
 darken-requires g c = may_end (core_of c.args.session.now) (c.requires.sound.on c.requires.on).going
+
+pub returns-in-Ended-clause-due : goal.returns-in-Ended-clause-due
+returns-in-Ended-clause-due g c =
+    c.ended.ensures (core_of c.args.session.now) c.in-Ended.at c.in-Ended.buf (c.requires.sound.on c.requires.on).going c.is_quiet_for-quiet.ensures c.learn.ensures.learns c.requires.due
+
+pub returns-in-Dark-clause-due : goal.returns-in-Dark-clause-due
+returns-in-Dark-clause-due g c = let long = c.len.ensures in c.all.ensures (core_of c.darken.new.session) (omega (arith, long))

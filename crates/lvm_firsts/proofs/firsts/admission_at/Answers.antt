@@ -1,8 +1,7 @@
 use Rattle.std.proofs.Common.{Some, None, if◌then◌else◌, sym, ◌∙◌, ap}
-use Rattle.std.specs.Option.{option_map}
 use Rattle.lvm_session.specs.declared.event.Event.TheVariants as event
 use Rattle.lvm_session.specs.declared.open.Open.{Open}
-use Rattle.lvm_session.specs.Enabled.{is_admit, outcome_next, target_next}
+use Rattle.lvm_session.specs.Enabled.{is_admit}
 use Rattle.lvm_session.specs.Fields.{core_of}
 use Rattle.lvm_session.specs.Judging.{facts_of, next_for}
 use Rattle.lvm_firsts.proofs.Might.{admits_not}

@@ -1,7 +1,11 @@
-use Rattle.std.proofs.Common.{◌≡◌, drop}
+use Rattle.std.proofs.Common.{◌-◌}
 use Rattle.lvm_session.specs.Fields.{core_of}
-use Rattle.lvm_session.specs.Enabled.{first_from, landing_at}
+use Rattle.lvm_session.specs.Enabled.{landing_at}
+use Rattle.lvm_firsts.specs.Spans.{Spans}
 use Rattle.lvm_firsts.proofs.firsts.first_landing.Given as goal
 
-abbrev pub invariant-loop-place : goal.invariant-loop-place
-invariant-loop-place l = first_from (landing_at (core_of l.session)) l.place (drop l.place l.session.requests.items) ≡ first_from (landing_at (core_of l.session)) 0 l.session.requests.items
+abbrev pub invariant-loop-span : goal.invariant-loop-span
+invariant-loop-span l = Spans (landing_at (core_of l.session)) l.session.requests.items l.span
+
+abbrev pub decreases-loop-span : goal.decreases-loop-span
+decreases-loop-span l = l.span.to - l.span.from

@@ -6,7 +6,7 @@ use Rattle.lvm_kept.specs.Moments.{StaysCalm}
 use Rattle.lvm_kept.specs.Raw.{next_write}
 use Rattle.lvm_steps.specs.Moments.{Keeps}
 use Rattle.lvm_steps.specs.Requests.{at as moment_of}
-use Rattle.lvm_piece.specs.Keeping.{HaveLanded, NoneComesOn}
+use Rattle.lvm_piece.specs.Keeping.{HaveAllLanded, NoneComesOn}
 use Rattle.lvm_piece.proofs.Logs.{uncut_begun, write_ended, write_takes, write_lands, write_later}
 use Rattle.lvm_piece.proofs.Moving.{power_after, ready_after, none_after, behind_after, shelf_after, cause_after}
 use Rattle.lvm_piece.proofs.Spanning.{write_keeps, write_closes}
@@ -55,7 +55,7 @@ returns-clause-keeps g c =
       shelf = shelf_after true c.args.disk c.args.from c.args.count buf old mid new how ready low rests lit path fewer gives.0 c.args.patience.now.left c.transfer-how.new.patience.left gives.1 c.transfer-how.ensures.patience c.transfer-how.ensures.waited;
       power = power_after true c.args.disk c.args.from c.args.count buf gives.0 c.args.patience.now.left old mid new how ready gives.1 rests lit;
       ready = ready_after mid new how rests lit;
-      landed = λ heard. subst (λ (l : List Fact). HaveLanded h.facts → HaveLanded l) facts (write_lands h.facts (next_write h.run h.facts c.args.disk c.args.from c.args.count (take c.args.count buf.sectors)) how heard);
+      landed = λ heard. subst (λ (l : List Fact). HaveAllLanded h.facts → HaveAllLanded l) facts (write_lands h.facts (next_write h.run h.facts c.args.disk c.args.from c.args.count (take c.args.count buf.sectors)) how heard);
       later = subst (λ (l : List Fact). NoneComesOn h.facts l) facts (write_later h.facts (next_write h.run h.facts c.args.disk c.args.from c.args.count (take c.args.count buf.sectors)) how);
       cause = cause_after true c.args.disk c.args.from c.args.count buf gives.0 c.args.patience.now.left old mid new how ready low lit gives.1;
     }

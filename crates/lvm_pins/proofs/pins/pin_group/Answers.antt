@@ -4,7 +4,6 @@ use Rattle.lvm_path.specs.Asks.{lv_of}
 use Rattle.lvm_path.specs.Next.{with_pin}
 use Rattle.lvm_session.specs.declared.open.Open.{Open}
 use Rattle.lvm_session.specs.Fields.{core_of}
-use Rattle.lvm_session.specs.Judging.{group_of}
 use Rattle.lvm_firsts.proofs.Nexts.{one}
 use Rattle.lvm_firsts.proofs.Places.{read_same, stands}
 use Rattle.lvm_pins.proofs.Pinned.{numbered, pins_so, stays_so, may_not}

@@ -1,7 +1,7 @@
 use Rattle.std.proofs.Common.{refl, ap, subst}
 use Rattle.std.specs.Prelude.{Result, Err}
 use Rattle.lvm_num.specs.declared.descriptor.Descriptor.{Descriptor}
-use Rattle.lvm_core.specs.Looking.{HasNoVolume, IsNumberOf}
+use Rattle.lvm_core.specs.Looking.{HasNoVolumeNamed, IsNumberOf}
 use Rattle.lvm_posts.specs.declared.asked.Asked.{Asked}
 use Rattle.lvm_group_lines.specs.passed.Ranges.{AskRangeFault, AskRangeGives}
 use Rattle.lvm_group_lines.proofs.passed.Running.{runs_none}
@@ -13,7 +13,7 @@ use Rattle.lvm_range_lines.proofs.requests.ask.Goals as goal
 
 pub returns-in-None : goal.returns-in-None
 returns-in-None g c = record {
-  asks = HasNone (subst (λ (d : Descriptor). HasNoVolume d.lvs c.args.name) c.descriptor.ensures.same c.in-None.ensures.none) refl refl;
+  asks = HasNone (subst (λ (d : Descriptor). HasNoVolumeNamed d.lvs c.args.name) c.descriptor.ensures.same c.in-None.ensures.none) refl refl;
   shelf = refl;
   asked = tt;
   posts = λ posts its. its;

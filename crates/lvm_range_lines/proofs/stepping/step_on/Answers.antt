@@ -28,6 +28,7 @@ returns g c =
       how = c.step-moved.result.1;
       ends = made.ends;
       stops = step_stops c.args.turns c.step-moved.result.0 (state_of device first) (state_of device end) c.step-moved.result.1 made.ends;
+      votes = made.votes;
       runs = made.runs;
       sound = c.step_reply-reply.ensures.sound;
       leaves = carried_leaves device end c.args.posts c.args.bytes stage last carried;

@@ -1,7 +1,7 @@
 use Rattle.std.proofs.Common.{◌≡◌, refl, subst, arith}
 use Rattle.lvm_driver.specs.Answers.{state_of}
 use Rattle.lvm_ranges.specs.Stepping.{AllMoved, Moves}
-use Rattle.lvm_ranges.proofs.Turning.{with_turn}
+use Rattle.lvm_ranges.proofs.Turning.{votes_with, with_turn}
 use Rattle.lvm_ranges.proofs.Stepping.{last_step, no_step, one_step}
 use Rattle.lvm_ranges.proofs.turns.step.Goals as goal
 
@@ -26,6 +26,7 @@ returns-in_default g c =
       ends = last_step first old new c.loop-moved.moved c.loop-moved.invariant c.turn.result c.args.turns c.loop-moved-test.true made.makes made.tells c.in_default.not-Moved;
       table = on.table;
       runs = on.runs;
+      votes = votes_with first new on;
     }
 
 pub returns : goal.returns
@@ -37,4 +38,5 @@ returns g c =
       ends = AllMoved refl refl (subst (λ n. Moves (state_of device c.args.driver.now) n (state_of device c.loop-moved.driver)) last so_far.moves);
       table = so_far.on.table;
       runs = so_far.on.runs;
+      votes = votes_with (state_of device c.args.driver.now) (state_of device c.loop-moved.driver) so_far.on;
     }

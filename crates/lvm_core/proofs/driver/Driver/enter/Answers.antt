@@ -2,7 +2,7 @@ use Rattle.std.proofs.Common.{sym, subst}
 use Rattle.lvm_vol.specs.Log.{Log}
 use Rattle.lvm_session.specs.State.{state}
 use Rattle.lvm_session.specs.Fields.{core_of}
-use Rattle.lvm_core.specs.Sound.{IsSound}
+use Rattle.lvm_core.specs.Sound.{IsSoundBetween}
 use Rattle.lvm_core.proofs.Entering.{entered_sound}
 use Rattle.lvm_core.proofs.driver.Driver.enter.Goals as goal
 
@@ -11,5 +11,5 @@ invariant_of-self g c =
     let core = core_of c.self.inside.session in
     let device = g.S.Shelf.device c.self.inside.shelf in (
       record { requests = c.self.invariant.0.requests; flying = c.self.invariant.0.flying; bytes = c.self.invariant.0.bytes },
-      subst (λ (log : Log). IsSound (state device (record core { history = log }))) (sym c.push.ensures) (entered_sound device core c.args.entry c.requires.volume c.self.invariant.1),
+      subst (λ (log : Log). IsSoundBetween (state device (record core { history = log }))) (sym c.push.ensures) (entered_sound device core c.args.entry c.requires.volume c.self.invariant.1),
     )

@@ -1,6 +1,4 @@
-use Rattle.std.proofs.Common.{◌≡◌}
 use Rattle.lvm_session.specs.Fields.{core_of}
-use Rattle.lvm_session.specs.State.{Core}
 use Rattle.lvm_driver.proofs.Closing.{all_landed}
 use Rattle.lvm_driver.proofs.driver.Driver.close.Goals as goal
 

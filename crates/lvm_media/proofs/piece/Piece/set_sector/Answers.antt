@@ -1,4 +1,4 @@
-use Rattle.std.proofs.Common.{arith, ◌∙◌, ap, length, slice_set, ◌+◌, ◌-◌}
+use Rattle.std.proofs.Common.{arith, ◌∙◌, ap, length, slice_set}
 use Rattle.lvm_media.specs.Pieces.{filled_up}
 use Rattle.lvm_media.proofs.Pieces.{filled_long, set_filled}
 use Rattle.lvm_media.proofs.piece.Piece.set_sector.Goals as goal
@@ -7,6 +7,6 @@ pub returns-clause-set : goal.returns-clause-set
 returns-clause-set c =
     let long = filled_long c.self.inside.count c.self.inside.front.items c.self.invariant.within in
     let same = ap length c.self.view_is in
-    ap (λ front. filled_up c.self.inside.count (slice_set front c.args.at c.args.sector.now)) c.reach.ensures.items
+    ap (filled_up c.self.inside.count) c.keep.ensures.items
     ∙ set_filled c.self.inside.count c.args.at c.self.inside.front.items c.args.sector.now (omega (arith, long, same, c.requires)) c.self.invariant.within
     ∙ ap (λ all. slice_set all c.args.at c.args.sector.now) c.self.view_is

@@ -1,0 +1,12 @@
+mod Alike
+mod Calm
+mod Frames
+mod Moving
+mod Narrow
+mod Noting
+mod Queues
+mod Spanning
+mod Starting
+mod Table
+mod Telling
+mod Unread

@@ -1,0 +1,133 @@
+-- What a request is told where the group, the status and the copy are as they were.
+use Rattle.std.proofs.Common.{◌≡◌, ◌==◌, ◌&&◌, ◌||◌, not, cond, Bool, List, [], ◌∷◌, Option, Some, None, refl, ◌∙◌, ap}
+use Rattle.std.specs.Prelude.{find, if◌then◌else◌}
+use Rattle.std.specs.List.{list_all, list_any}
+use Rattle.std.specs.Option.{option_map}
+use Rattle.lvm_num.specs.declared.place.Pp.{Pp}
+use Rattle.lvm_num.specs.declared.descriptor.Mode.{Mode}
+use Rattle.lvm_num.specs.declared.descriptor.Mode.TheVariants as mode
+use Rattle.lvm_mwc.specs.declared.notes.DiskNotes.{DiskNotes}
+use Rattle.lvm_path.specs.declared.ask.Ask.{Ask}
+use Rattle.lvm_path.specs.declared.facts.Facts.{Facts}
+use Rattle.lvm_path.specs.declared.request.Request.{Request}
+use Rattle.lvm_path.specs.declared.target.Target.{Target}
+use Rattle.lvm_path.specs.Asks.{is_write}
+use Rattle.lvm_path.specs.Targets.{is_begun}
+use Rattle.lvm_session.specs.declared.open.Open.{Open}
+use Rattle.lvm_session.specs.State.{Core}
+use Rattle.lvm_session.specs.Enabled.{is_unnamed, note_due, wants_record}
+use Rattle.lvm_session.specs.Judging.{all_but_sure, copies_for, counts_failed, facts_of, has_dirty_mark, has_names, is_beside, is_failing, is_held_back, is_kept, is_marked, is_pending, is_settled, is_sure, is_usable, is_waiting, is_wanted_stale, mode_of}
+use Rattle.lvm_due.specs.Due.{any_fails, ReadsSame}
+
+-- another request fails in the logical partition of this one
+abbrev pub fails_beside : Core → Request → Open → Bool
+fails_beside core r = λ (e : Open). not (e.request.id == r.id) && is_beside core e.request.ask r.ask && is_failing core e
+
+-- staleness is wanted there and not settled
+abbrev pub is_unsettled : Core → Request → Bool
+is_unsettled core r = list_any (λ (p : Pp). is_wanted_stale core p && not (is_settled core p)) (copies_for core r.ask)
+
+module _ (old new : Core) (same : ReadsSame old new) where
+  -- the old one, with what is read of the new one
+  abbrev mid : Core
+  mid = record old {
+    descriptor = new.descriptor;
+    status = record old.status { committed = new.status.committed; wanted = new.status.wanted; in_flight = new.status.in_flight };
+    copy = new.copy;
+  }
+
+  mid_is : mid ≡ old
+  mid_is = λ i. record old {
+    descriptor = same.descriptor i;
+    status = record old.status { committed = same.committed i; wanted = same.wanted i; in_flight = same.in_flight i };
+    copy = same.copy i;
+  }
+
+  dirty_read : (m : Mode) (r : Request) → has_dirty_mark new m r ≡ has_dirty_mark mid m r
+  dirty_read mode.Active r = refl
+  dirty_read mode.Passive r = refl
+  dirty_read mode.Off r = refl
+
+  sure_read : (ts : List Target) → all_but_sure new ts ≡ all_but_sure mid ts
+  sure_read [] = refl
+  sure_read (t ∷ ts) = ap (λ (rest : List Target). if is_sure new t.pp then ts else t ∷ rest) (sure_read ts)
+
+  marked_read : (r : Request) → is_marked new r ≡ is_marked mid r
+  marked_read r =
+      ap (λ (ts : List Target). if is_kept new r then list_all (λ (t : Target). not (counts_failed new t) || is_settled new t.pp) r.targets.items else list_all (λ (t : Target). is_settled new t.pp) ts)
+      (sure_read r.targets.items)
+
+  usable_read : (ps : List Pp) → list_any (is_usable new) ps ≡ list_any (is_usable mid) ps
+  usable_read [] = refl
+  usable_read (p ∷ ps) = ap (λ (b : Bool). is_usable new p || b) (usable_read ps)
+
+  -- only who is in the way, what is pending and what is named may be told otherwise
+  pub facts_read : (r : Request) → facts_of new r ≡ record (facts_of old r) { blocked = is_held_back new r; pending = is_pending new r; named = has_names new (mode_of new r.ask) r }
+  facts_read r = told ∙ ap (λ (core : Core). let k : Facts = record (facts_of core r) { blocked = is_held_back new r; pending = is_pending new r; named = has_names new (mode_of new r.ask) r } in k) mid_is
+    where
+      told : facts_of new r ≡ record (facts_of mid r) { blocked = is_held_back new r; pending = is_pending new r; named = has_names new (mode_of new r.ask) r }
+      told = λ i. record (facts_of mid r) {
+        blocked = is_held_back new r;
+        pending = is_pending new r;
+        named = has_names new (mode_of new r.ask) r;
+        dirty = dirty_read (mode_of new r.ask) r i;
+        marked = marked_read r i;
+        usable = usable_read (copies_for new r.ask) i;
+      }
+
+  -- ---- what counts as failed, and what is pending by it
+
+  failed_read : (ts : List Target) → list_any (counts_failed new) ts ≡ list_any (counts_failed mid) ts
+  failed_read [] = refl
+  failed_read (t ∷ ts) = ap (λ (b : Bool). counts_failed new t || b) (failed_read ts)
+
+  pub fails_read : (e : Open) → any_fails new e ≡ any_fails old e
+  fails_read e = failed_read e.request.targets.items ∙ ap (λ (core : Core). any_fails core e) mid_is
+
+  failing_mid : (e : Open) → is_failing new e ≡ is_failing mid e
+  failing_mid e = ap (λ (b : Bool). is_waiting e && is_write e.request.ask && is_begun e.request.targets.items && b) (failed_read e.request.targets.items)
+
+  pub failing_read : (e : Open) → is_failing new e ≡ is_failing old e
+  failing_read e = failing_mid e ∙ ap (λ (core : Core). is_failing core e) mid_is
+
+  beside_read : (r : Request) (os : List Open) → list_any (fails_beside new r) os ≡ list_any (fails_beside mid r) os
+  beside_read r [] = refl
+  beside_read r (e ∷ os) =
+      ap (λ (b : Bool). (not (e.request.id == r.id) && is_beside new e.request.ask r.ask && b) || list_any (fails_beside new r) os) (failing_mid e)
+      ∙ ap (λ (b : Bool). fails_beside mid r e || b) (beside_read r os)
+
+  -- what is pending is told by the same test of the requests that there are
+  pub pending_read : (r : Request) → is_pending new r ≡ (is_unsettled old r || list_any (fails_beside old r) new.requests)
+  pending_read r =
+      ap (λ (b : Bool). is_unsettled new r || b) (beside_read r new.requests)
+      ∙ ap (λ (core : Core). is_unsettled core r || list_any (fails_beside core r) new.requests) mid_is
+
+  -- ---- where the notes are as they were too
+
+  module _ (notes : new.cache.notes ≡ old.cache.notes) where
+    abbrev noted : Core
+    noted = record mid { cache = record old.cache { notes = new.cache.notes } }
+
+    noted_is : noted ≡ old
+    noted_is = ap (λ (core : Core). let c : Core = record core { cache = record old.cache { notes = new.cache.notes } } in c) mid_is ∙ ap (λ (ns : List DiskNotes). let c : Core = record old { cache = record old.cache { notes = ns } } in c) notes
+
+    names_read : (m : Mode) (r : Request) → has_names new m r ≡ has_names noted m r
+    names_read mode.Active r = refl
+    names_read mode.Passive r = refl
+    names_read mode.Off r = refl
+
+    pub names_same : (r : Request) → has_names new (mode_of new r.ask) r ≡ has_names old (mode_of old r.ask) r
+    names_same r = names_read (mode_of new r.ask) r ∙ ap (λ (core : Core). has_names core (mode_of core r.ask) r) noted_is
+
+    unnamed_read : (ask : Ask) (ts : List Target) → find (is_unnamed new ask) ts ≡ find (is_unnamed noted ask) ts
+    unnamed_read ask [] = refl
+    unnamed_read ask (t ∷ ts) = ap (λ (m : Option Target). cond (is_unnamed new ask t) (Some t) m) (unnamed_read ask ts)
+
+    pub note_same : (o : Open) → note_due new o ≡ note_due old o
+    note_same o =
+        ap (λ (m : Option Target). if wants_record o.request.phase && o.request.pinned then option_map (λ (t : Target). t.pp.disk) m else None) (unnamed_read o.request.ask o.request.targets.items)
+        ∙ ap (λ (core : Core). note_due core o) noted_is
+
+    -- all but who is in the way
+    pub facts_but : (r : Request) → is_pending new r ≡ is_pending old r → facts_of new r ≡ record (facts_of old r) { blocked = is_held_back new r }
+    facts_but r pending = facts_read r ∙ (λ i. record (facts_of old r) { blocked = is_held_back new r; pending = pending i; named = names_same r i })

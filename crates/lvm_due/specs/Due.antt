@@ -1,0 +1,125 @@
+-- At which places of the table events are due.
+use Rattle.std.specs.Prelude.{◌≡◌, ◌≤◌, ◌<◌, ℕ, Bool, true, false, ◌&&◌, ◌==◌, List, None, Some, position, slice_get, slice_set}
+use Rattle.std.specs.List.{list_any}
+use Rattle.lvm_hold.specs.Conflicts.{have_common_block}
+use Rattle.lvm_path.specs.declared.ask.Ask.{Ask}
+use Rattle.lvm_path.specs.declared.request.Phase.{Phase}
+use Rattle.lvm_path.specs.declared.request.Phase.TheVariants as phase
+use Rattle.lvm_session.specs.declared.open.Open.{Open}
+use Rattle.lvm_session.specs.declared.flown.Owner.{Owner}
+use Rattle.lvm_session.specs.declared.flown.Owner.TheVariants as owner
+use Rattle.lvm_session.specs.State.{Core}
+use Rattle.lvm_session.specs.Judging.{counts_failed, held_of, is_failing, is_held_back}
+use Rattle.lvm_session.specs.Requests.{wants_entry}
+use Rattle.lvm_session.specs.Enabled.{admission_at, can_pin, data_at, landing_at, note_at, pinning_at}
+use Rattle.lvm_firsts.specs.declared.span.Span.{Span}
+use Rattle.lvm_firsts.specs.Spans.{is_in, Adds, Spans}
+use Rattle.lvm_due.specs.declared.due.Due.{Due}
+
+-- For each kind of event that a request makes none is due at another place.
+pub record IsDue (core : Core) (due : Due) : Type 0 where
+  pub landing : Spans (landing_at core) core.requests due.landing
+  pub admission : Spans (admission_at core) core.requests due.admission
+  pub pinning : Spans (pinning_at core) core.requests due.pinning
+  pub note : Spans (note_at core) core.requests due.note
+  pub «data» : Spans (data_at core) core.requests due.data
+
+-- ---- while nothing but requests is under way
+
+-- no copy is open, and nothing is wanted of the status that isn't committed
+pub record IsCalm (core : Core) : Type 0 where
+  pub copy : core.copy ≡ None
+  pub flight : core.status.in_flight ≡ None
+  pub same : core.status.wanted ≡ core.status.committed
+
+-- a target of the request counts as failed
+abbrev pub any_fails : Core → Open → Bool
+any_fails core o = list_any (counts_failed core) o.request.targets.items
+
+-- So it is, and no target of the request at a place counts as failed.
+pub record IsQuiet (core : Core) (place : ℕ) : Type 0 where
+  pub calm : IsCalm core
+  pub kept : (o : Open) → slice_get core.requests place ≡ Some o → any_fails core o ≡ false
+
+-- So it is at the place of the request whose transfer this is.
+abbrev pub IsQuietFor : Core → Owner → Type 0
+IsQuietFor core (owner.Data id target) = (place : ℕ) → position (λ (o : Open). o.request.id == id) core.requests ≡ Some place → IsQuiet core place
+IsQuietFor core (owner.Status disk) = Unit {0}
+IsQuietFor core (owner.Note disk) = Unit {0}
+IsQuietFor core owner.Copy = Unit {0}
+
+-- ---- what is added
+
+-- it isn't admitted
+abbrev pub is_held : Phase → Bool
+is_held phase.Held = true
+is_held phase.WantEntry = false
+is_held phase.WantRecord = false
+is_held phase.Data = false
+is_held phase.WantStatus = false
+is_held phase.Landed = false
+
+-- two requests have a block in common
+abbrev pub overlap : Ask → Ask → Bool
+overlap a b = have_common_block (held_of a) (held_of b)
+
+-- no request
+abbrev pub none : Open → Bool
+none o = false
+
+-- it waits for an entry of the cache
+abbrev pub waits_entry : Open → Bool
+waits_entry o = wants_entry o.request.phase
+
+-- it isn't admitted, and some block is one of these
+abbrev pub is_freed : Ask → Open → Bool
+is_freed ask o = is_held o.request.phase && overlap ask o.request.ask
+
+-- a place is added, where this is so
+abbrev pub AddsIf : Bool → ℕ → Span → Span → Type 0
+AddsIf false place old new = new ≡ old
+AddsIf true place old new = Adds place old new
+
+-- It has the places of the requests that pass a test, of those below n.
+pub record Covers (which : Open → Bool) (requests : List Open) (n : ℕ) (s : Span) : Type 0 where
+  pub within : s.to ≤ n
+  pub has : (k : ℕ) (o : Open) → k < n → slice_get requests k ≡ Some o → which o ≡ true → is_in s k ≡ true
+
+-- the places of another span are added
+pub record Joins (other old new : Span) : Type 0 where
+  pub wider : (k : ℕ) → is_in old k ≡ true → is_in new k ≡ true
+  pub has : (k : ℕ) → is_in other k ≡ true → is_in new k ≡ true
+  pub within : (n : ℕ) → old.to ≤ n → other.to ≤ n → new.to ≤ n
+
+-- a place is added for each kind
+pub record AddsEach (place : ℕ) (old new : Due) : Type 0 where
+  pub landing : Adds place old.landing new.landing
+  pub admission : Adds place old.admission new.admission
+  pub pinning : Adds place old.pinning new.pinning
+  pub note : Adds place old.note new.note
+  pub «data» : Adds place old.data new.data
+
+-- ---- what has changed
+
+-- The group, the status and the copy are as they were, as far as requests read them.
+pub record ReadsSame (old new : Core) : Type 0 where
+  pub descriptor : new.descriptor ≡ old.descriptor
+  pub committed : new.status.committed ≡ old.status.committed
+  pub wanted : new.status.wanted ≡ old.status.wanted
+  pub in_flight : new.status.in_flight ≡ old.status.in_flight
+  pub copy : new.copy ≡ old.copy
+
+-- Of what requests read only the one at a place has changed, which has its number and its blocks and fails as it did; who waits of those that are freed; and
+-- what can be pinned of those that may pin.
+pub record Moves (freed pinning : Open → Bool) (old new : Core) (place : ℕ) : Type 0 where
+  pub reads : ReadsSame old new
+  pub notes : new.cache.notes ≡ old.cache.notes
+  pub was : Open
+  pub there : slice_get old.requests place ≡ Some was
+  pub is : Open
+  pub requests : new.requests ≡ slice_set old.requests place is
+  pub id : is.request.id ≡ was.request.id
+  pub ask : is.request.ask ≡ was.request.ask
+  pub fails : is_failing new is ≡ is_failing old was
+  pub waits : (k : ℕ) (o : Open) → slice_get old.requests k ≡ Some o → is_held o.request.phase ≡ true → freed o ≡ false → is_held_back new o.request ≡ is_held_back old o.request
+  pub pins : (o : Open) → waits_entry o ≡ true → pinning o ≡ false → can_pin new.cache o.request.ask ≡ can_pin old.cache o.request.ask

@@ -1,0 +1,211 @@
+//! The places at which events are due, and how each event changes them.
+ghost use Rattle.std.specs.Prelude.{◌≡◌, ◌<◌, ◌≤◌, ◌+◌, ◌^◌, ℕ, Bool, true, false, List, Option, Some, length, slice_get};
+ghost use Rattle.lvm_num.specs.Buffer.{Buffer};
+ghost use Rattle.lvm_vol.specs.declared.entry.Outcome.{Outcome};
+ghost use Rattle.lvm_path.specs.declared.ask.Ask.{Ask};
+ghost use Rattle.lvm_session.specs.declared.event.Event.TheVariants as kind;
+ghost use Rattle.lvm_session.specs.declared.flown.Owner.TheVariants as whose;
+ghost use Rattle.lvm_session.specs.declared.open.Open.{Open};
+ghost use Rattle.lvm_session.specs.Fields.{core_of};
+ghost use Rattle.lvm_session.specs.State.{Core, State, state};
+ghost use Rattle.lvm_session.specs.Judging.{is_waiting};
+ghost use Rattle.lvm_session.specs.Calls.{after_take, submitted};
+ghost use Rattle.lvm_session.specs.Events.{Admits, Lands, Pins, StartsData};
+ghost use Rattle.lvm_session.specs.Ends.{DataLearns, Learns, NoteLearns};
+ghost use Rattle.lvm_session.specs.Turns.{is_start, Makes};
+ghost use Rattle.lvm_session.specs.Sound.{IsGoing, IsTold};
+ghost use Rattle.lvm_due.specs.Due.{none, AddsEach, Covers, IsDue, IsQuiet, IsQuietFor, Moves};
+
+use crate::places::{entries, freed_by, join};
+use crate::quiet::{any_fails, is_quiet, place_of, stays_quiet};
+use lvm_firsts::Span;
+use lvm_session::{Event, Owner, Session};
+
+/// For each kind of event the places of the table at which it may be due.
+#[derive(Clone, Copy, Debug, PartialEq, Eq)]
+pub struct Due {
+    pub landing: Span,
+    pub admission: Span,
+    pub pinning: Span,
+    pub note: Span,
+    pub data: Span,
+}
+
+impl Due {
+    /// Of a table of so many requests all places.
+    pub fn all(len: usize) -> Due
+        ensures { (core : Core) → length core.requests ≡ len → IsDue core result }
+    {
+        let span = Span::all(len);
+        Due {
+            landing: span,
+            admission: span,
+            pinning: span,
+            note: span,
+            data: span,
+        }
+    }
+
+    // All places are due.
+    fn fill(&mut self, session: &Session)
+        ensures { IsDue (core_of session.now) self.new }
+    {
+        *self = Due::all(session.requests.len());
+    }
+
+    // One request may make an event of each kind.
+    fn add(&mut self, place: usize)
+        requires { place + 1 < 2 ^ 64 }
+        ensures { AddsEach place self.old self.new }
+    {
+        self.landing.add(place);
+        self.admission.add(place);
+        self.pinning.add(place);
+        self.note.add(place);
+        self.data.add(place);
+    }
+
+    // The request at a place has changed: it may make an event of each kind, those that are freed may land or be admitted,
+    // and those of the entries may pin.
+    fn moved(&mut self, place: usize, freed: Span, entries: Span)
+        requires { place + 1 < 2 ^ 64 }
+        ensures { (frees pins : Open → Bool) (old new : Core) → place < length new.requests → Covers frees new.requests (length new.requests) freed → Covers pins new.requests (length new.requests) entries → Moves frees pins old new place → IsDue old self.old → IsDue new self.new }
+    {
+        self.add(place);
+        join(&mut self.landing, freed);
+        join(&mut self.admission, freed);
+        join(&mut self.pinning, entries);
+    }
+
+    // So it has, where nothing else has; else all places are due.
+    fn moved_if(&mut self, session: &Session, place: usize, still: bool, freed: Span, entries: Span)
+        requires { place < length session.now.requests.items }
+        ensures { (frees pins : Open → Bool) (old : Core) → Covers frees session.now.requests.items (length session.now.requests.items) freed → Covers pins session.now.requests.items (length session.now.requests.items) entries → (still ≡ true → Moves frees pins old (core_of session.now) place) → IsDue old self.old → IsDue (core_of session.now) self.new }
+    {
+        if still {
+            self.moved(place, freed, entries);
+        } else {
+            self.fill(session);
+        }
+    }
+
+    /// The request at a place has landed.
+    pub fn landed(&mut self, session: &Session, place: usize)
+        requires there { place < length session.now.requests.items }
+        ensures { (old : State) (how : Outcome) → IsGoing old.core → Lands old (state old.device (core_of session.now)) place how → IsDue old.core self.old → IsDue (core_of session.now) self.new }
+    {
+        let freed = freed_by(session, &session.requests[place].request.ask);
+        let still = is_quiet(session, place);
+        self.moved_if(session, place, still, freed, entries(session));
+    }
+
+    /// It has been admitted; the session was quiet there before, where this is so.
+    pub fn admitted(&mut self, session: &Session, place: usize, quiet: bool)
+        requires there { place < length session.now.requests.items }
+        ensures { (old : State) → IsGoing old.core → (quiet ≡ true → IsQuiet old.core place) → Admits old (state old.device (core_of session.now)) place → IsDue old.core self.old → IsDue (core_of session.now) self.new }
+    {
+        let still = stays_quiet(session, place, quiet);
+        self.moved_if(session, place, still, Span::all(0), entries(session));
+    }
+
+    /// It has pinned its track group.
+    pub fn pinned(&mut self, session: &Session, place: usize)
+        requires there { place < length session.now.requests.items }
+        ensures { (old : State) → IsGoing old.core → Pins old (state old.device (core_of session.now)) place → IsDue old.core self.old → IsDue (core_of session.now) self.new }
+    {
+        self.moved(place, Span::all(0), entries(session));
+    }
+
+    // A transfer of the request at a place has been started.
+    fn data_started(&mut self, session: &Session, place: usize)
+        requires { place < length session.now.requests.items }
+        ensures { (old new : State) (target : ℕ) → new.core ≡ core_of session.now → StartsData old new place target → IsDue old.core self.old → IsDue new.core self.new }
+    {
+        let fails = any_fails(session, place);
+        self.moved_if(session, place, !fails, Span::all(0), Span::all(0));
+    }
+
+    /// A transfer has been started.
+    pub fn started(&mut self, session: &Session, event: Event)
+        requires there { (place target : ℕ) → event ≡ kind.StartData place target → place < length session.now.requests.items }
+        ensures { (old new : State) → IsGoing old.core → new.core ≡ core_of session.now → is_start event ≡ true → Makes event old new → IsDue old.core self.old → IsDue new.core self.new }
+    {
+        match event {
+            Event::StartData { place, .. } => self.data_started(session, place),
+            // It names no track group that wasn't named, and no other note may start there.
+            Event::StartNote { .. } => {}
+            _ => self.fill(session),
+        }
+    }
+
+    // The transfer of the request at a place has ended well.
+    fn data_ended_at(&mut self, session: &Session, place: usize, quiet: bool)
+        requires { place < length session.now.requests.items }
+        ensures { (old : Core) → (quiet ≡ true → IsQuiet (core_of session.now) place → Moves none none old (core_of session.now) place) → IsDue old self.old → IsDue (core_of session.now) self.new }
+    {
+        let still = stays_quiet(session, place, quiet);
+        self.moved_if(session, place, still, Span::all(0), Span::all(0));
+    }
+
+    // The transfer of the request of a number has ended well.
+    fn data_ended(&mut self, session: &Session, id: u64, quiet: bool)
+        ensures { (old : Core) (at target : ℕ) (buf : Buffer) → IsGoing old → (quiet ≡ true → IsQuietFor old (whose.Data id target)) → DataLearns old at id target true buf (core_of session.now) → IsDue old self.old → IsDue (core_of session.now) self.new }
+    {
+        match place_of(session, id) {
+            None => self.fill(session),
+            Some(place) => self.data_ended_at(session, place, quiet),
+        }
+    }
+
+    // A note has ended well: more track groups may be named, and another note may start there.
+    fn note_ended(&mut self, session: &Session)
+        ensures { (old : Core) (at disk : ℕ) (buf : Buffer) → NoteLearns old at disk true buf (core_of session.now) → IsDue old self.old → IsDue (core_of session.now) self.new }
+    {
+        let all = Span::all(session.requests.len());
+        self.note = all;
+        self.data = all;
+    }
+
+    // A transfer has ended well.
+    fn ended_well(&mut self, session: &Session, owner: Owner, quiet: bool)
+        ensures { (old : Core) (at : ℕ) (buf : Buffer) → IsGoing old → (quiet ≡ true → IsQuietFor old owner) → Learns owner old at true buf (core_of session.now) → IsDue old self.old → IsDue (core_of session.now) self.new }
+    {
+        match owner {
+            Owner::Data { id, .. } => self.data_ended(session, id, quiet),
+            Owner::Note { .. } => self.note_ended(session),
+            Owner::Status { .. } | Owner::Copy => self.fill(session),
+        }
+    }
+
+    /// A transfer has ended, and its owner has learned how; the session was quiet before at the place of its request, where
+    /// this is so.
+    pub fn ended(&mut self, session: &Session, owner: Owner, ok: bool, quiet: bool)
+        ensures { (old : Core) (at : ℕ) (buf : Buffer) → IsGoing old → (quiet ≡ true → IsQuietFor old owner) → Learns owner old at ok buf (core_of session.now) → IsDue old self.old → IsDue (core_of session.now) self.new }
+    {
+        if ok {
+            self.ended_well(session, owner, quiet);
+        } else {
+            self.fill(session);
+        }
+    }
+
+    /// A request has begun.
+    pub fn submitted(&mut self, session: &Session)
+        requires some { 1 ≤ length session.now.requests.items }
+        ensures { (old : Core) (client : ℕ) (ask : Ask) (bytes : Option (List ℕ)) → IsTold old → core_of session.now ≡ submitted old client ask bytes → IsDue old self.old → IsDue (core_of session.now) self.new }
+    {
+        self.add(session.requests.len() - 1);
+    }
+
+    /// A request that had landed has left the table.
+    pub fn taken(&mut self, session: &Session)
+        ensures { (old : Core) (place id : ℕ) (o : Open) → slice_get old.requests place ≡ Some o → is_waiting o ≡ false → core_of session.now ≡ after_take old place id → IsDue old self.old → IsDue (core_of session.now) self.new }
+    {
+        let len = session.requests.len();
+        self.landing.leave(len);
+        self.admission.leave(len);
+        self.pinning.leave(len);
+        self.note.leave(len);
+        self.data.leave(len);
+    }
+}

@@ -1,0 +1,11 @@
+//! At which places of the table events are due, kept from event to event.
+#![tactic(auto)]
+
+mod due;
+mod laws;
+mod places;
+mod quiet;
+
+pub use due::Due;
+pub use laws::dues_are_narrow;
+pub use quiet::{is_quiet, is_quiet_for};
