@@ -12,7 +12,7 @@ pub loop-k-preserved : goal.loop-k-preserved
 loop-k-preserved c =
     let es = entries_of c.args.history.now.facts in
     let next : (which : Kind) (n m : ℕ) → m ≡ cond (is_of which c.entry-entry.result) (n + 1) n → Counts (is_of which) es c.args.from c.loop-k.k n → Counts (is_of which) es c.args.from (c.loop-k.k + 1) m
-        = λ which n m is so_far. subst (λ (l : ℕ). Counts (is_of which) es c.args.from (c.loop-k.k + 1) l) (sym is) (counts_next (is_of which) es c.args.from c.loop-k.k n so_far c.entry-entry.result c.entry-entry.ensures) in (
+    = λ which n m is so_far. subst (λ (l : ℕ). Counts (is_of which) es c.args.from (c.loop-k.k + 1) l) (sym is) (counts_next (is_of which) es c.args.from c.loop-k.k n so_far c.entry-entry.result c.entry-entry.ensures) in (
       next kind.Begun c.loop-k.begun c.counted-begun.result c.counted-begun.ensures c.loop-k.invariant.0,
       next kind.Done c.loop-k.done c.counted-done.result c.counted-done.ensures c.loop-k.invariant.1,
       next kind.Got c.loop-k.got c.counted-got.result c.counted-got.ensures c.loop-k.invariant.2,
