@@ -1,10 +1,8 @@
 -- Why requests aren't begun, or have no answer: by what holds between the steps of a workload.
-use Rattle.std.proofs.Common.{◌≡◌, ◌≤◌, ◌+◌, ◌-◌, ◌==◌, ◌&&◌, ◌||◌, ◌⊎◌, inl, inr, ⊎_elim, not, ℕ, zero, suc, Bool, true, false, List, [], ◌∷◌, ◌++◌, length, Option, Some, None, refl, sym, ap, ◌∙◌, subst, append_assoc, arith}
-use Rattle.std.specs.Prelude.{Result, Ok, Err, MatchOption, is_some, nat_lt}
+use Rattle.std.proofs.Common.{◌≡◌, ◌≤◌, ◌+◌, ◌-◌, ◌&&◌, ◌||◌, ◌⊎◌, inl, inr, ⊎_elim, not, ℕ, suc, Bool, true, false, List, [], ◌∷◌, ◌++◌, length, Option, Some, None, refl, sym, ap, ◌∙◌, subst, append_assoc, arith}
+use Rattle.std.specs.Prelude.{Result, Ok, Err, MatchOption, is_some}
 use Rattle.std.specs.List.{list_any, AllByRecursion}
-use Rattle.std.specs.Option.{option_map_or}
-use Rattle.std.proofs.lemmas.Bool.{eq-eqb, eqb-true, eqb-false, leb-true, ltb-false}
-use Rattle.std.proofs.lemmas.List.Folds.{list_any-append}
+use Rattle.std.proofs.lemmas.Bool.{leb-true}
 use Rattle.rand_pcg.specs.Lcg.{Lcg}
 use Rattle.lvm_disk.specs.Counts.{RoseBy}
 use Rattle.lvm_disk.specs.Device.{Device}
@@ -39,9 +37,10 @@ use Rattle.lvm_load.specs.declared.totals.Totals.{Totals}
 use Rattle.lvm_load.specs.Ends.{AreUnbegun, HasCauses, Over, Precedes, Refused, Waited}
 use Rattle.lvm_load.specs.Requests.{ask_of, bytes_of, word_of}
 use Rattle.lvm_load.specs.Totals.{entries_since, totals_of}
-use Rattle.lvm_load.specs.Weaving.{AsksDrawn, Draws, FinishesBy, Names, NoTurn, NoWord, NoneDrawn, OneDrawn, OneTurn, OneWord, PassesOn, TakesWhere, Turns, Unheard, Weaves, Weaving, client_at, drew as drew_more, first_weaving, fresh_clients, goes_on, has_open, idle_after, is_unheard, may_land, open_of, opened_by}
+use Rattle.lvm_load.specs.Weaving.{AsksDrawn, Draws, FinishesBy, Names, NoTurn, NoWord, NoneDrawn, OneDrawn, OneTurn, OneWord, PassesOn, TakesWhere, Turns, Unheard, Weaves, Weaving, client_at, first_weaving, fresh_clients, goes_on, has_open, idle_after, is_unheard, may_land, open_of}
 use Rattle.lvm_load.proofs.Gaining.{Gains, begun_since, gains_none, gains_then, submit_gains, taken_one, turns_gain}
-use Rattle.lvm_load.proofs.Waiting.{AreWaiting, all_waiting, left_by_each, open_beside, open_here, turn_keeps, waits_for}
+use Rattle.lvm_load.specs.Waiting.{AreWaiting, waits_for}
+use Rattle.lvm_load.proofs.Waiting.{asks_wait, behind_waits, fresh_wait, left_by_each}
 
 -- ---- lists of requests
 
@@ -66,11 +65,6 @@ none_waits (o ∷ os) all = ap (λ b. b || list_any is_waiting os) all.0.landed 
 
 -- ---- clients
 
-none_open : (k : ℕ) (n : ℕ) → open_of (fresh_clients n) k ≡ None
-none_open k zero = refl
-none_open zero (suc n) = refl
-none_open (suc k) (suc n) = none_open k n
-
 -- one has a request open
 some_open : (clients : List Client) → list_any has_open clients ≡ true → (k : ℕ) × ((id : ℕ) × (open_of clients k ≡ Some id))
 some_open [] any = absurd (cc any)
@@ -92,7 +86,7 @@ record Hears (first now : State) (clients : List Client) (idle : ℕ) : Type 0 w
 
 hears_first : (first : State) (n : ℕ) → IsSound first → Hears first first (fresh_clients n) 0
 hears_first first n sound = record {
-  waiting = λ k id has. absurd (let e : ◌≡◌ {A = Option ℕ} None (Some id) = sym (none_open k n) ∙ has in cc e);
+  waiting = fresh_wait first.core n;
   later = omega arith;
   on = λ goes. rose_by_none first.device.counts.waits;
   over = λ ended. none_waits first.core.requests (sound.over ended).landed;
@@ -164,23 +158,16 @@ record Behind (mid new : State) (after : List Client) : Type 0 where
   pub power : new.core.power ≡ mid.core.power
   pub device : new.device ≡ mid.device
 
-neither : (a b : Bool) → a || b ≡ false → (a ≡ false) × (b ≡ false)
-neither true b is = absurd (cc is)
-neither false b is = (refl, is)
-
 behind : (old mid new : State) (clients after : List Client) (answer : Turned) → AreWaiting old.core clients → TurnMakes old mid answer → (b : Bool) → may_land old mid answer ≡ b → TakesWhere b mid new clients after → Behind mid new after
 behind old mid new clients after answer waiting made true may takes =
     let each = left_by_each mid clients (length clients) new after takes in
-    record { waiting = all_waiting mid new clients after each; any = each.any; power = each.power; device = each.device }
-behind old mid new clients after answer waiting made false may still =
-    let no = neither (nat_lt (length old.core.history.facts) (length mid.core.history.facts)) (is_last answer) may in
-    let same = turn_keeps old mid answer made no.1 (ltb-false (length old.core.history.facts) (length mid.core.history.facts) no.0) in
-    record {
-      waiting = λ k id has. ap (λ (s : State). list_any (waits_for (k + 1) id) s.core.requests) still.0 ∙ same (k + 1) id ∙ waiting k id (ap (λ (cs : List Client). open_of cs k) (sym still.1) ∙ has);
-      any = ap (λ (s : State). list_any is_waiting s.core.requests) still.0;
-      power = ap (λ (s : State). s.core.power) still.0;
-      device = ap (λ (s : State). s.device) still.0;
-    }
+    record { waiting = behind_waits old mid new clients after answer waiting made true may takes; any = each.any; power = each.power; device = each.device }
+behind old mid new clients after answer waiting made false may still = record {
+  waiting = behind_waits old mid new clients after answer waiting made false may still;
+  any = ap (λ (s : State). list_any is_waiting s.core.requests) still.0;
+  power = ap (λ (s : State). s.core.power) still.0;
+  device = ap (λ (s : State). s.device) still.0;
+}
 
 module _ (first old new : State) (clients after : List Client) (idle idle1 : ℕ) (so_far : Hears first old clients idle) (some : list_any is_waiting old.core.requests ≡ true) (made : Turns old new clients after idle idle1) where
   tells : TurnTells old made.mid made.answer
@@ -236,57 +223,26 @@ module _ (lv blocks k : ℕ) (g : Lcg) (first old new : State) (clients after : 
   abbrev bytes : Option (List ℕ)
   bytes = bytes_of (word_of (k + 1) asks.client.offset) blocks (draw_at g)
 
-  here : open_of after k ≡ opened_by asks.client.request asks.answer
-  here = ap (λ (cs : List Client). open_of cs k) asks.after_is ∙ open_here clients k (drew_more asks.client (opened_by asks.client.request asks.answer)) asks.client asks.client_is
-
-  beside : (j : ℕ) → (j ≡ k → ⊥) → open_of after j ≡ open_of clients j
-  beside j other = ap (λ (cs : List Client). open_of cs j) asks.after_is ∙ open_beside clients k j (drew_more asks.client (opened_by asks.client.request asks.answer)) other
-
-  none_before : asks.client.request ≡ None
-  none_before = sym (ap (λ (m : Option Client). option_map_or (λ (c : Client). c.request) m None) asks.client_is) ∙ free
+  waits : AreWaiting new.core after
+  waits = asks_wait lv blocks k g old new clients after more so_far.waiting free asks
 
   -- nothing changes
   refused : (why : AskFault) → asks.answer ≡ Err why → new.core ≡ old.core → Hears first new after idle
   refused why is same = record {
-    waiting = λ j id has. ap (λ (c : Core). list_any (waits_for (j + 1) id) c.requests) same ∙ so_far.waiting j id (sym (unmoved j) ∙ has);
+    waiting = waits;
     later = subst (λ (d : Device). first.device.counts.waits ≤ d.counts.waits) (sym asks.shelf) so_far.later;
     on = λ goes. subst (λ (d : Device). RoseBy idle first.device.counts.waits d.counts.waits) (sym asks.shelf) (so_far.on (ap (λ (c : Core). is_over c.power) (sym same) ∙ goes));
     over = λ ended. ap (λ (c : Core). list_any is_waiting c.requests) same ∙ so_far.over (ap (λ (c : Core). is_over c.power) (sym same) ∙ ended);
   }
-    where
-      unmoved : (j : ℕ) → open_of after j ≡ open_of clients j
-      unmoved j = by (j == k) refl
-        where
-          by : (b : Bool) → (j == k) ≡ b → open_of after j ≡ open_of clients j
-          by true at =
-              let same : k ≡ j = sym (eqb-true j k at) in
-              subst (λ n. open_of after n ≡ open_of clients n) same (here ∙ ap (opened_by asks.client.request) is ∙ none_before ∙ sym free)
-          by false at = beside j (eqb-false j k at)
 
   -- one waits more
   taken : asks.answer ≡ Ok (next_id old.core.history) → new.core ≡ submitted old.core (k + 1) ask bytes → is_over old.core.power ≡ false → Hears first new after idle
   taken is same going = record {
-    waiting = λ j id has. by j id has (j == k) refl;
+    waiting = waits;
     later = subst (λ (d : Device). first.device.counts.waits ≤ d.counts.waits) (sym asks.shelf) so_far.later;
     on = λ goes. subst (λ (d : Device). RoseBy idle first.device.counts.waits d.counts.waits) (sym asks.shelf) (so_far.on going);
     over = λ ended. not_so (sym (ap (λ (c : Core). is_over c.power) same ∙ going) ∙ ended);
   }
-    where
-      behind_them : (client id : ℕ) → list_any (waits_for client id) new.core.requests ≡ (list_any (waits_for client id) old.core.requests || (((((k + 1) == client) && (next_id old.core.history == id)) && true) || false))
-      behind_them client id = ap (λ (c : Core). list_any (waits_for client id) c.requests) same ∙ list_any-append (waits_for client id) old.core.requests _
-
-      by : (j id : ℕ) → open_of after j ≡ Some id → (b : Bool) → (j == k) ≡ b → list_any (waits_for (j + 1) id) new.core.requests ≡ true
-      by j id has true at =
-          let it : j ≡ k = eqb-true j k at in
-          let e : Some (next_id old.core.history) ≡ Some id = sym (here ∙ ap (opened_by asks.client.request) is) ∙ subst (λ n. open_of after n ≡ Some id) it has in
-          let number : next_id old.core.history ≡ id = cc e in
-          behind_them (j + 1) id
-          ∙ ap (λ b. list_any (waits_for (j + 1) id) old.core.requests || (((b && (next_id old.core.history == id)) && true) || false)) (eq-eqb (k + 1) (j + 1) (omega (arith, it)))
-          ∙ ap (λ b. list_any (waits_for (j + 1) id) old.core.requests || ((b && true) || false)) (eq-eqb (next_id old.core.history) id number)
-          ∙ or_true (list_any (waits_for (j + 1) id) old.core.requests)
-      by j id has false at =
-          behind_them (j + 1) id
-          ∙ ap (λ b. b || (((((k + 1) == (j + 1)) && (next_id old.core.history == id)) && true) || false)) (so_far.waiting j id (sym (beside j (eqb-false j k at)) ∙ has))
 
   -- a client that has none open asks
   asks_hear : Hears first new after idle

@@ -27,19 +27,20 @@ module _ {X : Type 0} (p : X → Bool) (xs : List X) where
   counts_first from = record { so_far = omega arith; few = omega arith }
 
   module _ (from k n : ℕ) (so_far : Counts from k n) (x : X) (is : slice_get xs k ≡ Some x) where
-    pub counts_yes : p x ≡ true → Counts from (k + 1) (n + 1)
-    counts_yes found =
+    counts_by : (b : Bool) → p x ≡ b → Counts from (k + 1) (cond b (n + 1) n)
+    counts_by true found =
         let more = one_more k x is in
-        let one : cond (p x) 1 0 ≡ 1 = ap {B = ℕ} (λ b. cond b 1 0) found in
+        let one : ◌≡◌ {A = ℕ} (cond (p x) 1 0) 1 = ap {B = ℕ} (λ b. cond b 1 0) found in
         let before = so_far.so_far in
         record { so_far = omega (arith, more, one, before); few = omega (arith, so_far.few) }
-
-    pub counts_no : p x ≡ false → Counts from (k + 1) n
-    counts_no missed =
+    counts_by false missed =
         let more = one_more k x is in
-        let none : cond (p x) 1 0 ≡ 0 = ap {B = ℕ} (λ b. cond b 1 0) missed in
+        let none : ◌≡◌ {A = ℕ} (cond (p x) 1 0) 0 = ap {B = ℕ} (λ b. cond b 1 0) missed in
         let before = so_far.so_far in
         record { so_far = omega (arith, more, none, before); few = omega (arith, so_far.few) }
+
+    pub counts_next : Counts from (k + 1) (cond (p x) (n + 1) n)
+    counts_next = counts_by (p x) refl
 
   pub counts_all : (from k n : ℕ) → Counts from k n → length xs ≤ k → n ≡ count_by p (drop from xs)
   counts_all from k n so_far past = let before = so_far.so_far in omega (arith, before, none_more k past)

@@ -1,16 +1,22 @@
 -- Each client that has a request open has one in the table that waits.
-use Rattle.std.proofs.Common.{◌≡◌, ◌≤◌, ◌<◌, ◌+◌, ◌==◌, ◌&&◌, ◌||◌, ◌⊎◌, inl, inr, ⊎_elim, ℕ, zero, suc, Bool, true, false, List, [], ◌∷◌, length, Option, Some, None, slice_get, slice_set, refl, sym, ap, ◌∙◌, subst, arith}
-use Rattle.std.specs.Prelude.{MatchOption, is_none, position, set}
+use Rattle.std.proofs.Common.{◌≡◌, ◌≤◌, ◌<◌, ◌+◌, ◌==◌, ◌&&◌, ◌||◌, inl, inr, ⊎_elim, ℕ, zero, suc, Bool, true, false, List, [], ◌∷◌, length, Option, Some, None, slice_get, slice_set, refl, sym, ap, ◌∙◌, subst, arith}
+use Rattle.std.specs.Prelude.{Err, MatchOption, Ok, is_none, nat_lt, position, set}
 use Rattle.std.specs.List.{list_any}
 use Rattle.std.specs.Option.{option_map_or}
-use Rattle.std.proofs.lemmas.Bool.{cases_lt, eqb-true, eqb-false}
+use Rattle.std.proofs.lemmas.Bool.{cases_lt, eq-eqb, eqb-true, eqb-false, ltb-false, or_right}
 use Rattle.std.proofs.lemmas.List.{length-append}
+use Rattle.std.proofs.lemmas.List.Folds.{list_any-append}
 use Rattle.std.proofs.lemmas.List.Quantifiers.{position-Some}
 use Rattle.std.proofs.lemmas.Option.{get_or_from_slice_get, slice_get_past}
+use Rattle.rand_pcg.specs.Lcg.{Lcg}
 use Rattle.lvm_vol.specs.declared.entry.Outcome.{Outcome}
 use Rattle.lvm_vol.specs.declared.entry.Outcome.TheVariants as outcome
 use Rattle.lvm_vol.specs.Facts.{Fact}
+use Rattle.lvm_vol.specs.Log.{next_id}
+use Rattle.lvm_draws.specs.Draws.{draw_at}
+use Rattle.lvm_path.specs.declared.ask.Ask.{Ask}
 use Rattle.lvm_path.specs.Asks.{count_of}
+use Rattle.lvm_session.specs.declared.answers.AskFault.{AskFault}
 use Rattle.lvm_session.specs.declared.answers.Taken.{Taken}
 use Rattle.lvm_session.specs.declared.answers.Taken.TheVariants as taken
 use Rattle.lvm_session.specs.declared.answers.Turned.{Turned}
@@ -20,8 +26,9 @@ use Rattle.lvm_session.specs.declared.event.Event.TheVariants as event
 use Rattle.lvm_session.specs.declared.flown.Owner.{Owner}
 use Rattle.lvm_session.specs.declared.flown.Owner.TheVariants as owner
 use Rattle.lvm_session.specs.declared.open.Open.{Open}
-use Rattle.lvm_session.specs.Calls.{TakeAt, TakeGives, TakesLanded, is_asked, taken_as}
+use Rattle.lvm_session.specs.Calls.{TakeAt, TakeGives, TakesLanded, fault_by, fault_on, is_asked, submitted, taken_as}
 use Rattle.lvm_session.specs.Ends.{Ends, Learns}
+use Rattle.lvm_session.specs.Events.{Lands}
 use Rattle.lvm_session.specs.Judging.{is_running, is_waiting}
 use Rattle.lvm_session.specs.State.{Core, State}
 use Rattle.lvm_session.specs.Turns.{FinishMakes, Finishes, Makes, Moves, NoStart, OnMakes, TurnMakes, WasDark, WasOff, WasOn}
@@ -30,17 +37,11 @@ use Rattle.lvm_keeps.proofs.Small.{both}
 use Rattle.lvm_keeps_turn.specs.Turning.{is_last}
 use Rattle.lvm_turn_answers.proofs.Frames.{copy_stays, marked_stays, note_stays, status_stays}
 use Rattle.lvm_load.specs.declared.client.Client.{Client}
-use Rattle.lvm_load.specs.Weaving.{NextClient, NoClient, NoneOpen, Takes, TakesEach, TakesFor, Waits, open_of}
+use Rattle.lvm_load.specs.Requests.{ask_of, bytes_of, word_of}
+use Rattle.lvm_load.specs.Waiting.{AreWaiting, waits_for}
+use Rattle.lvm_load.specs.Weaving.{AsksDrawn, Names, NextClient, NoClient, NoneOpen, Takes, TakesEach, TakesFor, TakesWhere, Turns, Waits, Weaving, drew, fresh_clients, may_land, open_of, opened_by}
 
--- the request is this client's, and hasn't landed
-abbrev pub waits_for : ℕ → ℕ → Open → Bool
-waits_for client id o = is_asked client id o && is_waiting o
-
--- clients are numbered from 1, and their places from 0
-abbrev pub AreWaiting : Core → List Client → Type 0
-AreWaiting core clients = (k id : ℕ) → open_of clients k ≡ Some id → list_any (waits_for (k + 1) id) core.requests ≡ true
-
--- ---- a turn in which nothing lands
+-- ---- a turn
 
 abbrev pub SameWaiting : Core → Core → Type 0
 SameWaiting old new = (client id : ℕ) → list_any (waits_for client id) new.requests ≡ list_any (waits_for client id) old.requests
@@ -51,22 +52,20 @@ stay old new requests client id = ap (list_any (waits_for client id)) requests
 set_one : (old new : Core) (k : ℕ) (x y : Open) → slice_get old.requests k ≡ Some x → new.requests ≡ slice_set old.requests k y → ((client id : ℕ) → waits_for client id y ≡ waits_for client id x) → SameWaiting old new
 set_one old new k x y there set same client id = ap (list_any (waits_for client id)) set ∙ any_set (waits_for client id) old.requests k x y there (same client id)
 
--- the history has no more entries
-abbrev pub IsNoLonger : State → State → Type 0
-IsNoLonger old new = length new.core.history.facts ≤ length old.core.history.facts
+-- while the session goes on, all that waited wait still, or one of them lands
+pub data Goes (old new : State) : Type 0 where
+  Still : SameWaiting old.core new.core → Goes old new
+  One : (place : ℕ) (how : Outcome) → Lands old new place how → Goes old new
 
-event_keeps : (it : Event) (old new : State) → Makes it old new → IsNoLonger old new → SameWaiting old.core new.core
-event_keeps (event.Land place how) old new made short =
-    let facts : List Fact = old.core.history.facts in
-    let grew = ap (λ (s : State). length s.core.history.facts) made.is ∙ length-append facts _ in
-    absurd (omega (arith, grew, short))
-event_keeps (event.Admit place) old new made short = set_one old.core new.core place made.request _ made.there (ap (λ (s : State). s.core.requests) made.is) (λ client id. refl)
-event_keeps (event.Pin place) old new made short = set_one old.core new.core place made.request _ made.there (ap (λ (s : State). s.core.requests) made.is) (λ client id. refl)
-event_keeps event.StartStatus old new made short = stay old.core new.core (ap (λ (s : State). s.core.requests) made.is)
-event_keeps (event.StartNote place disk) old new made short = stay old.core new.core (ap (λ (s : State). s.core.requests) made.is)
-event_keeps (event.StartData place target) old new made short = set_one old.core new.core place made.its.request _ made.its.there (ap (λ (s : State). s.core.requests) made.is) (λ client id. refl)
-event_keeps event.ReadCopy old new made short = stay old.core new.core (ap (λ (s : State). s.core.requests) made.is)
-event_keeps event.WriteCopy old new made short = stay old.core new.core (ap (λ (s : State). s.core.requests) made.is)
+event_goes : (it : Event) (old new : State) → Makes it old new → Goes old new
+event_goes (event.Land place how) old new made = One place how made
+event_goes (event.Admit place) old new made = Still (set_one old.core new.core place made.request _ made.there (ap (λ (s : State). s.core.requests) made.is) (λ client id. refl))
+event_goes (event.Pin place) old new made = Still (set_one old.core new.core place made.request _ made.there (ap (λ (s : State). s.core.requests) made.is) (λ client id. refl))
+event_goes event.StartStatus old new made = Still (stay old.core new.core (ap (λ (s : State). s.core.requests) made.is))
+event_goes (event.StartNote place disk) old new made = Still (stay old.core new.core (ap (λ (s : State). s.core.requests) made.is))
+event_goes (event.StartData place target) old new made = Still (set_one old.core new.core place made.its.request _ made.its.there (ap (λ (s : State). s.core.requests) made.is) (λ client id. refl))
+event_goes event.ReadCopy old new made = Still (stay old.core new.core (ap (λ (s : State). s.core.requests) made.is))
+event_goes event.WriteCopy old new made = Still (stay old.core new.core (ap (λ (s : State). s.core.requests) made.is))
 
 end_keeps : (old new : State) (at : ℕ) → Ends old new at → SameWaiting old.core new.core
 end_keeps old new at it = by it.row.owner it.learns
@@ -84,16 +83,26 @@ finish_keeps old new turned.Idle goes (inr nothing) = stay old.core new.core (ap
 finish_keeps old new turned.Dark goes made = absurd (cc goes)
 finish_keeps old new turned.Off goes made = absurd (cc goes)
 
-on_keeps : (old new : State) (answer : Turned) → is_last answer ≡ false → IsNoLonger old new → OnMakes old new answer → SameWaiting old.core new.core
-on_keeps old new answer goes short (Moves it first made is) = event_keeps it old new made short
-on_keeps old new answer goes short (NoStart it first start dark is) = absurd (let e : true ≡ false = ap is_last (sym is) ∙ goes in cc e)
-on_keeps old new answer goes short (Finishes none made) = finish_keeps old new answer goes made
+on_goes : (old new : State) (answer : Turned) → is_last answer ≡ false → OnMakes old new answer → Goes old new
+on_goes old new answer goes (Moves it first made is) = event_goes it old new made
+on_goes old new answer goes (NoStart it first start dark is) = absurd (let e : true ≡ false = ap is_last (sym is) ∙ goes in cc e)
+on_goes old new answer goes (Finishes none made) = Still (finish_keeps old new answer goes made)
+
+pub turn_goes : (old new : State) (answer : Turned) → TurnMakes old new answer → is_last answer ≡ false → Goes old new
+turn_goes old new answer (WasDark dark is same) goes = Still (stay old.core new.core (ap (λ (s : State). s.core.requests) same))
+turn_goes old new answer (WasOff off is same) goes = Still (stay old.core new.core (ap (λ (s : State). s.core.requests) same))
+turn_goes old new answer (WasOn on made) goes = on_goes old new answer goes made
 
 -- where the history hasn't grown, and the session goes on, the same requests wait
-pub turn_keeps : (old new : State) (answer : Turned) → TurnMakes old new answer → is_last answer ≡ false → IsNoLonger old new → SameWaiting old.core new.core
-turn_keeps old new answer (WasDark dark is same) goes short = stay old.core new.core (ap (λ (s : State). s.core.requests) same)
-turn_keeps old new answer (WasOff off is same) goes short = stay old.core new.core (ap (λ (s : State). s.core.requests) same)
-turn_keeps old new answer (WasOn on made) goes short = on_keeps old new answer goes short made
+pub turn_keeps : (old new : State) (answer : Turned) → TurnMakes old new answer → is_last answer ≡ false → length new.core.history.facts ≤ length old.core.history.facts → SameWaiting old.core new.core
+turn_keeps old new answer made goes short = by (turn_goes old new answer made goes)
+  where
+    by : Goes old new → SameWaiting old.core new.core
+    by (Still same) = same
+    by (One place how lands) =
+        let facts : List Fact = old.core.history.facts in
+        let grew = ap (λ (s : State). length s.core.history.facts) lands.is ∙ length-append facts _ in
+        absurd (omega (arith, grew, short))
 
 -- ---- clients
 
@@ -102,6 +111,15 @@ open_here clients k c d there = ap (λ (m : Option Client). option_map_or (λ (x
 
 pub open_beside : (clients : List Client) (k j : ℕ) (c : Client) → (j ≡ k → ⊥) → open_of (set clients k c) j ≡ open_of clients j
 open_beside clients k j c other = ap (λ (m : Option Client). option_map_or (λ (x : Client). x.request) m None) (set_beside clients k j c other)
+
+none_open : (k : ℕ) (n : ℕ) → open_of (fresh_clients n) k ≡ None
+none_open k zero = refl
+none_open zero (suc n) = refl
+none_open (suc k) (suc n) = none_open k n
+
+-- one that has drawn nothing waits for nothing
+pub fresh_wait : (core : Core) (n : ℕ) → AreWaiting core (fresh_clients n)
+fresh_wait core n k id has = absurd (let e : ◌≡◌ {A = Option ℕ} None (Some id) = sym (none_open k n) ∙ has in cc e)
 
 -- ---- an answer that is taken
 
@@ -258,3 +276,82 @@ all_waiting first new clients after left k id has = ⊎_elim (λ less. left.own 
         let past : open_of clients k ≡ None = ap (λ (m : Option Client). option_map_or (λ (x : Client). x.request) m None) (slice_get_past clients k le) in
         let e : ◌≡◌ {A = Option ℕ} None (Some id) = sym past ∙ sym (left.others k le) ∙ has in
         cc e
+
+neither : (a b : Bool) → a || b ≡ false → (a ≡ false) × (b ≡ false)
+neither true b is = absurd (cc is)
+neither false b is = (refl, is)
+
+-- so behind a turn, whether what has landed is taken or nothing has
+pub behind_waits : (old mid new : State) (clients after : List Client) (answer : Turned) → AreWaiting old.core clients → TurnMakes old mid answer → (b : Bool) → may_land old mid answer ≡ b → TakesWhere b mid new clients after
+    → AreWaiting new.core after
+behind_waits old mid new clients after answer waiting made true may takes k id has = all_waiting mid new clients after (left_by_each mid clients (length clients) new after takes) k id has
+behind_waits old mid new clients after answer waiting made false may still k id has =
+    let no = neither (nat_lt (length old.core.history.facts) (length mid.core.history.facts)) (is_last answer) may in
+    let same = turn_keeps old mid answer made no.1 (ltb-false (length old.core.history.facts) (length mid.core.history.facts) no.0) in
+    ap (λ (s : State). list_any (waits_for (k + 1) id) s.core.requests) still.0 ∙ same (k + 1) id ∙ waiting k id (ap (λ (cs : List Client). open_of cs k) (sym still.1) ∙ has)
+
+pub turn_waits : (old new : State) (clients after : List Client) (idle idle1 : ℕ) → AreWaiting old.core clients → Turns old new clients after idle idle1 → AreWaiting new.core after
+turn_waits old new clients after idle idle1 waiting turns = behind_waits old turns.mid new clients after turns.answer waiting turns.made (may_land old turns.mid turns.answer) refl turns.takes
+
+-- ---- a request is drawn
+
+pub named_free : (first new : Weaving) (k : ℕ) → Names first new k → open_of new.clients k ≡ None
+named_free first new k names = ap (λ (w : Weaving). open_of w.clients k) names.is ∙ names.free
+
+module _ (lv blocks k : ℕ) (g : Lcg) (old new : State) (clients after : List Client) (more : Bool) (waiting : AreWaiting old.core clients) (free : open_of clients k ≡ None) (asks : AsksDrawn lv blocks k g old new clients after more) where
+  abbrev ask : Ask
+  ask = ask_of lv blocks (draw_at g)
+
+  abbrev bytes : Option (List ℕ)
+  bytes = bytes_of (word_of (k + 1) asks.client.offset) blocks (draw_at g)
+
+  here : open_of after k ≡ opened_by asks.client.request asks.answer
+  here = ap (λ (cs : List Client). open_of cs k) asks.after_is ∙ open_here clients k (drew asks.client (opened_by asks.client.request asks.answer)) asks.client asks.client_is
+
+  beside : (j : ℕ) → (j ≡ k → ⊥) → open_of after j ≡ open_of clients j
+  beside j other = ap (λ (cs : List Client). open_of cs j) asks.after_is ∙ open_beside clients k j (drew asks.client (opened_by asks.client.request asks.answer)) other
+
+  none_before : asks.client.request ≡ None
+  none_before = sym (ap (λ (m : Option Client). option_map_or (λ (c : Client). c.request) m None) asks.client_is) ∙ free
+
+  -- nothing changes
+  refused : (why : AskFault) → asks.answer ≡ Err why → new.core ≡ old.core → AreWaiting new.core after
+  refused why is same j id has = ap (λ (c : Core). list_any (waits_for (j + 1) id) c.requests) same ∙ waiting j id (sym unmoved ∙ has)
+    where
+      by : (b : Bool) → (j == k) ≡ b → open_of after j ≡ open_of clients j
+      by true at =
+          let it : k ≡ j = sym (eqb-true j k at) in
+          subst (λ n. open_of after n ≡ open_of clients n) it (here ∙ ap (opened_by asks.client.request) is ∙ none_before ∙ sym free)
+      by false at = beside j (eqb-false j k at)
+
+      unmoved : open_of after j ≡ open_of clients j
+      unmoved = by (j == k) refl
+
+  -- one waits more
+  taken_in : asks.answer ≡ Ok (next_id old.core.history) → new.core ≡ submitted old.core (k + 1) ask bytes → AreWaiting new.core after
+  taken_in is same j id has = by (j == k) refl
+    where
+      behind_them : list_any (waits_for (j + 1) id) new.core.requests ≡ (list_any (waits_for (j + 1) id) old.core.requests || (((((k + 1) == (j + 1)) && (next_id old.core.history == id)) && true) || false))
+      behind_them = ap (λ (c : Core). list_any (waits_for (j + 1) id) c.requests) same ∙ list_any-append (waits_for (j + 1) id) old.core.requests _
+
+      by : (b : Bool) → (j == k) ≡ b → list_any (waits_for (j + 1) id) new.core.requests ≡ true
+      by true at =
+          let it : j ≡ k = eqb-true j k at in
+          let e : Some (next_id old.core.history) ≡ Some id = sym (here ∙ ap (opened_by asks.client.request) is) ∙ subst (λ n. open_of after n ≡ Some id) it has in
+          let number : next_id old.core.history ≡ id = cc e in
+          behind_them
+          ∙ ap (λ b. list_any (waits_for (j + 1) id) old.core.requests || (((b && (next_id old.core.history == id)) && true) || false)) (eq-eqb (k + 1) (j + 1) (omega (arith, it)))
+          ∙ ap (λ b. list_any (waits_for (j + 1) id) old.core.requests || ((b && true) || false)) (eq-eqb (next_id old.core.history) id number)
+          ∙ or_right (list_any (waits_for (j + 1) id) old.core.requests) true refl
+      by false at =
+          behind_them
+          ∙ ap (λ b. b || (((((k + 1) == (j + 1)) && (next_id old.core.history == id)) && true) || false)) (waiting j id (sym (beside j (eqb-false j k at)) ∙ has))
+
+  -- a client that has none open asks
+  pub asks_wait : AreWaiting new.core after
+  asks_wait = by (fault_by old.core.power (fault_on old.core ask)) asks.submits
+    where
+      by : (m : Option AskFault) → MatchOption m ((asks.answer ≡ Ok (next_id old.core.history)) × (new.core ≡ submitted old.core (k + 1) ask bytes)) (λ (why : AskFault). (asks.answer ≡ Err why) × (new.core ≡ old.core))
+          → AreWaiting new.core after
+      by None took = taken_in took.0 took.1
+      by (Some why) not = refused why not.0 not.1

@@ -1,5 +1,6 @@
 //! Clients whose requests one thread submits, and whose answers it takes.
-ghost use Rattle.std.specs.Prelude.{◌≡◌, ◌≤◌, ◌<◌, ◌+◌, ◌-◌, ◌*◌, ◌^◌, ◌||◌, nat_lt, length, vec_capacity};
+ghost use Rattle.std.specs.Prelude.{◌≡◌, ◌≤◌, ◌<◌, ◌+◌, ◌-◌, ◌*◌, ◌^◌, ◌||◌, ◌==◌, false, nat_lt, length, vec_capacity};
+ghost use Rattle.std.specs.Option.{option_map_or};
 ghost use Rattle.lvm_session.specs.declared.open.Power.TheVariants as power;
 ghost use Rattle.lvm_session.specs.Left.{left_of};
 ghost use Rattle.lvm_session.specs.Sound.{IsSound};
@@ -7,6 +8,7 @@ ghost use Rattle.lvm_keeps_turn.specs.Turning.{is_last};
 ghost use Rattle.lvm_running.specs.Running.{RunsOn};
 ghost use Rattle.lvm_driver.specs.Answers.{state_of};
 ghost use Rattle.lvm_draws.specs.Draws.{after_draw};
+ghost use Rattle.lvm_load.specs.Waiting.{AreWaiting, AreWaitingBut, OthersWait, landed_by};
 ghost use Rattle.lvm_load.specs.Weaving.{AsksDrawn, TakesFor, TakesEach, Turns, goes_on, idle_after, turns_left};
 
 use crate::request::submit_drawn;
@@ -14,6 +16,7 @@ use lvm_disk::Shelf;
 use lvm_draws::draw_request;
 use lvm_driver::Driver;
 use lvm_session::{AskFault, Taken, Turned};
+use lvm_vol::Entry;
 use rand_pcg::Lcg64Xsh32;
 
 // Between the words of a client's requests.
@@ -50,6 +53,76 @@ fn take_landed<S: Shelf>(driver: &mut Driver<S>, clients: &mut [Client])
 {
     for k in 0..clients.len() as u32 {
         take(driver, clients, k);
+    }
+}
+
+// Whether a client has this request open.
+fn has_asked(client: &Client, id: u64) -> bool
+    ensures { result ≡ option_map_or (λ asked. asked == id) client.now.request false }
+{
+    match client.request {
+        None => false,
+        Some(asked) => asked == id,
+    }
+}
+
+// Takes the answer of a client's open request, where it is this one and has landed. Any other one waits.
+fn take_this<S: Shelf>(driver: &mut Driver<S>, clients: &mut [Client], k: u32, id: u64)
+    requires within { k < length clients.old }
+    requires few { length clients.old ≤ 64 }
+    requires waiting { AreWaitingBut id driver.old.1 clients.old }
+    ensures takes { TakesFor k (state_of S.device driver.old) (state_of S.device driver.new) clients.old clients.new }
+    ensures waiting { AreWaitingBut id driver.new.1 clients.new }
+    ensures runs { RunsOn (state_of S.device driver.old) (state_of S.device driver.new) }
+{
+    is_sound(driver);
+    if has_asked(&clients[k as usize], id) {
+        take(driver, clients, k);
+    }
+}
+
+// Takes the answer of this request where it has landed. All others wait.
+fn take_only<S: Shelf>(driver: &mut Driver<S>, clients: &mut [Client], id: u64)
+    requires few { length clients.old ≤ 64 }
+    requires waiting { AreWaitingBut id driver.old.1 clients.old }
+    ensures takes { TakesEach (state_of S.device driver.old) clients.old (length clients.old) (state_of S.device driver.new) clients.new }
+    ensures runs { RunsOn (state_of S.device driver.old) (state_of S.device driver.new) }
+{
+    for k in 0..clients.len() as u32 {
+        take_this(driver, clients, k, id);
+    }
+}
+
+// The request that landed by an entry.
+fn landed_by(entry: Entry) -> Option<u64>
+    ensures { result ≡ landed_by entry }
+{
+    match entry {
+        Entry::Landed { id, .. } => Some(id),
+        _ => None,
+    }
+}
+
+// Takes what has landed: where the session goes on, that is the one request of which the entry tells behind so many.
+fn take_behind<S: Shelf>(
+    driver: &mut Driver<S>,
+    clients: &mut [Client],
+    before: u32,
+    answer: Turned,
+)
+    requires few { length clients.old ≤ 64 }
+    requires grown { is_last answer ≡ false → before < length driver.old.1.history.facts }
+    requires waiting { is_last answer ≡ false → OthersWait before driver.old.1 clients.old }
+    ensures takes { TakesEach (state_of S.device driver.old) clients.old (length clients.old) (state_of S.device driver.new) clients.new }
+    ensures runs { RunsOn (state_of S.device driver.old) (state_of S.device driver.new) }
+{
+    if is_last(answer) {
+        take_landed(driver, clients);
+        return;
+    }
+    match landed_by(driver.history().entry(before)) {
+        None => take_landed(driver, clients),
+        Some(id) => take_only(driver, clients, id),
     }
 }
 
@@ -93,6 +166,7 @@ pub(crate) fn turn<S: Shelf>(driver: &mut Driver<S>, clients: &mut [Client], idl
     requires unstuck { driver.old.1.power ≡ power.Stuck → ⊥ }
     requires few { length clients.old ≤ 64 }
     requires patient { idle.old < 1000000 }
+    requires waiting { AreWaiting driver.old.1 clients.old }
     ensures turns { Turns (state_of S.device driver.old) (state_of S.device driver.new) clients.old clients.new idle.old idle.new }
     ensures less { turns_left driver.new.1 idle.new < turns_left driver.old.1 idle.old }
     ensures runs { RunsOn (state_of S.device driver.old) (state_of S.device driver.new) }
@@ -102,7 +176,7 @@ pub(crate) fn turn<S: Shelf>(driver: &mut Driver<S>, clients: &mut [Client], idl
     let answer = driver.turn();
     *idle = idle_after(answer, *idle);
     if may_land(before, driver.history().len(), answer) {
-        take_landed(driver, clients);
+        take_behind(driver, clients, before, answer);
     }
 }
 

@@ -7,6 +7,7 @@ ghost use Rattle.lvm_running.specs.Running.{RunsOn};
 ghost use Rattle.lvm_driver.specs.Answers.{state_of};
 ghost use Rattle.lvm_load.specs.Ends.{HasCauses};
 ghost use Rattle.lvm_load.specs.Totals.{entries_since, totals_of};
+ghost use Rattle.lvm_load.specs.Waiting.{AreWaiting};
 ghost use Rattle.lvm_load.specs.Weaving.{FinishesAll, NamesNext, DrawsAll, Weaves, first_weaving, has_open, weaving};
 
 use crate::client::{Client, ask, is_sound, turn};
@@ -46,9 +47,11 @@ fn next_client<S: Shelf>(
     requires unstuck { driver.old.1.power ≡ power.Stuck → ⊥ }
     requires few { (1 ≤ length clients.old) × (length clients.old ≤ 64) }
     requires patient { idle.old ≤ 1000000 }
+    requires waiting { AreWaiting driver.old.1 clients.old }
     ensures gives { NamesNext (weaving (state_of S.device driver.old) clients.old rng.old idle.old) (weaving (state_of S.device driver.new) clients.new rng.new idle.new) result }
     ensures runs { RunsOn (state_of S.device driver.old) (state_of S.device driver.new) }
     ensures patient { idle.new ≤ 1000000 }
+    ensures waiting { AreWaiting driver.new.1 clients.new }
 {
     while *idle < PATIENCE {
         let client = next_word(rng) % clients.len() as u32;
@@ -72,12 +75,12 @@ fn draw_all<S: Shelf>(
     bytes: &mut Vec<u8>,
 )
     requires unstuck { driver.old.1.power ≡ power.Stuck → ⊥ }
-    requires few { (1 ≤ length clients.old) × (length clients.old ≤ 64) }
+    requires clients { (1 ≤ length clients.old) × (length clients.old ≤ 64) × AreWaiting driver.old.1 clients.old }
     requires patient { idle.old ≤ 1000000 }
     requires some { 1 ≤ blocks }
     requires room { 131072 ≤ vec_capacity bytes.old }
     ensures draws { DrawsAll lv blocks requests (weaving (state_of S.device driver.old) clients.old rng.old idle.old) (weaving (state_of S.device driver.new) clients.new rng.new idle.new) }
-    ensures runs { (RunsOn (state_of S.device driver.old) (state_of S.device driver.new)) × (idle.new ≤ 1000000) }
+    ensures runs { RunsOn (state_of S.device driver.old) (state_of S.device driver.new) × (idle.new ≤ 1000000) × AreWaiting driver.new.1 clients.new }
     ensures room { 131072 ≤ vec_capacity bytes.new }
 {
     let mut drawn = 0;
@@ -104,6 +107,7 @@ fn finish<S: Shelf>(driver: &mut Driver<S>, clients: &mut [Client], idle: &mut u
     requires unstuck { driver.old.1.power ≡ power.Stuck → ⊥ }
     requires few { length clients.old ≤ 64 }
     requires patient { idle.old ≤ 1000000 }
+    requires waiting { AreWaiting driver.old.1 clients.old }
     ensures finishes { FinishesAll (state_of S.device driver.old) clients.old idle.old (state_of S.device driver.new) clients.new idle.new }
     ensures runs { RunsOn (state_of S.device driver.old) (state_of S.device driver.new) }
 {

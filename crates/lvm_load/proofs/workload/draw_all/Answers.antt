@@ -3,11 +3,17 @@ use Rattle.lvm_driver.specs.Answers.{state_of}
 use Rattle.lvm_running.proofs.Running.{runs_both}
 use Rattle.lvm_load.specs.Weaving.{Draws, NamesNext, NoneDrawn, OneDrawn, Unheard, weaving}
 use Rattle.lvm_load.proofs.Going.{and_then, at_first}
+use Rattle.lvm_load.proofs.Waiting.{asks_wait, named_free}
 use Rattle.lvm_load.proofs.Weaving.{none_of}
 use Rattle.lvm_load.proofs.workload.draw_all.Goals as goal
 
 pub loop-drawn-init : goal.loop-drawn-init
-loop-drawn-init g c = (NoneDrawn, at_first (state_of g.S.Shelf.device c.args.driver.now) c.requires.unstuck, c.requires.patient, omega arith, c.requires.room)
+loop-drawn-init g c = (NoneDrawn, at_first (state_of g.S.Shelf.device c.args.driver.now) c.requires.unstuck, c.requires.patient, omega arith, c.requires.room, c.requires.clients.2)
+
+pub ask-requires-clause-unstuck : goal.ask-requires-clause-unstuck
+ask-requires-clause-unstuck g c =
+    let device = g.S.Shelf.device in
+    (and_then (state_of device c.args.driver.now) (state_of device c.loop-drawn.driver) (state_of device c.next_client.new.driver) c.loop-drawn.invariant.1 c.next_client.ensures.runs).unstuck
 
 pub returns-in_default-clause-draws : goal.returns-in_default-clause-draws
 returns-in_default-clause-draws g c =
@@ -26,7 +32,7 @@ returns-in_default-clause-draws g c =
 pub returns-in_default-clause-runs : goal.returns-in_default-clause-runs
 returns-in_default-clause-runs g c =
     let device = g.S.Shelf.device in
-    (runs_both (state_of device c.args.driver.now) (state_of device c.loop-drawn.driver) (state_of device c.next_client.new.driver) c.loop-drawn.invariant.1.runs c.next_client.ensures.runs, c.next_client.ensures.patient)
+    (runs_both (state_of device c.args.driver.now) (state_of device c.loop-drawn.driver) (state_of device c.next_client.new.driver) c.loop-drawn.invariant.1.runs c.next_client.ensures.runs, c.next_client.ensures.patient, c.next_client.ensures.waiting)
 
 pub returns-then-not-ask-clause-draws : goal.returns-then-not-ask-clause-draws
 returns-then-not-ask-clause-draws g c =
@@ -46,7 +52,10 @@ returns-then-not-ask-clause-runs g c =
     let device = g.S.Shelf.device in
     let first = state_of device c.args.driver.now in
     let mid = state_of device c.next_client.new.driver in
-    (runs_both first mid (state_of device c.ask.new.driver) (runs_both first (state_of device c.loop-drawn.driver) mid c.loop-drawn.invariant.1.runs c.next_client.ensures.runs) c.ask.ensures.runs, c.next_client.ensures.patient)
+    let new = state_of device c.ask.new.driver in
+    let start = weaving (state_of device c.loop-drawn.driver) c.loop-drawn.clients c.loop-drawn.rng c.loop-drawn.idle in
+    let named = weaving mid c.next_client.new.clients c.next_client.new.rng c.next_client.new.idle in
+    (runs_both first mid new (runs_both first (state_of device c.loop-drawn.driver) mid c.loop-drawn.invariant.1.runs c.next_client.ensures.runs) c.ask.ensures.runs, c.next_client.ensures.patient, asks_wait c.args.lv c.args.blocks c.in-Some.client c.next_client.new.rng mid new c.next_client.new.clients c.ask.new.clients c.ask.result c.next_client.ensures.waiting (named_free start named c.in-Some.client c.in-Some.ensures.gives) c.ask.ensures.asks)
 
 pub loop-drawn-preserved : goal.loop-drawn-preserved
 loop-drawn-preserved g c =
@@ -56,6 +65,7 @@ loop-drawn-preserved g c =
     let mid = state_of device c.next_client.new.driver in
     let new = state_of device c.ask.new.driver in
     let named = weaving mid c.next_client.new.clients c.next_client.new.rng c.next_client.new.idle in
+    let start = weaving old c.loop-drawn.clients c.loop-drawn.rng c.loop-drawn.idle in
     let less = c.loop-drawn-test.true in (
       subst (λ (b : Bool). Draws c.args.lv c.args.blocks (weaving first c.args.clients.now c.args.rng.now c.args.idle.now) (c.loop-drawn.drawn + 1) b (weaving new c.ask.new.clients c.ask.new.rng c.next_client.new.idle)) c.if-not-ask.false
           (OneDrawn c.loop-drawn.invariant.0 named c.in-Some.client c.ask.result c.in-Some.ensures.gives c.ask.ensures.asks c.ask.ensures.rng refl),
@@ -63,4 +73,5 @@ loop-drawn-preserved g c =
       c.next_client.ensures.patient,
       omega (arith, less),
       c.ask.ensures.room,
+      asks_wait c.args.lv c.args.blocks c.in-Some.client c.next_client.new.rng mid new c.next_client.new.clients c.ask.new.clients c.ask.result c.next_client.ensures.waiting (named_free start named c.in-Some.client c.in-Some.ensures.gives) c.ask.ensures.asks,
     )

@@ -3,10 +3,11 @@ use Rattle.std.proofs.lemmas.Bool.{lt-leb}
 use Rattle.lvm_driver.specs.Answers.{state_of}
 use Rattle.lvm_load.specs.Weaving.{NoTurn, OneTurn}
 use Rattle.lvm_load.proofs.Going.{and_then, at_first, turn_bound}
+use Rattle.lvm_load.proofs.Waiting.{turn_waits}
 use Rattle.lvm_load.proofs.workload.finish.Goals as goal
 
 pub loop-driver-init : goal.loop-driver-init
-loop-driver-init g c = (NoTurn, at_first (state_of g.S.Shelf.device c.args.driver.now) c.requires.unstuck, c.requires.patient)
+loop-driver-init g c = (NoTurn, at_first (state_of g.S.Shelf.device c.args.driver.now) c.requires.unstuck, c.requires.patient, c.requires.waiting)
 
 pub loop-driver-preserved : goal.loop-driver-preserved
 loop-driver-preserved g c =
@@ -17,4 +18,5 @@ loop-driver-preserved g c =
       OneTurn c.loop-driver.invariant.0 (sym c.is_waiting.ensures ∙ c.loop-driver-test.true) (lt-leb 1000000 c.loop-driver.idle few) c.turn.ensures.turns,
       and_then (state_of device c.args.driver.now) old new c.loop-driver.invariant.1 c.turn.ensures.runs,
       turn_bound old new c.loop-driver.clients c.turn.new.clients c.loop-driver.idle c.turn.new.idle c.turn.ensures.turns few,
+      turn_waits old new c.loop-driver.clients c.turn.new.clients c.loop-driver.idle c.turn.new.idle c.loop-driver.invariant.3 c.turn.ensures.turns,
     )

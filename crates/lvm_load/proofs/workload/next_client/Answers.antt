@@ -5,11 +5,12 @@ use Rattle.rand_pcg.specs.Lcg.{Lcg}
 use Rattle.lvm_driver.specs.Answers.{state_of}
 use Rattle.lvm_load.specs.Weaving.{NoWord, OneWord, open_of, weaving}
 use Rattle.lvm_load.proofs.Going.{and_then, at_first, turn_bound}
+use Rattle.lvm_load.proofs.Waiting.{turn_waits}
 use Rattle.lvm_load.proofs.Weaving.{none_is, open_there, some_of}
 use Rattle.lvm_load.proofs.workload.next_client.Goals as goal
 
 pub loop-idle-init : goal.loop-idle-init
-loop-idle-init g c = (NoWord, at_first (state_of g.S.Shelf.device c.args.driver.now) c.requires.unstuck, c.requires.patient)
+loop-idle-init g c = (NoWord, at_first (state_of g.S.Shelf.device c.args.driver.now) c.requires.unstuck, c.requires.patient, c.requires.waiting)
 
 pub returns-then-is_none-clause-gives : goal.returns-then-is_none-clause-gives
 returns-then-is_none-clause-gives g c =
@@ -48,4 +49,5 @@ loop-idle-preserved g c =
       }),
       and_then (state_of device c.args.driver.now) old new c.loop-idle.invariant.1 c.turn.ensures.runs,
       turn_bound old new clients c.turn.new.clients c.loop-idle.idle c.turn.new.idle c.turn.ensures.turns few,
+      turn_waits old new clients c.turn.new.clients c.loop-idle.idle c.turn.new.idle c.loop-idle.invariant.3 c.turn.ensures.turns,
     )

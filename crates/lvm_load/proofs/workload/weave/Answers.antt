@@ -1,5 +1,5 @@
-use Rattle.std.proofs.Common.{ℕ, List, length, ◌∙◌, ap, ap₂, subst}
-use Rattle.std.proofs.lemmas.List.{take-replicate}
+use Rattle.std.proofs.Common.{ℕ, ◌≤◌, List, length, sym, ◌∙◌, ap, ap₂, subst, arith}
+use Rattle.std.proofs.lemmas.List.{length-replicate, take-replicate}
 use Rattle.rand_pcg.specs.Lcg.{Lcg}
 use Rattle.lvm_driver.specs.Answers.{state_of}
 use Rattle.lvm_running.proofs.Running.{runs_both}
@@ -7,8 +7,18 @@ use Rattle.lvm_load.specs.declared.client.Client.{Client}
 use Rattle.lvm_vol.specs.Log.{Log}
 use Rattle.lvm_load.specs.Totals.{entries_since, totals_of}
 use Rattle.lvm_load.specs.Weaving.{DrawsAll, Weaving, fresh_client, weaving}
+use Rattle.lvm_load.specs.Waiting.{AreWaiting}
 use Rattle.lvm_load.proofs.Causes.{has_causes}
+use Rattle.lvm_load.proofs.Waiting.{fresh_wait}
 use Rattle.lvm_load.proofs.workload.weave.Goals as goal
+
+pub draw_all-requires-clause-clients : goal.draw_all-requires-clause-clients
+draw_all-requires-clause-clients g c =
+    let n = c.args.workload.now.clients in
+    let core = c.args.driver.now.1 in
+    let long = length-replicate n fresh_client in
+    subst (λ (clients : List Client). (1 ≤ length clients) × (length clients ≤ 64) × AreWaiting core clients) (sym (take-replicate n 64 fresh_client c.requires.some.1))
+    (omega (arith, long, c.requires.some.0), omega (arith, long, c.requires.some.1), fresh_wait core n)
 
 pub returns-clause-weaves : goal.returns-clause-weaves
 returns-clause-weaves g c =
