@@ -48,24 +48,8 @@ facts_of run asks blocks rows = map (fact_of run asks blocks) rows
 
 abbrev pub is_landing : ℕ → Row → Bool
 is_landing id (row.Landed landed how started) = landed == id
-is_landing id (row.Making lv size mode) = false
-is_landing id (row.Made lv) = false
-is_landing id (row.Split from lv) = false
-is_landing id (row.Removing vol) = false
-is_landing id (row.Removed vol) = false
-is_landing id (row.Begun begun) = false
-is_landing id (row.Taken client taken) = false
-is_landing id row.Cut = false
-is_landing id (row.On moment) = false
+is_landing id _ = false
 
 abbrev pub is_taking : ℕ → Row → Bool
 is_taking id (row.Taken client taken) = taken == id
-is_taking id (row.Making lv size mode) = false
-is_taking id (row.Made lv) = false
-is_taking id (row.Split from lv) = false
-is_taking id (row.Removing vol) = false
-is_taking id (row.Removed vol) = false
-is_taking id (row.Begun begun) = false
-is_taking id (row.Landed landed how started) = false
-is_taking id row.Cut = false
-is_taking id (row.On moment) = false
+is_taking id _ = false

@@ -199,15 +199,7 @@ three_needed (f ∷ facts) = let rest = three_needed facts in let more = sum_by-
   where
     by_fact : (g : Fact) → 3 * length (begun facts) ≤ needed facts → needed (g ∷ facts) ≡ need g + needed facts → 3 * length (begun (g ∷ facts)) ≤ needed (g ∷ facts)
     by_fact (Begun r) rest more = omega (arith, rest, more)
-    by_fact (Landed r how started got) rest more = omega (arith, rest, more)
-    by_fact (Taken r) rest more = omega (arith, rest, more)
-    by_fact (Making lv blocks m) rest more = omega (arith, rest, more)
-    by_fact (Made lv) rest more = omega (arith, rest, more)
-    by_fact (Split from lv) rest more = omega (arith, rest, more)
-    by_fact (Removing vol) rest more = omega (arith, rest, more)
-    by_fact (Removed vol) rest more = omega (arith, rest, more)
-    by_fact Cut rest more = omega (arith, rest, more)
-    by_fact (On moment) rest more = omega (arith, rest, more)
+    by_fact _ rest more = omega (arith, rest, more)
 
 -- a request is found by its number
 pub find_at : (n : ℕ) (rs : List Request) (r : Request) → IdsFrom n rs → Stands r rs → find (has_id r.id) rs ≡ Some r

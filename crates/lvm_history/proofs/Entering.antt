@@ -272,39 +272,15 @@ taken_room k log client id sound shows answered =
 -- an entry that is pushed, and a Cut
 plain_follows : (e : Entry) (run : ℕ) (past : List Fact) → Follows run past (plain_fact e)
 plain_follows (entry.Making lv blocks mode) run past = tt
-plain_follows (entry.Made lv) run past = tt
-plain_follows (entry.Split from lv) run past = tt
-plain_follows (entry.Removing vol) run past = tt
-plain_follows (entry.Removed vol) run past = tt
-plain_follows (entry.On moment) run past = tt
-plain_follows (entry.Begun client id vol at count write place) run past = tt
-plain_follows (entry.Landed id how started) run past = tt
-plain_follows (entry.Taken client id) run past = tt
-plain_follows entry.Cut run past = tt
+plain_follows _ run past = tt
 
 plain_quiet : (e : Entry) → IsQuiet (plain_fact e)
 plain_quiet (entry.Making lv blocks mode) = record { begins = refl; gets = λ n. refl }
-plain_quiet (entry.Made lv) = record { begins = refl; gets = λ n. refl }
-plain_quiet (entry.Split from lv) = record { begins = refl; gets = λ n. refl }
-plain_quiet (entry.Removing vol) = record { begins = refl; gets = λ n. refl }
-plain_quiet (entry.Removed vol) = record { begins = refl; gets = λ n. refl }
-plain_quiet (entry.On moment) = record { begins = refl; gets = λ n. refl }
-plain_quiet (entry.Begun client id vol at count write place) = record { begins = refl; gets = λ n. refl }
-plain_quiet (entry.Landed id how started) = record { begins = refl; gets = λ n. refl }
-plain_quiet (entry.Taken client id) = record { begins = refl; gets = λ n. refl }
-plain_quiet entry.Cut = record { begins = refl; gets = λ n. refl }
+plain_quiet _ = record { begins = refl; gets = λ n. refl }
 
 plain_need : (e : Entry) → need (plain_fact e) ≡ 1
 plain_need (entry.Making lv blocks mode) = refl
-plain_need (entry.Made lv) = refl
-plain_need (entry.Split from lv) = refl
-plain_need (entry.Removing vol) = refl
-plain_need (entry.Removed vol) = refl
-plain_need (entry.On moment) = refl
-plain_need (entry.Begun client id vol at count write place) = refl
-plain_need (entry.Landed id how started) = refl
-plain_need (entry.Taken client id) = refl
-plain_need entry.Cut = refl
+plain_need _ = refl
 
 if_uncut_le : (b : Bool) → if_uncut b ≤ 1
 if_uncut_le true = omega arith
@@ -661,15 +637,7 @@ row_landing id (f ∷ facts) = ap (λ (t : Bool). t || list_any (is_landing id) 
   where
     one : (g : Fact) → is_landing id (row_of g) ≡ lands_id id g
     one (Landed r how started got) = refl
-    one (Begun r) = refl
-    one (Taken r) = refl
-    one (Making lv blocks m) = refl
-    one (Made lv) = refl
-    one (Split from lv) = refl
-    one (Removing vol) = refl
-    one (Removed vol) = refl
-    one Cut = refl
-    one (On moment) = refl
+    one _ = refl
 
 row_taking : (id : ℕ) (facts : List Fact) → list_any (is_taking id) (map row_of facts) ≡ list_any (takes_id id) facts
 row_taking id [] = refl
@@ -677,15 +645,7 @@ row_taking id (f ∷ facts) = ap (λ (t : Bool). t || list_any (is_taking id) (m
   where
     one : (g : Fact) → is_taking id (row_of g) ≡ takes_id id g
     one (Landed r how started got) = refl
-    one (Begun r) = refl
-    one (Taken r) = refl
-    one (Making lv blocks m) = refl
-    one (Made lv) = refl
-    one (Split from lv) = refl
-    one (Removing vol) = refl
-    one (Removed vol) = refl
-    one Cut = refl
-    one (On moment) = refl
+    one _ = refl
 
 pub landing_kept : (k : Kept) (log : Log) (id : ℕ) → IsSound k → log_of k ≡ log → list_any (is_landing id) k.rows ≡ list_any (lands_id id) log.facts
 landing_kept k log id sound shows = ap (λ (l : List Row). list_any (is_landing id) l) sound.its_own.its_rows ∙ row_landing id (log_of k).facts ∙ ap (λ (x : Log). list_any (lands_id id) x.facts) shows

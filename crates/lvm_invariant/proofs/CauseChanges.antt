@@ -67,15 +67,7 @@ module _ (w : Faults) (now : ℕ → ℕ) (place : Option ℕ) (rises : (d : ℕ
 
     fact_stays : (f : Fact) → FactIsCaused w s f → FactIsCaused after new f
     fact_stays (Landed q how started got) h = landing_stays q how h
-    fact_stays (Making lv blocks mode) h = tt
-    fact_stays (Made lv) h = tt
-    fact_stays (Split from lv) h = tt
-    fact_stays (Removing vol) h = tt
-    fact_stays (Removed vol) h = tt
-    fact_stays (Begun q) h = tt
-    fact_stays (Taken q) h = tt
-    fact_stays Cut h = tt
-    fact_stays (On moment) h = tt
+    fact_stays _ h = tt
 
     since_then : Since after new new.facts
     since_then =

@@ -28,15 +28,7 @@ LandingIsCaused w s q outcome.Dark = Unit {0}
 
 abbrev pub FactIsCaused : Faults → ModelState → Fact → Type 0
 FactIsCaused w s (Landed q how started got) = LandingIsCaused w s q how
-FactIsCaused w s (Making lv blocks mode) = Unit {0}
-FactIsCaused w s (Made lv) = Unit {0}
-FactIsCaused w s (Split from lv) = Unit {0}
-FactIsCaused w s (Removing vol) = Unit {0}
-FactIsCaused w s (Removed vol) = Unit {0}
-FactIsCaused w s (Begun q) = Unit {0}
-FactIsCaused w s (Taken q) = Unit {0}
-FactIsCaused w s Cut = Unit {0}
-FactIsCaused w s (On moment) = Unit {0}
+FactIsCaused w s _ = Unit {0}
 
 -- what the history tells since the session began has its causes
 pub record Since (w : Faults) (s : ModelState) (facts : List Fact) : Type 0 where

@@ -21,11 +21,8 @@ pub record IsUnlanded (s : ModelState) (i : ℕ) : Type 0 where
   pub unlanded : IsFalse (has_landed req.phase)
 
 abbrev pub is_going : ModelPhase → Bool
-is_going Held = false
-is_going WantEntry = false
-is_going Ready = false
 is_going Going = true
-is_going Landed = false
+is_going _ = false
 
 -- the places of the requests that are open, and which of them have started
 pub record AreOpen (s : ModelState) (places : List ℕ) (started : ℕ → Bool) : Type 0 where

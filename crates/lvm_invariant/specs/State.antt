@@ -118,17 +118,11 @@ request_of s i = s.name i
 
 abbrev pub is_held : ModelPhase → Bool
 is_held Held = true
-is_held WantEntry = false
-is_held Ready = false
-is_held Going = false
-is_held Landed = false
+is_held _ = false
 
 abbrev pub has_landed : ModelPhase → Bool
-has_landed Held = false
-has_landed WantEntry = false
-has_landed Ready = false
-has_landed Going = false
 has_landed Landed = true
+has_landed _ = false
 
 abbrev pub is_past : ModelPhase → Bool
 is_past p = not (is_held p) && not (has_landed p)

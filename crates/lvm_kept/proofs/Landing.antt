@@ -65,15 +65,7 @@ land_other past (Landed s how started got) r low fits above = both (r.run == s.r
     both true true h = absurd (h refl refl)
     both true false h = refl
     both false b h = refl
-land_other past (Begun s) r low fits above = refl
-land_other past (Taken s) r low fits above = refl
-land_other past Cut r low fits above = refl
-land_other past (On m) r low fits above = refl
-land_other past (Making lv blocks m) r low fits above = refl
-land_other past (Made lv) r low fits above = refl
-land_other past (Split from lv) r low fits above = refl
-land_other past (Removing v) r low fits above = refl
-land_other past (Removed v) r low fits above = refl
+land_other past _ r low fits above = refl
 
 module _ (r : Request) where
   grows : (past : List Fact) (f : Fact) → count_by (begins_in r.run) (past ++ f ∷ []) < r.id → count_by (begins_in r.run) past < r.id
@@ -111,15 +103,7 @@ take_other past (Taken s) r legal fits above = both (r.run == s.run) (r.id == s.
     both true true h = absurd (h refl refl)
     both true false h = refl
     both false b h = refl
-take_other past (Landed s how started got) r legal fits above = refl
-take_other past (Begun s) r legal fits above = refl
-take_other past Cut r legal fits above = refl
-take_other past (On m) r legal fits above = refl
-take_other past (Making lv blocks m) r legal fits above = refl
-take_other past (Made lv) r legal fits above = refl
-take_other past (Split from lv) r legal fits above = refl
-take_other past (Removing v) r legal fits above = refl
-take_other past (Removed v) r legal fits above = refl
+take_other past _ r legal fits above = refl
 
 append_none : (l : List Fact) → l ++ [] ≡ l
 append_none [] = refl

@@ -142,11 +142,8 @@ ArrangesAsTold old new (arrange.Cut word) =
 
 -- the act delays nothing
 abbrev pub IsPromptAct : Act → Type 0
-IsPromptAct (Fail disk) = Unit {0}
-IsPromptAct (Heal disk) = Unit {0}
-IsPromptAct (Cut word) = Unit {0}
-IsPromptAct (Pick word) = Unit {0}
 IsPromptAct (Delay reaps) = reaps ≡ 0
+IsPromptAct _ = Unit {0}
 
 -- no flight is passed over, and the plan delays none
 pub record IsPrompt (bench : Bench) : Type 0 where

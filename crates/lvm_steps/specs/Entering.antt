@@ -28,16 +28,8 @@ QuietGoesOn = (run : ℕ) (first : Moment) (device : Device) (facts : List Fact)
 
 -- the entry opens no write: only the beginning of one does
 abbrev pub OpensNone : Fact → Type 0
-OpensNone (Removing vol) = Unit {0}
-OpensNone (Removed vol) = Unit {0}
-OpensNone (Taken r) = Unit {0}
-OpensNone (On moment) = Unit {0}
-OpensNone Cut = Unit {0}
-OpensNone (Making lv blocks mode) = Unit {0}
-OpensNone (Made lv) = Unit {0}
-OpensNone (Split from lv) = Unit {0}
 OpensNone (Begun r) = IsFalse r.write
-OpensNone (Landed r how started got) = Unit {0}
+OpensNone _ = Unit {0}
 
 -- After such an entry no write is open where none was.
 abbrev pub CalmGoesOn : Type 0

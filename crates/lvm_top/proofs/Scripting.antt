@@ -96,24 +96,14 @@ said_few answer said (inl same) = subst (λ (r : Reply). refusals_of r ≤ most_
   where
     its : (r : Reply) → refusals_of r ≤ most_refusals r
     its reply.Silent = omega arith
-    its reply.Ok = omega arith
-    its reply.Posted = omega arith
-    its (reply.Stepped turns) = omega arith
-    its (reply.Synced made) = omega arith
-    its (reply.Lines text) = omega arith
-    its (reply.Answers text refused) = omega arith
-    its (reply.Refused why) = omega arith
+    its _ = omega arith
 said_few answer said (inr (late, is)) = subst (λ (r : Reply). refusals_of r ≤ most_refusals answer) (sym is) (one answer late)
   where
     one : (r : Reply) → IsTrue (is_made_late r) → 1 ≤ most_refusals r
     one (reply.Stepped turns) late = omega arith
     one (reply.Synced made) late = omega arith
     one (reply.Refused why) late = omega arith
-    one reply.Silent late = absurd (cc (late))
-    one reply.Ok late = absurd (cc (late))
-    one reply.Posted late = absurd (cc (late))
-    one (reply.Lines text) late = absurd (cc (late))
-    one (reply.Answers text refused) late = absurd (cc (late))
+    one _ late = absurd (cc (late))
 
 -- one line more refuses as many lines more as posts go with it, and one
 pub one_more : (refused refused' lines_done posts posts' : ℕ) (answer said : Reply) → Says answer said → refused' ≡ refused + refusals_of said → most_refusals answer + posts' ≤ posts + 1 → refused + posts ≤ lines_done → refused' + posts' ≤ lines_done + 1

@@ -88,15 +88,7 @@ taking_landed past (Taken s) r fits is = by_name (same_name r s is)
       where
         alike : (l : List Fact) → list_any (lands r) l ≡ list_any (lands s) l
         alike l = ap (λ (n : ℕ). list_any (lands (record r { run = n })) l) names.0 ∙ ap (λ (n : ℕ). list_any (lands (record r { run = s.run; id = n })) l) names.1
-taking_landed past (Making lv blocks m) r fits is = absurd (let e : ◌≡◌ {A = Bool} false true = is in cc)
-taking_landed past (Made lv) r fits is = absurd (let e : ◌≡◌ {A = Bool} false true = is in cc)
-taking_landed past (Split from lv) r fits is = absurd (let e : ◌≡◌ {A = Bool} false true = is in cc)
-taking_landed past (Removing vol) r fits is = absurd (let e : ◌≡◌ {A = Bool} false true = is in cc)
-taking_landed past (Removed vol) r fits is = absurd (let e : ◌≡◌ {A = Bool} false true = is in cc)
-taking_landed past (Begun s) r fits is = absurd (let e : ◌≡◌ {A = Bool} false true = is in cc)
-taking_landed past (Landed s how started got) r fits is = absurd (let e : ◌≡◌ {A = Bool} false true = is in cc)
-taking_landed past Cut r fits is = absurd (let e : ◌≡◌ {A = Bool} false true = is in cc)
-taking_landed past (On moment) r fits is = absurd (let e : ◌≡◌ {A = Bool} false true = is in cc)
+taking_landed past _ r fits is = absurd (let e : ◌≡◌ {A = Bool} false true = is in cc)
 
 or_left : (a b : Bool) → a ≡ true → (a || b) ≡ true
 or_left a b is = ap (λ (t : Bool). t || b) is
@@ -251,30 +243,14 @@ by_number r (Landed s how started got) is = let names = same_name r s is in ap (
   where
     equal : (n : ℕ) → (n == n) ≡ true
     equal n = grind (arith, nat_tests)
-by_number r (Making lv blocks m) is = is
-by_number r (Made lv) is = is
-by_number r (Split from lv) is = is
-by_number r (Removing vol) is = is
-by_number r (Removed vol) is = is
-by_number r (Begun s) is = is
-by_number r (Taken s) is = is
-by_number r Cut is = is
-by_number r (On moment) is = is
+by_number r _ is = is
 
 taken_by_number : (r : Request) (f : Fact) → takes r f ≡ true → takes_id r.id f ≡ true
 taken_by_number r (Taken s) is = let names = same_name r s is in ap (λ (n : ℕ). s.id == n) names.1 ∙ equal s.id
   where
     equal : (n : ℕ) → (n == n) ≡ true
     equal n = grind (arith, nat_tests)
-taken_by_number r (Making lv blocks m) is = is
-taken_by_number r (Made lv) is = is
-taken_by_number r (Split from lv) is = is
-taken_by_number r (Removing vol) is = is
-taken_by_number r (Removed vol) is = is
-taken_by_number r (Begun s) is = is
-taken_by_number r (Landed s how started got) is = is
-taken_by_number r Cut is = is
-taken_by_number r (On moment) is = is
+taken_by_number r _ is = is
 
 by_name : (run : ℕ) (facts : List Fact) (r : Request) → IsNumbered run facts → r.run ≡ run → (f : Fact) → Stands f facts → lands_id r.id f ≡ true → lands r f ≡ true
 by_name run facts r q own (Landed s how started got) there is =

@@ -104,15 +104,7 @@ got_none id (Landed r how started got) other = if_none (is_got how) (r.id == id)
     if_none true false got is = refl
     if_none false b got is = refl
     if_none true true got is = absurd (cc)
-got_none id (Making lv blocks m) other = refl
-got_none id (Made lv) other = refl
-got_none id (Split from lv) other = refl
-got_none id (Removing vol) other = refl
-got_none id (Removed vol) other = refl
-got_none id (Begun r) other = refl
-got_none id (Taken r) other = refl
-got_none id Cut other = refl
-got_none id (On moment) other = refl
+got_none id _ other = refl
 
 -- what hasn't landed has got nothing
 pub got_nothing : (id : ℕ) (facts : List Fact) → list_any (lands_id id) facts ≡ false → filter_map (got_by id) facts ≡ []
@@ -238,15 +230,7 @@ module _ (run : ℕ) where
 
   AnswerOf : List Fact → Fact → Type 0
   AnswerOf facts (Landed r how started got) = IsAnswer facts r how got
-  AnswerOf facts (Making lv blocks m) = Unit {0}
-  AnswerOf facts (Made lv) = Unit {0}
-  AnswerOf facts (Split from lv) = Unit {0}
-  AnswerOf facts (Removing vol) = Unit {0}
-  AnswerOf facts (Removed vol) = Unit {0}
-  AnswerOf facts (Begun r) = Unit {0}
-  AnswerOf facts (Taken r) = Unit {0}
-  AnswerOf facts Cut = Unit {0}
-  AnswerOf facts (On moment) = Unit {0}
+  AnswerOf facts _ = Unit {0}
 
   other_id : (a b : ℕ) (past : List Fact) → list_any (lands_id a) past ≡ false → list_any (lands_id b) past ≡ true → (a == b) ≡ false
   other_id a b past none some = elim_test (a == b) refl

@@ -12,14 +12,7 @@ pub record Told : Type 0 where
 abbrev pub is_own : ℕ → Fact → Bool
 is_own client (Begun r) = r.client == client
 is_own client (Taken r) = r.client == client
-is_own client (Making lv blocks mode) = false
-is_own client (Made lv) = false
-is_own client (Split from lv) = false
-is_own client (Removing vol) = false
-is_own client (Removed vol) = false
-is_own client (Landed r how started got) = false
-is_own client Cut = false
-is_own client (On moment) = false
+is_own client _ = false
 
 -- the client's own entries, in their order
 abbrev pub own : ℕ → List Fact → List Fact

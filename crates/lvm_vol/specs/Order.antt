@@ -18,13 +18,7 @@ abbrev pub Follows : ℕ → List Fact → Fact → Type 0
 Follows run past (Begun r) = (r.run ≡ run) × (r.id ≡ length (begun past) + 1) × IsWhole r
 Follows run past (Landed r how started got) = Stands (Begun r) past × (list_any (lands_id r.id) past ≡ false) × IsGotOf r how got
 Follows run past (Taken r) = Stands (Begun r) past × (list_any (lands_id r.id) past ≡ true) × (list_any (takes_id r.id) past ≡ false)
-Follows run past (Making lv size mode) = Unit {0}
-Follows run past (Made lv) = Unit {0}
-Follows run past (Split from lv) = Unit {0}
-Follows run past (Removing vol) = Unit {0}
-Follows run past (Removed vol) = Unit {0}
-Follows run past Cut = Unit {0}
-Follows run past (On moment) = Unit {0}
+Follows run past _ = Unit {0}
 
 abbrev pub Ordered : ℕ → List Fact → List Fact → Type 0
 Ordered run past [] = Unit {0}
