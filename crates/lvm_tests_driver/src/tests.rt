@@ -1,0 +1,6 @@
+mod copies;
+mod faults;
+mod ranges;
+mod requests;
+mod steps;
+mod waits;

@@ -1,0 +1,5 @@
+mod io;
+mod parse;
+mod show_listing;
+mod show_word;
+mod words;

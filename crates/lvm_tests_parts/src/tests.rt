@@ -1,0 +1,7 @@
+mod hold;
+mod mwc;
+mod path;
+mod pbuf;
+mod sched;
+mod stale;
+mod status;

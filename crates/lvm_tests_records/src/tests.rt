@@ -1,0 +1,6 @@
+mod map;
+mod num;
+mod rec;
+mod vgda;
+mod vgsa;
+mod word;
