@@ -7,7 +7,7 @@ use Rattle.std.proofs.lemmas.List.Sums.{fold_push}
 use Rattle.std.proofs.lemmas.List.Folds.{list_any-append}
 use Rattle.std.proofs.lemmas.Slice.Eq.{bytes_eq-Decides}
 use Rattle.std.proofs.lemmas.Bool.Decides.{nat_tests}
-use Rattle.std.proofs.lemmas.Bool.{eqb-true}
+use Rattle.std.proofs.lemmas.Bool.{eqb-true, or_parts}
 use Rattle.lvm_num.specs.Buffer.{Sector, zero_sector}
 use Rattle.lvm_vol.specs.declared.entry.Vol.{Vol}
 use Rattle.lvm_vol.specs.declared.entry.Vol.TheVariants.{Lv}
@@ -111,19 +111,11 @@ any_open p vol b (f ∷ facts) = opens (λ r. p r && not (list_any (closes vol b
 
 without_absent : (s : Request) (ws : List Request) → is_open_in s ws ≡ false → without s ws ≡ ws
 without_absent s [] none = refl
-without_absent s (w ∷ ws) none = by_test (same_request s w) refl (without_absent s ws (or_right (same_request s w) (is_open_in s ws) none))
+without_absent s (w ∷ ws) none = by_test (same_request s w) refl (without_absent s ws (or_parts (same_request s w) (is_open_in s ws) none).1)
   where
-    or_right : (a c : Bool) → (a || c) ≡ false → c ≡ false
-    or_right true c is = absurd (let e : ◌≡◌ {A = Bool} true false = is in cc)
-    or_right false c is = is
-
-    or_left : (a c : Bool) → (a || c) ≡ false → a ≡ false
-    or_left true c is = is
-    or_left false c is = refl
-
     by_test : (t : Bool) → same_request s w ≡ t → without s ws ≡ ws → without s (w ∷ ws) ≡ w ∷ ws
     by_test false is rest = ap (λ (t : Bool). cond (not t) (w ∷ without s ws) (without s ws)) is ∙ ap (λ (l : List Request). w ∷ l) rest
-    by_test true is rest = let e = or_left (same_request s w) (is_open_in s ws) none in absurd (cc)
+    by_test true is rest = let e = (or_parts (same_request s w) (is_open_in s ws) none).0 in absurd (cc)
 
 landed_open : (r : Request) (how : Outcome) (started : Bool) (x y : Sector) (k : Known) → (landed r how started x y k).open_writes ≡ cond r.write (without r k.open_writes) k.open_writes
 landed_open r how started x y k = by_tests r.write (is_open_in r k.open_writes) refl

@@ -26,9 +26,9 @@ use Rattle.lvm_commit.specs.Rounds.{CommitsRound, stamped, session_write, HowRec
 use Rattle.lvm_commit.proofs.Chaining.{Goes, goes_from, record_returns}
 use Rattle.lvm_commit.proofs.Round.{record_goes, quorum_lost, some_failed, failed_is_missing, was_there_on}
 use Rattle.lvm_commit.proofs.Ready.{spends_none}
-use Rattle.lvm_commit.proofs.Writes.{slot_two}
 use Rattle.lvm_commit.proofs.Holding.{with_told}
 use Rattle.lvm_commit.proofs.HoldingDescriptor.{descriptor_moment_kept, descriptor_moment_finds}
+use Rattle.lvm_write.proofs.Shows.{slot_two}
 
 module _ (first mid : Stored) (homes after : Homes) (old m : Device) (content : List ℕ) (number p q : ℕ) (r : CommitEnd)
     (gives : RecordGives (session_write kind.Descriptor content (stamped first) homes) number p q (stamped first) mid homes after old m r) where

@@ -15,6 +15,7 @@ use Rattle.lvm_num.specs.Descriptor.{IsValid, IsMember, IsPartitionOf, is_member
 use Rattle.lvm_num.specs.Status.{calls_stale, calls_missing, calls_dirty}
 use Rattle.lvm_num.specs.Buffer.{Buffer}
 use Rattle.lvm_num.specs.Votes.{all_disks, votes_in, is_enough_to_write, CanWrite}
+use Rattle.lvm_num.proofs.ListLemmas.{any_one}
 use Rattle.lvm_disk.specs.Device.{Device, image_of}
 use Rattle.lvm_kept.specs.Contents.{Contents, contents_of}
 use Rattle.lvm_kept.specs.Group.{passes, is_of, members_in, IsOneOf}
@@ -57,14 +58,6 @@ any_of failed (row ∷ rows) d among fails = by_test (row.disk == d) refl among 
         → failed row.disk || list_any (λ (r : PvRow). failed r.disk) rows ≡ true
     by_test true is among rest = front (failed row.disk) (list_any (λ (r : PvRow). failed r.disk) rows) (ap failed (eqb-true row.disk d is) ∙ fails)
     by_test false is among rest = behind (failed row.disk) (list_any (λ (r : PvRow). failed r.disk) rows) (rest among fails)
-
-some_one : (test : Pp → Bool) (xs : List Pp) → IsTrue (list_any test xs) → (x : Pp) × IsOneOf xs x × IsTrue (test x)
-some_one test [] is = absurd (false≢true is)
-some_one test (y ∷ ys) is = by_test (test y) refl (some_one test ys) is
-  where
-    by_test : (t : Bool) → test y ≡ t → (IsTrue (list_any test ys) → (x : Pp) × IsOneOf ys x × IsTrue (test x)) → IsTrue (t || list_any test ys) → (x : Pp) × IsOneOf (y ∷ ys) x × IsTrue (test x)
-    by_test true e further is = (y, inl refl, e)
-    by_test false e further is = let rest = further is in (rest.0, inr rest.1, rest.2)
 
 -- ---- what may be marked
 
@@ -217,7 +210,7 @@ module _ (d : Descriptor) (first last : Stored) (valid : IsValid d) (round : Mar
       → (q : Pp) × IsOneOf (copies_of row lp) q × IsFalse (calls_stale last.wanted q) × IsTrue (there last q.disk)
   other_of p left row lp volume copy =
       let place = one_place d row left.row lp left.left.lp p valid volume left.volume copy left.left.left.one in
-      let q = some_one (λ (r : Pp). there last r.disk && not (calls_stale last.wanted r)) (copies_of left.row left.left.lp) left.left.left.served in (
+      let q = any_one (λ (r : Pp). there last r.disk && not (calls_stale last.wanted r)) (copies_of left.row left.left.lp) left.left.left.served in (
         q.0,
         subst (λ (r : LvRow). IsOneOf (copies_of r lp) q.0) (sym place.row_is) (subst (λ (n : ℕ). IsOneOf (copies_of left.row n) q.0) (sym place.lp_is) q.1),
         not_false (calls_stale last.wanted q.0) (second (there last q.0.disk) (not (calls_stale last.wanted q.0)) q.2),

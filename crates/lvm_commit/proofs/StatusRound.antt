@@ -24,9 +24,9 @@ use Rattle.lvm_commit.specs.Settling.{there, MaySettle, IsOf, OnlyLoses, IsOfSta
 use Rattle.lvm_commit.specs.Rounds.{WasTried, HowRecord, RecordGives, stamped, session_write}
 use Rattle.lvm_commit.proofs.Chaining.{Goes, keeps_wider, record_returns, was_there}
 use Rattle.lvm_commit.proofs.Round.{record_goes, none_or_some, failed_is_missing}
-use Rattle.lvm_commit.proofs.Writes.{slot_two}
 use Rattle.lvm_commit.proofs.Holding.{with_told}
 use Rattle.lvm_commit.proofs.HoldingStatus.{status_moment_kept, status_moment_finds, status_holds}
+use Rattle.lvm_write.proofs.Shows.{slot_two}
 
 -- ---- whose sectors are written
 

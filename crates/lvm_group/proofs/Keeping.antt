@@ -2,7 +2,7 @@
 use Rattle.std.proofs.Common.{◌≡◌, ◌⊎◌, inl, inr, ⊎_elim, ℕ, ◌+◌, ◌*◌, ◌^◌, ◌<◌, ◌≤◌, Bool, true, false, ◌&&◌, not, List, [], ◌∷◌, ◌++◌, length, get_or, replicate, Option, Some, None, refl, sym, ap, subst, ◌∙◌, arith, length-append}
 use Rattle.std.specs.Prelude.{nat_lt, nat_le, flat_map, IsTrue, IsFalse}
 use Rattle.std.specs.Int.{w16, w64, to_be_bytes}
-use Rattle.std.proofs.lemmas.Bool.{eqb-true, eq-eqb}
+use Rattle.std.proofs.lemmas.Bool.{eqb-true, eq-eqb, and_from, lt-ltb, le-leb}
 use Rattle.std.proofs.lemmas.Bool.Decides.{nat_tests}
 use Rattle.std.proofs.lemmas.List.{length-map}
 use Rattle.lvm_num.specs.declared.record.Kind.TheVariants as kind
@@ -167,18 +167,7 @@ module _ (w : NewGroup) (device : Device) (homes : Homes) (its : IsBeginning w d
     image = image_of device.sizes media
 
     pub has_room_for : (d : ℕ) → among w.disks d ≡ true → has_records image d ≡ true
-    has_room_for d target = let room = room_among device.sizes (size_for device.sizes w.disks w.mib) w.disks its.there its.fit d target in both (nat_lt d (length device.sizes)) (nat_le data_start (sectors_on device.sizes d)) (is_lt d (length device.sizes) room.0) (is_le data_start (sectors_on device.sizes d) room.1)
-      where
-        both : (a b : Bool) → a ≡ true → b ≡ true → (a && b) ≡ true
-        both true true p q = refl
-        both true false p q = q
-        both false b p q = absurd cc
-
-        is_lt : (n m : ℕ) → n < m → nat_lt n m ≡ true
-        is_lt n m lt = grind (arith, nat_tests)
-
-        is_le : (n m : ℕ) → n ≤ m → nat_le n m ≡ true
-        is_le n m le = grind (arith, nat_tests)
+    has_room_for d target = let room = room_among device.sizes (size_for device.sizes w.disks w.mib) w.disks its.there its.fit d target in and_from (nat_lt d (length device.sizes)) (nat_le data_start (sectors_on device.sizes d)) (lt-ltb d (length device.sizes) room.0) (le-leb data_start (sectors_on device.sizes d) room.1)
 
     shown_before : ShowsEarlier (contents_of image) w.moment
     shown_before = told_by device.media (λ m. ShowsEarlier (contents_of (image_of device.sizes m)) w.moment) media told its.later

@@ -5,10 +5,7 @@ use Rattle.lvm_num.specs.declared.descriptor.LvRow.{LvRow}
 use Rattle.lvm_num.specs.declared.descriptor.Descriptor.{Descriptor}
 use Rattle.lvm_num.specs.Descriptor.{IsValid, IsVolume, most_volumes, volume_of}
 use Rattle.lvm_num.proofs.MapsLemmas.{find-Some}
-
-few_volumes : (big : Bool) → most_volumes big ≤ 511
-few_volumes true = omega arith
-few_volumes false = omega arith
+use Rattle.lvm_num.proofs.Bounds.{few_volumes}
 
 -- volumes are numbered from 1 to 511
 pub numbered : (d : Descriptor) (lv : ℕ) (row : LvRow) → IsValid d → volume_of d lv ≡ Some row → (1 ≤ lv) × (lv ≤ 511)

@@ -9,7 +9,6 @@ use Rattle.std.proofs.lemmas.List.Folds.{list_any_at}
 use Rattle.std.proofs.lemmas.List.Sums.{sum_by-cons, sum_by_more}
 use Rattle.lvm_num.specs.declared.descriptor.PvRow.{PvRow}
 use Rattle.lvm_num.specs.declared.descriptor.Descriptor.{Descriptor}
-use Rattle.lvm_num.specs.Descriptor.{most_members}
 use Rattle.lvm_num.specs.Disks.{Disks}
 use Rattle.lvm_num.specs.Votes.{votes_by, votes_of, votes_in, all_disks, total_votes, ShareMember, ReadMeetsWrite, ReadMeetsRead, WriteMeetsWrite, ReadIsWrite, MoreHaveMore, MoreIsEnough}
 
@@ -274,10 +273,6 @@ pub more_have_more : MoreHaveMore
 more_have_more d a b inside = more_among (votes_of d) d.pvs a b (λ k row lt h.
     let disk = (get_or d.pvs k row).disk in
     inside disk (list_any_at (λ (r : PvRow). r.disk == disk) d.pvs k row lt (eq-eqb disk disk refl)) h)
-
-pub few_members : (big : Bool) → most_members big ≤ 128
-few_members true = omega arith
-few_members false = omega arith
 
 -- all votes of few members, and of two that are even or of many
 pub total-few : (d : Descriptor) → 1 ≤ length d.pvs → length d.pvs < 3 → d.even ≡ false → AllPairs (λ (a b : PvRow). a.disk ≢ b.disk) d.pvs → total_votes d ≡ length d.pvs + 1

@@ -43,18 +43,6 @@ missed xs ys x place same all at =
     let here = searched xs x (Err place) (subst (λ (zs : List ℕ). IsBinarySearchResult (λ y. nat_cmp y x) zs (Err place)) same at) (never_falls xs all) in
     record { within = here.0; below = here.1; above = here.2 }
 
--- each number is above its place, so there are at most 511
-above_place : (xs : List ℕ) → AreDirty xs → (k : ℕ) → k < length xs → k < get_or xs k 0
-above_place xs all zero lt = omega (arith, (all.each 0 0 lt).least)
-above_place xs all (suc k) lt =
-    omega (arith, above_place xs all k (omega (arith, lt)), all.numbers_rise k (suc k) 0 (omega arith) lt)
-
-pub fits : (xs : List ℕ) → AreDirty xs → length xs ≤ 511
-fits xs all = elim (cases_lt 511 (length xs)) [
-  | inl many ↦ absurd (omega (arith, above_place xs all 511 many, (all.each 511 0 many).most))
-  | inr few ↦ few
-]
-
 -- ---- one more
 
 rise-insert : (xs : List ℕ) (x i : ℕ) → AreDirty xs → BelongsAt xs x i → (a b : ℕ) → a < b → b < length (insert xs i x) → get_or (insert xs i x) a 0 < get_or (insert xs i x) b 0

@@ -2,6 +2,7 @@
 use Rattle.std.proofs.Common.{◌≡◌, ◌⊎◌, inl, inr, ⊎_elim, ◌++◌, ◌≤◌, ◌+◌, ◌==◌, if◌then◌else◌, ℕ, List, [], length, Option, Some, None, Bool, true, false, refl, sym, ◌∙◌, ap, subst, arith}
 use Rattle.lvm_disk.specs.Device.{Device, IsReady}
 use Rattle.lvm_io.specs.Count.{Rose}
+use Rattle.lvm_io.proofs.Told.{told_same}
 use Rattle.lvm_vol.specs.Facts.{Fact}
 use Rattle.lvm_vol.specs.Log.{Log}
 use Rattle.lvm_stamps.specs.Behind.{IsBehind, IsAhead}
@@ -20,7 +21,7 @@ use Rattle.lvm_top.proofs.Firsts.{first_upheld}
 use Rattle.lvm_top.proofs.Concluding.{at_rest_still, concluded, entry_between, off_still, ran_ahead, run_upheld}
 use Rattle.lvm_top.proofs.Recovering.{varyon_recovers}
 use Rattle.lvm_top.proofs.Refusing.{run_causes}
-use Rattle.lvm_top.proofs.Scripting.{Ended, told_same, nothing_done, nothing_broken, nothing_heard, nothing_left, lines_ended}
+use Rattle.lvm_top.proofs.Scripting.{Ended, nothing_done, nothing_broken, nothing_heard, nothing_left, lines_ended}
 use Rattle.lvm_top.specs.Statuses.{status_of, at_end, IsAtEnd, GoesUntil}
 use Rattle.lvm_top.specs.declared.status.ExitStatus.{ExitStatus}
 use Rattle.lvm_top.specs.declared.status.ExitStatus.TheVariants as ended

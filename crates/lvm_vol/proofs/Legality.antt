@@ -5,7 +5,7 @@ use Rattle.std.proofs.lemmas.List.{append-nil}
 use Rattle.std.proofs.lemmas.List.Sums.{sum_by-append, sum_by-cons, sum_by_push}
 use Rattle.std.proofs.lemmas.List.Folds.{list_any-append}
 use Rattle.std.proofs.lemmas.Bool.Decides.{nat_tests}
-use Rattle.std.proofs.lemmas.Bool.{eqb-true}
+use Rattle.std.proofs.lemmas.Bool.{eqb-true, or_parts}
 use Rattle.lvm_vol.specs.declared.entry.Outcome.{Outcome}
 use Rattle.lvm_vol.specs.declared.entry.Vol.{Vol}
 use Rattle.lvm_vol.specs.Facts.{Request, Fact, Making, Made, Split, Removing, Removed, Begun, Landed, Taken, Cut, On, Stands, same_request, joined}
@@ -213,19 +213,11 @@ fits_begun past log client vol at count given none = ap (λ (n : ℕ). n + 1) (s
 
 any_fewer : (t u : Fact → Bool) (facts : List Fact) → ((f : Fact) → t f ≡ true → u f ≡ true) → list_any u facts ≡ false → list_any t facts ≡ false
 any_fewer t u [] implies none = refl
-any_fewer t u (f ∷ facts) implies none = by_test (t f) refl (any_fewer t u facts implies (or_right (u f) (list_any u facts) none))
+any_fewer t u (f ∷ facts) implies none = by_test (t f) refl (any_fewer t u facts implies (or_parts (u f) (list_any u facts) none).1)
   where
-    or_right : (a b : Bool) → (a || b) ≡ false → b ≡ false
-    or_right true b is = absurd (let e : ◌≡◌ {A = Bool} true false = is in cc)
-    or_right false b is = is
-
-    or_first : (a b : Bool) → (a || b) ≡ false → a ≡ false
-    or_first true b is = is
-    or_first false b is = refl
-
     by_test : (b : Bool) → t f ≡ b → list_any t facts ≡ false → list_any t (f ∷ facts) ≡ false
     by_test false is rest = ap (λ (c : Bool). c || list_any t facts) is ∙ rest
-    by_test true is rest = let e = implies f is in let d = or_first (u f) (list_any u facts) none in absurd (cc)
+    by_test true is rest = let e = implies f is in let d = (or_parts (u f) (list_any u facts) none).0 in absurd (cc)
 
 any_more : (t u : Fact → Bool) (facts : List Fact) → ((f : Fact) → Stands f facts → u f ≡ true → t f ≡ true) → list_any u facts ≡ true → list_any t facts ≡ true
 any_more t u [] implies some = some

@@ -1,5 +1,5 @@
 -- What the disks show while a record is written to them, and afterwards.
-use Rattle.std.proofs.Common.{◌≡◌, ◌<◌, Bool, true, false, Option, Some, subst, arith}
+use Rattle.std.proofs.Common.{◌≡◌, ◌⊎◌, inl, inr, ℕ, ◌<◌, Bool, true, false, not, Option, Some, sym, subst, arith}
 use Rattle.std.specs.Prelude.{if◌then◌else◌}
 use Rattle.lvm_num.specs.declared.descriptor.Descriptor.{Descriptor}
 use Rattle.lvm_num.specs.declared.status.Status.{Status}
@@ -17,9 +17,16 @@ use Rattle.lvm_write.specs.Written.{write_of, IsWriting}
 use Rattle.lvm_write.specs.Shows.{DescriptorMayBeWritten, StatusMayBeWritten, DescriptorsOldOrNew, StatusesOldOrNew, WrittenIsNewest}
 use Rattle.lvm_write.proofs.Writing.{told_at}
 
-slot_two : (b : Bool) → (if b then 1 else 0) < 2
+pub slot_two : (b : Bool) → (if b then 1 else 0) < 2
 slot_two true = omega arith
 slot_two false = omega arith
+
+-- the other slot of the two
+pub turns : (t : Bool) (slot : ℕ) → ((◌≡◌ {A = ℕ} (if t then 1 else 0) 0) × (slot ≡ 1)) ⊎ ((◌≡◌ {A = ℕ} (if t then 1 else 0) 1) × (slot ≡ 0)) → ◌≡◌ {A = ℕ} (if not t then 1 else 0) slot
+turns true slot (inl is) = let wrong = is.0 in absurd (omega (arith, wrong))
+turns true slot (inr is) = sym is.1
+turns false slot (inl is) = sym is.1
+turns false slot (inr is) = let wrong = is.0 in absurd (omega (arith, wrong))
 
 pub descriptor_may_be_written : DescriptorMayBeWritten
 descriptor_may_be_written framed group targets homes image frames reads fit =
