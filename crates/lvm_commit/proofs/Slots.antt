@@ -12,6 +12,7 @@ use Rattle.lvm_num.proofs.Fresh.{before_is_older}
 use Rattle.lvm_num.proofs.Records.{joined-same}
 use Rattle.lvm_num.proofs.Torn.{whole_is_read, sectors-fit}
 use Rattle.lvm_rec.specs.Slots.{read_under, held, slot_of, slot_to_write, slot_for, SlotWrite, IsTornWrite, StandsIn, BothBefore, written_as}
+use Rattle.lvm_rec.proofs.NextLemmas.{slot_for_same}
 use Rattle.lvm_rec.proofs.SlotLaws.{slots-apart, held-record}
 
 -- ---- of two records

@@ -1,4 +1,4 @@
-//! At which places of the table events are due, kept from turn to turn: a turn looks at no other request.
+//! At which places of the table events are due, kept from event to event.
 #![tactic(auto)]
 
 mod due;

@@ -10,7 +10,7 @@ use lvm_facts::counts_failed;
 use lvm_path::Target;
 use lvm_session::{Open, Owner, Session};
 
-// Whether no copy is open, and nothing is wanted of the status that isn't committed.
+// Answers yes only where no copy is open, and nothing is wanted of the status that isn't committed.
 fn is_calm(session: &Session) -> bool
     ensures { result ≡ true → IsCalm (core_of session.now) }
 {
@@ -53,8 +53,8 @@ pub fn place_of(session: &Session, id: u64) -> Option<usize>
     position_of(&session.requests, id)
 }
 
-/// Whether no copy is open, nothing is wanted of the status that isn't committed, and no target of the request at a
-/// place counts as failed.
+/// Answers yes only where no copy is open, nothing is wanted of the status that isn't committed, and no target of the
+/// request at a place counts as failed.
 pub fn is_quiet(session: &Session, place: usize) -> bool
     requires { place < length session.now.requests.items }
     ensures { result ≡ true → IsQuiet (core_of session.now) place }
@@ -65,7 +65,7 @@ pub fn is_quiet(session: &Session, place: usize) -> bool
     !any_fails(session, place)
 }
 
-/// Whether it is so, where it was.
+/// Answers yes only where it was so, and is.
 pub fn stays_quiet(session: &Session, place: usize, quiet: bool) -> bool
     requires { place < length session.now.requests.items }
     ensures was { result ≡ true → quiet ≡ true }
@@ -77,7 +77,7 @@ pub fn stays_quiet(session: &Session, place: usize, quiet: bool) -> bool
     is_quiet(session, place)
 }
 
-// Whether it is so at this place, where there is one.
+// Answers yes only where it is so at this place, where there is one.
 fn is_quiet_at(session: &Session, place: Option<usize>) -> bool
     requires { IfSome place (λ k. k < length session.now.requests.items) }
     ensures { result ≡ true → (k : ℕ) → place ≡ Some k → IsQuiet (core_of session.now) k }
@@ -88,7 +88,7 @@ fn is_quiet_at(session: &Session, place: Option<usize>) -> bool
     }
 }
 
-/// Whether it is so at the place of the request whose transfer this is.
+/// Answers yes only where it is so at the place of the request whose transfer this is.
 pub fn is_quiet_for(session: &Session, owner: Owner) -> bool
     ensures { result ≡ true → IsQuietFor (core_of session.now) owner }
 {

@@ -1,13 +1,12 @@
 -- Lines that are being read.
-use Rattle.std.proofs.Common.{◌≡◌, ◌≤◌, ◌++◌, ◌∷◌, [], ℕ, List, Option, Some, None, Ok, Err, false, length, refl, sym, ◌∙◌, ap, subst, append_assoc}
+use Rattle.std.proofs.Common.{◌≡◌, inl, inr, ◌≤◌, ◌++◌, ◌∷◌, [], ℕ, List, Option, Some, None, Ok, Err, false, length, refl, sym, ◌∙◌, ap, subst, append_assoc}
 use Rattle.lvm_num.specs.declared.Memory.{Memory}
 use Rattle.std.proofs.lemmas.List.{append-nil}
 use Rattle.lvm_io.specs.Stream.{WhereTold}
-use Rattle.lvm_io.specs.Lines.{lines_of, has_feed}
+use Rattle.lvm_io.specs.Lines.{TakesFirst, has_feed}
 use Rattle.lvm_io.specs.Reading.{Reading, to_come, lines_left, CountsGiven, LeavesFront, TakesLine, TakesLast, NextGives}
 use Rattle.lvm_io.specs.declared.lines.NextLine.{NextLine}
 use Rattle.lvm_io.specs.declared.lines.NextLine.TheVariants as next
-use Rattle.lvm_io.proofs.Feeds.{lines-feed, lines-last}
 
 -- nothing was given out yet
 pub record LinesSoFar (old now : Reading) (before left : Option (List ℕ)) (faults later : ℕ) : Type 0 where
@@ -20,16 +19,13 @@ pub same_reading : (front block front' block' : List ℕ) (given given' : ℕ) �
 same_reading front block front' block' given given' f b g = cc
 
 -- the bytes that a reading gives out as its next line
-split_line : (line front tail block rest left : List ℕ) → block ≡ tail ++ 10 ∷ rest → line ≡ front ++ tail → has_feed line ≡ false → lines_of (front ++ (block ++ left)) ≡ line ∷ lines_of (rest ++ left)
-split_line line front tail block rest left split is clean =
-    let all : front ++ (block ++ left) ≡ line ++ 10 ∷ (rest ++ left) = rw (split, is) (simp append_assoc) in
-    ap lines_of all ∙ lines-feed line (rest ++ left) clean
+split_line : (line front tail block rest left : List ℕ) → block ≡ tail ++ 10 ∷ rest → line ≡ front ++ tail → front ++ (block ++ left) ≡ line ++ 10 ∷ (rest ++ left)
+split_line line front tail block rest left split is = rw (split, is) (simp append_assoc)
 
-pub line_given : (first old new : Reading) (before left : Option (List ℕ)) (line : List ℕ) → WhereTold (to_come first before) (to_come old left) (λ a b. b ≡ a) → TakesLine old new (Ok (Some line)) → WhereTold (to_come first before) (to_come new left) (λ a b. lines_of a ≡ line ∷ lines_of b)
+pub line_given : (first old new : Reading) (before left : Option (List ℕ)) (line : List ℕ) → WhereTold (to_come first before) (to_come old left) (λ a b. b ≡ a) → TakesLine old new (Ok (Some line)) → WhereTold (to_come first before) (to_come new left) (TakesFirst line)
 line_given first old new None None line same takes = tt
 line_given first old new (Some before) (Some left) line same (tail, split, is, clean, after) =
-    ap lines_of (sym same) ∙ split_line line old.front tail old.block new.block left split is clean
-    ∙ ap (λ (l : List ℕ). line ∷ lines_of (l ++ (new.block ++ left))) (sym (ap (λ (r : Reading). r.front) after))
+    (clean, inl (sym same ∙ split_line line old.front tail old.block new.block left split is ∙ ap (λ (l : List ℕ). line ++ 10 ∷ (l ++ (new.block ++ left))) (sym (ap (λ (r : Reading). r.front) after))))
 line_given first old new None (Some left) line same takes = absurd same
 line_given first old new (Some before) None line same takes = absurd same
 
@@ -63,7 +59,7 @@ last_given first old mid now new (Some before) (Some left) (Some after) (next.Li
     let clean : has_feed line ≡ false = rw (last.0, stays) takes.0 in
     let all : old.front ++ (old.block ++ left) ≡ line = none_left old.front old.block left line ends.0 (last.0 ∙ front_is) in
     let rest : new.front ++ (new.block ++ after) ≡ [] = nothing new.front new.block after (cc) (cc) ends.1 in
-    ap lines_of (sym same ∙ all) ∙ lines-last line clean last.1 ∙ ap (λ (l : List ℕ). line ∷ lines_of l) (sym rest)
+    (clean, inr (sym same ∙ all, rest, last.1))
 last_given first old mid now new (Some before) (Some left) (Some after) next.End same takes stays ends last =
     let front_is : now.front ≡ old.front ++ old.block = cc in
     (sym same ∙ none_left old.front old.block left [] ends.0 (sym last.0 ∙ front_is), nothing new.front new.block after (cc) (cc) ends.1)

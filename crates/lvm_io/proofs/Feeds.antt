@@ -1,11 +1,11 @@
 -- Where line feeds stand, and the lines that they end.
-use Rattle.std.proofs.Common.{◌≡◌, ◌≤◌, ◌<◌, ◌+◌, ◌-◌, ◌∷◌, ◌++◌, [], ℕ, suc, List, Option, Some, None, nat_lt, Bool, true, false, cond, not, ◌||◌, length, take, drop, get_or, if◌then◌else◌, refl, sym, ◌∙◌, ap, subst, arith, append_assoc}
+use Rattle.std.proofs.Common.{◌≡◌, inl, inr, ◌≤◌, ◌<◌, ◌+◌, ◌-◌, ◌∷◌, ◌++◌, [], ℕ, suc, List, Option, Some, None, nat_lt, Bool, true, false, cond, not, ◌||◌, length, take, drop, get_or, if◌then◌else◌, refl, sym, ◌∙◌, ap, subst, arith, append_assoc}
 use Rattle.std.specs.List.{position, position_or_len, slice_range}
 use Rattle.std.proofs.lemmas.List.{take_all, append-nil, drop-drop, drop-take, length-take}
 use Rattle.std.proofs.lemmas.List.Folds.{list_any-append}
 use Rattle.std.proofs.lemmas.List.Sums.{split_at_first, passes_at_first}
 use Rattle.std.proofs.lemmas.Bool.{eqb-true, ltb-true, ltb-false}
-use Rattle.lvm_io.specs.Lines.{is_feed, has_feed, lines_from, lines_of}
+use Rattle.lvm_io.specs.Lines.{TakesFirst, is_feed, has_feed, lines_from, lines_of}
 
 -- the place of the first line feed
 abbrev pub IsFirstFeed : List ℕ → Option ℕ → Type 0
@@ -62,6 +62,11 @@ lines-feed line rest clean = lines-clean [] line (10 ∷ rest) clean
 pub lines-last : (line : List ℕ) → has_feed line ≡ false → 0 < length line → lines_of line ≡ line ∷ []
 lines-last [] clean some = absurd (omega arith)
 lines-last (byte ∷ line) clean some = ap lines_of (sym (append-nil (byte ∷ line))) ∙ lines-clean [] (byte ∷ line) [] clean
+
+-- the first line of bytes
+pub first_of : (line bytes rest : List ℕ) → TakesFirst line bytes rest → lines_of bytes ≡ line ∷ lines_of rest
+first_of line bytes rest (clean, inl fed) = ap lines_of fed ∙ lines-feed line rest clean
+first_of line bytes rest (clean, inr (all, none, some)) = ap lines_of all ∙ lines-last line clean some ∙ ap (λ (l : List ℕ). line ∷ lines_of l) (sym none)
 
 pub no_feed : (front tail : List ℕ) → has_feed front ≡ false → has_feed tail ≡ false → has_feed (front ++ tail) ≡ false
 no_feed front tail clean more = rw (list_any-append is_feed front tail, clean, more)

@@ -22,6 +22,10 @@ lines_from front (byte ∷ bytes) = if is_feed byte then front ∷ lines_from []
 abbrev pub lines_of : List ℕ → List (List ℕ)
 lines_of bytes = lines_from [] bytes
 
+-- it is the first line of the bytes: its line feed comes behind it, or it is all of them, without one
+abbrev pub TakesFirst : List ℕ → List ℕ → List ℕ → Type 0
+TakesFirst line bytes rest = (has_feed line ≡ false) × ((bytes ≡ line ++ 10 ∷ rest) ⊎ ((bytes ≡ line) × (rest ≡ []) × (0 < length line)))
+
 -- lines, each with its line feed
 abbrev pub joined : List (List ℕ) → List ℕ
 joined [] = []

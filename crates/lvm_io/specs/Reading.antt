@@ -2,7 +2,7 @@
 use Rattle.std.specs.Prelude.{◌≡◌, ◌≤◌, ◌<◌, ◌+◌, ◌-◌, ◌++◌, [], ◌∷◌, ℕ, List, Option, Some, None, Result, Ok, Err, false, length}
 use Rattle.lvm_num.specs.declared.Memory.{Memory}
 use Rattle.lvm_io.specs.Stream.{WhereTold}
-use Rattle.lvm_io.specs.Lines.{lines_of, has_feed}
+use Rattle.lvm_io.specs.Lines.{TakesFirst, has_feed}
 use Rattle.lvm_io.specs.declared.stream.Got.{Got}
 use Rattle.lvm_io.specs.declared.stream.Got.TheVariants as got
 use Rattle.lvm_io.specs.declared.lines.NextLine.{NextLine}
@@ -21,7 +21,7 @@ to_come reading (Some left) = Some (reading.front ++ (reading.block ++ left))
 
 -- the first line of the bytes that are to come, or nothing is taken of them; memory is wanted only where there are some
 abbrev pub NextGives : Option (List ℕ) → Option (List ℕ) → NextLine → Type 0
-NextGives old new (next.Line line) = WhereTold old new (λ a b. lines_of a ≡ line ∷ lines_of b)
+NextGives old new (next.Line line) = WhereTold old new (TakesFirst line)
 NextGives old new next.End = WhereTold old new (λ a b. (a ≡ []) × (b ≡ []))
 NextGives old new next.Failed = WhereTold old new (λ a b. b ≡ a)
 NextGives old new next.TooLong = WhereTold old new (λ a b. b ≡ a)

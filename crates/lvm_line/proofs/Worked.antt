@@ -1,5 +1,5 @@
--- A line in which nothing failed: `step 1` while no group is on, over a shelf without a disk.
-use Rattle.std.proofs.Common.{◌≤◌, ℕ, true, false, [], None, refl, arith}
+-- A line in which nothing failed: `step 1` while no group is on, over one blank disk.
+use Rattle.std.proofs.Common.{◌≤◌, ℕ, true, false, [], ◌∷◌, None, refl, arith}
 use Rattle.std.specs.Prelude.{codes}
 use Rattle.lvm_disk.specs.Counts.{Counts, RoseBy}
 use Rattle.lvm_disk.specs.Device.{Device}
@@ -19,7 +19,7 @@ abbrev none : Counts
 none = record { starts = λ disk. 0; misses = λ disk. 0; faults = λ disk. 0; cuts = 0; waits = 0 }
 
 abbrev bare : Device
-bare = record { sizes = []; media = None; flights = []; freed = []; power = true; counts = none; arranges = false; orders = record { made = 0; last = None }; wrote = None }
+bare = record { sizes = 8192 ∷ []; media = None; flights = []; freed = []; power = true; counts = none; arranges = false; orders = record { made = 0; last = None }; wrote = None }
 
 abbrev off : State
 off = record { moment = record { device = bare; facts = [] }; session = None; posts = []; last = 0 }

@@ -26,7 +26,7 @@ use Rattle.lvm_tie.proofs.Histories.{ends_history}
 use Rattle.lvm_load.specs.declared.client.Client.{Client}
 use Rattle.lvm_load.specs.declared.totals.Kind.TheVariants as kind
 use Rattle.lvm_load.specs.Totals.{entries_since, is_of}
-use Rattle.lvm_load.specs.Weaving.{NextClient, NoClient, NoneOpen, Takes, TakesEach, TakesFor, TakesWhere, Turns, Waits, may_land}
+use Rattle.lvm_load.specs.Weaving.{Draws, FinishesBy, NextClient, NoClient, NoTurn, NoWord, NoneDrawn, NoneOpen, OneDrawn, OneTurn, OneWord, PassesOn, Takes, TakesEach, TakesFor, TakesWhere, Turns, Unheard, Waits, Weaves, Weaving, may_land}
 
 -- a request begins by it
 abbrev pub begins : Fact → Bool
@@ -183,6 +183,44 @@ submit_gains old new client ask bytes answer gives = by (ask_fault old ask) give
         (subst (λ (l : List Fact). Gains 1 old.history.facts l) (sym (ap (λ (c : Core). c.history.facts) took.1)) (gains_one old.history.facts _ 1 refl))
     by (Some why) not = subst (λ (r : Result ℕ AskFault). Gains (taken_one r) old.history.facts new.history.facts) (sym not.0) (same_core old new not.1)
 
+-- ---- by a workload
+
+abbrev facts_in : Weaving → List Fact
+facts_in w = w.session.core.history.facts
+
+passes_gain : (first new : Weaving) → PassesOn first new → Gains 0 (facts_in first) (facts_in new)
+passes_gain first new NoWord = gains_none (facts_in first)
+passes_gain first new (OneWord {old = old} so_far busy) =
+    gains_then 0 0 (facts_in first) (facts_in old) (facts_in new) (passes_gain first old so_far) (turns_gain old.session new.session old.clients new.clients old.idle new.idle busy.turns)
+
+-- some requests have begun
+abbrev Grows : Weaving → Weaving → Type 0
+Grows old new = (n : ℕ) × Gains n (facts_in old) (facts_in new)
+
+draws_gain : (lv blocks : ℕ) (first : Weaving) (n : ℕ) (more : Bool) (new : Weaving) → Draws lv blocks first n more new → Grows first new
+draws_gain lv blocks first n more new NoneDrawn = (0, gains_none (facts_in first))
+draws_gain lv blocks first n more new (OneDrawn {n = m} {old = old} before named k goes names asks rng idle) =
+    let so_far = draws_gain lv blocks first m true old before in
+    let passes = subst (λ (w : Weaving). Gains 0 (facts_in old) (facts_in w)) (sym names.is) (passes_gain old names.mid names.passes) in
+    let begins = submit_gains named.session.core new.session.core (k + 1) _ _ asks.answer asks.submits in (
+      (so_far.0 + 0) + taken_one asks.answer,
+      gains_then (so_far.0 + 0) (taken_one asks.answer) (facts_in first) (facts_in named) (facts_in new) (gains_then so_far.0 0 (facts_in first) (facts_in old) (facts_in named) so_far.1 passes) begins,
+    )
+draws_gain lv blocks first n more new (Unheard {old = old} before passes unheard) =
+    let so_far = draws_gain lv blocks first n true old before in
+    (so_far.0 + 0, gains_then so_far.0 0 (facts_in first) (facts_in old) (facts_in new) so_far.1 (passes_gain old new passes))
+
+finishes_gain : (first : State) (clients : List Client) (idle : ℕ) (new : State) (after : List Client) (idle1 : ℕ) → FinishesBy first clients idle new after idle1 → Gains 0 first.core.history.facts new.core.history.facts
+finishes_gain first clients idle new after idle1 NoTurn = gains_none first.core.history.facts
+finishes_gain first clients idle new after idle1 (OneTurn {old = old} {before = before} {n = n} so_far any patient made) =
+    gains_then 0 0 first.core.history.facts old.core.history.facts new.core.history.facts (finishes_gain first clients idle old before n so_far) (turns_gain old new before after n idle1 made)
+
+-- the history tells what it told at first, and more
+pub weave_gains : (lv blocks requests : ℕ) (first : Weaving) (last : State) (waits : Bool) → Weaves lv blocks requests first last waits → (n : ℕ) × Gains n (facts_in first) last.core.history.facts
+weave_gains lv blocks requests first last waits weaves =
+    let drawn = draws_gain lv blocks first weaves.draws.drawn weaves.draws.more weaves.mid weaves.draws.draws in
+    (drawn.0 + 0, gains_then drawn.0 0 (facts_in first) (facts_in weaves.mid) last.core.history.facts drawn.1 (finishes_gain weaves.mid.session weaves.mid.clients weaves.mid.idle last weaves.after weaves.idle weaves.finishes.turns))
+
 -- ---- the entries that tell of it
 
 entry_begins : (place : ℕ) (f : Fact) → is_of kind.Begun (entry_at place f) ≡ begins f
@@ -222,3 +260,10 @@ pub begun_since : (n : ℕ) (old new : List Fact) → Gains n old new → count_
 begun_since n old new gains =
     let behind = entries_behind 0 old gains.more in
     ap (λ (l : List Fact). count_by (is_of kind.Begun) (drop (length old) (entries_from 0 l))) gains.is ∙ ap (count_by (is_of kind.Begun)) behind.1 ∙ begun_entries behind.0 gains.more ∙ gains.begun
+
+-- and as many behind what begins none
+pub begun_still : (n : ℕ) (first last end : List Fact) → Gains n first last → Gains 0 last end → count_by (is_of kind.Begun) (entries_since (length first) end) ≡ count_by (is_of kind.Begun) (entries_since (length first) last)
+begun_still n first last end one none =
+    let now = begun_since (n + 0) first end (gains_then n 0 first last end one none) in
+    let before = begun_since n first last one in
+    omega (arith, now, before)

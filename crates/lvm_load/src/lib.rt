@@ -7,5 +7,5 @@ mod totals;
 mod workload;
 
 pub use client::Client;
-pub use totals::Totals;
+pub use totals::{Totals, totals_since};
 pub use workload::{Workload, Woven, weave};

@@ -60,7 +60,7 @@ mirrors_read : to_each (λ n. line_of (volume_line 2 (n + 6))) 57 ≡ to_each (�
 unfolding operand ends options is_new digits is_name
 mirrors_read = refl
 
-group_reads : (disks : ℕ) → 1 ≤ disks → disks ≤ 8 → line_of (mkvg_line disks) ≡ new_group disks
+pub group_reads : (disks : ℕ) → 1 ≤ disks → disks ≤ 8 → line_of (mkvg_line disks) ≡ new_group disks
 group_reads disks some few =
     let is : (disks - 1) + 1 ≡ disks = omega (arith, some) in
     subst (λ (d : ℕ). line_of (mkvg_line d) ≡ new_group d) is (same_at (λ d. line_of (mkvg_line (d + 1))) (λ d. new_group (d + 1)) 8 (disks - 1) groups_read (omega (arith, some, few)))

@@ -1,11 +1,11 @@
 -- Runs of a workload.
-use Rattle.std.proofs.Common.{◌≡◌, ◌≢◌, ◌⊎◌, inl, inr, ⊎_elim, ◌≤◌, ◌+◌, ◌-◌, ◌*◌, ◌++◌, ℕ, List, [], ◌∷◌, Option, Some, None, IfSome, length, true, refl, sym, ◌∙◌, ap, subst, arith}
+use Rattle.std.proofs.Common.{◌≡◌, ◌≢◌, ◌⊎◌, inl, inr, ⊎_elim, ◌≤◌, ◌+◌, ◌-◌, ◌*◌, ◌++◌, ℕ, List, [], ◌∷◌, Option, Some, None, IfSome, Result, length, Bool, true, false, refl, sym, ◌∙◌, ap, subst, append_assoc, arith}
 use Rattle.std.specs.Prelude.{IsSomeAnd}
 use Rattle.std.proofs.lemmas.List.{append-nil}
 use Rattle.lvm_disk.specs.Device.{Device, IsReady}
-use Rattle.lvm_io.specs.Count.{Rose}
+use Rattle.lvm_io.specs.Count.{Rose, next_count}
 use Rattle.lvm_io.specs.Stream.{WhereTold, WritesFront}
-use Rattle.lvm_io.proofs.Told.{told_same}
+use Rattle.lvm_io.proofs.Told.{told_on}
 use Rattle.lvm_vol.specs.Facts.{Cut, Fact, joined}
 use Rattle.lvm_vol.specs.Legal.{Legal}
 use Rattle.lvm_vol.specs.Log.{Log}
@@ -14,16 +14,23 @@ use Rattle.lvm_steps.specs.Moments.{ImagesKept, IsUpheld, Keeps}
 use Rattle.lvm_steps.proofs.Spans.{keeps_still, span_upholds}
 use Rattle.lvm_stamps.specs.Behind.{IsAhead, IsBehind}
 use Rattle.lvm_parse.specs.Grammar.{line_of}
+use Rattle.lvm_parse.specs.declared.command.Command.{Command}
+use Rattle.lvm_operands.specs.declared.rest.Misfit.{Misfit}
 use Rattle.lvm_core.specs.declared.parts.Room.{Room}
 use Rattle.lvm_posts.specs.declared.posts.Post.{Post}
 use Rattle.lvm_session.specs.declared.open.Power.TheVariants as power
 use Rattle.lvm_session.specs.State.{Core, State as Session, state}
+use Rattle.lvm_load.specs.declared.totals.Totals.{Totals}
 use Rattle.lvm_load.specs.declared.workload.Workload.{Workload}
 use Rattle.lvm_load.specs.declared.workload.Woven.{Woven}
+use Rattle.lvm_load.specs.Ends.{HasCauses}
+use Rattle.lvm_load.specs.Totals.{entries_since, totals_of}
+use Rattle.lvm_load.specs.Weaving.{Weaves, Weaving}
+use Rattle.lvm_load.proofs.Gaining.{Gains, begun_still, gains_none, gains_then, turn_gains, weave_gains}
 use Rattle.lvm_top.specs.passed.HolderVariants as holder
 use Rattle.lvm_top.specs.passed.Running.{RunsOn}
 use Rattle.lvm_top.specs.passed.ReplyVariants as reply
-use Rattle.lvm_top.specs.passed.Lines.{IsLine, role_of}
+use Rattle.lvm_top.specs.passed.Lines.{IsLine, asked_after, role_of}
 use Rattle.lvm_top.specs.passed.Recover.{HasNoPassive}
 use Rattle.lvm_top.specs.passed.Stage.{Holder, IsBetween, IsBetweenStage, IsOfKind, IsAllowed, IsAlone, IsStuck, IsTimely, OfRequests, Reply, Stage, StandsAlone, StandsBy, State, history_in, history_of, moment_in, most_refusals, session_in, session_of, shelf_of, state_in, without_facts}
 use Rattle.lvm_top.specs.declared.run.Ended.{Ended}
@@ -37,9 +44,9 @@ use Rattle.lvm_top.specs.Standing.{HasFewDisks}
 use Rattle.lvm_top.specs.Script.{NextLine, NoLine, Passage, Stream, empty_log, entry_state, facts_of}
 use Rattle.lvm_top.specs.Blank.{IsToldBlank}
 use Rattle.lvm_program.specs.Sim.{full_room, sim_device}
-use Rattle.lvm_program.specs.Woven.{AreMadeAlone, Drawn, EndsWoven, Exit, GoesWoven, HasGroup, IsDrawn, IsMade, IsMadeForCause, HasServed, IsServed, IsSized, IsWoven, IsWovenAlone, NoGroup, NotMade, PromisesWoven, TellsWoven, exit_from, exit_of, mklv_line, mkvg_line, status_woven, untold, woven_text}
+use Rattle.lvm_program.specs.Woven.{AreMadeAlone, Drawn, EndsWoven, Exit, GoesWoven, HasAsked, HasGroup, IsDrawn, IsMade, IsMadeForCause, HasServed, IsServed, IsSized, IsWoven, IsWovenAlone, NoGroup, NotMade, PromisesWoven, TellsWoven, TurnsBehind, asked_woven, exit_from, exit_of, mklv_line, mkvg_line, refusal_text, status_woven, totals_text, untold, woven_text}
 use Rattle.lvm_top.proofs.Blanks.{told_behind, told_earlier}
-use Rattle.lvm_program.proofs.Making.{group_allowed, group_unforced, volume_allowed, volume_reads, volume_unforced}
+use Rattle.lvm_program.proofs.Making.{group_allowed, group_reads, group_unforced, volume_allowed, volume_reads, volume_unforced}
 use Rattle.lvm_program.proofs.Sim.{sim_few, sim_told}
 use Rattle.lvm_top.proofs.Concluding.{Concluded, closed_concluded, concluded, off_still}
 use Rattle.lvm_top.proofs.Lining.{stuck_is_off}
@@ -49,6 +56,7 @@ use Rattle.lvm_top.proofs.Refusing.{line_caused}
 use Rattle.lvm_top.proofs.Scripting.{begins_timely, through}
 use Rattle.lvm_top.proofs.Scripts.{run_may_start}
 use Rattle.lvm_top.proofs.Stopping.{how_stopped}
+use Rattle.lvm_top.proofs.Turning.{each_turn}
 use Rattle.lvm_top.proofs.Volumes.{mklv_serves}
 
 -- ---- the lines that make the volume
@@ -157,61 +165,142 @@ made_few log room group volume first answer last (HasGroup mid makes it) none =
 
 -- ---- what is told
 
-pub told_none : (woven : Woven) (requests : ℕ) (status : ExitStatus) → status ≡ status_woven woven requests (Some ended.Memory) → (held : Option (List ℕ)) (faults : ℕ) → TellsWoven woven requests status (through held faults held faults)
-told_none woven requests status is held faults = record {
-  failed = Some ended.Memory;
-  only = inr refl;
-  status_is = is;
-  front = [];
-  rest = woven_text woven;
-  split = refl;
-  written = told_same held (λ a b. b ≡ a ++ []) (λ a. sym (append-nil a));
-  whole = λ e. absurd (cc e);
-  well = λ e. absurd (cc e);
-  sink = λ e. absurd (cc e);
-  memory = λ e. refl;
-}
+-- the front of a text that was written, and what is left of it
+record Part (text : List ℕ) (before after : Option (List ℕ)) : Type 0 where
+  pub front : List ℕ
+  pub rest : List ℕ
+  pub split : text ≡ front ++ rest
+  pub written : WhereTold before after (λ a b. b ≡ a ++ front)
 
-pub told_all : (woven : Woven) (requests : ℕ) (status : ExitStatus) → status ≡ status_woven woven requests None → (before after : Option (List ℕ)) (faults later : ℕ) (text : List ℕ) → text ≡ woven_text woven → WhereTold before after (λ a b. b ≡ a ++ text)
-    → later ≡ faults → TellsWoven woven requests status (through before faults after later)
-told_all woven requests status is before after faults later text same whole well = record {
-  failed = None;
-  only = tt;
-  status_is = is;
-  front = woven_text woven;
-  rest = [];
-  split = sym (append-nil (woven_text woven));
-  written = subst (λ (t : List ℕ). WhereTold before after (λ a b. b ≡ a ++ t)) same whole;
-  whole = λ e. refl;
-  well = λ e. well;
-  sink = λ e. absurd (cc e);
-  memory = λ e. absurd (cc e);
-}
+part_of : (text : List ℕ) (before after : Option (List ℕ)) → WhereTold before after (λ a b. WritesFront text a b) → Part text before after
+part_of text None None part = record { front = []; rest = text; split = refl; written = tt }
+part_of text (Some a) (Some b) part = record { front = part.front; rest = part.rest; split = part.split; written = part.written }
+part_of text None (Some b) part = absurd part
+part_of text (Some a) None part = absurd part
 
-pub told_some : (woven : Woven) (requests : ℕ) (status : ExitStatus) → status ≡ status_woven woven requests (Some ended.SinkFault) → (before after : Option (List ℕ)) (faults later : ℕ) (text : List ℕ)
-    → text ≡ woven_text woven → WhereTold before after (λ a b. WritesFront text a b) → Rose faults later → TellsWoven woven requests status (through before faults after later)
-told_some woven requests status is before after faults later text same part rose = by before after (subst (λ (t : List ℕ). WhereTold before after (λ a b. WritesFront t a b)) same part)
-  where
-    failed_with : (front rest : List ℕ) (before after : Option (List ℕ)) → woven_text woven ≡ front ++ rest → WhereTold before after (λ a b. b ≡ a ++ front) → TellsWoven woven requests status (through before faults after later)
-    failed_with front rest before after split written = record {
-      failed = Some ended.SinkFault;
-      only = inl refl;
+module _ (woven : Woven) (requests : ℕ) (status : ExitStatus) (before : Option (List ℕ)) (faults : ℕ) where
+  abbrev Tells : Option (List ℕ) → ℕ → Type 0
+  Tells after later = TellsWoven woven requests status (through before faults after later)
+
+  -- the sink failed in the refusal
+  pub told_none : (text : List ℕ) (after : Option (List ℕ)) (later : ℕ) → status ≡ status_woven woven requests (Some ended.SinkFault) → text ≡ refusal_text woven → WhereTold before after (λ a b. WritesFront text a b) → Rose faults later → Tells after later
+  told_none text after later is same writes rose =
+      let part = part_of (refusal_text woven) before after (subst (λ (t : List ℕ). WhereTold before after (λ a b. WritesFront t a b)) same writes) in
+      record {
+        failed = Some ended.SinkFault;
+        only = inl refl;
+        status_is = is;
+        front = part.front;
+        rest = part.rest ++ totals_text woven.totals;
+        split = ap (λ (t : List ℕ). t ++ totals_text woven.totals) part.split ∙ append_assoc part.front part.rest (totals_text woven.totals);
+        written = part.written;
+        whole = λ e. absurd (cc e);
+        memory = λ e. absurd (cc e);
+        sink = λ e. rose;
+        well = λ no. absurd (no refl);
+      }
+
+  -- it was written whole
+  module _ (first : List ℕ) (mid : Option (List ℕ)) (counted : ℕ) (refused : first ≡ refusal_text woven) (whole : WhereTold before mid (λ a b. b ≡ a ++ first)) (well : counted ≡ faults) where
+    refusal : WhereTold before mid (λ a b. b ≡ a ++ refusal_text woven)
+    refusal = subst (λ (t : List ℕ). WhereTold before mid (λ a b. b ≡ a ++ t)) refused whole
+
+    -- a text behind it
+    behind : (text : List ℕ) (after : Option (List ℕ)) → WhereTold mid after (λ a b. b ≡ a ++ text) → WhereTold before after (λ a b. b ≡ a ++ (refusal_text woven ++ text))
+    behind text after more = told_on before mid after (λ a b. b ≡ a ++ refusal_text woven) (λ a b. b ≡ a ++ text) (λ a b. b ≡ a ++ (refusal_text woven ++ text))
+        (λ a b c one two. two ∙ ap (λ (t : List ℕ). t ++ text) one ∙ append_assoc a (refusal_text woven) text) refusal more
+
+    -- and no memory was found for more
+    pub told_first : status ≡ status_woven woven requests (Some ended.Memory) → Tells mid counted
+    told_first is = record {
+      failed = Some ended.Memory;
+      only = inr refl;
       status_is = is;
-      front = front;
-      rest = rest;
-      split = split;
-      written = written;
+      front = refusal_text woven;
+      rest = totals_text woven.totals;
+      split = refl;
+      written = refusal;
       whole = λ e. absurd (cc e);
-      well = λ e. absurd (cc e);
-      sink = λ e. rose;
-      memory = λ e. absurd (cc e);
+      memory = λ e. refl;
+      sink = λ e. absurd (cc e);
+      well = λ no. well;
     }
 
-    by : (before after : Option (List ℕ)) → WhereTold before after (λ a b. WritesFront (woven_text woven) a b) → TellsWoven woven requests status (through before faults after later)
-    by None None part = failed_with [] (woven_text woven) None None refl tt
-    by (Some a) (Some b) part = failed_with part.front part.rest (Some a) (Some b) part.split part.written
-    by None (Some b) part = absurd part
-    by (Some a) None part = absurd part
+    module _ (text : List ℕ) (told : text ≡ totals_text woven.totals) (after : Option (List ℕ)) (later : ℕ) where
+      -- and so were the lines behind it
+      pub told_all : status ≡ status_woven woven requests None → WhereTold mid after (λ a b. b ≡ a ++ text) → later ≡ counted → Tells after later
+      told_all is more stays = record {
+        failed = None;
+        only = tt;
+        status_is = is;
+        front = woven_text woven;
+        rest = [];
+        split = sym (append-nil (woven_text woven));
+        written = behind (totals_text woven.totals) after (subst (λ (t : List ℕ). WhereTold mid after (λ a b. b ≡ a ++ t)) told more);
+        whole = λ e. refl;
+        memory = λ e. absurd (cc e);
+        sink = λ e. absurd (cc e);
+        well = λ no. stays ∙ well;
+      }
+
+      -- or the sink failed in them
+      pub told_some : status ≡ status_woven woven requests (Some ended.SinkFault) → WhereTold mid after (λ a b. WritesFront text a b) → Rose counted later → Tells after later
+      told_some is writes rose =
+          let part = part_of (totals_text woven.totals) mid after (subst (λ (t : List ℕ). WhereTold mid after (λ a b. WritesFront t a b)) told writes) in
+          record {
+            failed = Some ended.SinkFault;
+            only = inl refl;
+            status_is = is;
+            front = refusal_text woven ++ part.front;
+            rest = part.rest;
+            split = ap (λ (t : List ℕ). refusal_text woven ++ t) part.split ∙ sym (append_assoc (refusal_text woven) part.front part.rest);
+            written = behind part.front after part.written;
+            whole = λ e. absurd (cc e);
+            memory = λ e. absurd (cc e);
+            sink = λ e. subst (λ n. Rose n later) well rose;
+            well = λ no. absurd (no refl);
+          }
+
+-- ---- the totals behind further turns
+
+-- no request begins in them
+turns_begin : (waiting : Bool) (last end : Session) → TurnsBehind waiting last end → Gains 0 last.core.history.facts end.core.history.facts
+turns_begin true last end same = subst (λ (s : Session). Gains 0 last.core.history.facts s.core.history.facts) (sym same) (gains_none last.core.history.facts)
+turns_begin false last end turns =
+    each_turn (λ old new. Gains 0 old.core.history.facts new.core.history.facts) (λ s. gains_none s.core.history.facts)
+    (λ a b c one two. gains_then 0 0 a.core.history.facts b.core.history.facts c.core.history.facts one two) turn_gains last end turns
+
+-- so what isn't begun has its causes by the totals that are told there
+pub causes_still : (lv blocks requests : ℕ) (start : Weaving) (last end : Session) (woven : Woven) (totals : Totals) → Weaves lv blocks requests start last woven.waiting → HasCauses lv blocks requests start last woven
+    → woven.totals ≡ totals_of requests (entries_since (length start.session.core.history.facts) last.core.history.facts) → TurnsBehind woven.waiting last end
+    → totals ≡ totals_of requests (entries_since (length start.session.core.history.facts) end.core.history.facts) → HasCauses lv blocks requests start last (record { totals = totals; waiting = woven.waiting })
+causes_still lv blocks requests start last end woven totals weaves causes told turns tells =
+    let grown = weave_gains lv blocks requests start last woven.waiting weaves in
+    let same = begun_still grown.0 start.session.core.history.facts last.core.history.facts end.core.history.facts grown.1 (turns_begin woven.waiting last end turns) in
+    let begun : totals.begun ≡ woven.totals.begun = ap (λ (t : Totals). t.begun) tells ∙ same ∙ sym (ap (λ (t : Totals). t.begun) told) in
+    let unbegun : totals.unbegun ≡ woven.totals.unbegun = ap (λ (t : Totals). t.unbegun) tells ∙ ap (λ n. requests - n) same ∙ sym (ap (λ (t : Totals). t.unbegun) told) in
+    record {
+      all = let all = causes.all in omega (arith, begun, unbegun, all);
+      unbegun = λ some. causes.unbegun (omega (arith, unbegun, some));
+      waiting = causes.waiting;
+    }
+
+-- ---- how often the clock is asked
+
+module _ (disks mib : ℕ) (sized : IsSized disks mib) (group volume : List ℕ) (is_group : group ≡ mkvg_line disks) (is_volume : volume ≡ mklv_line disks mib) (asked begun now : ℕ) (once : begun ≡ next_count asked) where
+  group_asks : asked_after (line_of group) begun ≡ next_count begun
+  group_asks = ap (λ (l : List ℕ). asked_after (line_of l) begun) is_group ∙ ap (λ (read : Result (Option Command) Misfit). asked_after read begun) (group_reads disks sized.0 sized.1)
+
+  volume_asks : (n : ℕ) → asked_after (line_of volume) n ≡ n
+  volume_asks n = ap (λ (l : List ℕ). asked_after (line_of l) n) is_volume ∙ ap (λ (read : Result (Option Command) Misfit). asked_after read n) (volume_reads disks mib sized)
+
+  twice : HasAsked group volume begun now → now ≡ next_count (next_count asked)
+  twice (inl one) = one ∙ group_asks ∙ ap next_count once
+  twice (inr both) = both ∙ volume_asks (asked_after (line_of group) begun) ∙ group_asks ∙ ap next_count once
+
+  pub asks_so : (P : Log → Type 0) (h : Option Log) → IsSomeAnd h P → HasAsked group volume begun now → now ≡ asked_woven h asked
+  asks_so P None some has = absurd some
+  asks_so P (Some log) some has = twice has
 
 -- ---- what holds the shelf
 

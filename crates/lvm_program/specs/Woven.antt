@@ -2,7 +2,7 @@
 use Rattle.std.specs.Prelude.{◌≡◌, ◌≢◌, ◌⊎◌, ◌≤◌, ◌+◌, ◌-◌, ◌*◌, ◌++◌, ◌==◌, ℕ, [], List, length, take, Bool, true, false, Option, Some, None, IfSome, IfNone, if◌then◌else◌, codes}
 use Rattle.std.specs.Fmt.{decimal}
 use Rattle.lvm_disk.specs.Device.{Device, IsReady}
-use Rattle.lvm_io.specs.Count.{Rose}
+use Rattle.lvm_io.specs.Count.{Rose, next_count}
 use Rattle.lvm_io.specs.Stream.{WhereTold}
 use Rattle.lvm_vol.specs.Facts.{joined}
 use Rattle.lvm_vol.specs.Legal.{Legal}
@@ -20,7 +20,7 @@ use Rattle.lvm_load.specs.declared.workload.Woven.{Woven}
 use Rattle.lvm_load.specs.Ends.{HasCauses}
 use Rattle.lvm_load.specs.Totals.{entries_since, totals_of}
 use Rattle.lvm_load.specs.Weaving.{Weaves, first_weaving}
-use Rattle.lvm_top.specs.passed.Lines.{IsLine, role_of}
+use Rattle.lvm_top.specs.passed.Lines.{IsLine, asked_after, role_of}
 use Rattle.lvm_top.specs.passed.Running.{RunsOn}
 use Rattle.lvm_top.specs.passed.ReplyVariants as reply
 use Rattle.lvm_top.specs.passed.Stage.{IsAlone, IsClosed, OfRequests, Reply, State}
@@ -56,6 +56,10 @@ pub data IsMade (log : Log) (room : Room) (group volume : List ℕ) (first : Sta
   NoGroup : (answer ≡ reply.Ok → ⊥) → IsLine log room group answer first last → IsMade log room group volume first answer last
   HasGroup : (mid : State) → IsLine log room group reply.Ok first mid → IsLine log room volume answer mid last → IsMade log room group volume first answer last
 
+-- the clock was asked for the line of the group, and for that of the volume where it was done
+abbrev pub HasAsked : (group volume : List ℕ) (asked now : ℕ) → Type 0
+HasAsked group volume asked now = (now ≡ asked_after (line_of group) asked) ⊎ (now ≡ asked_after (line_of volume) (asked_after (line_of group) asked))
+
 -- at most one group has a quorum among all disks where the lines enter a volume's making
 abbrev pub AreMadeAlone : {log : Log} {room : Room} {group volume : List ℕ} {first : State} {answer : Reply} {last : State}
     → IsMade log room group volume first answer last → Type 0
@@ -84,11 +88,11 @@ abbrev pub TurnsBehind : Bool → Session → Session → Type 0
 TurnsBehind true last end = end ≡ last
 TurnsBehind false last end = MakesTurns last end
 
--- It is drawn over the first volume of a session, of so many blocks; then turns are made until one doesn't move, unless nothing is heard, and the session is closed.
+-- It is drawn over the first volume of a session, of so many blocks; then turns are made until one doesn't move, unless nothing is heard, and the session is closed. The totals are those of
+-- the history that comes back.
 pub record IsDrawn (blocks : ℕ) (load : Workload) (first : Session) (exit : Moment) (woven : Woven) : Type 0 where
   pub last : Session
   pub weaves : Weaves 1 blocks load.requests (first_weaving first load.clients load.seed) last woven.waiting
-  pub totals : woven.totals ≡ totals_of load.requests (entries_since (length first.core.history.facts) last.core.history.facts)
   pub causes : HasCauses 1 blocks load.requests (first_weaving first load.clients load.seed) last woven
   pub end : Session
   pub turns : TurnsBehind woven.waiting last end
@@ -96,6 +100,7 @@ pub record IsDrawn (blocks : ℕ) (load : Workload) (first : Session) (exit : Mo
   pub sound : IsSound end
   pub closed : IsClosed end.core.power end.device exit.device
   pub facts : exit.facts ≡ end.core.history.facts
+  pub totals : woven.totals ≡ totals_of load.requests (entries_since (length first.core.history.facts) exit.facts)
 
 -- ---- what is written
 
@@ -115,9 +120,13 @@ with_ill before t = before ++ total_line (codes "lost") t.lost ++ total_line (co
 abbrev pub refusal_text : Woven → List ℕ
 refusal_text woven = if woven.waiting then codes "refused 24 Stuck\n" else []
 
--- and the six lines behind it
+-- the six lines
+abbrev pub totals_text : Totals → List ℕ
+totals_text t = with_ill (with_well [] t) t
+
+-- the refusal, and the six lines behind it
 abbrev pub woven_text : Woven → List ℕ
-woven_text woven = with_ill (with_well (refusal_text woven) woven.totals) woven.totals
+woven_text woven = refusal_text woven ++ totals_text woven.totals
 
 -- so many refusals are written
 abbrev pub refusals_told : Woven → ℕ
@@ -135,7 +144,7 @@ status_written woven requests None = if is_whole woven requests then ended.Well 
 abbrev pub status_woven : Woven → ℕ → Option ExitStatus → ExitStatus
 status_woven woven requests failed = if woven.waiting then ended.Stuck else status_written woven requests failed
 
--- The text was written whole, or a front of it, where the sink failed or no memory was found; and this is the status.
+-- The text was written whole, or a front of it where the sink failed, or the refusal alone where no memory was found for the lines behind it; and this is the status.
 pub record TellsWoven (woven : Woven) (requests : ℕ) (status : ExitStatus) (out : Passage) : Type 0 where
   pub failed : Option ExitStatus
   pub only : IfSome failed (λ s. (s ≡ ended.SinkFault) ⊎ (s ≡ ended.Memory))
@@ -145,9 +154,9 @@ pub record TellsWoven (woven : Woven) (requests : ℕ) (status : ExitStatus) (ou
   pub split : woven_text woven ≡ front ++ rest
   pub written : WhereTold out.before.content out.after.content (λ a b. b ≡ a ++ front)
   pub whole : failed ≡ None → rest ≡ []
-  pub well : failed ≡ None → out.after.faults ≡ out.before.faults
+  pub memory : failed ≡ Some ended.Memory → front ≡ refusal_text woven
   pub sink : failed ≡ Some ended.SinkFault → Rose out.before.faults out.after.faults
-  pub memory : failed ≡ Some ended.Memory → out.after ≡ out.before
+  pub well : (failed ≡ Some ended.SinkFault → ⊥) → out.after.faults ≡ out.before.faults
 
 -- ---- its end
 
@@ -194,6 +203,11 @@ untold = record { before = stream None 0; after = stream None 0 }
 
 abbrev pub exit_from : Run → Exit
 exit_from r = record { moment = record { device = r.exit; facts = facts_of r.history }; status = r.status; refused = r.refused; out = r.output }
+
+-- how often the clock has been asked after a run: at its beginning, and for its group, where memory was found for a run
+abbrev pub asked_woven : Option Log → ℕ → ℕ
+asked_woven None asked = next_count asked
+asked_woven (Some log) asked = next_count (next_count asked)
 
 -- What a run does for which memory was found: its lines, and its end.
 pub record GoesWoven (disks mib : ℕ) (load : Workload) (r : Run) : Type 0 where

@@ -6,7 +6,7 @@ ghost use Rattle.lvm_program.specs.Program.{OnScript, OnSim, OnDrawn, OnImage, O
 ghost use Rattle.lvm_top.specs.Run.{Promises, ran};
 ghost use Rattle.lvm_top.specs.Script.{passage};
 ghost use Rattle.lvm_program.specs.Sim.{full_room, sim_device};
-ghost use Rattle.lvm_program.specs.Woven.{untold};
+ghost use Rattle.lvm_program.specs.Woven.{asked_woven, untold};
 ghost use Rattle.lvm_words.specs.Words.{job_of};
 
 use crate::generate::run_gen;
@@ -136,7 +136,8 @@ pub fn run_words<I: Source, O: Sink, E: Sink, C: Clock, S: Shelf, P: Images>(
         × IfNone result.sim (IsUnrun result ExitStatus.Memory × (input.new ≡ input.old) × (out.new ≡ out.old) × (clock.new ≡ clock.old))) }
     ensures drawn { let written = passage O.held O.faults out.old out.new in
         OnDrawn (job_of words.now) (λ seed count. IsUnrun result result.status × IsGenerated seed count result.status written)
-        (λ disks mib load. IfSome result.sim (λ shelf. PromisesWovenBlank disks mib load (C.last clock.old) (ran full_room (sim_device disks mib) (device_of shelf) untold written (C.last clock.new) result.history result.status result.refused))
+        (λ disks mib load. IfSome result.sim (λ shelf. PromisesWovenBlank disks mib load (C.last clock.old) (ran full_room (sim_device disks mib) (device_of shelf) untold written (C.last clock.new) result.history result.status result.refused)
+        × (C.asked clock.new ≡ asked_woven result.history (C.asked clock.old)))
         × IfNone result.sim (IsUnrun result ExitStatus.Memory × (out.new ≡ out.old) × (clock.new ≡ clock.old))) }
     ensures text { OnText (job_of words.now) (λ text. IsUnrun result result.status × IsTold text result.status (passage O.held O.faults out.old out.new)) }
     ensures image { let zeros = passage P.held P.faults images.old images.new in

@@ -10,13 +10,13 @@ ghost use Rattle.lvm_top.specs.passed.Running.{RunsOn};
 ghost use Rattle.lvm_top.specs.passed.Stage.{IsBetweenStage, IsFitting, IsStuck, history_in, moment_in, most_refusals, session_in, state_in, without_facts};
 ghost use Rattle.lvm_top.specs.Run.{ran};
 ghost use Rattle.lvm_top.specs.Script.{passage};
-ghost use Rattle.lvm_program.specs.Woven.{EndsWoven, IsDrawable, IsDrawn, IsMade, IsServed, IsSized, EndsRefused, HasServed, PromisesWoven, TellsWoven, TurnsBehind, copy_count, exit_of, is_whole, mkvg_line, mklv_line, refusal_text, refusals_told, status_woven, total_line, untold, with_ill, with_well, woven_text};
+ghost use Rattle.lvm_program.specs.Woven.{EndsWoven, HasAsked, IsDrawable, IsDrawn, IsMade, IsServed, IsSized, EndsRefused, HasServed, PromisesWoven, TellsWoven, TurnsBehind, asked_woven, copy_count, exit_of, is_whole, mkvg_line, mklv_line, refusal_text, refusals_told, status_woven, total_line, totals_text, untold, with_ill, with_well};
 
 use lvm_core::{Closed, Room};
 use lvm_disk::Shelf;
 use lvm_history::History;
 use lvm_io::{Clock, Sink, write_all};
-use lvm_load::{Totals, Workload, Woven, weave};
+use lvm_load::{Totals, Workload, Woven, totals_since, weave};
 use lvm_posts::Post;
 use lvm_top::below::driver::Driver;
 use lvm_top::below::line::do_line;
@@ -91,6 +91,7 @@ fn make_volume<S: Shelf, C: Clock>(
     ensures made { IsMade (without_facts (history_in stage)) room group.now volume.now (state_in S.device stage (C.last clock.old)) result.reply (state_in S.device result.stage (C.last clock.new)) }
     ensures rooms { without_facts (history_in result.stage) ≡ without_facts (history_in stage) }
     ensures fits { IsFitting result.stage }
+    ensures asked { HasAsked group.now volume.now (C.asked clock.old) (C.asked clock.new) }
 {
     let made = do_line(alloc, stage, clock, room, group);
     match made.reply {
@@ -129,7 +130,8 @@ fn behind<S: Shelf>(driver: &mut Driver<S>, unheard: bool)
     }
 }
 
-// Draws a workload over the first volume of a session, of so many blocks, makes turns behind it, and closes the session.
+// Draws a workload over the first volume of a session, of so many blocks, makes turns behind it, counts what the history tells
+// then, and closes the session.
 fn serve<S: Shelf>(
     driver: Driver<S>,
     posts: Vec<Post>,
@@ -145,11 +147,16 @@ fn serve<S: Shelf>(
 {
     let mut driver = driver;
     let mut bytes = bytes;
+    let from = driver.history().len();
     let woven = weave(&mut driver, 1, blocks, load, &mut bytes);
     behind(&mut driver, woven.waiting);
+    let totals = totals_since(driver.history(), from, load.requests);
     Served {
         closed: close_ended(driver, posts, bytes),
-        woven,
+        woven: Woven {
+            totals,
+            waiting: woven.waiting,
+        },
     }
 }
 
@@ -189,13 +196,13 @@ fn push_ill(text: &mut String, totals: &Totals) -> Result<(), AllocError>
     push_total(text, "unbegun", totals.unbegun)
 }
 
-// The totals, behind the refusal where nothing was heard of a transfer.
-fn woven_text(alloc: Global, woven: &Woven) -> Result<String, AllocError>
-    ensures { IfOk result (λ text. string_bytes text ≡ woven_text woven.now) }
+// The six lines.
+fn totals_text(alloc: Global, totals: &Totals) -> Result<String, AllocError>
+    ensures { IfOk result (λ text. string_bytes text ≡ totals_text totals.now) }
 {
-    let mut text = String::from_str(alloc, refusal_text(woven))?;
-    push_well(&mut text, &woven.totals)?;
-    push_ill(&mut text, &woven.totals)?;
+    let mut text = String::new(alloc);
+    push_well(&mut text, totals)?;
+    push_ill(&mut text, totals)?;
     Ok(text)
 }
 
@@ -219,11 +226,14 @@ fn status_woven(woven: &Woven, requests: u32, failed: Option<ExitStatus>) -> Exi
     }
 }
 
-// Writes the totals, as far as the sink takes them.
+// Writes the refusal where nothing was heard of a transfer, which wants no memory, and the totals, as far as the sink takes them.
 fn tell_woven<O: Sink>(alloc: Global, out: &mut O, woven: &Woven, requests: u32) -> ExitStatus
     ensures { TellsWoven woven.now requests result (passage O.held O.faults out.old out.new) }
 {
-    let Ok(text) = woven_text(alloc, woven) else {
+    let Ok(()) = write_all(out, refusal_text(woven).as_bytes()) else {
+        return status_woven(woven, requests, Some(ExitStatus::SinkFault));
+    };
+    let Ok(text) = totals_text(alloc, &woven.totals) else {
         return status_woven(woven, requests, Some(ExitStatus::Memory));
     };
     match write_all(out, text.as_bytes()) {
@@ -338,7 +348,8 @@ fn end_woven<S: Shelf, O: Sink>(
 /// Runs a workload: makes the group `weavevg` of the first disks, with partitions of 1 MiB, and its volume `weavelv`, active
 /// and of two copies, or one where there is one disk, of as many logical partitions as a disk has partitions; draws the
 /// requests of its clients over it, makes turns until one doesn't move, unless nothing is heard, and writes the totals. A
-/// refusal of a line that makes them is written as in a script. The moment at which the run begins names it in its history.
+/// refusal of a line that makes them is written as in a script. The moment at which the run begins names it in its history;
+/// the clock is asked for it, and once more for the group.
 pub fn run_weave<S: Shelf, O: Sink, C: Clock>(
     alloc: Global,
     disks: u16,
@@ -355,6 +366,7 @@ pub fn run_weave<S: Shelf, O: Sink, C: Clock>(
     requires sized { IsSized disks mib }
     ensures run { PromisesWoven disks mib load.now (C.last clock.old) (ran room (S.device shelf) (S.device result.shelf) untold (passage O.held O.faults out.old out.new) (C.last clock.new) result.history result.status result.refused) }
     ensures sim { result.sim ≡ None }
+    ensures asked { C.asked clock.new ≡ asked_woven result.history (C.asked clock.old) }
 {
     let run = clock.now();
     let Ok(volume) = mklv_line(alloc, disks, mib) else {

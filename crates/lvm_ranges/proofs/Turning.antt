@@ -29,7 +29,7 @@ use Rattle.lvm_driver.specs.Drains.{IsAny, LastTurn, NoTurn, ThenMoves, ThenWait
 use Rattle.lvm_turn_answers.proofs.Stepping.{turn_counts}
 use Rattle.lvm_posts.specs.declared.asked.Asked.{Asked}
 use Rattle.lvm_ranges.specs.Keeping.{KeepsTable}
-use Rattle.lvm_ranges.specs.Landing.{AwaitCosts, HavePiecesLanded, IsUnfinished, TurnsFor}
+use Rattle.lvm_ranges.specs.Landing.{AwaitCosts, HavePiecesLanded, IsUnfinished, TurnsFor, TurnsLeave}
 use Rattle.lvm_ranges.proofs.Tables.{table_same, table_then, turn_table}
 
 -- what goes on over turns, and over each call
@@ -60,6 +60,9 @@ with_turn first old new answer so_far sound made tells runs = record {
 -- so the votes go by faults alone
 pub votes_with : (first now : State) → GoesWith first now → LosesVotesByFaults first now
 votes_with first now on = votes_go first now on.runs.leaves.keeps.descriptor on.loses
+
+pub turns_leave : (first now : State) → GoesWith first now → TurnsLeave first now
+turns_leave first now on = record { table = on.table; runs = on.runs; votes = votes_with first now on }
 
 -- So far turns were made while some piece hadn't landed, and the patience that is gone went with answers that nothing has ended.
 pub record Goes (asked : Asked) (first now : State) (patience left : ℕ) : Type 0 where

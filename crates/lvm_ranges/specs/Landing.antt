@@ -3,9 +3,12 @@ use Rattle.std.specs.Prelude.{◌≡◌, ◌⊎◌, ◌<◌, ◌+◌, ℕ, true,
 use Rattle.lvm_vol.specs.Log.{is_open}
 use Rattle.lvm_session.specs.declared.answers.Turned.TheVariants as turned
 use Rattle.lvm_session.specs.State.{State}
+use Rattle.lvm_running.specs.Running.{RunsOn}
+use Rattle.lvm_turn_losses.specs.Losing.{LosesVotesByFaults}
 use Rattle.lvm_driver.specs.Drains.{IsTurn, LastTurn, TurnsWhile}
 use Rattle.lvm_posts.specs.declared.asked.Asked.{Asked}
 use Rattle.lvm_ranges.specs.declared.landing.Stuck.{Stuck}
+use Rattle.lvm_ranges.specs.Keeping.{KeepsTable}
 
 -- each of its pieces has landed
 abbrev pub HavePiecesLanded : Asked → State → Type 0
@@ -20,6 +23,12 @@ pub record IsUnfinished (asked : Asked) (s : State) : Type 0 where
 -- A turn that is made while some piece hasn't landed: a path of these makes no turn more once all have.
 abbrev pub TurnsFor : Asked → State → State → Type 0
 TurnsFor asked old new = IsUnfinished asked old × IsTurn old new
+
+-- The same requests stay in the table, the session goes on, and its votes are lost by faults alone.
+pub record TurnsLeave (old new : State) : Type 0 where
+  pub table : KeepsTable old.core new.core
+  pub runs : RunsOn old new
+  pub votes : LosesVotesByFaults old new
 
 -- All pieces have landed; or some hasn't, and the patience has run out.
 abbrev pub AwaitEnds : Asked → ℕ → State → Result (Unit {0}) Stuck → Type 0

@@ -3,13 +3,10 @@ ghost use Rattle.std.specs.Prelude.{◌≡◌, ◌≤◌, ◌<◌, ◌+◌, ◌-
 ghost use Rattle.lvm_disk.specs.Paths.{Path};
 ghost use Rattle.lvm_write.specs.Parts.{Spends};
 ghost use Rattle.lvm_session.specs.declared.open.Power.TheVariants as power;
-ghost use Rattle.lvm_running.specs.Running.{RunsOn};
 ghost use Rattle.lvm_driver.specs.Answers.{state_of};
-ghost use Rattle.lvm_turn_losses.specs.Losing.{LosesVotesByFaults};
 ghost use Rattle.lvm_driver.specs.Drains.{IsAny};
 ghost use Rattle.lvm_posts.specs.Pieces.{IsLaidOut};
-ghost use Rattle.lvm_ranges.specs.Keeping.{KeepsTable};
-ghost use Rattle.lvm_ranges.specs.Landing.{AwaitCosts, AwaitEnds, HavePiecesLanded, IsUnfinished, TurnsFor};
+ghost use Rattle.lvm_ranges.specs.Landing.{AwaitCosts, AwaitEnds, HavePiecesLanded, IsUnfinished, TurnsFor, TurnsLeave};
 
 use lvm_disk::Shelf;
 use lvm_driver::Driver;
@@ -49,9 +46,8 @@ pub fn await_range<S: Shelf>(
     requires laid { IsLaidOut asked.now }
     ensures turns { Path (TurnsFor asked.now) IsAny (state_of S.device driver.old) (state_of S.device driver.new) }
     ensures ends { AwaitEnds asked.now patience.new.left (state_of S.device driver.new) result }
-    ensures table { KeepsTable driver.old.1 driver.new.1 }
-    ensures runs { RunsOn (state_of S.device driver.old) (state_of S.device driver.new) }
-    ensures votes { LosesVotesByFaults (state_of S.device driver.old) (state_of S.device driver.new) }
+    // The votes go by faults alone.
+    ensures leaves { TurnsLeave (state_of S.device driver.old) (state_of S.device driver.new) }
     ensures spends { Spends patience.old.left patience.new.left (S.device driver.old.0) (S.device driver.new.0) }
     // Each turn that waits costs one of the patience.
     ensures costs { AwaitCosts asked.now patience.old.left patience.new.left (state_of S.device driver.old) (state_of S.device driver.new) result }

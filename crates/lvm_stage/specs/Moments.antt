@@ -58,8 +58,8 @@ IsAllowed OfGroup old = Unit {0}
 IsAllowed (OfGroupWhere Holds) old = AtRestEach Holds old
 IsAllowed OfRequests old = Unit {0}
 
--- At most one group has a quorum among all disks where a volume's making or removal is entered meanwhile, and where a session is acted on whose group has
--- volumes, which are all in mode off. What a command asks for besides holds of its session.
+-- At most one group has a quorum among all disks where a volume's making or removal is entered meanwhile; so too where a session is acted on whose group has
+-- volumes and which has no open request, and none of these is in mode passive then. What a command asks for besides holds of its session.
 pub record IsAlone (role : Role) (old new : State) : Type 0 where
   pub enters : EntersVolumes old.moment.facts new.moment.facts → IsOneByAllOn old.moment.device
   pub acts : IsActing role → IfSome old.session (StandsAlone old.moment.device)

@@ -8,9 +8,10 @@ use Rattle.std.proofs.lemmas.List.Sums.{sum_by-append}
 use Rattle.lvm_disk.specs.Device.{Device}
 use Rattle.lvm_io.specs.Count.{Rose}
 use Rattle.lvm_io.specs.Stream.{WhereTold}
-use Rattle.lvm_io.specs.Lines.{is_feed, lines_from, lines_of}
+use Rattle.lvm_io.specs.Lines.{TakesFirst, is_feed, joined, lines_from, lines_of}
 use Rattle.lvm_io.specs.Reading.{Reading, to_come, lines_left, CountsGiven}
 use Rattle.lvm_io.proofs.Told.{told_on, told_same, told_more}
+use Rattle.lvm_io.proofs.Feeds.{first_of}
 use Rattle.lvm_vol.specs.Log.{Log}
 use Rattle.lvm_kept.specs.Moments.{Moment}
 use Rattle.lvm_steps.specs.Moments.{Keeps}
@@ -24,7 +25,7 @@ use Rattle.lvm_posts.specs.declared.posts.Post.{Post}
 use Rattle.lvm_line.specs.Lines.{IsLine, role_of}
 use Rattle.lvm_line.specs.passed.Stage.{IsRequesting, Role, Aside, OfGroup, OfGroupWhere, OfRequests, reply_text, refusals_of, most_refusals, IsStuck, State}
 use Rattle.lvm_line.specs.passed.Stage.{IsAtRest, IsTimely, StandsBy, Reply}
-use Rattle.lvm_top.specs.Script.{Stream, Passage, Says, Script, NoLine, NextLine, StaysAlone, Ends, AtLine, InLine, EndsAlone, EndsHeard, AreDone, AreAllRead, AreDoneBut, ComesBehind, IsLineLeft, MakeRequests, is_made_late, is_requesting, texts_of, refusals_in, entry_state}
+use Rattle.lvm_top.specs.Script.{Stream, Passage, Says, Script, NoLine, NextLine, StaysAlone, Ends, AtLine, InLine, EndsAlone, EndsHeard, AreBefore, AreDone, AreAllRead, AreDoneBut, ComesBehind, IsLineLeft, MakeRequests, is_made_late, is_requesting, texts_of, refusals_in, entry_state}
 use Rattle.lvm_top.specs.Statuses.{GoesUntil}
 use Rattle.lvm_top.specs.declared.script.Stop.{Stop}
 use Rattle.lvm_top.specs.declared.script.Stop.TheVariants as stop
@@ -41,6 +42,7 @@ pub record RunSoFar (log : Log) (room : Room) (first now : State) (reading : Rea
   pub replies : List Reply
   pub script : Script log room first lines replies now
   pub read : WhereTold (to_come nothing_read input) (to_come reading left) (λ a b. lines_of a ≡ lines ++ lines_of b)
+  pub before_rest : WhereTold (to_come nothing_read input) (to_come reading left) (AreBefore lines)
   pub given : CountsGiven nothing_read reading input left
   pub written : WhereTold before after (λ a b. b ≡ a ++ texts_of replies)
   pub counted : refused ≡ refusals_in replies
@@ -58,6 +60,7 @@ at_start log room first input before none = record {
   replies = [];
   script = NoLine;
   read = told_same (to_come nothing_read input) (λ a b. lines_of a ≡ lines_of b) (λ a. refl);
+  before_rest = told_same (to_come nothing_read input) (AreBefore []) (λ a. inl refl);
   given = told_same input (λ a b. length a + 0 ≡ length b + 0) (λ a. refl);
   written = told_same before (λ a b. b ≡ a ++ []) (λ a. sym (append-nil a));
   counted = refl;
@@ -114,11 +117,27 @@ no_more : {X : Type 0} (xs ys : List X) → xs ++ ys ≡ xs → ys ≡ []
 no_more [] ys is = is
 no_more (x ∷ xs) ys is = no_more xs ys (cc (is))
 
+-- a line more of the bytes
+joined_more : (lines : List (List ℕ)) (line rest : List ℕ) → joined lines ++ (line ++ 10 ∷ rest) ≡ joined (lines ++ line ∷ []) ++ rest
+joined_more [] line rest = sym (append_assoc line (10 ∷ []) rest)
+joined_more (l ∷ lines) line rest =
+    append_assoc l (10 ∷ joined lines) (line ++ 10 ∷ rest) ∙ ap (λ (t : List ℕ). l ++ 10 ∷ t) (joined_more lines line rest) ∙ sym (append_assoc l (10 ∷ joined (lines ++ line ∷ [])) rest)
+
+nothing_fed : (line rest : List ℕ) → line ++ 10 ∷ rest ≡ [] → ⊥
+nothing_fed [] rest is = cc (is)
+nothing_fed (byte ∷ line) rest is = cc (is)
+
+one_before : (lines : List (List ℕ)) (line bytes mid rest : List ℕ) → AreBefore lines bytes mid → TakesFirst line mid rest → AreBefore (lines ++ line ∷ []) bytes rest
+one_before lines line bytes mid rest (inl is) (clean, inl fed) = inl (is ∙ ap (λ (l : List ℕ). joined lines ++ l) fed ∙ joined_more lines line rest)
+one_before lines line bytes mid rest (inl is) (clean, inr (all, none, some)) = inr (record { ended = lines; last = line; are = refl; is = is ∙ ap (λ (l : List ℕ). joined lines ++ l) all; some = some }, none)
+one_before lines line bytes mid rest (inr (lacks, empty)) (clean, inl fed) = absurd (nothing_fed line rest (sym fed ∙ empty))
+one_before lines line bytes mid rest (inr (lacks, empty)) (clean, inr (all, none, some)) = absurd (let e : length line ≡ 0 = ap length (sym all ∙ empty) in omega (arith, e, some))
+
 module _ (log : Log) (room : Room) (first now : State) (reading : Reading) (input left before after : Option (List ℕ)) (refused lines_done : ℕ) (so_far : RunSoFar log room first now reading input left before after refused lines_done) where
   -- one line more was read, done and answered
   pub line_answered :
       (new : State) (reading' : Reading) (left' after' : Option (List ℕ)) (refused' : ℕ) (line : List ℕ) (answer said : Reply) → (IsStuck answer → ⊥) → Says answer said → IsLine log room line answer now new
-      → WhereTold (to_come reading left) (to_come reading' left') (λ a b. lines_of a ≡ line ∷ lines_of b) → CountsGiven reading reading' left left' → lines_left reading' < lines_left reading → reading'.given ≤ 16777216
+      → WhereTold (to_come reading left) (to_come reading' left') (TakesFirst line) → CountsGiven reading reading' left left' → lines_left reading' < lines_left reading → reading'.given ≤ 16777216
       → WhereTold after after' (λ a b. b ≡ a ++ reply_text said) → refused' ≡ refused + refusals_of said → refused' + length new.posts ≤ lines_done + 1
       → RunSoFar log room first new reading' input left' before after' refused' (lines_done + 1)
   line_answered new reading' left' after' refused' line answer said goes says does read given fewer within written counts few = record {
@@ -126,7 +145,8 @@ module _ (log : Log) (room : Room) (first now : State) (reading : Reading) (inpu
     replies = so_far.replies ++ said ∷ [];
     script = NextLine line answer said goes says so_far.script does;
     read = told_on (to_come nothing_read input) (to_come reading left) (to_come reading' left') _ _ (λ a b. lines_of a ≡ (so_far.lines ++ line ∷ []) ++ lines_of b)
-        (λ a b c one two. one ∙ ap (λ (l : List (List ℕ)). so_far.lines ++ l) two ∙ sym (append_assoc so_far.lines (line ∷ []) (lines_of c))) so_far.read read;
+        (λ a b c one two. one ∙ ap (λ (l : List (List ℕ)). so_far.lines ++ l) (first_of line b c two) ∙ sym (append_assoc so_far.lines (line ∷ []) (lines_of c))) so_far.read read;
+    before_rest = told_on (to_come nothing_read input) (to_come reading left) (to_come reading' left') (AreBefore so_far.lines) (TakesFirst line) (AreBefore (so_far.lines ++ line ∷ [])) (one_before so_far.lines line) so_far.before_rest read;
     given = told_on input left left' _ _ (λ a b. length a + 0 ≡ length b + reading'.given) (λ a b c one two. omega (arith, one, two)) so_far.given given;
     written = told_on before after after' _ _ (λ a b. b ≡ a ++ texts_of (so_far.replies ++ said ∷ [])) (λ a b c one two. two ∙ ap (λ (t : List ℕ). t ++ reply_text said) one ∙ append_assoc a (texts_of so_far.replies) (reply_text said) ∙ ap (λ (t : List ℕ). a ++ t) (sym (texts_more so_far.replies said))) so_far.written written;
     counted = counts ∙ ap (λ (n : ℕ). n + refusals_of said) so_far.counted ∙ sym (refusals_more so_far.replies said);
@@ -198,15 +218,15 @@ module _ (log : Log) (room : Room) (first now : State) (reading : Reading) (inpu
   kept_front : (most : ℕ) (reading' : Reading) (left' : Option (List ℕ)) (f g h k : ℕ) → KeepsFront most reading reading' (through left f left' g) → CountsGiven reading reading' left left'
       → AreDoneBut most (lines_so_far (record { content = left'; faults = g }) f h k) (through input f left' g)
   unfolding lines_so_far
-  kept_front most reading' left' f g h k kept given = go input left left' so_far.read kept.same (all_given reading' left' given)
+  kept_front most reading' left' f g h k kept given = go input left left' so_far.before_rest kept.same (all_given reading' left' given)
     where
-      go : (x y z : Option (List ℕ)) → WhereTold (to_come nothing_read x) (to_come reading y) (λ a b. lines_of a ≡ so_far.lines ++ lines_of b) → WhereTold (to_come reading y) (to_come reading' z) (λ a b. b ≡ a) → WhereTold x z (λ a b. length a + 0 ≡ length b + reading'.given)
+      go : (x y z : Option (List ℕ)) → WhereTold (to_come nothing_read x) (to_come reading y) (AreBefore so_far.lines) → WhereTold (to_come reading y) (to_come reading' z) (λ a b. b ≡ a) → WhereTold x z (λ a b. length a + 0 ≡ length b + reading'.given)
           → WhereTold x z (λ a b. ComesBehind so_far.lines most a b)
-      go None y None read same count = tt
-      go (Some a) (Some b) (Some c) read same count = record { front = reading'.front; block = reading'.block; clean = kept.clean; few = kept.few; whole = read ∙ ap (λ (l : List ℕ). so_far.lines ++ lines_of l) (sym same) }
-      go None y (Some c) read same count = absurd count
-      go (Some a) y None read same count = absurd count
-      go (Some a) None (Some c) read same count = absurd read
+      go None y None are same count = tt
+      go (Some a) (Some b) (Some c) are same count = record { front = reading'.front; block = reading'.block; clean = kept.clean; few = kept.few; whole = subst (AreBefore so_far.lines a) (sym same) are }
+      go None y (Some c) are same count = absurd count
+      go (Some a) y None are same count = absurd count
+      go (Some a) None (Some c) are same count = absurd are
 
   -- the run stops between two lines
   pub stops_between :
@@ -239,7 +259,7 @@ module _ (log : Log) (room : Room) (first now : State) (reading : Reading) (inpu
   -- the run stops in one line more
   pub stops_in_line :
       (why : Option Stop) (last : State) (reading' : Reading) (left' after' : Option (List ℕ)) (f g h k refused' : ℕ) (line : List ℕ) (answer said : Reply) (text : Wrote (reply_text said) (through after h after' k)) → Says answer said → IsLine log room line answer now last
-      → WhereTold (to_come reading left) (to_come reading' left') (λ a b. lines_of a ≡ line ∷ lines_of b) → CountsGiven reading reading' left left' → reading'.given ≤ 16777216 → refused' ≡ refused + refusals_of said
+      → WhereTold (to_come reading left) (to_come reading' left') (TakesFirst line) → CountsGiven reading reading' left left' → reading'.given ≤ 16777216 → refused' ≡ refused + refusals_of said
       → (why ≡ None → ⊥) → (why ≡ Some stop.SourceFault → ⊥) → (why ≡ Some stop.TooLong → ⊥) → ((why ≡ Some stop.SinkFault → ⊥) → why ≡ Some stop.Stuck) → (why ≡ Some stop.SinkFault → Rose h k) → (why ≡ Some stop.Stuck → IsStuck answer) → (IsStuck answer → why ≡ Some stop.Stuck) → g ≡ f
       → GoesUntil why log room first last (through input f left' g) (through before h after' k) refused'
   stops_in_line why last reading' left' after' f g h k refused' line answer said text says does read given within counts not_end no_source not_long either sink stuck stuck_so well = record {
@@ -272,8 +292,8 @@ module _ (log : Log) (room : Room) (first now : State) (reading : Reading) (inpu
     short = λ not_long. told_more input left' _ (λ a b. length a ≤ 16777216 + length b) (λ a b e. omega (arith, e, within)) (all_given reading' left' given);
   }
     where
-      begins_with : (bytes : List ℕ) (y z : Option (List ℕ)) → WhereTold (Some bytes) y (λ a b. lines_of a ≡ so_far.lines ++ lines_of b) → WhereTold y z (λ a b. lines_of a ≡ line ∷ lines_of b) → (rest : List (List ℕ)) × (lines_of bytes ≡ (so_far.lines ++ line ∷ []) ++ rest)
-      begins_with bytes (Some b) (Some c) one two = (lines_of c, one ∙ ap (λ (l : List (List ℕ)). so_far.lines ++ l) two ∙ sym (append_assoc so_far.lines (line ∷ []) (lines_of c)))
+      begins_with : (bytes : List ℕ) (y z : Option (List ℕ)) → WhereTold (Some bytes) y (λ a b. lines_of a ≡ so_far.lines ++ lines_of b) → WhereTold y z (TakesFirst line) → (rest : List (List ℕ)) × (lines_of bytes ≡ (so_far.lines ++ line ∷ []) ++ rest)
+      begins_with bytes (Some b) (Some c) one two = (lines_of c, one ∙ ap (λ (l : List (List ℕ)). so_far.lines ++ l) (first_of line b c two) ∙ sym (append_assoc so_far.lines (line ∷ []) (lines_of c)))
       begins_with bytes None z one two = absurd one
       begins_with bytes (Some b) None one two = absurd two
 
@@ -424,7 +444,7 @@ nothing_broken log room first input output none = refl
 -- nor is a line left of what was read
 pub nothing_left : (log : Log) (room : Room) (first : State) (input output : Stream) (none : first.posts ≡ []) (most : ℕ) → AreDoneBut most (nothing_done log room first input output none) (record { before = input; after = input })
 unfolding nothing_done lines_so_far at_start
-nothing_left log room first input output none most = told_same input.content (λ a b. ComesBehind [] most a b) (λ a. record { front = []; block = []; clean = refl; few = omega arith; whole = refl })
+nothing_left log room first input output none most = told_same input.content (λ a b. ComesBehind [] most a b) (λ a. record { front = []; block = []; clean = refl; few = omega arith; whole = inl refl })
 
 -- nor was anything not heard of
 pub nothing_heard : (log : Log) (room : Room) (first : State) (input output : Stream) (none : first.posts ≡ []) → EndsHeard (nothing_done log room first input output none).ends

@@ -47,6 +47,15 @@ module _ (first old new : Session) (so_far : MovesSoFar first old) where
   pub turns_run : RunsOn old new → RunsOn first new
   turns_run runs = runs_both first old new so_far.runs runs
 
+-- what holds of none, of a turn, and of one behind the other holds of all
+module _ (R : Session → Session → Type 0) (none : (s : Session) → R s s) (both : (a b c : Session) → R a b → R b c → R a c) (turn : (a b : Session) (answer : Turned) → TurnMakes a b answer → R a b) where
+  each_move : (old : Session) (n : ℕ) (new : Session) → Moves old n new → R old new
+  each_move old n new NoMove = none old
+  each_move old n new (OneMove {n = m} {old = mid} so_far made) = both old mid new (each_move old m mid so_far) (turn mid new turned.Moved made)
+
+  pub each_turn : (old new : Session) → MakesTurns old new → R old new
+  each_turn old new made = both old made.mid new (each_move old made.moved made.mid made.moves) (turn made.mid new made.answer made.last)
+
 -- ---- whether nothing is under way
 
 none_out : (fs : List Flight) → length fs ≡ 0 → fs ≡ []

@@ -4,7 +4,7 @@ use Rattle.std.specs.List.{flat_map, list_any}
 use Rattle.lvm_disk.specs.Device.{Device}
 use Rattle.lvm_io.specs.Count.{Rose}
 use Rattle.lvm_io.specs.Stream.{WhereTold}
-use Rattle.lvm_io.specs.Lines.{has_feed, lines_of}
+use Rattle.lvm_io.specs.Lines.{LacksLast, has_feed, joined, lines_of}
 use Rattle.lvm_vol.specs.Facts.{Fact}
 use Rattle.lvm_vol.specs.Log.{Log}
 use Rattle.lvm_core.specs.declared.parts.Room.{Room}
@@ -129,13 +129,17 @@ AreAllRead lines input = (lines.done ≡ []) × WhereTold input.before.content i
 abbrev pub IsLineLeft : {log : Log} {room : Room} {first last : State} {input output : Passage} {refused : ℕ} → AreDone log room first last input output refused → Passage → Type 0
 IsLineLeft lines input = WhereTold input.before.content input.after.content (λ a b. lines_of a ≡ lines.lines → ⊥)
 
+-- The bytes are these lines, each with its line feed, and the rest behind them; or the last of the lines has none, and nothing is behind it.
+abbrev pub AreBefore : List (List ℕ) → List ℕ → List ℕ → Type 0
+AreBefore lines bytes rest = (bytes ≡ joined lines ++ rest) ⊎ (LacksLast bytes lines × (rest ≡ []))
+
 -- Behind these lines come, of all bytes, the front of a line and at most so many bytes more, then what is left.
 pub record ComesBehind (lines : List (List ℕ)) (most : ℕ) (bytes left : List ℕ) : Type 0 where
   pub front : List ℕ
   pub block : List ℕ
   pub clean : has_feed front ≡ false
   pub few : length block ≤ most
-  pub whole : lines_of bytes ≡ lines ++ lines_of (front ++ (block ++ left))
+  pub whole : AreBefore lines bytes (front ++ (block ++ left))
 
 -- Each line of what was read was done, but for those that end in at most so many of its last bytes, where its lines are told.
 abbrev pub AreDoneBut : {log : Log} {room : Room} {first last : State} {input output : Passage} {refused : ℕ} → ℕ → AreDone log room first last input output refused → Passage → Type 0

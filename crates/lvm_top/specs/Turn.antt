@@ -1,7 +1,7 @@
 -- How a line of a run is read, and how its reply is written.
 use Rattle.std.specs.Prelude.{◌≡◌, ◌↔◌, ◌⊎◌, ◌≤◌, ◌<◌, ◌+◌, ◌++◌, ℕ, [], ◌∷◌, List, Option, Some, None, IfSome, false, length}
 use Rattle.lvm_io.specs.Count.{Rose}
-use Rattle.lvm_io.specs.Lines.{has_feed, lines_of}
+use Rattle.lvm_io.specs.Lines.{TakesFirst, has_feed}
 use Rattle.lvm_io.specs.Reading.{Reading, to_come, lines_left, CountsGiven}
 use Rattle.lvm_io.specs.Stream.{WhereTold}
 use Rattle.lvm_line.specs.passed.Stage.{reply_text, refusals_of, IsStuck, Reply}
@@ -15,7 +15,7 @@ Comes old new input P = WhereTold (to_come old input.before.content) (to_come ne
 
 -- the next line was read
 pub record ReadsLine (old new : Reading) (input : Passage) (line : List ℕ) : Type 0 where
-  pub line_is : Comes old new input (λ a b. lines_of a ≡ line ∷ lines_of b)
+  pub line_is : Comes old new input (TakesFirst line)
   pub fewer : lines_left new < lines_left old
   pub given : CountsGiven old new input.before.content input.after.content
   pub within : new.given ≤ 16777216

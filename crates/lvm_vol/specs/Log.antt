@@ -1,5 +1,5 @@
 -- What a history keeps and how much room is left in it.
-use Rattle.std.specs.Prelude.{ℕ, ◌+◌, ◌-◌, ◌*◌, Bool, true, false, ◌&&◌, ◌==◌, not, if◌then◌else◌, List, [], ◌∷◌, ◌++◌, count_by, Option, Some, None, is_some, unwrap_or, slice_index_or, replicate}
+use Rattle.std.specs.Prelude.{◌≡◌, ℕ, ◌+◌, ◌-◌, ◌*◌, Bool, true, false, ◌&&◌, ◌==◌, not, if◌then◌else◌, List, [], ◌∷◌, ◌++◌, count_by, Option, Some, None, is_some, unwrap_or, slice_index_or, replicate}
 use Rattle.std.specs.List.{find, filter_map, flat_map, list_any, sum_by}
 use Rattle.std.specs.Simd.{first_chunks}
 use Rattle.lvm_num.specs.Buffer.{zero_sector}

@@ -137,6 +137,7 @@ module _ {S : Type 0} (device : S → Device) (stage : Stage S) (fits : IsFittin
     pub drains : (last : ℕ) → Drains core (state_in device stage last) patience mid
     drains last = record {
       none = no_requests core its;
+      turns = rested.turned.turns;
       runs = rested.turned.runs;
       still = λ rest. still_turns first mid (still rest) rested.turned.turns rested.settled.power;
       empty = rested.empty;

@@ -164,6 +164,7 @@ module _ {S : Type 0} (role : Role) (acts : Acts role) (device : S → Device) (
   undrained last = record {
     none = no_requests device stage fits between none core its;
     end = end;
+    turns = broken.turned.turns;
     runs = broken.turned.runs;
     votes = votes_go first end leaves.keeps.descriptor turned.loses;
     sound = broken.turned.sound;

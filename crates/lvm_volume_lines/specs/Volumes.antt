@@ -4,6 +4,7 @@ use Rattle.lvm_num.specs.declared.descriptor.Mode.{Mode}
 use Rattle.lvm_num.specs.declared.descriptor.Policy.{Policy}
 use Rattle.lvm_disk.specs.Counts.{RoseBy}
 use Rattle.lvm_disk.specs.Device.{IsReady}
+use Rattle.lvm_disk.specs.Paths.{Path}
 use Rattle.lvm_transfer.specs.Transfer.{Relights}
 use Rattle.lvm_write.specs.Written.{KeepsShelf}
 use Rattle.lvm_session.specs.Judging.{is_missing}
@@ -14,7 +15,7 @@ use Rattle.lvm_core.specs.Held.{IsHeld}
 use Rattle.lvm_core.specs.Leaves.{IsOfCommand, KeepsStatus, FindsOnly, Scope}
 use Rattle.lvm_core.specs.Looking.{IsNumberOf, HasNoVolumeNamed}
 use Rattle.lvm_core.specs.Settled.{IsSettled}
-use Rattle.lvm_range_lines.specs.passed.Driver.{DrainFault, FailsSo}
+use Rattle.lvm_range_lines.specs.passed.Driver.{DrainFault, FailsSo, IsAny, IsTurn}
 use Rattle.lvm_range_lines.specs.passed.DrainFaultVariants as drain_fault
 use Rattle.lvm_range_lines.specs.passed.Running.{RunsOn}
 use Rattle.lvm_volume_plan.specs.declared.fault.GroupFault.{GroupFault}
@@ -93,6 +94,7 @@ IsLeft false left old new = StaysOn left old new
 -- missing disk stays missing.
 pub record Drains (core : Core) (old : State) (left : ℕ) (mid : Session) : Type 0 where
   pub none : core.requests ≡ []
+  pub turns : Path IsTurn IsAny (state old.moment.device core) mid
   pub runs : RunsOn (state old.moment.device core) mid
   pub still : IsAtRest old → mid ≡ state old.moment.device core
   pub empty : core.descriptor.lvs ≡ [] → mid ≡ state old.moment.device core
@@ -106,6 +108,7 @@ pub record Drains (core : Core) (old : State) (left : ℕ) (mid : Session) : Typ
 pub record IsUndrained (core : Core) (old new : State) (why : DrainFault) (answer : Reply) : Type 0 where
   pub none : core.requests ≡ []
   pub end : Session
+  pub turns : Path IsTurn IsAny (state old.moment.device core) end
   pub runs : RunsOn (state old.moment.device core) end
   pub votes : LosesVotesByFaults (state old.moment.device core) end
   pub sound : IsSound end

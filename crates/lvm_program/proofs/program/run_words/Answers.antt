@@ -35,4 +35,4 @@ returns-in-Ok-blank_shelf-clause-drawn g c =
     let is : job_of c.args.words.now ≡ Ok (Weave disks mib c.in-Ok-Weave.clients c.in-Ok-Weave.requests c.in-Ok-Weave.seed) = c.in-Ok-Weave.ensures.job ∙ ap (λ (j : Job). Ok j) c.in-Ok-Weave.field-0-is in
     let within = subst IsWithin c.in-Ok-Weave.field-0-is c.in-Ok-Weave.ensures.within in
     on_weave_at _ disks mib c.in-Ok-Weave.clients c.in-Ok-Weave.requests c.in-Ok-Weave.seed is _ _
-    (sim_weaves disks mib (within.0, within.1, within.2, within.3) _ _ _ c.in-Ok-blank_shelf.ensures c.run_weave-ended.ensures.run c.full_room-in-Ok-blank_shelf.ensures, tt)
+    ((sim_weaves disks mib (within.0, within.1, within.2, within.3) _ _ _ c.in-Ok-blank_shelf.ensures c.run_weave-ended.ensures.run c.full_room-in-Ok-blank_shelf.ensures, c.run_weave-ended.ensures.asked), tt)

@@ -1,5 +1,6 @@
-use Rattle.std.proofs.Common.{refl, sym, ◌∙◌, subst}
-use Rattle.lvm_top.specs.passed.Lines.{IsLine}
+use Rattle.std.proofs.Common.{inl, inr, refl, sym, ◌∙◌, ap, subst}
+use Rattle.lvm_parse.specs.Grammar.{line_of}
+use Rattle.lvm_top.specs.passed.Lines.{IsLine, asked_after}
 use Rattle.lvm_top.specs.passed.Stage.{IsStuck, Reply, history_in, state_in, without_facts}
 use Rattle.lvm_top.specs.passed.ReplyVariants as reply
 use Rattle.lvm_program.specs.Woven.{HasGroup, NoGroup}
@@ -21,3 +22,9 @@ returns-in-Ok-clause-made g c =
 
 pub returns-in_default-clause-made : goal.returns-in_default-clause-made
 returns-in_default-clause-made g c = NoGroup c.in_default.not-Ok c.do_line-made.ensures.line
+
+pub returns-in-Ok-clause-asked : goal.returns-in-Ok-clause-asked
+returns-in-Ok-clause-asked g c = inr (c.do_line-made-in-Ok.ensures.asked ∙ ap (asked_after (line_of c.args.volume.now)) c.do_line-made.ensures.asked)
+
+pub returns-in_default-clause-asked : goal.returns-in_default-clause-asked
+returns-in_default-clause-asked g c = inl c.do_line-made.ensures.asked

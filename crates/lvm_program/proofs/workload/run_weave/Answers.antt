@@ -3,7 +3,7 @@ use Rattle.lvm_top.specs.passed.HolderVariants as holder
 use Rattle.lvm_top.specs.passed.Stage.{history_in, moment_in, session_in, state_in, without_facts}
 use Rattle.lvm_program.specs.Woven.{EndsWoven, exit_of, mklv_line, mkvg_line}
 use Rattle.lvm_top.proofs.Stopping.{first_between, first_state}
-use Rattle.lvm_program.proofs.Woven.{made_by, made_few, made_serves, makes_so, the_promises_woven, unwoven}
+use Rattle.lvm_program.proofs.Woven.{asks_so, made_by, made_few, made_serves, makes_so, the_promises_woven, unwoven}
 use Rattle.lvm_program.proofs.workload.run_weave.Goals as goal
 
 pub returns-in_default-clause-run : goal.returns-in_default-clause-run
@@ -57,3 +57,17 @@ returns-clause-run g c =
     c.make_volume-made.ensures.rooms c.requires.ready c.now-run.ensures.later c.end_woven.result (record { before = record { content = g.O.Sink.held c.args.out.now; faults = g.O.Sink.faults c.args.out.now }; after = record { content = g.O.Sink.held c.end_woven.new.out; faults = g.O.Sink.faults c.end_woven.new.out } })
     c.end_woven.ensures.rooms
     (subst (λ n. EndsWoven n c.args.load.now it.reply (history_in it.stage).run (moment_in device it.stage) (session_in it.stage) (exit_of device c.end_woven.result (record { before = record { content = g.O.Sink.held c.args.out.now; faults = g.O.Sink.faults c.args.out.now }; after = record { content = g.O.Sink.held c.end_woven.new.out; faults = g.O.Sink.faults c.end_woven.new.out } }))) c.woven_blocks.ensures.is c.end_woven.ensures.ends)
+
+pub returns-in_default-clause-asked : goal.returns-in_default-clause-asked
+returns-in_default-clause-asked g c = rw c.unbegun.ensures c.now-run.ensures.asked
+
+pub returns-in_default-new-clause-asked : goal.returns-in_default-new-clause-asked
+returns-in_default-new-clause-asked g c = rw c.unbegun-in_default-new.ensures c.now-run.ensures.asked
+
+pub returns-in_default-take_rooms-clause-asked : goal.returns-in_default-take_rooms-clause-asked
+returns-in_default-take_rooms-clause-asked g c = rw c.unbegun-in_default-take_rooms.ensures c.now-run.ensures.asked
+
+pub returns-clause-asked : goal.returns-clause-asked
+returns-clause-asked g c =
+    asks_so c.args.disks c.args.mib c.requires.sized c.mkvg_line.result.now c.as_bytes.result.now c.mkvg_line.ensures (c.as_bytes.ensures.value ∙ c.in-Ok.ensures) (g.C.Clock.asked c.args.clock.now) (g.C.Clock.asked c.now-run.new.self) (g.C.Clock.asked c.make_volume-made.new.clock)
+    c.now-run.ensures.asked _ c.end_woven.result.history c.end_woven.ensures.rooms c.make_volume-made.ensures.asked

@@ -21,8 +21,8 @@ returns-in-None g c =
     let device = g.S.Shelf.device in
     record {
       awaits = awaits_range c.args.post.now c.await_range.new.patience.left (state_of device c.args.driver.now) (state_of device c.await_range.new.driver) c.await_range.result c.in-None.is made.turns made.ends;
-      table = made.table;
-      runs = made.runs;
+      table = made.leaves.table;
+      runs = made.leaves.runs;
       patience = made.spends.falls;
       waited = made.spends.waits;
     }

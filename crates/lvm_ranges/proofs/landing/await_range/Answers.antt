@@ -1,6 +1,6 @@
 use Rattle.std.proofs.Common.{inl, arith}
 use Rattle.lvm_driver.specs.Answers.{state_of}
-use Rattle.lvm_ranges.proofs.Turning.{costs_at_end, costs_nothing, goes, landed_at_end, less_by_move, less_by_wait, one_move, one_wait, votes_with}
+use Rattle.lvm_ranges.proofs.Turning.{costs_at_end, costs_nothing, goes, landed_at_end, less_by_move, less_by_wait, one_move, one_wait, turns_leave}
 use Rattle.lvm_ranges.proofs.landing.await_range.Goals as goal
 
 pub loop-driver-init : goal.loop-driver-init
@@ -33,9 +33,7 @@ returns-then-patience-eq0 g c =
     record {
       turns = so_far.turns;
       ends = (c.is_unfinished.ensures.open c.loop-driver-test.true, c.if-patience-eq0.true);
-      table = so_far.on.table;
-      runs = so_far.on.runs;
-      votes = votes_with (state_of device c.args.driver.now) (state_of device c.loop-driver.driver) so_far.on;
+      leaves = turns_leave (state_of device c.args.driver.now) (state_of device c.loop-driver.driver) so_far.on;
       costs = c.loop-driver.invariant.turns;
       spends = record { falls = so_far.fewer; waits = so_far.waited };
     }
@@ -54,9 +52,7 @@ returns-in-Dark g c =
     record {
       turns = ended.turns;
       ends = landed_at_end c.args.asked.now first old new c.args.patience.now.left c.loop-driver.patience.left so_far unfinished c.is_sound.ensures c.turn.result made.makes made.tells c.in-Dark.is;
-      table = ended.on.table;
-      runs = ended.on.runs;
-      votes = votes_with first new ended.on;
+      leaves = turns_leave first new ended.on;
       costs = costs_at_end c.args.asked.now first old new c.args.patience.now.left c.loop-driver.patience.left c.loop-driver.invariant unfinished c.is_sound.ensures (omega (arith, some)) c.turn.result made.makes c.in-Dark.is;
       spends = record { falls = ended.fewer; waits = ended.waited };
     }
@@ -68,9 +64,7 @@ returns g c =
     record {
       turns = so_far.turns;
       ends = c.is_unfinished.ensures.landed c.loop-driver-test.false;
-      table = so_far.on.table;
-      runs = so_far.on.runs;
-      votes = votes_with (state_of device c.args.driver.now) (state_of device c.loop-driver.driver) so_far.on;
+      leaves = turns_leave (state_of device c.args.driver.now) (state_of device c.loop-driver.driver) so_far.on;
       costs = inl c.loop-driver.invariant.turns;
       spends = record { falls = so_far.fewer; waits = so_far.waited };
     }
