@@ -120,32 +120,18 @@ votes_by-other even (a ∷ b ∷ []) e disk is (inr (inr both)) = by_tests even 
     by_tests v false false even-is h = absurd (false≢true h)
 votes_by-other even (a ∷ b ∷ c ∷ rows) e disk is other = picks (list_any (λ (row : PvRow). row.disk == disk) (a ∷ b ∷ c ∷ rows)) 1 0 is
 
+at_most : (b : Bool) (m n : ℕ) → m ≤ 2 → n ≤ 2 → (if b then m else n) ≤ 2
+at_most true m n p q = p
+at_most false m n p q = q
+
 -- no disk has more than two
 pub votes_by-most : (even : Bool) (rows : List PvRow) (disk : ℕ) → votes_by even rows disk ≤ 2
 unfolding votes_by
 votes_by-most even [] disk = omega arith
 votes_by-most even (only ∷ []) disk = at_most (only.disk == disk) 2 0 (omega arith) (omega arith)
-  where
-    at_most : (b : Bool) (m n : ℕ) → m ≤ 2 → n ≤ 2 → (if b then m else n) ≤ 2
-    at_most true m n p q = p
-    at_most false m n p q = q
-votes_by-most true (first ∷ second ∷ []) disk = by_tests (first.disk == disk) (second.disk == disk)
-  where
-    by_tests : (p q : Bool) → (if p then 1 else (if q then 1 else 0)) ≤ 2
-    by_tests true q = omega arith
-    by_tests false true = omega arith
-    by_tests false false = omega arith
-votes_by-most false (first ∷ second ∷ []) disk = by_tests (first.disk == disk) (second.disk == disk)
-  where
-    by_tests : (p q : Bool) → (if p then 2 else (if q then 1 else 0)) ≤ 2
-    by_tests true q = omega arith
-    by_tests false true = omega arith
-    by_tests false false = omega arith
-votes_by-most even (first ∷ second ∷ third ∷ rows) disk = by_test (list_any (λ (row : PvRow). row.disk == disk) (first ∷ second ∷ third ∷ rows))
-  where
-    by_test : (p : Bool) → (if p then 1 else 0) ≤ 2
-    by_test true = omega arith
-    by_test false = omega arith
+votes_by-most true (first ∷ second ∷ []) disk = at_most (first.disk == disk) 1 _ (omega arith) (at_most (second.disk == disk) 1 0 (omega arith) (omega arith))
+votes_by-most false (first ∷ second ∷ []) disk = at_most (first.disk == disk) 2 _ (omega arith) (at_most (second.disk == disk) 1 0 (omega arith) (omega arith))
+votes_by-most even (first ∷ second ∷ third ∷ rows) disk = at_most (list_any (λ (row : PvRow). row.disk == disk) (first ∷ second ∷ third ∷ rows)) 1 0 (omega arith) (omega arith)
 
 -- one of three or more members has one
 pub votes_by-many : (even : Bool) (rows : List PvRow) (disk : ℕ) → 3 ≤ length rows → list_any (λ (row : PvRow). row.disk == disk) rows ≡ true → votes_by even rows disk ≡ 1

@@ -115,21 +115,11 @@ IsBefore (fault.DiskFailed d) = Unit {0}
 IsBefore (fault.InGroup d) = Unit {0}
 IsBefore other = ⊥
 
-pub not_lost : (X : Type 0) (why : RawFault) → IsBefore why → IsOfPieces {X = X} fault.Lost (Err why) → ⊥
-not_lost X (fault.NoDisk d) before is = cc (is)
-not_lost X (fault.OutOfRange size) before is = cc (is)
-not_lost X fault.HistoryFull before is = cc (is)
-not_lost X (fault.DiskFailed d) before is = cc (is)
-not_lost X (fault.InGroup d) before is = cc (is)
-not_lost X _ before is = before
-
-pub not_read_failed : (X : Type 0) (why : RawFault) → IsBefore why → IsOfPieces {X = X} fault.ReadFailed (Err why) → ⊥
-not_read_failed X (fault.NoDisk d) before is = cc (is)
-not_read_failed X (fault.OutOfRange size) before is = cc (is)
-not_read_failed X fault.HistoryFull before is = cc (is)
-not_read_failed X (fault.DiskFailed d) before is = cc (is)
-not_read_failed X (fault.InGroup d) before is = cc (is)
-not_read_failed X _ before is = before
+-- a fault of the pieces comes before none of them
+pub not_of_pieces : (X : Type 0) (failed : RawFault) → (IsBefore failed → ⊥) → (why : RawFault) → IsBefore why → IsOfPieces {X = X} failed (Err why) → ⊥
+not_of_pieces X failed later fault.Dark before is = before
+not_of_pieces X failed later fault.Stuck before is = before
+not_of_pieces X failed later why before is = later (subst IsBefore is before)
 
 -- what was rejected has raised no count, and wasn't served
 pub rejected_rose : (X : Type 0) (device : Device) (log : Log) (disk at count patience : ℕ) (old new : Counts) (why : RawFault) → IsRejected device log disk at count why → AnswerHasCause {X = X} disk patience old new (Err why)

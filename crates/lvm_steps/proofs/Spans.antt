@@ -107,7 +107,7 @@ disks_go_out run first device facts (d ∷ disks) span =
     (entry_goes_on run first device facts (Removed (Disk d)) span (λ past begins holds. tt) (λ past begins holds image may. quiet_entry_keeps (contents_of image) (past ++ facts) (Removed (Disk d)) tt (holds.kept image may))))
 
 -- the earlier history, as a run finds it
-begins_run : (run : ℕ) (device : Device) (past : List Fact) → IsEarlier run device past → Begins run (past ++ Cut ∷ []) (at_moment device [])
+pub begins_run : (run : ℕ) (device : Device) (past : List Fact) → IsEarlier run device past → Begins run (past ++ Cut ∷ []) (at_moment device [])
 begins_run run device past earlier =
     let all : (past ++ Cut ∷ []) ++ [] ≡ past ++ Cut ∷ [] = append_none (past ++ Cut ∷ []) in
     record {

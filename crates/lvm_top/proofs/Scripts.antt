@@ -21,7 +21,7 @@ use Rattle.lvm_kept.proofs.Keeping.{cut_calm}
 use Rattle.lvm_kept.proofs.Landing.{legal_more}
 use Rattle.lvm_steps.specs.Moments.{Begins, ImagesKept, IsEarlier, Keeps}
 use Rattle.lvm_steps.proofs.Entries.{cut_keeps}
-use Rattle.lvm_steps.proofs.Spans.{keeps_still, later_append}
+use Rattle.lvm_steps.proofs.Spans.{keeps_still, later_append, begins_run}
 use Rattle.lvm_core.specs.declared.parts.Room.{Room}
 use Rattle.lvm_core.specs.declared.refused.Cause.{Cause}
 use Rattle.lvm_session.specs.declared.open.Power.TheVariants as power
@@ -153,22 +153,6 @@ varyon_finds log room past first lines replies last script begin alone line name
         by_given (Err why) gives left = absurd (let e = left.answered in cc (e))
 
 -- ---- runs
-
--- the earlier history, as a run finds it
-begins_run : (run : ℕ) (device : Device) (past : List Fact) → IsEarlier run device past → Begins run (past ++ Cut ∷ []) (record { device = device; facts = [] })
-begins_run run device past earlier =
-    let all : (past ++ Cut ∷ []) ++ [] ≡ past ++ Cut ∷ [] = append-nil (past ++ Cut ∷ []) in
-    record {
-      told = earlier.told;
-      legal = subst Legal (sym all) (legal_more [] past Cut earlier.legal tt);
-      own = sum_by-append (λ g. cond (begins_in run g) 1 0) past (Cut ∷ []) ∙ (let e = earlier.own in more e);
-      moments = later_append past (Cut ∷ []) run earlier.moments tt;
-      calm = subst Calm (sym all) (cut_calm past);
-      kept = λ image may. subst (Kept (contents_of image)) (sym all) (cut_keeps (contents_of image) past (earlier.kept image may));
-    }
-  where
-    more : count_by (begins_in run) past ≡ 0 → ◌≡◌ {A = ℕ} (count_by (begins_in run) past + 0) 0
-    more e = omega (arith, e)
 
 pub run_may_start : RunMayStart
 run_may_start run entry past few ready behind earlier = record { off = refl; few = few; leaves = none_flies entry ready.flights; timely = begins_timely run entry ready.flights behind; begins = begins_run run entry past earlier }
