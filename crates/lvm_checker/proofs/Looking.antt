@@ -19,7 +19,7 @@ use Rattle.lvm_checker.specs.declared.row.Row.TheVariants as row
 use Rattle.lvm_checker.specs.declared.values.Seen.{Seen}
 use Rattle.lvm_checker.specs.declared.values.Sought.{Sought}
 use Rattle.lvm_checker.specs.declared.values.Sought.TheVariants as sought
-use Rattle.lvm_vol.specs.Facts.{Request, Fact, Making, Made, Split, Removing, Removed, Begun, Landed, Taken, Cut, On, Stands, same_vol, same_request, is_over, block_of}
+use Rattle.lvm_vol.specs.Facts.{Request, Fact, Making, Split, Removed, Begun, Landed, Cut, Stands, same_vol, same_request, is_over, block_of}
 use Rattle.lvm_vol.specs.May.{Known, Knowledge, nothing_known, is_open_in, without, is_off, is_some_open, also, ended, read, landed, cut, source, change, after_fact, after, known, May}
 use Rattle.lvm_vol.specs.Log.{is_got}
 use Rattle.lvm_checker.specs.Rows.{ask_of, blocks_at, request_in, fact_of, facts_of}

@@ -8,7 +8,7 @@ use Rattle.lvm_vol.specs.declared.entry.Entry.TheVariants as entry
 use Rattle.lvm_checker.specs.declared.row.Ask.{Ask}
 use Rattle.lvm_checker.specs.declared.row.Row.{Row}
 use Rattle.lvm_checker.specs.declared.row.Row.TheVariants as row
-use Rattle.lvm_vol.specs.Facts.{Request, Fact, Making, Made, Split, Removing, Removed, Begun, Landed, Taken, Cut, On, begun}
+use Rattle.lvm_vol.specs.Facts.{Request, Fact, Making, Made, Split, Removing, Removed, Begun, Landed, Taken, Cut, On}
 use Rattle.lvm_vol.specs.Order.{Ordered}
 use Rattle.lvm_vol.specs.Log.{Log, is_got, needed, is_uncut, blocks_of}
 

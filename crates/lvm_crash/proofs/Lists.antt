@@ -1,7 +1,6 @@
 -- Lists of which those are left that pass a test.
-use Rattle.std.proofs.Common.{◌≡◌, inl, inr, Bool, true, false, not, List, [], ◌∷◌, refl, sym, ap, ◌∙◌}
+use Rattle.std.proofs.Common.{inl, inr, Bool, true, false, not, List, [], ◌∷◌, refl, sym, ap, ◌∙◌}
 use Rattle.std.specs.Prelude.{IsTrue, IsFalse, filter, if◌then◌else◌}
-use Rattle.std.specs.List.{AllByRecursion}
 use Rattle.lvm_kept.specs.Group.{IsOneOf, IsSome}
 pub use Rattle.lvm_num.proofs.ListLemmas.{of_passing}
 pub use Rattle.lvm_invariant.proofs.Small.{left_of, right_of, both_of}

@@ -9,7 +9,7 @@ use Rattle.std.proofs.lemmas.List.Folds.{find-append}
 use Rattle.std.proofs.lemmas.List.Elements.{filter_map-append}
 use Rattle.lvm_vol.specs.declared.entry.Outcome.{Outcome}
 use Rattle.lvm_vol.specs.declared.entry.Entry.TheVariants as entry
-use Rattle.lvm_vol.specs.Facts.{Request, Fact, Making, Made, Split, Removing, Removed, Begun, Landed, Taken, Cut, On, Stands, begun, begun_by}
+use Rattle.lvm_vol.specs.Facts.{Request, Fact, Begun, Landed, Stands, begun, begun_by}
 use Rattle.lvm_vol.specs.Log.{Log, has_id, asked, no_request, request_of, lands_id, takes_id, is_open, is_answered, is_got, need, needed, spare_entries, blocks_begun, spare_bytes, held, blocks_of, place_after, entries_from, entries_of}
 use Rattle.lvm_vol.specs.Order.{Follows, Ordered}
 use Rattle.lvm_vol.proofs.Order.{begun-push, any-push, stands_begun, IsNumbered, numbered}

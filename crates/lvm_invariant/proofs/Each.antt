@@ -36,7 +36,7 @@ use Rattle.lvm_invariant.specs.Open.{OpenKeeps}
 use Rattle.lvm_invariant.specs.LandGot.{LandGotKeeps}
 use Rattle.lvm_invariant.specs.LandLost.{LandLostKeeps}
 use Rattle.lvm_invariant.specs.Submit.{SubmitKeeps}
-use Rattle.lvm_invariant.specs.State.{ModelPhase, Held, WantEntry, Ready, Going, Landed, Queued, ModelState, covers, is_past, has_landed, is_pinning}
+use Rattle.lvm_invariant.specs.State.{ModelPhase, Held, WantEntry, Ready, Going, Queued, ModelState, covers, is_past, has_landed, is_pinning}
 use Rattle.lvm_invariant.specs.Pin.{PinKeeps}
 use Rattle.lvm_invariant.specs.Good.{Good}
 use Rattle.lvm_invariant.specs.MoveStatus.{MoveStatusKeeps}

@@ -3,7 +3,7 @@ use Rattle.std.proofs.Common.{◌≡◌, ◌⊎◌, inl, inr, ⊎_elim, ℕ, ◌
 use Rattle.std.specs.Prelude.{IsTrue, IsFalse, ◌==◌, if◌then◌else◌}
 use Rattle.std.proofs.lemmas.Bool.{cases_lt}
 use Rattle.lvm_num.specs.declared.place.Pp.{Pp}
-use Rattle.lvm_invariant.specs.State.{Stage, ModelPhase, Held, WantEntry, Ready, Going, Landed, Queued, ModelState, covers, is_past, has_landed, Started}
+use Rattle.lvm_invariant.specs.State.{Stage, ModelPhase, Held, Going, Queued, ModelState, covers, is_past, has_landed, Started}
 use Rattle.lvm_invariant.specs.Sound.{Conflict, Sound}
 use Rattle.lvm_invariant.specs.Updates.{put, is_pp, staged}
 

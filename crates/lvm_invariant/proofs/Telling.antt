@@ -7,7 +7,7 @@ use Rattle.lvm_vol.specs.declared.entry.Vol.{Vol}
 use Rattle.lvm_vol.specs.declared.entry.Vol.TheVariants.{Lv}
 use Rattle.lvm_vol.specs.declared.entry.Outcome.{Outcome}
 use Rattle.lvm_vol.specs.declared.entry.Outcome.TheVariants as outcome
-use Rattle.lvm_vol.specs.Facts.{Request, Fact, Making, Made, Split, Removing, Removed, Begun, Landed, Taken, Cut, On, Stands, same_vol, same_request, is_over, block_of}
+use Rattle.lvm_vol.specs.Facts.{Request, Fact, Making, Split, Removed, Begun, Landed, Cut, Stands, same_vol, same_request, is_over, block_of}
 use Rattle.lvm_vol.specs.May.{Known, is_open_in, without, ended, read, landed, change, source, known}
 use Rattle.lvm_vol.specs.Legal.{begins_in, Fits, Legal}
 use Rattle.lvm_vol.proofs.Knowing.{known-push, ended_open, read_open}

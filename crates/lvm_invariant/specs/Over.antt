@@ -5,7 +5,7 @@ use Rattle.lvm_vol.specs.declared.entry.Vol.TheVariants.{Lv}
 use Rattle.lvm_vol.specs.declared.entry.Outcome.{Outcome}
 use Rattle.lvm_vol.specs.May.{known, cut}
 use Rattle.lvm_vol.specs.Legal.{Fits, Legal}
-use Rattle.lvm_invariant.specs.State.{Marks, View, ModelPhase, Held, WantEntry, Ready, Going, Landed, Queued, ModelState, has_landed}
+use Rattle.lvm_invariant.specs.State.{Marks, View, ModelPhase, Going, Queued, ModelState, has_landed}
 use Rattle.lvm_invariant.specs.Crash.{IsCrash, BlockKept, IsPossible}
 
 -- no place stands there twice

@@ -4,7 +4,7 @@ use Rattle.lvm_num.specs.declared.place.Pp.{Pp}
 use Rattle.lvm_disk.specs.Counts.{Rose}
 use Rattle.lvm_invariant.specs.State.{Marks, Stage, Todo, Badly, Queued, ModelCopy, ModelState}
 use Rattle.lvm_invariant.specs.Found.{Votes}
-use Rattle.lvm_invariant.specs.Events.{Event, Submit, EnterStep, Admit, Pin, Read, StartWrite, Transfer, LandDone, LandLost, LandGot, LandReadFailed, LandNoFresh, EndStep, Take, TakeEarlier, Want, BeginUpdate, MoveStatus, CommitUpdate, EndUpdate, StartNote, EndNote, Open, CopyWrite, Clear, ModelStep}
+use Rattle.lvm_invariant.specs.Events.{Event, Submit, EnterStep, Admit, Read, Transfer, LandLost, LandReadFailed, Want, CommitUpdate, ModelStep}
 use Rattle.lvm_invariant.specs.Faults.{Faults}
 
 -- a write of the queue has failed on the copy

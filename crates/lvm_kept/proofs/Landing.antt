@@ -4,7 +4,7 @@ use Rattle.std.specs.List.{list_any}
 use Rattle.std.proofs.lemmas.List.Sums.{sum_by-append}
 use Rattle.std.proofs.lemmas.Bool.Decides.{nat_tests}
 use Rattle.std.proofs.lemmas.Bool.{eqb-true}
-use Rattle.lvm_vol.specs.Facts.{Request, Fact, Making, Made, Split, Removing, Removed, Begun, Landed, Taken, Cut, On, Stands, same_request}
+use Rattle.lvm_vol.specs.Facts.{Request, Fact, Begun, Landed, Taken, Stands, same_request}
 use Rattle.lvm_vol.specs.Legal.{begins_in, lands, takes, Fits, Legal, LegalFrom, IsOutcomeOf, GotMay}
 use Rattle.lvm_vol.specs.declared.entry.Outcome.{Outcome}
 

@@ -2,7 +2,7 @@
 use Rattle.std.specs.Prelude.{◌≡◌, ◌⊎◌, ℕ, Some}
 use Rattle.lvm_num.specs.Buffer.{Sector}
 use Rattle.lvm_disk.specs.Device.{Image, Flight, Device, SameDisks, written, IsInFlight, MayLeave}
-use Rattle.lvm_disk.specs.Paths.{DeviceStep, Started, WasCut, Ended, Broke, Waited, Freed, Lit, Arranged}
+use Rattle.lvm_disk.specs.Paths.{DeviceStep, Started}
 
 -- which values may be brought to a sector of a disk
 abbrev pub Plan : Type 1

@@ -8,7 +8,7 @@ use Rattle.lvm_memory.specs.Bench.{Bench, Begins, DarkensBy, StartsAsPlanned, Re
 use Rattle.lvm_flights.specs.Flights.{passed, flights_of, delays_of}
 use Rattle.lvm_flights.specs.declared.flying.Flying.{Flying}
 use Rattle.lvm_faults.specs.declared.injector.Act.{Act}
-use Rattle.lvm_faults.specs.declared.injector.Act.TheVariants.{Fail, Heal, Cut, Pick, Delay}
+use Rattle.lvm_faults.specs.declared.injector.Act.TheVariants.{Fail, Delay}
 use Rattle.lvm_faults.specs.declared.injector.Planned.{Planned}
 use Rattle.lvm_disk.specs.declared.shelf.Started.{Started}
 use Rattle.lvm_disk.specs.declared.shelf.Started.TheVariants as started

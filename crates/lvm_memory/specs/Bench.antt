@@ -11,7 +11,7 @@ use Rattle.lvm_flights.specs.Tickets.{IsLeastFree}
 use Rattle.lvm_flights.specs.Log.{logged}
 use Rattle.lvm_faults.specs.Injection.{Injection, begun, cut_planned, fails}
 use Rattle.lvm_faults.specs.declared.injector.Act.{Act}
-use Rattle.lvm_faults.specs.declared.injector.Act.TheVariants.{Fail, Heal, Cut, Pick, Delay}
+use Rattle.lvm_faults.specs.declared.injector.Act.TheVariants.{Delay}
 use Rattle.lvm_faults.specs.declared.injector.Planned.{Planned}
 use Rattle.lvm_disk.specs.declared.shelf.Arrange.{Arrange}
 use Rattle.lvm_disk.specs.declared.shelf.Arrange.TheVariants as arrange

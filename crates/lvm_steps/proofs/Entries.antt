@@ -9,7 +9,7 @@ use Rattle.lvm_num.specs.Disks.{Disks}
 use Rattle.lvm_num.specs.Record.{Stamped}
 use Rattle.lvm_vol.specs.declared.entry.Vol.{Vol}
 use Rattle.lvm_vol.specs.declared.entry.Vol.TheVariants.{Disk, Lv}
-use Rattle.lvm_vol.specs.Facts.{Request, Fact, Making, Made, Split, Removing, Removed, Begun, Landed, Taken, Cut, On, Stands, same_vol, is_over}
+use Rattle.lvm_vol.specs.Facts.{Request, Fact, Removing, Removed, Begun, Landed, Taken, Cut, On, Stands, same_vol, is_over}
 use Rattle.lvm_vol.specs.May.{Known, known, change, source, May, IsValue, cut, also, is_off}
 use Rattle.lvm_vol.specs.Laws.{is_about}
 use Rattle.lvm_vol.specs.Standing.{Standing, Settled, Absent, Open, Volume, no_volumes, volumes_after, volumes_after_fact, volumes_in, put}

@@ -15,7 +15,7 @@ use Rattle.lvm_num.proofs.Newest.{is_one}
 use Rattle.lvm_vol.specs.declared.entry.Vol.TheVariants.{Disk}
 use Rattle.lvm_vol.specs.Facts.{Fact, Cut}
 use Rattle.lvm_vol.specs.May.{known, May}
-use Rattle.lvm_vol.specs.Standing.{Standing, Absent, Open, Settled, Shape, volumes_in}
+use Rattle.lvm_vol.specs.Standing.{Standing, Settled, Shape, volumes_in}
 use Rattle.lvm_kept.specs.Contents.{Contents}
 use Rattle.lvm_kept.specs.Group.{if_passes, passes, is_of, has_room, descriptor_among, is_voter, has_quorum, Finds, IsFound, members_in, Reads, AreAlike, IsOneOf}
 use Rattle.lvm_kept.specs.Kept.{StandsAs, HasStatus, RawAgrees, IsSettledIn, IsAvailable, Kept}

@@ -7,7 +7,7 @@ use Rattle.lvm_num.specs.Buffer.{Sector}
 use Rattle.lvm_num.specs.DescriptorBytes.{descriptor_of}
 use Rattle.lvm_vol.specs.declared.entry.Vol.TheVariants.{Lv}
 use Rattle.lvm_vol.specs.declared.entry.Outcome.{Outcome}
-use Rattle.lvm_vol.specs.Facts.{Request, Fact, Making, Made, Split, Removing, Removed, Begun, Landed, Taken, Cut, On}
+use Rattle.lvm_vol.specs.Facts.{Request, Fact, Making, Made, Removing, Removed, Begun}
 use Rattle.lvm_vol.specs.Legal.{Fits}
 use Rattle.lvm_vol.specs.Standing.{Open, volumes_in}
 use Rattle.lvm_disk.specs.Device.{Image, Device, image_of, MayLeave}

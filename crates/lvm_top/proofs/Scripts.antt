@@ -1,27 +1,19 @@
 -- What is found after the lines of a script.
-use Rattle.std.proofs.Common.{◌≡◌, ◌⊎◌, inl, inr, ⊎_elim, ℕ, ◌+◌, List, [], ◌∷◌, ◌++◌, Bool, true, false, Option, Some, None, Result, Ok, Err, count_by, cond, refl, sym, ap, subst, ◌∙◌, arith, ◌≤◌, length}
+use Rattle.std.proofs.Common.{◌≡◌, ◌⊎◌, inl, inr, ⊎_elim, ℕ, ◌+◌, List, [], ◌∷◌, ◌++◌, Bool, true, false, Option, Some, None, Result, Ok, Err, refl, sym, ap, subst, ◌∙◌, ◌≤◌, length}
 use Rattle.std.specs.Prelude.{IsSome, IsSomeAnd, IfSome}
-use Rattle.std.proofs.lemmas.List.{append-nil}
-use Rattle.std.proofs.lemmas.List.Sums.{sum_by-append}
 use Rattle.lvm_num.specs.declared.descriptor.Descriptor.{Descriptor}
 use Rattle.lvm_disk.specs.Device.{Device, Media}
 use Rattle.lvm_disk.specs.Steps.{BothTold}
 use Rattle.lvm_disk.proofs.Paths.{last-path}
 use Rattle.lvm_vol.specs.Facts.{Fact, Cut}
-use Rattle.lvm_vol.specs.Legal.{begins_in, Legal}
 use Rattle.lvm_vol.specs.Log.{Log}
 use Rattle.lvm_parse.specs.declared.command.Command.{Command}
 use Rattle.lvm_operands.specs.declared.rest.Misfit.{Misfit}
 use Rattle.lvm_parse.specs.Grammar.{line_of}
-use Rattle.lvm_kept.specs.Contents.{contents_of}
-use Rattle.lvm_kept.specs.Kept.{Kept}
-use Rattle.lvm_kept.specs.Moments.{Moment, Calm}
+use Rattle.lvm_kept.specs.Moments.{Moment}
 use Rattle.lvm_kept.proofs.Chaining.{span_told, span_sizes}
-use Rattle.lvm_kept.proofs.Keeping.{cut_calm}
-use Rattle.lvm_kept.proofs.Landing.{legal_more}
-use Rattle.lvm_steps.specs.Moments.{Begins, ImagesKept, IsEarlier, Keeps}
-use Rattle.lvm_steps.proofs.Entries.{cut_keeps}
-use Rattle.lvm_steps.proofs.Spans.{keeps_still, later_append, begins_run}
+use Rattle.lvm_steps.specs.Moments.{ImagesKept, Keeps}
+use Rattle.lvm_steps.proofs.Spans.{keeps_still, begins_run}
 use Rattle.lvm_core.specs.declared.parts.Room.{Room}
 use Rattle.lvm_core.specs.declared.refused.Cause.{Cause}
 use Rattle.lvm_session.specs.declared.open.Power.TheVariants as power

@@ -1,7 +1,6 @@
 -- What the choice gives, as a varyon speaks of it.
-use Rattle.std.proofs.Common.{◌≡◌, inl, inr, ℕ, ◌<◌, ◌≤◌, List, Option, Some, None, refl, sym, ap, subst, ◌∙◌}
-use Rattle.std.specs.Prelude.{IsTrue, slice_get, option_and_then, IfSome}
-use Rattle.lvm_num.specs.declared.record.Stamp.{Stamp}
+use Rattle.std.proofs.Common.{◌≡◌, inl, inr, ℕ, ◌<◌, ◌≤◌, List, Some, sym, ap, subst, ◌∙◌}
+use Rattle.std.specs.Prelude.{IsTrue, slice_get}
 use Rattle.lvm_num.specs.declared.descriptor.Descriptor.{Descriptor}
 use Rattle.lvm_num.specs.declared.status.Status.{Status}
 use Rattle.lvm_num.specs.Descriptor.{IsValid}
@@ -18,10 +17,8 @@ use Rattle.lvm_quorum.specs.Choosing.{IsChosenGroup, IsOnly, IsGreatestEpoch}
 use Rattle.lvm_write.specs.Homes.{SpareNewest}
 use Rattle.lvm_quorum.proofs.Chosen.{found_valid, row_valid}
 use Rattle.lvm_quorum.proofs.Epochs.{found_on}
-use Rattle.lvm_survey.specs.declared.row.SurveyRow.{SurveyRow}
 use Rattle.lvm_survey.specs.declared.row.Survey.{Survey}
 use Rattle.lvm_survey.specs.Surveyed.{surveyed, IsSurveyValid}
-use Rattle.lvm_area.specs.Reading.{under}
 use Rattle.lvm_core.specs.declared.parts.Room.{Room}
 use Rattle.lvm_next.specs.Next.{IsNextStatus}
 use Rattle.lvm_recovery.specs.Plan.{ArePlannedInOrder}

@@ -12,7 +12,7 @@ use Rattle.lvm_num.specs.declared.descriptor.LvRow.{LvRow}
 use Rattle.lvm_num.specs.declared.descriptor.Mode.{Mode}
 use Rattle.lvm_num.specs.declared.descriptor.Mode.TheVariants.{Active, Passive, Off}
 use Rattle.lvm_num.specs.declared.descriptor.Policy.{Policy}
-use Rattle.lvm_num.specs.declared.descriptor.Policy.TheVariants.{Parallel, Sequential, ParallelWrite, RoundRobin}
+use Rattle.lvm_num.specs.declared.descriptor.Policy.TheVariants.{Parallel}
 use Rattle.lvm_num.specs.Name.{padded}
 use Rattle.lvm_num.specs.Descriptor.{most_volumes, IsVolume, AreVolumes}
 use Rattle.lvm_num.specs.DescriptorBytes.{mode_code, policy_code, mode_named, policy_named, volume_bytes, name_at, volume_at, volumes_at}

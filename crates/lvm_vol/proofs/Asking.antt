@@ -2,7 +2,7 @@
 use Rattle.std.proofs.Common.{◌≡◌, inl, inr, ℕ, ◌&&◌, ◌==◌, not, Bool, true, false, cond, List, [], ◌∷◌, Option, Some, None, is_some, unwrap_or, refl, sym, ◌∙◌, ap, subst}
 use Rattle.std.specs.List.{list_any, find}
 use Rattle.std.proofs.lemmas.Bool.{eqb-true}
-use Rattle.lvm_vol.specs.Facts.{Request, Fact, Making, Made, Split, Removing, Removed, Begun, Landed, Taken, Cut, On, Stands, begun}
+use Rattle.lvm_vol.specs.Facts.{Request, Fact, Begun, Taken, Stands, begun}
 use Rattle.lvm_vol.specs.Log.{has_id, asked, no_request, request_of, lands_id, takes_id, is_open, is_answered}
 use Rattle.lvm_vol.specs.Order.{Follows}
 

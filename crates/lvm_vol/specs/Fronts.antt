@@ -1,6 +1,6 @@
 -- What a value with a history tells, whose an entry is, and how histories and counts grow.
 use Rattle.std.specs.Prelude.{◌≡◌, ℕ, ◌==◌, ◌≤◌, Bool, false, List, [], ◌∷◌, ◌++◌, filter}
-use Rattle.lvm_vol.specs.Facts.{Fact, Making, Made, Split, Removing, Removed, Begun, Landed, Taken, Cut, On}
+use Rattle.lvm_vol.specs.Facts.{Fact, Begun, Taken}
 
 -- what a value tells of itself: its history, numbers that never change and counts that never fall
 pub record Told : Type 0 where

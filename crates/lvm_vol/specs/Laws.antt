@@ -5,7 +5,7 @@ use Rattle.lvm_vol.specs.declared.entry.Vol.{Vol}
 use Rattle.lvm_vol.specs.declared.entry.Vol.TheVariants.{Disk, Lv}
 use Rattle.lvm_vol.specs.declared.entry.Outcome.{Outcome}
 use Rattle.lvm_vol.specs.declared.entry.Outcome.TheVariants as outcome
-use Rattle.lvm_vol.specs.Facts.{Request, Fact, Making, Made, Split, Removing, Removed, Begun, Landed, Taken, Cut, On, same_vol, is_over, block_of}
+use Rattle.lvm_vol.specs.Facts.{Request, Fact, Making, Split, Removed, Begun, Landed, Taken, Cut, same_vol, is_over, block_of}
 use Rattle.lvm_vol.specs.May.{Known, is_open_in, source, change, known, May}
 use Rattle.lvm_vol.specs.Legal.{begins_in, IsOutcomeOf, GotMay, Fits, Legal}
 

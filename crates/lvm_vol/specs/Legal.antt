@@ -3,7 +3,7 @@ use Rattle.std.specs.Prelude.{◌≡◌, ℕ, ◌+◌, ◌<◌, ◌≤◌, Bool,
 use Rattle.std.specs.List.{list_any}
 use Rattle.lvm_vol.specs.declared.entry.Outcome.{Outcome}
 use Rattle.lvm_vol.specs.declared.entry.Outcome.TheVariants as outcome
-use Rattle.lvm_vol.specs.Facts.{Request, Fact, Making, Made, Split, Removing, Removed, Begun, Landed, Taken, Cut, On, Stands, same_request, block_of}
+use Rattle.lvm_vol.specs.Facts.{Request, Fact, Begun, Landed, Taken, On, Stands, same_request, block_of}
 use Rattle.lvm_vol.specs.May.{known, May}
 
 -- the entry begins a request of this run

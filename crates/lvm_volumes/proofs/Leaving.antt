@@ -10,13 +10,12 @@ use Rattle.lvm_num.specs.Disks.{Disks}
 use Rattle.lvm_num.specs.Descriptor.{is_member}
 use Rattle.lvm_num.specs.Status.{calls_stale, calls_missing}
 use Rattle.lvm_disk.specs.Counts.{Rose, NoneFalls}
-use Rattle.lvm_disk.specs.Device.{Device, image_of}
+use Rattle.lvm_disk.specs.Device.{Device}
 use Rattle.lvm_kept.specs.Moments.{Moment}
 use Rattle.lvm_kept.specs.Torn.{RecordWrite}
-use Rattle.lvm_kept.specs.Plans.{Plan, ChangesBy}
+use Rattle.lvm_kept.specs.Plans.{Plan}
 use Rattle.lvm_status.specs.Update.{members_there}
 use Rattle.lvm_write.specs.Written.{KeepsShelf}
-use Rattle.lvm_write.proofs.Writing.{logs_wider, both_map, changes_more}
 use Rattle.lvm_write.proofs.Transfers.{keeps_here, keeps_then, spends_none, spends_then}
 use Rattle.lvm_commit.specs.Settling.{there, IsOfSession, StatesGroup, IsOfStatus, IsOfCommit}
 use Rattle.lvm_commit.proofs.Chaining.{keeps_wider}

@@ -1,4 +1,4 @@
-use Rattle.std.proofs.Common.{◌≡◌, ◌↔◌, ℕ, IsTrue, List, ap, ◌∙◌, subst}
+use Rattle.std.proofs.Common.{◌≡◌, ◌↔◌, IsTrue, List, ap, ◌∙◌, subst}
 use Rattle.std.specs.List.{list_all}
 use Rattle.lvm_checker.specs.declared.row.Ask.{Ask}
 use Rattle.lvm_vol.specs.Facts.{Fact}

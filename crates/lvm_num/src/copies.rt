@@ -1,42 +1,51 @@
-//! Copies of records, which take memory.
-ghost use Rattle.std.specs.Prelude.{◌≡◌, ◌++◌, ◌∷◌, [], IfOk};
+//! Copies of descriptors, of volumes and of statuses, which take memory.
+ghost use Rattle.std.specs.Prelude.{◌≡◌, IfOk};
 
-use lvm_num::{Descriptor, LvRow, Memory, Rows, Status, VolumeNumbers};
+use crate::{Descriptor, LvRow, Memory, Rows, Status, VolumeNumbers};
 use std::alloc::Global;
+
+/// The group with these volumes.
+pub fn with_volumes(
+    alloc: Global,
+    group: &Descriptor,
+    lvs: Rows<LvRow>,
+) -> Result<Descriptor, Memory>
+    ensures { IfOk result (λ next. next ≡ record group.now { lvs = lvs }) }
+{
+    let pvs = Vec::from_slice(alloc, group.pvs.as_slice())?;
+    Ok(Descriptor {
+        id: group.id,
+        name: group.name,
+        mib: group.mib,
+        quorum: group.quorum,
+        even: group.even,
+        big: group.big,
+        pvs: Rows::new(pvs),
+        lvs,
+    })
+}
 
 /// A descriptor that says the same.
 pub fn copy_of_descriptor(alloc: Global, group: &Descriptor) -> Result<Descriptor, Memory>
     ensures { IfOk result (λ copy. copy ≡ group.now) }
 {
     let lvs = copy_of_volumes(alloc, group.lvs.as_slice())?;
-    match Vec::from_slice(alloc, group.pvs.as_slice()) {
-        Ok(pvs) => Ok(Descriptor {
-            id: group.id,
-            name: group.name,
-            mib: group.mib,
-            quorum: group.quorum,
-            even: group.even,
-            big: group.big,
-            pvs: Rows::new(pvs),
-            lvs: Rows::new(lvs),
-        }),
-        Err(_) => Err(Memory),
-    }
+    with_volumes(alloc, group, Rows::new(lvs))
 }
 
-fn copy_of_volumes(alloc: Global, volumes: &[LvRow]) -> Result<Vec<LvRow>, Memory>
+/// Volumes that say the same.
+pub fn copy_of_volumes(alloc: Global, volumes: &[LvRow]) -> Result<Vec<LvRow>, Memory>
     ensures { IfOk result (λ copy. copy.items ≡ volumes.now) }
 {
     let mut copy = Vec::new(alloc);
     for volume in volumes {
-        if copy.push(copy_of_volume(alloc, volume)?).is_err() {
-            return Err(Memory);
-        }
+        copy.push(copy_of_volume(alloc, volume)?)?;
     }
     Ok(copy)
 }
 
-fn copy_of_volume(alloc: Global, volume: &LvRow) -> Result<LvRow, Memory>
+/// A volume that says the same.
+pub fn copy_of_volume(alloc: Global, volume: &LvRow) -> Result<LvRow, Memory>
     ensures { IfOk result (λ copy. copy ≡ volume.now) }
 {
     match Vec::from_slice(alloc, volume.map.as_slice()) {

@@ -1,5 +1,5 @@
 -- What is found of descriptors stays under other statuses, other notes and other data.
-use Rattle.std.proofs.Common.{◌≡◌, ℕ, Option, refl, ◌∙◌}
+use Rattle.std.proofs.Common.{◌≡◌, ℕ, Option, refl, sym, ◌∙◌}
 use Rattle.lvm_num.specs.declared.descriptor.Descriptor.{Descriptor}
 use Rattle.lvm_num.specs.declared.status.Status.{Status}
 use Rattle.lvm_num.specs.Disks.{Disks}
@@ -23,3 +23,6 @@ module _ (c : Contents) (status : ℕ → Option (Stamped Status)) (note : ℕ �
 
   pub still_finds : (set : Disks) (id : ℕ) (g : Descriptor) → Finds c set id g → Finds with_others set id g
   still_finds set id g f = record { quorum = quorum_same set id ∙ f.quorum; newest = f.newest; found = among_same set id ∙ f.found; is = f.is }
+
+  pub finds_before : (set : Disks) (id : ℕ) (g : Descriptor) → Finds with_others set id g → Finds c set id g
+  finds_before set id g f = record { quorum = sym (quorum_same set id) ∙ f.quorum; newest = f.newest; found = sym (among_same set id) ∙ f.found; is = f.is }
