@@ -1,12 +1,13 @@
 // A script that is drawn, and a run of it.
 
-use crate::tests::outside::{check, files, sink, status_of};
+use crate::tests::outside::{check, files, run, sink};
 use lvm_io::MemSink;
 use std::process::Abort;
 
 // How the words end, with a script as their input, and what they write.
 fn told(rt: &(impl Abort + AllocGlobal), words: &[&str], script: &[u8]) -> (u8, MemSink) {
-    status_of(rt, words, script, 7, files(rt), &mut sink(rt, 0))
+    let (_, told, out) = run(rt, words, script, 7, files(rt), &mut sink(rt, 0));
+    (told.status, out)
 }
 
 #[test]

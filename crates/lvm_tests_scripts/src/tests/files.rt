@@ -1,6 +1,6 @@
 // The program over image files of the folder in which the test runs.
 
-use crate::tests::outside::{check, sink, status_of};
+use crate::tests::outside::{check, run, sink};
 use lvm_image::ImageSink;
 use lvm_io::MemSink;
 use lvm_lane::FileShelf;
@@ -23,7 +23,8 @@ fn told<R: Files<File = File> + AllocGlobal + Abort>(
     moment: u64,
 ) -> (u8, MemSink) {
     let files = FileShelf::open(rt, rt.alloc(), &mut sink(rt, 64)).expect(rt, "files");
-    status_of(rt, words, script, moment, files, &mut ImageSink::new(rt))
+    let (_, told, out) = run(rt, words, script, moment, files, &mut ImageSink::new(rt));
+    (told.status, out)
 }
 
 // Expects the words to end with this status and to write this.

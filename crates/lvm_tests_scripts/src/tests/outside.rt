@@ -130,18 +130,3 @@ pub fn run<S: Shelf + Drop, P: Images>(
     let (files, told) = split(ended);
     (files, told, out)
 }
-
-/// The status with which they end, and what they write.
-pub fn status_of<S: Shelf + Drop, P: Images>(
-    rt: &(impl Abort + AllocGlobal),
-    words: &[&str],
-    script: &[u8],
-    moment: u64,
-    files: S,
-    images: &mut P,
-) -> (u8, MemSink)
-    requires { IsReady (S.device files) }
-{
-    let (_, told, out) = run(rt, words, script, moment, files, images);
-    (told.status, out)
-}
