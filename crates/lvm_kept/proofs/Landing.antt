@@ -52,6 +52,11 @@ any_more t (g ∷ past) f none last = let e = none in or_false (t g) (list_any t
     or_false false b c h f = f h
     or_false true b c h f = h
 
+both : (a b : Bool) → (a ≡ true → b ≡ true → ⊥) → (a && b) ≡ false
+both true true h = absurd (h refl refl)
+both true false h = refl
+both false b h = refl
+
 -- a landing of a request with a greater number doesn't fit
 land_other : (past : List Fact) (f : Fact) (r : Request) → Low past → Fits past f → count_by (begins_in r.run) past < r.id → lands r f ≡ false
 land_other past (Landed s how started got) r low fits above = both (r.run == s.run) (r.id == s.id) (λ run id.
@@ -60,11 +65,6 @@ land_other past (Landed s how started got) r low fits above = both (r.run == s.r
     let a = low s fits.began in
     let b : count_by (begins_in r.run) past ≡ count_by (begins_in s.run) past = ap (λ (n : ℕ). count_by (begins_in n) past) same_run in
     omega (arith, above, same_id, a, b))
-  where
-    both : (a b : Bool) → (a ≡ true → b ≡ true → ⊥) → (a && b) ≡ false
-    both true true h = absurd (h refl refl)
-    both true false h = refl
-    both false b h = refl
 land_other past _ r low fits above = refl
 
 module _ (r : Request) where
@@ -98,11 +98,6 @@ take_other past (Taken s) r legal fits above = both (r.run == s.run) (r.id == s.
     let a : count_by (begins_in r.run) past ≡ count_by (begins_in s.run) past = ap (λ (n : ℕ). count_by (begins_in n) past) same_run in
     let none : list_any (lands s) past ≡ false = unlanded s [] past legal low_none refl (omega (arith, above, same_id, a)) in
     let some = fits.answered in cc (none, some))
-  where
-    both : (a b : Bool) → (a ≡ true → b ≡ true → ⊥) → (a && b) ≡ false
-    both true true h = absurd (h refl refl)
-    both true false h = refl
-    both false b h = refl
 take_other past _ r legal fits above = refl
 
 append_none : (l : List Fact) → l ++ [] ≡ l

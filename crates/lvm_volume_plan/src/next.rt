@@ -1,7 +1,7 @@
 //! The descriptor of a group with one volume more or less.
-ghost use Rattle.std.specs.Prelude.{◌≡◌, ◌+◌, ◌<◌, ◌≤◌, ◌==◌, not, length, insert, filter, find, None, IfOk};
+ghost use Rattle.std.specs.Prelude.{◌≡◌, ◌+◌, ◌<◌, ◌≤◌, length, insert, IfOk};
 ghost use Rattle.lvm_num.specs.declared.descriptor.LvRow.{LvRow};
-ghost use Rattle.lvm_num.specs.Descriptor.{IsValid, most_volumes};
+ghost use Rattle.lvm_num.specs.Descriptor.{IsValid};
 ghost use Rattle.lvm_volume_plan.specs.NewVolume.{IsLowestFree, IsInOrder, with_volume, without_volume};
 
 use lvm_num::{Descriptor, LvRow, Memory, Rows, copy_of_volume, copy_of_volumes, with_volumes};

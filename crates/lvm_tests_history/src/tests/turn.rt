@@ -1,4 +1,4 @@
-ghost use Rattle.std.specs.Prelude.{◌≡◌, ◌≢◌, ◌<◌, ◌≤◌, ℕ, List, [], ◌∷◌, ◌++◌, IfOk};
+ghost use Rattle.std.specs.Prelude.{◌≡◌, ◌≢◌, ◌<◌, ◌≤◌, ℕ, List, [], ◌∷◌, ◌++◌};
 ghost use Rattle.lvm_vol.specs.Facts.{Fact};
 ghost use Rattle.lvm_vol.specs.Fronts.{own};
 ghost use Rattle.lvm_turn.specs.Views.{numbers, up_to};
