@@ -19,7 +19,7 @@ use Rattle.lvm_num.proofs.ListLemmas.{any_one}
 use Rattle.lvm_disk.specs.Device.{Device, image_of}
 use Rattle.lvm_kept.specs.Contents.{Contents, contents_of}
 use Rattle.lvm_kept.specs.Group.{passes, is_of, members_in, IsOneOf}
-use Rattle.lvm_left.specs.Marking.{IsLeftIn, Marks, IsMarkable}
+use Rattle.lvm_left.specs.Marking.{IsLeft, IsLeftIn, Marks, IsMarkable}
 use Rattle.lvm_left.proofs.MarkLemmas.{left_same, left_again}
 use Rattle.lvm_status.specs.Members.{HasItsRows}
 use Rattle.lvm_status.specs.Update.{Stored, members_there}
@@ -132,29 +132,19 @@ module _ (d : Descriptor) (first mid last : Stored) (failed : Disks) (misses : M
       there_same : there last ≡ there mid
       there_same = λ i e. is_member (group_same i) e && not (marks.missing e i)
 
+      -- a copy that is left behind under the one table is so under the other, if each logical partition's are
+      left_so : (old now : Status) → ((row : LvRow) (lp : ℕ) (p : Pp) → IsLeft (there mid) old (copies_of row lp) p → IsLeft (there mid) now (copies_of row lp) p) → (p : Pp) → IsLeftIn (there mid) old d.lvs p
+          → IsLeftIn (there mid) now d.lvs p
+      left_so old now keeps p is = record { row = is.row; volume = is.volume; left = record { lp = is.left.lp; below = is.left.below; left = keeps is.row is.left.lp p is.left.left } }
+
       on_last : (p : Pp) → IsLeftIn (there mid) mid.wanted d.lvs p → IsLeftIn (there last) last.wanted d.lvs p
-      on_last p left = subst (λ (set : Disks). IsLeftIn set last.wanted d.lvs p) (sym there_same) (record {
-        row = left.row;
-        volume = left.volume;
-        left = record {
-          lp = left.left.lp;
-          below = left.left.below;
-          left = left_again (there mid) (IsLeftIn (there mid) mid.wanted d.lvs) mid.wanted last.wanted (copies_of left.row left.left.lp) marks p left.left.left;
-        };
-      })
+      on_last p left = subst (λ (set : Disks). IsLeftIn set last.wanted d.lvs p) (sym there_same)
+          (left_so mid.wanted last.wanted (λ row lp p is. left_again (there mid) (IsLeftIn (there mid) mid.wanted d.lvs) mid.wanted last.wanted (copies_of row lp) marks p is) p left)
 
       on_mid : (p : Pp) → IsLeftIn (there last) last.wanted d.lvs p → IsLeftIn (there mid) mid.wanted d.lvs p
       on_mid p is =
-          let left = subst (λ (set : Disks). IsLeftIn set last.wanted d.lvs p) there_same is in
-          record {
-            row = left.row;
-            volume = left.volume;
-            left = record {
-              lp = left.left.lp;
-              below = left.left.below;
-              left = left_same (there mid) (IsLeftIn (there mid) mid.wanted d.lvs) mid.wanted last.wanted (copies_of left.row left.left.lp) marks p left.left.left;
-            };
-          }
+          left_so last.wanted mid.wanted (λ row lp p left. left_same (there mid) (IsLeftIn (there mid) mid.wanted d.lvs) mid.wanted last.wanted (copies_of row lp) marks p left) p
+          (subst (λ (set : Disks). IsLeftIn set last.wanted d.lvs p) there_same is)
 
     last_forgotten : IsForgotten first → IsForgotten last
     last_forgotten was = subst IsForgotten (sym marked.rest) (forgotten was)
