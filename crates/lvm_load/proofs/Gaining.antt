@@ -23,8 +23,10 @@ use Rattle.lvm_session.specs.Judging.{is_waiting}
 use Rattle.lvm_session.specs.State.{Core, State}
 use Rattle.lvm_session.specs.Turns.{Darkens, FinishMakes, Finishes, GoesOff, Makes, Moves, NoStart, OnMakes, TurnMakes, WasDark, WasOff, WasOn}
 use Rattle.lvm_tie.proofs.Histories.{ends_history}
+use Rattle.lvm_draws.specs.Draws.{draw_at}
 use Rattle.lvm_load.specs.declared.client.Client.{Client}
 use Rattle.lvm_load.specs.declared.totals.Kind.TheVariants as kind
+use Rattle.lvm_load.specs.Requests.{ask_of, bytes_of, word_of}
 use Rattle.lvm_load.specs.Totals.{entries_since, is_of}
 use Rattle.lvm_load.specs.Weaving.{Draws, FinishesBy, NextClient, NoClient, NoTurn, NoWord, NoneDrawn, NoneOpen, OneDrawn, OneTurn, OneWord, PassesOn, Takes, TakesEach, TakesFor, TakesWhere, Turns, Unheard, Waits, Weaves, Weaving, may_land}
 
@@ -202,7 +204,7 @@ draws_gain lv blocks first n more new NoneDrawn = (0, gains_none (facts_in first
 draws_gain lv blocks first n more new (OneDrawn {n = m} {old = old} before named k goes names asks rng idle) =
     let so_far = draws_gain lv blocks first m true old before in
     let passes = subst (λ (w : Weaving). Gains 0 (facts_in old) (facts_in w)) (sym names.is) (passes_gain old names.mid names.passes) in
-    let begins = submit_gains named.session.core new.session.core (k + 1) _ _ asks.answer asks.submits in (
+    let begins = submit_gains named.session.core new.session.core (k + 1) (ask_of lv blocks (draw_at named.rng)) (bytes_of (word_of (k + 1) asks.client.offset) blocks (draw_at named.rng)) asks.answer asks.submits in (
       (so_far.0 + 0) + taken_one asks.answer,
       gains_then (so_far.0 + 0) (taken_one asks.answer) (facts_in first) (facts_in named) (facts_in new) (gains_then so_far.0 0 (facts_in first) (facts_in old) (facts_in named) so_far.1 passes) begins,
     )

@@ -1,5 +1,6 @@
 mod copies;
 mod faults;
+mod fixtures;
 mod ranges;
 mod requests;
 mod steps;

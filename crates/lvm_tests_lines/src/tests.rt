@@ -1,3 +1,4 @@
+mod fixtures;
 mod io;
 mod parse;
 mod show_listing;

@@ -1,3 +1,4 @@
+mod fixtures;
 mod hold;
 mod mwc;
 mod path;

@@ -1,3 +1,4 @@
+mod fixtures;
 mod map;
 mod num;
 mod rec;

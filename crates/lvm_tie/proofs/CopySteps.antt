@@ -20,7 +20,7 @@ use Rattle.lvm_session.specs.Judging.{is_running, place_of}
 use Rattle.lvm_session.specs.Bringing.{block_at, groups_of, has_row, is_out}
 use Rattle.lvm_session.specs.Events.{flown}
 use Rattle.lvm_session.specs.Sound.{IsSound}
-use Rattle.lvm_invariant.specs.State.{Flying, Going, Groups, Held, Landed, ModelPhase, Queued, Ready, Stage, ModelState, StepWrite, Todo, WantEntry, covers, has_landed, is_past, is_usable as sees_usable}
+use Rattle.lvm_invariant.specs.State.{Flying, Going, Groups, Held, Landed, ModelCopy, ModelPhase, Queued, Ready, Stage, ModelState, StepWrite, Todo, WantEntry, covers, has_landed, is_past, is_usable as sees_usable}
 use Rattle.lvm_invariant.specs.Good.{Good}
 use Rattle.lvm_crash.specs.Session.{Describes, members_showing}
 use Rattle.lvm_tie.specs.Out.{CarriesStep, CarryTheirs, MayUpdate}
@@ -31,7 +31,7 @@ use Rattle.lvm_tie.proofs.Ties.{since_start}
 
 -- ---- the step of the copy goes on
 
-running_on : (b : Bool) (groups : ℕ) (c : OpenCopy) (st : Step) (open_copy : Option Rattle.lvm_invariant.specs.State.OpenCopy) → SeesRunning b groups c open_copy → SeesRunning b groups (record c { step = st }) open_copy
+running_on : (b : Bool) (groups : ℕ) (c : OpenCopy) (st : Step) (open_copy : Option ModelCopy) → SeesRunning b groups c open_copy → SeesRunning b groups (record c { step = st }) open_copy
 running_on true groups c st open_copy sees = record { copy = sees.copy; is_open = sees.is_open; target = sees.target; passed = sees.passed }
 running_on false groups c st open_copy sees = sees
 

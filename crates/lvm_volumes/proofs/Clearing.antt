@@ -50,7 +50,7 @@ pub fresh_of : (map : List Pp) (a b : State) → All (IsFree a.core.descriptor) 
 fresh_of map a b free marks k e lt = ⊎_elim
     (λ stale. ⊎_elim
     (λ marked. absurd (not_marked (calls_stale a.core.status.wanted (get_or map k e)) (is_among map (get_or map k e)) (list_any_at (λ (q : Pp). is_pp (get_or map k e) q) map k e lt (itself (get_or map k e))) marked))
-    (λ passed. absurd (free k e lt (is_used a.core.descriptor passed.row passed.lp (get_or map k e) passed.volume passed.one)))
+    (λ passed. absurd (free k e lt (is_used a.core.descriptor passed.its.row passed.its.lp (get_or map k e) passed.its.volume passed.its.one)))
     (marks.only (get_or map k e) stale))
     (λ fresh. fresh)
     (either (calls_stale b.core.status.wanted (get_or map k e)))

@@ -4,10 +4,10 @@ ghost use Rattle.std.specs.Option.{option_copied};
 ghost use Rattle.lvm_num.specs.Descriptor.{volume_of, member_of};
 ghost use Rattle.lvm_num.specs.declared.descriptor.PvRow.{PvRow};
 
+use crate::tests::fixtures::{Member, Volume, check, group, status, volume};
 use lvm_num::{Descriptor, Pp, PvRow, Rows, Text, volume_of};
 use lvm_show::{show_disk, show_group, show_map, show_volumes};
 use lvm_stale::StaleTable;
-use lvm_tests_values::{Member, Volume, check, group, mark, table, volume};
 use std::process::Abort;
 
 // Members of six partitions on the first disks.
@@ -70,10 +70,24 @@ fn listed(rt: &(impl Abort + AllocGlobal), d: &Descriptor, t: &StaleTable, list:
     }
 }
 
+// A table of the first three disks, of which nothing is stale.
+fn fresh(rt: &(impl Abort + AllocGlobal), disks: &[u16]) -> StaleTable {
+    let status = status(rt, disks, 0, &[]);
+    let valid = status.is_valid();
+    assert!(rt; valid);
+    StaleTable::from_status(rt.alloc(), &status).expect(rt, "memory")
+}
+
+fn mark(rt: &impl Abort, table: &mut StaleTable, disk: u16, pp: u16) {
+    let fits = table.has_row(disk) && pp < 1016;
+    assert!(rt; fits);
+    table.mark(Pp { disk, pp });
+}
+
 // A table of three disks where the second is missing. On it a copy of each volume is stale, and on the
 // third a partition that no volume has.
 fn stale(rt: &(impl Abort + AllocGlobal)) -> StaleTable {
-    let mut table = table(rt, &[0, 1, 2], &[]);
+    let mut table = fresh(rt, &[0, 1, 2]);
     let there = table.has_row(1);
     assert!(rt; there);
     table.set_missing(1, true);
@@ -120,7 +134,7 @@ fn empty(rt: &(impl Abort + AllocGlobal), members: &[Member], quorum: bool) -> D
 fn new_listing(rt: &(impl Abort + AllocGlobal), count: usize, disks: &[u16], quorum: bool) -> Text {
     let members = DISKS.get(..count).expect(rt, "members");
     let d = empty(rt, members, quorum);
-    all(rt, &d, &table(rt, disks, &[]))
+    all(rt, &d, &fresh(rt, disks))
 }
 
 #[test]
@@ -134,7 +148,7 @@ fn a_new_group_is_listed(rt: HostRuntime) {
 #[test]
 fn a_group_without_volumes_lists_none(rt: HostRuntime) {
     let d = empty(&rt, &DISKS, true);
-    let shown = volumes(&rt, &d, &table(&rt, &[0, 1, 2], &[]));
+    let shown = volumes(&rt, &d, &fresh(&rt, &[0, 1, 2]));
     check(&rt, shown.as_str().is_empty(), "no line");
 }
 
@@ -217,7 +231,7 @@ fn line_at(text: &Text, lp: u16) -> Option<&[u8]> {
 
 // Its map.
 fn large_map(rt: &(impl Abort + AllocGlobal)) -> Text {
-    map(rt, &large(rt), &table(rt, &[0], &[]), 1)
+    map(rt, &large(rt), &fresh(rt, &[0]), 1)
 }
 
 fn check_lines(rt: &impl Abort, shown: &Text) {

@@ -1,11 +1,20 @@
+use crate::tests::fixtures::{Volume, check, group, status};
 use lvm_num::Pp;
 use lvm_stale::StaleTable;
-use lvm_tests_values::{Volume, check, group, mark, table};
 use std::process::Abort;
 
 // The table of disks 3 and 7, with volume 5 dirty.
 fn table_of(rt: &(impl Abort + AllocGlobal)) -> StaleTable {
-    table(rt, &[3, 7], &[5])
+    let status = status(rt, &[3, 7], 0, &[5]);
+    let valid = status.is_valid();
+    assert!(rt; valid);
+    StaleTable::from_status(rt.alloc(), &status).expect(rt, "memory")
+}
+
+fn mark(rt: &impl Abort, table: &mut StaleTable, disk: u16, pp: u16) {
+    let fits = table.has_row(disk) && pp < 1016;
+    assert!(rt; fits);
+    table.mark(Pp { disk, pp });
 }
 
 fn clear(rt: &impl Abort, table: &mut StaleTable, disk: u16, pp: u16) {

@@ -1,3 +1,4 @@
+use crate::tests::fixtures::{Member, check, check_at, group, status};
 use crate::tests::status::Do::{
     Clean, Clear, Dirty, Ends, Flies, HasStamp, IsDirty, Mark, Miss, Missing, SetStamp, Stale,
     Starts, Votes, Writes, WritesNone,
@@ -6,8 +7,15 @@ use lvm_num::{Descriptor, Pp, Stamp};
 use lvm_stale::StaleTable;
 use lvm_status::Progress::{Committed, QuorumLost, Waiting};
 use lvm_status::{Change, Progress, Updater};
-use lvm_tests_values::{Member, check, check_at, group, table};
 use std::process::Abort;
+
+// A table with rows for these disks and nothing stale.
+fn table_of(rt: &(impl Abort + AllocGlobal), disks: &[u16]) -> StaleTable {
+    let status = status(rt, disks, 0, &[]);
+    let valid = status.is_valid();
+    assert!(rt; valid);
+    StaleTable::from_status(rt.alloc(), &status).expect(rt, "memory")
+}
 
 fn updater_of(rt: &(impl Abort + AllocGlobal), group: &Descriptor, table: StaleTable) -> Updater {
     let valid = group.is_valid();
@@ -23,14 +31,14 @@ const THREE: [Member; 3] = [(9, 6, false), (2, 6, false), (5, 6, false)];
 fn three(rt: &(impl Abort + AllocGlobal), quorum: bool) -> Updater {
     let mut group = group(rt, &THREE, &[]);
     group.quorum = quorum;
-    updater_of(rt, &group, table(rt, &[2, 5, 9], &[]))
+    updater_of(rt, &group, table_of(rt, &[2, 5, 9]))
 }
 
 // Two members, of which the first is disk 4.
 fn two(rt: &(impl Abort + AllocGlobal), even: bool) -> Updater {
     let mut group = group(rt, &[(4, 6, false), (1, 6, false)], &[]);
     group.even = even;
-    updater_of(rt, &group, table(rt, &[1, 4], &[]))
+    updater_of(rt, &group, table_of(rt, &[1, 4]))
 }
 
 // The partition that the tests speak of.
@@ -159,7 +167,7 @@ fn run(rt: &impl Abort, name: &str, updater: &mut Updater, all: &[Do]) {
 
 // Three members, of which disk 2 was missing at the beginning.
 fn three_without_2(rt: &(impl Abort + AllocGlobal)) -> Updater {
-    let mut table = table(rt, &[2, 5, 9], &[]);
+    let mut table = table_of(rt, &[2, 5, 9]);
     let there = table.has_row(2);
     assert!(rt; there);
     table.set_missing(2, true);
@@ -169,7 +177,7 @@ fn three_without_2(rt: &(impl Abort + AllocGlobal)) -> Updater {
 // Two members, of which the first is disk 5.
 fn first_5(rt: &(impl Abort + AllocGlobal)) -> Updater {
     let group = group(rt, &[(5, 6, false), (1, 6, false)], &[]);
-    updater_of(rt, &group, table(rt, &[1, 5], &[]))
+    updater_of(rt, &group, table_of(rt, &[1, 5]))
 }
 
 // Whom an updater is for.
@@ -518,7 +526,7 @@ static TABLES: [(&[u16], bool); 4] = [
 // Whether a table of these disks fits the three members.
 fn fits(rt: &(impl Abort + AllocGlobal), disks: &[u16]) -> bool {
     let group = group(rt, &THREE, &[]);
-    Updater::has_its_rows(&group, &table(rt, disks, &[]))
+    Updater::has_its_rows(&group, &table_of(rt, disks))
 }
 
 #[test]
