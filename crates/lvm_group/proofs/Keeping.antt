@@ -5,6 +5,7 @@ use Rattle.std.specs.Int.{w16, w64, to_be_bytes}
 use Rattle.std.proofs.lemmas.Bool.{eqb-true, eq-eqb, and_from, lt-ltb, le-leb}
 use Rattle.std.proofs.lemmas.Bool.Decides.{nat_tests}
 use Rattle.std.proofs.lemmas.List.{length-map}
+use Rattle.lvm_num.specs.declared.record.Kind.{Kind}
 use Rattle.lvm_num.specs.declared.record.Kind.TheVariants as kind
 use Rattle.lvm_num.specs.declared.record.Stamp.{Stamp}
 use Rattle.lvm_num.specs.declared.descriptor.Descriptor.{Descriptor}
@@ -143,23 +144,15 @@ module _ (w : NewGroup) (device : Device) (homes : Homes) (its : IsBeginning w d
   rows_few : length status.rows ≤ 32
   rows_few = its.stated.rows_fit
 
+  -- a record of the group's beginning, under the moment at which it is made
+  frames_at : (k : Kind) (seq : ℕ) (content : List ℕ) → 1 ≤ seq → seq < 2 ^ 32 → length content ≤ longest_content k → Frames k (record { stamp = record { epoch = w.moment; seq = seq }; content = content })
+  frames_at k seq content some small fits = record { some_epoch = its.valid.head.some_id; epoch = its.small; some_seq = λ e. absurd (omega (arith, some, e)); seq = small; content = fits }
+
   pub describes_frames : Frames kind.Descriptor b.descriptor
-  describes_frames = record {
-    some_epoch = its.valid.head.some_id;
-    epoch = its.small;
-    some_seq = λ e. absurd (omega (arith, e));
-    seq = omega arith;
-    content = descriptor_fits group its.valid refl its.valid.head.members;
-  }
+  describes_frames = frames_at kind.Descriptor 2 b.descriptor.content (omega arith) (omega arith) (descriptor_fits group its.valid refl its.valid.head.members)
 
   pub states_frames : Frames kind.Status b.status
-  states_frames = record {
-    some_epoch = its.valid.head.some_id;
-    epoch = its.small;
-    some_seq = λ e. absurd (omega (arith, e));
-    seq = omega arith;
-    content = status_fits status its.stated refl rows_few;
-  }
+  states_frames = frames_at kind.Status 1 b.status.content (omega arith) (omega arith) (status_fits status its.stated refl rows_few)
 
   -- where the media is told
   module _ (media : Media) (told : device.media ≡ Some media) where
