@@ -90,6 +90,27 @@ keeps_wider few many P Q old new fewer more keeps = record {
       (λ m n was is by. changes_more P Q (image_of old.sizes m) (image_of new.sizes n) more by);
 }
 
+-- what was committed since a later point was so since an earlier one
+pub stays_before : (first mid last : Stored) (old m new : Device) → mid.committed ≡ first.committed → mid.stamp.epoch ≡ first.stamp.epoch → first.stamp.seq ≤ mid.stamp.seq → mid.group ≡ first.group
+    → Path DeviceStep (λ d. Unit {0}) old m → StaysCommitted mid last m new → StaysCommitted first last old new
+stays_before first mid last old m new committed epoch later group path stays = ⊎_elim
+    (λ same. inl (same ∙ committed))
+    (λ came. inr (record {
+      write = came.write;
+      kind = came.kind;
+      content = came.content;
+      epoch = came.epoch ∙ epoch;
+      later = (let l = came.later in omega (arith, l, later));
+      earlier = came.earlier;
+      members = came.members;
+      votes = subst (λ (g : Descriptor). CanWrite g came.members) group came.votes;
+      moment = came.moment;
+      before = append-path path came.before;
+      after = came.after;
+      stands = came.stands;
+    }))
+    stays
+
 -- ---- whatever the answer
 
 pub record Goes (P : Plan) (before after : ℕ) (first last : Stored) (old new : Device) : Type 0 where

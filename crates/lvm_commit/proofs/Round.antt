@@ -23,6 +23,15 @@ use Rattle.lvm_commit.specs.Rounds.{HasFew, WasTried, HowRecord, RecordGives}
 use Rattle.lvm_commit.proofs.Counting.{counts_less, counts_fewer}
 use Rattle.lvm_commit.proofs.Chaining.{Goes, path_counts, loses_same, record_loses, was_there}
 
+-- ---- the stamp
+
+-- it is taken, whatever the end
+pub stamp_taken : (w : RecordWrite) (number before : ℕ) (first last : Stored) (slots next : Homes) (old new : Device) (r : CommitEnd) → HowRecord w number before first last slots next old new r → last.stamp ≡ first.stamp
+stamp_taken w number before first last slots next old new (commit_end.Done buf) how = how.0.stamp
+stamp_taken w number before first last slots next old new (commit_end.WentOff have total buf) how = how.0.stamp
+stamp_taken w number before first last slots next old new commit_end.Dark how = how.1.stamp
+stamp_taken w number before first last slots next old new commit_end.Stuck how = how.1.stamp
+
 -- ---- how many are there
 
 some_row : (p : PvRow → Bool) (rows : List PvRow) → list_any p rows ≡ true → (row : PvRow) × (p row ≡ true)

@@ -140,9 +140,7 @@ Refuses w patience was is old new (cause.ClockBack seen) = HasRead was is old ne
 Refuses w patience was is old new cause.Dark = IsCutReading w was is old new ⊎ IsCutWriting w was is old new
 Refuses w patience was is old new cause.Stuck = IsStuckReading w patience was is old new ⊎ IsStuckWriting w patience was is old new
 Refuses w patience was is old new cause.Memory = LacksMemory w was is old new
-Refuses w patience was is old new cause.NoRecord = ⊥
-Refuses w patience was is old new cause.Ambiguous = ⊥
-Refuses w patience was is old new (cause.NoQuorum have total) = ⊥
+Refuses w patience was is old new _ = ⊥
 
 -- The group on its shelf, or the shelf and the history again, and why.
 abbrev pub MkvgGives : {S : Type 0} → (S → Device) → NewGroup → Room → ℕ → Log → Device → Result (S × Core) (Refused S) → Type 0

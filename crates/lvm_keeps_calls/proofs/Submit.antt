@@ -13,6 +13,7 @@ use Rattle.lvm_num.specs.declared.descriptor.PvRow.{PvRow}
 use Rattle.lvm_num.specs.Descriptor.{IsValid, most_members, most_volumes, volume_of}
 use Rattle.lvm_num.specs.Geometry.{volume_blocks}
 use Rattle.lvm_num.specs.Status.{calls_dirty}
+use Rattle.lvm_num.proofs.Bounds.{few_members, few_volumes}
 use Rattle.lvm_disk.specs.Device.{Flight}
 use Rattle.lvm_vol.specs.declared.entry.Vol.TheVariants.{Lv}
 use Rattle.lvm_vol.specs.Facts.{Request as Asked, Begun}
@@ -57,7 +58,7 @@ use Rattle.lvm_keeps.proofs.Rows.{all_fly, rows_on}
 use Rattle.lvm_keeps.proofs.Small.{not_so}
 use Rattle.lvm_keeps.proofs.Still.{bring_on, if_on, moved, open_on}
 use Rattle.lvm_keeps.proofs.Telling.{outcome_still}
-use Rattle.lvm_keeps.proofs.Updates.{few_members, few_volumes, one_if}
+use Rattle.lvm_keeps.proofs.Updates.{one_if}
 use Rattle.lvm_keeps.proofs.Whole.{sound_when_on}
 use Rattle.lvm_keeps_calls.proofs.Growing.{answered_other, asked_new, asked_other, chunks_long, few_begin, next_is, open_new, open_other, outcome_new, place_earlier, place_new}
 use Rattle.lvm_keeps_calls.proofs.Places.{blocks_fit}

@@ -13,6 +13,7 @@ use Rattle.lvm_num.specs.Descriptor.{copies_of, is_size, volume_of}
 use Rattle.lvm_num.specs.Disks.{has}
 use Rattle.lvm_num.specs.Geometry.{partition_blocks, track_group_of}
 use Rattle.lvm_num.specs.Status.{calls_dirty, calls_stale}
+use Rattle.lvm_num.proofs.Bounds.{few_members, few_volumes}
 use Rattle.lvm_stale.specs.Table.{is_pp}
 use Rattle.lvm_disk.specs.Counts.{Counts}
 use Rattle.lvm_disk.specs.Device.{Flight}
@@ -58,7 +59,7 @@ use Rattle.lvm_keeps.proofs.Lists.{all_mapped, all_on}
 use Rattle.lvm_keeps.proofs.Rows.{all_fly, rows_by, status_still}
 use Rattle.lvm_keeps.proofs.Small.{and_on, most_on, none_on, not_so}
 use Rattle.lvm_keeps.proofs.Still.{if_on, laid_on, moved, ready_on, shape_on}
-use Rattle.lvm_keeps.proofs.Updates.{few_members, few_volumes, one_if}
+use Rattle.lvm_keeps.proofs.Updates.{one_if}
 use Rattle.lvm_keeps.proofs.Whole.{sound_when_on}
 use Rattle.lvm_keeps_open.specs.Opening.{SeenOpenKeeps}
 use Rattle.lvm_keeps_open.proofs.Aging.{all_both, any_aged, asked_aged, count_aged, get_aged, long_aged, row_last, rows_aged, told_aged}

@@ -1,5 +1,5 @@
 -- Marks one after another.
-use Rattle.std.proofs.Common.{◌≡◌, ◌⊎◌, inl, inr, ⊎_elim, ℕ, zero, suc, ◌+◌, ◌*◌, ◌<◌, ◌≤◌, Bool, true, false, ◌||◌, ◌&&◌, ◌==◌, List, [], ◌∷◌, ◌++◌, length, get_or, take, drop, map, refl, sym, ap, subst, ◌∙◌, arith}
+use Rattle.std.proofs.Common.{◌≡◌, ◌⊎◌, inl, inr, ⊎_elim, ℕ, zero, suc, ◌+◌, ◌*◌, ◌<◌, ◌≤◌, Bool, true, false, ◌||◌, ◌&&◌, ◌==◌, List, [], ◌∷◌, length, get_or, take, drop, map, refl, sym, ap, subst, ◌∙◌, arith}
 use Rattle.std.specs.Prelude.{IsTrue, IsFalse, not, All}
 use Rattle.std.specs.List.{list_any}
 use Rattle.std.proofs.lemmas.Bool.{cases_lt, eqb-true, eq-eqb}
@@ -15,33 +15,20 @@ use Rattle.std.proofs.lemmas.List.Folds.{length-flat_map-take}
 use Rattle.lvm_num.specs.Descriptor.{copies_of, partitions_in}
 use Rattle.lvm_num.specs.Status.{IsValidStatus, calls_stale}
 use Rattle.lvm_num.specs.Among.{IsOneOf}
+use Rattle.lvm_num.proofs.ListLemmas.{one_of_left, one_of_right, one_of_either}
 use Rattle.lvm_stale.specs.Table.{has_row, is_pp, SameMembers, SameMissing}
 use Rattle.lvm_left.specs.Marking.{is_served, IsLeft, IsLeftBelow, IsLeftIn, Marks, IsMarkable}
 
 -- ---- one of a list
 
-pub one_of_append : {X : Type 0} (xs ys : List X) (x : X) → IsOneOf (xs ++ ys) x → IsOneOf xs x ⊎ IsOneOf ys x
-one_of_append [] ys x is = inr is
-one_of_append (y ∷ xs) ys x (inl here) = inl (inl here)
-one_of_append (y ∷ xs) ys x (inr there) = ⊎_elim (λ l. inl (inr l)) (λ r. inr r) (one_of_append xs ys x there)
-
-pub append_left : {X : Type 0} (xs ys : List X) (x : X) → IsOneOf xs x → IsOneOf (xs ++ ys) x
-append_left [] ys x is = absurd is
-append_left (y ∷ xs) ys x (inl here) = inl here
-append_left (y ∷ xs) ys x (inr there) = inr (append_left xs ys x there)
-
-pub append_right : {X : Type 0} (xs ys : List X) (x : X) → IsOneOf ys x → IsOneOf (xs ++ ys) x
-append_right [] ys x is = is
-append_right (y ∷ xs) ys x is = inr (append_right xs ys x is)
-
 -- those before one more place
 pub one_of_more : {X : Type 0} (xs : List X) (i : ℕ) (y x : X) → i < length xs → y ≡ get_or xs i y → IsOneOf (take (i + 1) xs) x → IsOneOf (take i xs) x ⊎ (x ≡ y)
 one_of_more xs i y x lt here is = ⊎_elim (λ l. inl l) (λ r. inr (⊎_elim (λ (e : x ≡ get_or xs i y). e ∙ sym here) (λ none. absurd none) r))
-    (one_of_append (take i xs) (get_or xs i y ∷ []) x (subst (λ (l : List _). IsOneOf l x) (take_more xs i y lt) is))
+    (one_of_either (take i xs) (get_or xs i y ∷ []) x (subst (λ (l : List _). IsOneOf l x) (take_more xs i y lt) is))
 
 pub more_one_of : {X : Type 0} (xs : List X) (i : ℕ) (y x : X) → i < length xs → y ≡ get_or xs i y → IsOneOf (take i xs) x ⊎ (x ≡ y) → IsOneOf (take (i + 1) xs) x
 more_one_of xs i y x lt here is = subst (λ (l : List _). IsOneOf l x) (sym (take_more xs i y lt))
-    (⊎_elim (λ l. append_left (take i xs) (get_or xs i y ∷ []) x l) (λ (e : x ≡ y). append_right (take i xs) (get_or xs i y ∷ []) x (inl (e ∙ here))) is)
+    (⊎_elim (λ l. one_of_left (take i xs) (get_or xs i y ∷ []) x l) (λ (e : x ≡ y). one_of_right (take i xs) (get_or xs i y ∷ []) x (inl (e ∙ here))) is)
 
 pub take_whole : {X : Type 0} (xs : List X) → take (length xs) xs ≡ xs
 take_whole [] = refl

@@ -1,5 +1,5 @@
 //! The cache of track groups.
-ghost use Rattle.std.specs.Prelude.{◌≡◌, ◌≢◌, ◌+◌, ◌<◌, ◌^◌, false, if◌then◌else◌, position, IsTrue, IfOk, IsSome, IsNone, is_some, All, replicate};
+ghost use Rattle.std.specs.Prelude.{◌≡◌, ◌≢◌, ◌+◌, ◌<◌, ◌^◌, false, position, IsTrue, IfOk, IsSome, IsNone, is_some, All, replicate};
 ghost use Rattle.lvm_num.specs.Note.{IsEntry};
 
 use crate::entries::{CacheEntry, entry_of, make_room, note_of, place_of};

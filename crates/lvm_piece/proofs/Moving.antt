@@ -51,9 +51,7 @@ power_after write disk from count buf ticket patience old mid new moved.Stuck re
 
 lit_counts : (mid new : Device) (how : Moved) → RelightsAfter mid new how → new.counts ≡ mid.counts
 lit_counts mid new (moved.Done back) lit = ap (λ (d : Device). d.counts) lit
-lit_counts mid new (moved.Failed back) lit = ap (λ (d : Device). d.counts) lit
-lit_counts mid new (moved.Dark started) lit = ap (λ (d : Device). d.counts) lit
-lit_counts mid new moved.Stuck lit = ap (λ (d : Device). d.counts) lit
+lit_counts mid new _ lit = ap (λ (d : Device). d.counts) lit
 
 lit_behind : (mid new : Device) (how : Moved) → Rests mid how → RelightsAfter mid new how → LeavesNoMore mid new → KeepsOlder mid new
 lit_behind mid new (moved.Done back) rests lit fewer m behind = subst (IsBehind m) (sym lit) behind
@@ -85,9 +83,7 @@ module _ (patience : ℕ) (f : Flight) (old mid : Device) where
 
 lit_fixed : (mid new : Device) (how : Moved) → RelightsAfter mid new how → fixed new ≡ fixed mid
 lit_fixed mid new (moved.Done back) lit = ap fixed lit
-lit_fixed mid new (moved.Failed back) lit = ap fixed lit
-lit_fixed mid new (moved.Dark started) lit = ap fixed lit
-lit_fixed mid new moved.Stuck lit = ap fixed lit
+lit_fixed mid new _ lit = ap fixed lit
 
 -- a failure that isn't one of a read of records is counted as a fault
 fault_of : (f : Flight) (old new : Counts) → (IsRecordRead f → ⊥) → CountsFailure f old new → RoseAt f.disk old.faults new.faults

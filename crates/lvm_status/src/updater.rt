@@ -12,7 +12,9 @@ ghost use Rattle.lvm_status.specs.Update.{members_there};
 
 use crate::{Change, Progress, Writes};
 use lvm_left::mark_volumes;
-use lvm_num::{Descriptor, DiskSet, LvRow, Memory, Pp, Rows, Stamp, Status, has_member};
+use lvm_num::{
+    Descriptor, DiskSet, LvRow, Memory, Pp, Rows, Stamp, Status, has_member, with_volumes,
+};
 use lvm_stale::StaleTable;
 use std::alloc::Global;
 use std::marker::Model;
@@ -377,19 +379,7 @@ fn two_of(alloc: Global, table: &StaleTable) -> Result<(StaleTable, StaleTable),
 fn without_volumes(alloc: Global, d: &Descriptor) -> Result<Descriptor, Memory>
     ensures { IfOk result (λ group. group ≡ record d.now { lvs = [] }) }
 {
-    match Vec::from_slice(alloc, d.pvs.as_slice()) {
-        Ok(pvs) => Ok(Descriptor {
-            id: d.id,
-            name: d.name,
-            mib: d.mib,
-            quorum: d.quorum,
-            even: d.even,
-            big: d.big,
-            pvs: Rows::new(pvs),
-            lvs: Rows::empty(alloc),
-        }),
-        Err(_) => Err(Memory),
-    }
+    with_volumes(alloc, d, Rows::empty(alloc))
 }
 
 /// The members that a table doesn't call missing.

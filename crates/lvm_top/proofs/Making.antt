@@ -123,6 +123,4 @@ module _ (w : NewGroup) (old : Device) (asked : IsAskedFor w old) where
     refused_finds cause.Stuck rests (inl reading) id k it = absurd (none_out left.flights reading.stuck.flight (rests refl) reading.stuck.out)
     refused_finds cause.Stuck rests (inr writing) id k it = absurd (none_out left.flights writing.stuck.flight (rests refl) writing.stuck.flights)
     refused_finds cause.Memory rests refuses id k it = inl (unwritten_nothing old left refuses.unwritten refuses.rested.ready.flights id k it)
-    refused_finds cause.NoRecord rests refuses id k it = absurd refuses
-    refused_finds cause.Ambiguous rests refuses id k it = absurd refuses
-    refused_finds (cause.NoQuorum have total) rests refuses id k it = absurd refuses
+    refused_finds _ rests refuses id k it = absurd refuses

@@ -102,16 +102,7 @@ module _ (b : Beginning) (copies : List Recopy) (read new : Device) where
   wrote patience (Err (cause.DiskFailed disk)) failed = wrote_failed disk failed
   wrote patience (Err cause.Dark) off = wrote_broken off.1
   wrote patience (Err cause.Stuck) off = wrote_broken off.1
-  wrote patience (Err cause.Memory) off = absurd off
-  wrote patience (Err cause.HistoryFull) off = absurd off
-  wrote patience (Err cause.NoRecord) off = absurd off
-  wrote patience (Err cause.Ambiguous) off = absurd off
-  wrote patience (Err (cause.NoQuorum have total)) off = absurd off
-  wrote patience (Err (cause.ClockBack seen)) off = absurd off
-  wrote patience (Err (cause.NoDisk disk)) off = absurd off
-  wrote patience (Err (cause.TooMany limit)) off = absurd off
-  wrote patience (Err (cause.TooSmall disk)) off = absurd off
-  wrote patience (Err cause.GroupExists) off = absurd off
+  wrote patience (Err _) off = absurd off
 
   pub same_misses : HasWrote b copies read new → new.counts.misses ≡ read.counts.misses
   same_misses it = it.forgets.misses ∙ it.made.misses ∙ it.records.misses
