@@ -1,4 +1,8 @@
+use Rattle.std.proofs.Common.{ap, sym, subst}
+use Rattle.lvm_session.specs.declared.open.Open.{Open}
+use Rattle.lvm_firsts.proofs.Places.{read_same}
+use Rattle.lvm_due.specs.Due.{AddsMaking}
 use Rattle.lvm_due.proofs.due.Due.add.Goals as goal
 
 pub returns : goal.returns
-returns c = record { landing = c.add.ensures; admission = c.add-2.ensures; pinning = c.add-3.ensures; note = c.add-4.ensures; «data» = c.add-5.ensures }
+returns c o there = ?
