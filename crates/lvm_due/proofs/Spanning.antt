@@ -108,3 +108,13 @@ skipped_due core place o was now there none skips rest due = subst (IsDue core) 
         let its : o ≡ p = cc (sym there ∙ ap (slice_get core.requests) (sym k_is) ∙ at) in
         ap (λ (n : ℕ). landing_at core n p) k_is ∙ ap (landing_at core place) (sym its) ∙ none
     by k p at out false apart = due.landing.none k p at (out_of was.landing now.landing k (skips.others k (eqb-false k place apart)) out)
+
+-- ---- a span that has become wider
+
+-- It is one of what there is now, where each request outside was there, and what made none then makes none.
+pub keep : (was now : ℕ → Open → Option Event) (before after : List Open) (s t : Span) → Spans was before s → t.to ≤ length after → ((k : ℕ) → is_in s k ≡ true → is_in t k ≡ true)
+    → ((k : ℕ) (o : Open) → slice_get after k ≡ Some o → is_in t k ≡ false → (slice_get before k ≡ Some o) × (was k o ≡ None → now k o ≡ None)) → Spans now after t
+keep was now before after s t spans within wider same = record {
+  within = within;
+  none = λ k o there out. let it = same k o there out in it.1 (spans.none k o it.0 (out_of s t k (wider k) out));
+}
