@@ -1,16 +1,18 @@
 -- What a request doesn't make that it may not by itself.
 use Rattle.std.proofs.Common.{◌≡◌, ℕ, Bool, true, false, ◌&&◌, not, if◌then◌else◌, Option, Some, None, refl, ap}
+use Rattle.std.specs.Prelude.{find}
 use Rattle.std.specs.Option.{option_map}
 use Rattle.std.proofs.lemmas.Bool.{and_left}
 use Rattle.lvm_path.specs.declared.request.Phase.{Phase}
 use Rattle.lvm_path.specs.declared.request.Phase.TheVariants as phase
 use Rattle.lvm_path.specs.declared.request.Request.{Request}
+use Rattle.lvm_path.specs.declared.target.Target.{Target}
 use Rattle.lvm_path.specs.Asks.{is_write}
 use Rattle.lvm_session.specs.declared.event.Event.TheVariants as event
 use Rattle.lvm_session.specs.declared.open.Open.{Open}
 use Rattle.lvm_session.specs.State.{Core}
 use Rattle.lvm_session.specs.Judging.{facts_of}
-use Rattle.lvm_session.specs.Enabled.{admission_at, can_pin, data_at, landing_at, note_at, pinning_at}
+use Rattle.lvm_session.specs.Enabled.{admission_at, can_pin, data_at, is_unnamed, landing_at, note_at, pinning_at}
 use Rattle.lvm_firsts.specs.Might.{are_at_rest, is_unbegun, might_admit_in, might_land_in, might_pin, might_start_in}
 use Rattle.lvm_firsts.proofs.Might.{admits_not, lands_not, pins_not, starts_not}
 use Rattle.lvm_due.specs.Making.{may_admit, may_admit_in, may_land, may_land_in, may_note, may_start, may_start_in}
@@ -47,7 +49,8 @@ pub pin_none : (core : Core) (k : ℕ) (o : Open) → might_pin o.request ≡ fa
 pin_none core k o is = ap (λ (b : Bool). if b && can_pin core.cache o.request.ask then Some (event.Pin k) else None) (pins_not (facts_of core o.request) o.request o.request.phase is)
 
 pub note_none : (core : Core) (k : ℕ) (o : Open) → may_note o.request ≡ false → note_at core k o ≡ None
-note_none core k o is = rw is refl
+note_none core k o is =
+    ap (λ (b : Bool). option_map (event.StartNote k) (if b then option_map (λ (t : Target). t.pp.disk) (find (is_unnamed core o.request.ask) o.request.targets.items) else None)) is
 
 starts_by : (r : Request) (named : Bool) (p : Phase) → may_start_in p r ≡ false → might_start_in p r named ≡ false
 starts_by r named phase.Held is = refl

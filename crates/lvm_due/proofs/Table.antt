@@ -151,10 +151,10 @@ module _ (old new : Core) (client : ℕ) (ask : Ask) (bytes : Option (List ℕ))
         (λ k o there. data_alike old new o (begun_facts k o there) k k) due.data;
   }
     where
-      abbrev at : ℕ
+      at : ℕ
       at = length old.requests
 
-      abbrev n : ℕ
+      n : ℕ
       n = length new.requests
 
       low : length old.requests < length new.requests
