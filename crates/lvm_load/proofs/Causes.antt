@@ -1,10 +1,8 @@
 -- Why requests aren't begun, or have no answer: by what holds between the steps of a workload.
-use Rattle.std.proofs.Common.{◌≡◌, ◌≤◌, ◌+◌, ◌-◌, ◌==◌, ◌&&◌, ◌||◌, ◌⊎◌, inl, inr, ⊎_elim, not, ℕ, zero, suc, Bool, true, false, List, [], ◌∷◌, ◌++◌, length, Option, Some, None, refl, sym, ap, ◌∙◌, subst, append_assoc, arith}
-use Rattle.std.specs.Prelude.{Result, Ok, Err, MatchOption, is_some, nat_lt}
+use Rattle.std.proofs.Common.{◌≡◌, ◌≤◌, ◌+◌, ◌-◌, ◌&&◌, ◌||◌, ◌⊎◌, inl, inr, ⊎_elim, not, ℕ, suc, Bool, true, false, List, [], ◌∷◌, ◌++◌, length, Option, Some, None, refl, sym, ap, ◌∙◌, subst, append_assoc, arith}
+use Rattle.std.specs.Prelude.{Result, Ok, Err, MatchOption, is_some}
 use Rattle.std.specs.List.{list_any, AllByRecursion}
-use Rattle.std.specs.Option.{option_map_or}
-use Rattle.std.proofs.lemmas.Bool.{eq-eqb, eqb-true, eqb-false, leb-true, ltb-false}
-use Rattle.std.proofs.lemmas.List.Folds.{list_any-append}
+use Rattle.std.proofs.lemmas.Bool.{leb-true}
 use Rattle.rand_pcg.specs.Lcg.{Lcg}
 use Rattle.lvm_disk.specs.Counts.{RoseBy}
 use Rattle.lvm_disk.specs.Device.{Device}
@@ -39,7 +37,7 @@ use Rattle.lvm_load.specs.declared.totals.Totals.{Totals}
 use Rattle.lvm_load.specs.Ends.{AreUnbegun, HasCauses, Over, Precedes, Refused, Waited}
 use Rattle.lvm_load.specs.Requests.{ask_of, bytes_of, word_of}
 use Rattle.lvm_load.specs.Totals.{entries_since, totals_of}
-use Rattle.lvm_load.specs.Weaving.{AsksDrawn, Draws, FinishesBy, Names, NoTurn, NoWord, NoneDrawn, OneDrawn, OneTurn, OneWord, PassesOn, TakesWhere, Turns, Unheard, Weaves, Weaving, client_at, drew as drew_more, first_weaving, fresh_clients, goes_on, has_open, idle_after, is_unheard, may_land, open_of, opened_by}
+use Rattle.lvm_load.specs.Weaving.{AsksDrawn, Draws, FinishesBy, Names, NoTurn, NoWord, NoneDrawn, OneDrawn, OneTurn, OneWord, PassesOn, TakesWhere, Turns, Unheard, Weaves, Weaving, client_at, first_weaving, fresh_clients, goes_on, has_open, idle_after, is_unheard, may_land, open_of}
 use Rattle.lvm_load.proofs.Gaining.{Gains, begun_since, gains_none, gains_then, submit_gains, taken_one, turns_gain}
 use Rattle.lvm_load.specs.Waiting.{AreWaiting, waits_for}
 use Rattle.lvm_load.proofs.Waiting.{asks_wait, behind_waits, fresh_wait, left_by_each}

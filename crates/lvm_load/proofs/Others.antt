@@ -1,5 +1,5 @@
 -- While one request lands, all others wait.
-use Rattle.std.proofs.Common.{◌≡◌, ◌<◌, ◌+◌, ◌==◌, ◌&&◌, ◌||◌, ◌++◌, ℕ, zero, suc, Bool, true, false, cond, not, List, [], ◌∷◌, length, Option, Some, None, slice_get, slice_set, refl, sym, ap, ◌∙◌, subst, arith}
+use Rattle.std.proofs.Common.{◌≡◌, ◌<◌, ◌+◌, ◌==◌, ◌&&◌, ◌||◌, ◌++◌, ℕ, suc, Bool, true, false, cond, not, List, [], ◌∷◌, length, Option, Some, None, slice_get, refl, sym, ap, ◌∙◌, subst, arith}
 use Rattle.std.specs.Prelude.{MatchOption, is_none, nat_lt, position, unwrap_or}
 use Rattle.std.specs.List.{AllByRecursion, find, list_any, position_or_len}
 use Rattle.std.specs.Option.{option_map_or}
@@ -8,8 +8,8 @@ use Rattle.std.proofs.lemmas.Option.{cond_some, same_Some}
 use Rattle.lvm_vol.specs.declared.entry.Entry.{Entry}
 use Rattle.lvm_vol.specs.declared.entry.Entry.TheVariants as entry
 use Rattle.lvm_vol.specs.declared.entry.Outcome.{Outcome}
-use Rattle.lvm_vol.specs.Facts.{Fact, Landed, Request}
-use Rattle.lvm_vol.specs.Log.{asked, begun, entries_from, entries_of, has_id, no_request, place_after, request_of}
+use Rattle.lvm_vol.specs.Facts.{Fact, Landed, Request, begun}
+use Rattle.lvm_vol.specs.Log.{entries_from, entries_of, has_id, no_request, place_after, request_of}
 use Rattle.lvm_path.specs.Asks.{count_of}
 use Rattle.lvm_path.specs.Targets.{is_begun}
 use Rattle.lvm_session.specs.declared.answers.Taken.TheVariants as taken
@@ -65,14 +65,14 @@ position_past p o os k other at =
 -- numbers rise, so it is the only one of its number
 first_waits : (client id : ℕ) (os : List Open) → IsAscending os → list_any (waits_for client id) os ≡ true → IsFirst client id os
 first_waits client id [] order any = absurd (cc any)
-first_waits client id (o ∷ os) order any = by (is_asked client id o) refl
+first_waits client id (o ∷ os) order any = by (is_asked client id o) refl (λ more. first_waits client id os order.1 more)
   where
     own : (w : Bool) → (w || list_any (waits_for client id) os) ≡ true → list_any (waits_for client id) os ≡ false → w ≡ true
     own true so none = refl
     own false so none = sym none ∙ so
 
-    by : (b : Bool) → is_asked client id o ≡ b → IsFirst client id (o ∷ os)
-    by true asks =
+    by : (b : Bool) → is_asked client id o ≡ b → (list_any (waits_for client id) os ≡ true → IsFirst client id os) → IsFirst client id (o ∷ os)
+    by true asks next =
         let number : o.request.id ≡ id = eqb-true o.request.id id (and_parts (o.request.client == client) (o.request.id == id) asks).1 in
         let none = none_behind client id os (subst (λ n. AllByRecursion (λ (later : Open). n < later.request.id) os) number order.0) in
         record {
@@ -82,8 +82,8 @@ first_waits client id (o ∷ os) order any = by (is_asked client id o) refl
           there = refl;
           waits = own (is_waiting o) (ap (λ b. (b && is_waiting o) || list_any (waits_for client id) os) (sym asks) ∙ any) none;
         }
-    by false not =
-        let rest = first_waits client id os order.1 (ap (λ b. (b && is_waiting o) || list_any (waits_for client id) os) (sym not) ∙ any) in
+    by false not next =
+        let rest = next (ap (λ b. (b && is_waiting o) || list_any (waits_for client id) os) (sym not) ∙ any) in
         record { place = suc rest.place; one = rest.one; at = position_past (is_asked client id) o os rest.place not rest.at; there = rest.there; waits = rest.waits }
 
 none_landed : (l : Option Outcome) → is_none l ≡ true → l ≡ None
@@ -133,17 +133,17 @@ entry_behind : (place : ℕ) (facts : List Fact) (r : Request) (how : Outcome) (
 entry_behind place [] r how started got = refl
 entry_behind place (f ∷ facts) r how started got = entry_behind (place_after place f) facts r how started got
 
+passes : (id : ℕ) (rs : List Request) (r : Request) → find (has_id id) rs ≡ Some r → has_id id r ≡ true
+passes id [] r is = absurd (cc is)
+passes id (q ∷ rs) r is = by_test (has_id id q) refl is (λ found. passes id rs r found)
+  where
+    by_test : (b : Bool) → has_id id q ≡ b → cond b (Some q) (find (has_id id) rs) ≡ Some r → (find (has_id id) rs ≡ Some r → has_id id r ≡ true) → has_id id r ≡ true
+    by_test true own so next = subst (λ (p : Request). has_id id p ≡ true) (same_Some q r so) own
+    by_test false own so next = next so
+
 -- the history's request of a number has it
 own_number : (facts : List Fact) (o : Open) → IsAsked facts o → (request_of facts o.request.id).id ≡ o.request.id
-own_number facts o it = ap (λ (a : Option Request). (unwrap_or a no_request).id) it.told ∙ eqb-true it.request.id o.request.id (passes (begun facts) it.request it.told)
-  where
-    passes : (rs : List Request) (r : Request) → find (has_id o.request.id) rs ≡ Some r → has_id o.request.id r ≡ true
-    passes [] r is = absurd (cc is)
-    passes (q ∷ rs) r is = by_test (has_id o.request.id q) refl is
-      where
-        by_test : (b : Bool) → has_id o.request.id q ≡ b → cond b (Some q) (find (has_id o.request.id) rs) ≡ Some r → has_id o.request.id r ≡ true
-        by_test true own so = subst (λ (p : Request). has_id o.request.id p ≡ true) (same_Some q r so) own
-        by_test false own so = passes rs r so
+own_number facts o it = ap (λ (a : Option Request). (unwrap_or a no_request).id) it.told ∙ eqb-true it.request.id o.request.id (passes o.request.id (begun facts) it.request it.told)
 
 module _ (old new : State) (clients : List Client) (sound : IsSound old) (waiting : AreWaiting old.core clients) (place : ℕ) (how : Outcome) (lands : Lands old new place how) where
   abbrev o : Open
@@ -179,4 +179,4 @@ others_wait old new clients sound waiting answer made goes = by (turn_goes old n
   where
     by : Goes old new → OthersWait (length old.core.history.facts) new.core clients
     by (Still same) e id at its k other has differs = same (k + 1) other ∙ waiting k other has
-    by (One place how lands) = others_of_landed old new clients sound waiting place how lands
+    by (One place how lands) e id at its k other has differs = others_of_landed old new clients sound waiting place how lands e id at its k other has differs

@@ -1,5 +1,5 @@
 -- Each client that has a request open has one in the table that waits.
-use Rattle.std.proofs.Common.{◌≡◌, ◌≤◌, ◌<◌, ◌+◌, ◌==◌, ◌&&◌, ◌||◌, ◌⊎◌, inl, inr, ⊎_elim, ℕ, zero, suc, Bool, true, false, List, [], ◌∷◌, length, Option, Some, None, slice_get, slice_set, refl, sym, ap, ◌∙◌, subst, arith}
+use Rattle.std.proofs.Common.{◌≡◌, ◌≤◌, ◌<◌, ◌+◌, ◌==◌, ◌&&◌, ◌||◌, inl, inr, ⊎_elim, ℕ, zero, suc, Bool, true, false, List, [], ◌∷◌, length, Option, Some, None, slice_get, slice_set, refl, sym, ap, ◌∙◌, subst, arith}
 use Rattle.std.specs.Prelude.{Err, MatchOption, Ok, is_none, nat_lt, position, set}
 use Rattle.std.specs.List.{list_any}
 use Rattle.std.specs.Option.{option_map_or}
@@ -284,7 +284,7 @@ neither false b is = (refl, is)
 -- so behind a turn, whether what has landed is taken or nothing has
 pub behind_waits : (old mid new : State) (clients after : List Client) (answer : Turned) → AreWaiting old.core clients → TurnMakes old mid answer → (b : Bool) → may_land old mid answer ≡ b → TakesWhere b mid new clients after
     → AreWaiting new.core after
-behind_waits old mid new clients after answer waiting made true may takes = all_waiting mid new clients after (left_by_each mid clients (length clients) new after takes)
+behind_waits old mid new clients after answer waiting made true may takes k id has = all_waiting mid new clients after (left_by_each mid clients (length clients) new after takes) k id has
 behind_waits old mid new clients after answer waiting made false may still k id has =
     let no = neither (nat_lt (length old.core.history.facts) (length mid.core.history.facts)) (is_last answer) may in
     let same = turn_keeps old mid answer made no.1 (ltb-false (length old.core.history.facts) (length mid.core.history.facts) no.0) in

@@ -4,19 +4,18 @@ ghost use Rattle.lvm_num.specs.declared.descriptor.PvRow.{PvRow as pv_row};
 ghost use Rattle.lvm_num.specs.DescriptorBytes.{descriptor_of};
 ghost use Rattle.lvm_commit.specs.Settling.{IsOf, MaySettle, HasNumbers};
 
+use crate::fixtures::{
+    blank_shelf, check, first_homes, group, has_room, row, stamp, status, survey, volume,
+};
 use lvm_commit::{CommitEnd, commit_descriptor, commit_status};
 use lvm_disk::Shelf;
 use lvm_faults::{Act, Planned};
 use lvm_homes::Homes;
 use lvm_memory::MemShelf;
-use lvm_num::{Descriptor, Mode, Pbuf, Pp, Rows, Stamp};
+use lvm_num::{Descriptor, Pbuf, Pp, Rows, Stamp};
 use lvm_stale::StaleTable;
 use lvm_status::{Change, Updater};
 use lvm_survey::Survey;
-use lvm_tests_shelves::{
-    blank_shelf, first_homes, group, has_room, row, stamp, status, survey, volume,
-};
-use lvm_tests_values::check;
 use lvm_transfer::{Patience, relight};
 use std::process::Abort;
 
@@ -319,14 +318,14 @@ fn group_of(rt: &(impl Abort + AllocGlobal), is: Group) -> Descriptor {
     let mut group = group(rt, ID, 3);
     group.quorum = is != Group::NoQuorum;
     if is == Group::Mirrored {
-        group.lvs = volume(rt, Mode::Off, [FIRST, SECOND]);
+        group.lvs = volume(rt, [FIRST, SECOND]);
     }
     group
 }
 
 // A table with a row for each member and nothing stale.
 fn first_table(rt: &(impl Abort + AllocGlobal)) -> StaleTable {
-    let status = status(rt, ID, 3, false);
+    let status = status(rt, ID, 3);
     assert!(rt; status.is_valid());
     StaleTable::from_status(rt.alloc(), &status).expect(rt, "memory")
 }

@@ -3,3 +3,5 @@
 
 #[cfg(test)]
 mod commit;
+#[cfg(test)]
+mod fixtures;

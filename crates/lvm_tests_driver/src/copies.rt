@@ -1,12 +1,11 @@
 //! A copy that is brought up.
+use crate::fixtures::{MIRROR, MODES, Setup, begin, check, close, close_copy, is_stale, turn};
 use crate::steps::{Step, break_off, does, play, play_out};
 use lvm_disk::{Arrange, Shelf};
 use lvm_faults::{Act, Planned};
 use lvm_num::Mode;
 use lvm_ranges::below::driver::Driver;
 use lvm_session::{CopyFault, CopyState, Taken};
-use lvm_tests_session::{MIRROR, MODES, Setup, begin, close, close_copy, is_stale, turn};
-use lvm_tests_values::check;
 use std::process::Abort;
 
 const STALE: Setup = Setup {

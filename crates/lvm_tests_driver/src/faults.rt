@@ -1,14 +1,15 @@
 //! Disks that fail, and power that is cut.
 ghost use Rattle.std.specs.Prelude.{◌≤◌, ◌<◌};
 
+use crate::fixtures::{
+    MIRROR, MODES, POLICIES, Setup, begin, check, close, is_stale, turn, written,
+};
 use crate::steps::{Step, does, play, play_out};
 use lvm_disk::{Arrange, Shelf};
 use lvm_faults::{Act, Planned};
 use lvm_num::{Mode, Policy};
 use lvm_ranges::below::driver::{DrainFault, Driver};
 use lvm_session::{AskFault, CopyFault, Taken, Turned};
-use lvm_tests_session::{MIRROR, MODES, POLICIES, Setup, begin, close, is_stale, turn, written};
-use lvm_tests_values::check;
 use std::process::Abort;
 
 static WORDS: [u64; 3] = [0, 0x5555_5555_5555_5555, u64::MAX];

@@ -6,6 +6,8 @@ mod copies;
 #[cfg(test)]
 mod faults;
 #[cfg(test)]
+mod fixtures;
+#[cfg(test)]
 mod ranges;
 #[cfg(test)]
 mod requests;

@@ -4,6 +4,7 @@ ghost use Rattle.lvm_posts.specs.Pieces.{IsLaidOut};
 ghost use Rattle.lvm_posts.specs.Posts.{AreHeld};
 ghost use Rattle.lvm_ranges.specs.Reading.{HasEndedWell, IsRead};
 
+use crate::fixtures::{MIRROR, Setup, begin, check, close, goes_on, order};
 use crate::steps::{Step, play};
 use lvm_disk::{Arrange, Shelf};
 use lvm_faults::{Act, Planned};
@@ -12,8 +13,6 @@ use lvm_posts::{Asked, RangeFault};
 use lvm_ranges::below::driver::Driver;
 use lvm_ranges::{AskRangeFault, ask_range, finish_range, read_blocks, step};
 use lvm_session::{Power, Taken, Turned};
-use lvm_tests_session::{MIRROR, Setup, begin, close, goes_on, order};
-use lvm_tests_values::check;
 use lvm_transfer::Patience;
 use std::process::Abort;
 

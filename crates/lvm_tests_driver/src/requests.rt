@@ -1,11 +1,10 @@
 //! Requests that nothing disturbs, and how many may be under way.
+use crate::fixtures::{MIRROR, MODES, POLICIES, Setup, begin, check, write};
 use crate::steps::{Step, break_off, does, play_out};
 use lvm_disk::Shelf;
 use lvm_num::Mode;
 use lvm_ranges::below::driver::Driver;
 use lvm_session::{AskFault, Taken};
-use lvm_tests_session::{MIRROR, MODES, POLICIES, Setup, begin, close, write};
-use lvm_tests_values::check;
 use std::process::Abort;
 
 const READ: [(&str, Step); 4] = [

@@ -1,11 +1,11 @@
 //! Tests as rows of steps: what is done with a session, and what comes of it.
+use crate::fixtures::{
+    answer, check, close, close_copy, drain, got, is_stale, open_copy, order, read, turn, write,
+    written,
+};
 use lvm_disk::{Arrange, Shelf};
 use lvm_ranges::below::driver::{DrainFault, Driver};
 use lvm_session::{AskFault, CopyFault, CopyState, Taken, Turned};
-use lvm_tests_session::{
-    answer, close, close_copy, drain, got, is_stale, open_copy, order, read, turn, write, written,
-};
-use lvm_tests_values::check;
 use std::process::Abort;
 
 /// What is done with a session or looked up in it, and what comes of it. The requests are those of client 1.

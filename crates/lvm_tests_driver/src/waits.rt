@@ -1,11 +1,10 @@
 //! Writes that wait for an entry of the cache, or for a note.
+use crate::fixtures::{MIRROR, Setup, begin, check, close, turn, write};
 use crate::steps::{Step, does, play, play_out};
 use lvm_disk::Shelf;
 use lvm_faults::{Act, Planned};
 use lvm_ranges::below::driver::Driver;
 use lvm_session::{Taken, Turned};
-use lvm_tests_session::{MIRROR, Setup, begin, close, turn, write};
-use lvm_tests_values::check;
 use std::process::Abort;
 
 // How many transfers are out at most before the first request has landed.

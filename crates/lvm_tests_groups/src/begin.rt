@@ -3,7 +3,8 @@ ghost use Rattle.lvm_survey.specs.Rows.{AreRows};
 ghost use Rattle.lvm_survey.specs.Surveyed.{IsSurveyValid};
 
 use crate::fixtures::{
-    Begin, begin_first, begin_next, change, first_three, image_shelf, images_of,
+    Begin, begin_first, begin_next, blank_shelf, change, check, first_three, group, image_shelf,
+    images_of, name_of, row, stamp, status, survey,
 };
 use lvm_disk::Shelf;
 use lvm_faults::{Act, Planned};
@@ -11,8 +12,6 @@ use lvm_memory::MemShelf;
 use lvm_num::{Descriptor, Stamp, Status};
 use lvm_quorum::{Choice, ChooseFault, choose};
 use lvm_survey::{Survey, SurveyRow};
-use lvm_tests_shelves::{blank_shelf, group, name_of, row, stamp, status, survey};
-use lvm_tests_values::check;
 use std::process::Abort;
 
 const SECTOR: usize = 512;
@@ -85,7 +84,7 @@ fn is_group(rt: &(impl Abort + AllocGlobal), descriptor: &Descriptor) -> bool {
 }
 
 fn is_new(rt: &(impl Abort + AllocGlobal), is: &Status) -> bool {
-    *is == status(rt, GROUP, 3, false)
+    *is == status(rt, GROUP, 3)
 }
 
 fn told(rt: &(impl Abort + AllocGlobal), choice: &Choice) -> Chosen {

@@ -1,12 +1,11 @@
 //! Groups that come on after a crash: what a note names is copied from the first copy, and nothing else.
-use crate::fixtures::{change, image_shelf, images_of};
+use crate::fixtures::{change, check, image_shelf, images_of};
 use crate::varyon::{Answer, Session, WHOLE, heal, made, vary};
 use lvm_core::Cause;
 use lvm_disk::Shelf;
 use lvm_faults::{Act, Planned};
 use lvm_memory::MemShelf;
 use lvm_num::Mode;
-use lvm_tests_values::check;
 use std::process::Abort;
 
 const SECTOR: usize = 512;

@@ -1,13 +1,11 @@
 //! Groups of two disks that come on, and that don't.
-use crate::fixtures::{Begin, begin_first, images_of};
+use crate::fixtures::{Begin, begin_first, blank_shelf, check, group, images_of, name_of, volume};
 use lvm_core::{Cause, Driver, Room};
 use lvm_disk::{Arrange, Shelf};
 use lvm_faults::{Act, Planned};
 use lvm_history::History;
 use lvm_memory::MemShelf;
 use lvm_num::{Mode, Pp};
-use lvm_tests_shelves::{blank_shelf, group, name_of, volume};
-use lvm_tests_values::check;
 use lvm_transfer::{Patience, relight};
 use lvm_varyon::varyon;
 use std::process::Abort;

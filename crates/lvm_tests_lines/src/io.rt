@@ -1,9 +1,9 @@
+use crate::fixtures::check;
 use lvm_io::{
     Clock, Got, Images, Lines, MOST_BYTES, MemClock, MemSink, MemSource, NextLine, Put, Sink,
     SinkFault, Source, StdSink, StdSource, SystemClock, write_all,
 };
 use lvm_num::Rows;
-use lvm_tests_values::check;
 use std::io::{self, ErrorKind, Read, Write};
 use std::process::Abort;
 use std::time::{self, Duration};

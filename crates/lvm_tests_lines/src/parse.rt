@@ -1,6 +1,6 @@
+use crate::fixtures::{check, check_at};
 use lvm_num::{Mode, Name, Policy, Rows};
 use lvm_parse::{Command, ParseFault, parse};
-use lvm_tests_values::{check, check_at};
 use std::process::Abort;
 
 // The line isn't in the language from this column on.

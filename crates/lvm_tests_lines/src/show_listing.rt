@@ -4,10 +4,10 @@ ghost use Rattle.std.specs.Option.{option_copied};
 ghost use Rattle.lvm_num.specs.Descriptor.{volume_of, member_of};
 ghost use Rattle.lvm_num.specs.declared.descriptor.PvRow.{PvRow};
 
+use crate::fixtures::{Member, Volume, check, group, status, volume};
 use lvm_num::{Descriptor, Pp, PvRow, Rows, Text, volume_of};
 use lvm_show::{show_disk, show_group, show_map, show_volumes};
 use lvm_stale::StaleTable;
-use lvm_tests_values::{Member, Volume, check, group, status, volume};
 use std::process::Abort;
 
 // Members of six partitions on the first disks.

@@ -1,11 +1,11 @@
 ghost use Rattle.std.specs.Prelude.{IsTrue};
 ghost use Rattle.lvm_replies.specs.Refusals.{is_refusal};
 
+use crate::fixtures::{check, check_at};
 use lvm_num::{Text, fill};
 use lvm_replies::{
     Carried, Refusal, push_refusal, show_block, show_refusal, show_stepped, show_synced,
 };
-use lvm_tests_values::{check, check_at};
 use std::process::Abort;
 
 // Whether a refusal has this text.

@@ -1,7 +1,7 @@
 // Words as they come from a shell.
 
+use crate::fixtures::check;
 use lvm_num::Text;
-use lvm_tests_values::check;
 use lvm_words::{Job, WordsFault, read_words};
 use std::process::Abort;
 

@@ -1,7 +1,7 @@
 ghost use Rattle.lvm_hold.specs.Conflicts.{IsInGroup};
 
+use crate::fixtures::{check, check_at};
 use lvm_hold::{Held, Queue};
-use lvm_tests_values::{check, check_at};
 use std::process::Abort;
 
 fn read(at: u64, count: u32) -> Held {

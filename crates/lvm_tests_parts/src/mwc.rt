@@ -1,7 +1,7 @@
+use crate::fixtures::{check, check_at};
 use crate::mwc::Do::{At, Ends, Named, NamedOnlyHere, Pins, Puts, Starts, Unpin};
 use lvm_mwc::{Cache, Pin};
 use lvm_num::{DiskSet, NoteEntry};
-use lvm_tests_values::{check, check_at};
 use std::process::Abort;
 
 // What a test does about a track group of volume 1, and what it is answered.

@@ -1,8 +1,8 @@
+use crate::fixtures::check;
 use crate::path::Step::{Admit, Does, Ended, HasPin, Is, Landed, Pinned, Started};
 use lvm_num::{Mode, Policy, Pp};
 use lvm_path::{Ask, Facts, Next, Phase, Request, Target};
 use lvm_sched::TargetState;
-use lvm_tests_values::check;
 use lvm_vol::Outcome;
 use std::process::Abort;
 

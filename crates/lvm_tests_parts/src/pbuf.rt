@@ -1,5 +1,5 @@
+use crate::fixtures::check;
 use lvm_pbuf::Pool;
-use lvm_tests_values::check;
 use std::process::Abort;
 
 #[test]

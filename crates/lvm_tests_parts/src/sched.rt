@@ -1,10 +1,10 @@
 ghost use Rattle.lvm_sched.specs.Reads.{AreCopies};
 
+use crate::fixtures::check;
 use lvm_num::Policy;
 use lvm_num::Policy::{Parallel, ParallelWrite, RoundRobin, Sequential};
 use lvm_sched::TargetState::{Done, Failed, Flying, Waiting};
 use lvm_sched::{read_order, write_next};
-use lvm_tests_values::check;
 
 static THREE: [(Policy, u8, [u32; 3], [u8; 3]); 6] = [
     (Parallel, 0, [4, 2, 2], [2, 1, 3]),

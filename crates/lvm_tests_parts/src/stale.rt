@@ -1,6 +1,6 @@
+use crate::fixtures::{Volume, check, group, status};
 use lvm_num::Pp;
 use lvm_stale::StaleTable;
-use lvm_tests_values::{Volume, check, group, status};
 use std::process::Abort;
 
 // The table of disks 3 and 7, with volume 5 dirty.

@@ -1,3 +1,4 @@
+use crate::fixtures::{Member, check, check_at, group, status};
 use crate::status::Do::{
     Clean, Clear, Dirty, Ends, Flies, HasStamp, IsDirty, Mark, Miss, Missing, SetStamp, Stale,
     Starts, Votes, Writes, WritesNone,
@@ -6,7 +7,6 @@ use lvm_num::{Descriptor, Pp, Stamp};
 use lvm_stale::StaleTable;
 use lvm_status::Progress::{Committed, QuorumLost, Waiting};
 use lvm_status::{Change, Progress, Updater};
-use lvm_tests_values::{Member, check, check_at, group, status};
 use std::process::Abort;
 
 // A table with rows for these disks and nothing stale.

@@ -5,14 +5,14 @@ ghost use Rattle.lvm_num.specs.Status.{IsValidStatus};
 ghost use Rattle.lvm_survey.specs.Rows.{AreRows};
 ghost use Rattle.lvm_survey.specs.Surveyed.{IsRowValid, IsSurveyValid};
 
-use crate::fixtures::{DATA, FIRST, LARGE, LATER, NAMESAKE, NONE, OTHER, first_two, group, status};
+use crate::fixtures::{
+    DATA, FIRST, LARGE, LATER, NAMESAKE, NONE, OTHER, check, first_two, group, name_of, status,
+};
 use Answer::*;
 use lvm_homes::Homes;
 use lvm_num::{Descriptor, Rows, Stamp, Status};
 use lvm_quorum::{Choice, ChooseFault, choose};
 use lvm_survey::{Survey, SurveyRow};
-use lvm_tests_shelves::name_of;
-use lvm_tests_values::check;
 use lvm_write::homes_of;
 use std::process::Abort;
 

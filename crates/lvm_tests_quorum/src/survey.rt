@@ -1,13 +1,10 @@
 //! What the records of disks in memory are found to be.
-use crate::fixtures::{DATA, FIRST, LATER, NAMESAKE, NONE, group, status};
+use crate::fixtures::{DATA, FIRST, LATER, NAMESAKE, NONE, check, group, image_shelf, status};
 use lvm_disk::Shelf;
 use lvm_faults::{Act, Planned};
-use lvm_memory::MemShelf;
 use lvm_num::{Kind, Pbuf, Rows, Stamp};
 use lvm_rec::{frame, slot_sectors, write_note};
 use lvm_survey::{Survey, SurveyRow, Surveyed, survey_disks};
-use lvm_tests_shelves::image_shelf;
-use lvm_tests_values::check;
 use lvm_transfer::{Patience, relight};
 use std::process::Abort;
 

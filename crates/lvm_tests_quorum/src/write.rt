@@ -2,7 +2,7 @@
 ghost use Rattle.std.specs.Prelude.{◌≡◌};
 ghost use Rattle.lvm_num.specs.Record.{longest_content};
 
-use crate::fixtures::first_two;
+use crate::fixtures::{all_disks, blank_shelf, check, first_two, has_room, plan_of};
 use End::*;
 use Step::*;
 use lvm_disk::Shelf;
@@ -11,8 +11,6 @@ use lvm_homes::Homes;
 use lvm_memory::MemShelf;
 use lvm_num::{DiskSet, Kind, Pbuf, Stamp};
 use lvm_rec::{read_note, read_slot};
-use lvm_tests_shelves::{all_disks, blank_shelf, has_room, plan_of};
-use lvm_tests_values::check;
 use lvm_transfer::{Patience, relight};
 use lvm_write::{Wrote, empty_notes, write_record};
 use std::process::Abort;

@@ -1,6 +1,6 @@
+use crate::fixtures::{Member, Volume, check, group};
 use lvm_map::{MapFault, allocate, allocate_more, blocks, place};
 use lvm_num::{Descriptor, DiskSet, Place, Pp, Rows};
-use lvm_tests_values::{Member, Volume, check, group};
 use std::process::Abort;
 
 type Map = Result<Rows<Pp>, MapFault>;

@@ -1,5 +1,5 @@
+use crate::fixtures::{Member, Volume, check, group, members, status, volume};
 use lvm_num::{Descriptor, DiskSet, Name, Pp, PvRow, Rows};
-use lvm_tests_values::{Member, Volume, check, group, members, status, volume};
 use std::process::Abort;
 
 type Disks = &'static [Member];

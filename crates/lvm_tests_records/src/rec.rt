@@ -1,9 +1,9 @@
 ghost use Rattle.std.specs.Prelude.{◌≡◌, ◌≤◌, length};
 ghost use Rattle.lvm_num.specs.Record.{longest_content};
 
+use crate::fixtures::{check, check_at};
 use lvm_num::{Framed, NoteEntry, Rows, Stamp};
 use lvm_rec::{Kind, frame, read_note, read_slot, slot_sectors, write_note};
-use lvm_tests_values::{check, check_at};
 use std::process::Abort;
 
 const STAMP: Stamp = Stamp { epoch: 50, seq: 1 };

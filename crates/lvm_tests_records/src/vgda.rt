@@ -1,7 +1,7 @@
+use crate::fixtures::{Member, check, check_at, group, members};
 use lvm_fields::Fault;
 use lvm_num::{Descriptor, LvRow, Mode, Name, Policy, Pp, PvRow, Rows};
 use lvm_spelling::encode;
-use lvm_tests_values::{Member, check, check_at, group, members};
 use lvm_vgda::decode;
 use std::process::Abort;
 

@@ -1,6 +1,6 @@
+use crate::fixtures::{check, check_at};
 use lvm_fields::Fault;
 use lvm_num::{Rows, Status, StatusRow, VolumeNumbers};
-use lvm_tests_values::{check, check_at};
 use lvm_vgsa::{decode, encode, encode_into};
 use std::process::Abort;
 

@@ -1,5 +1,5 @@
+use crate::fixtures::check;
 use lvm_num::{fill, word_of};
-use lvm_tests_values::check;
 
 #[test]
 fn the_first_byte_of_a_word_leads(rt: HostRuntime) {

@@ -1,15 +1,14 @@
 //! Stale copies that are brought up while disks fail, the power is cut, or nothing is heard of a transfer.
-use crate::fixtures::{FRESH, sync};
+use crate::fixtures::{
+    FRESH, STALE, Setup, begin, check, close, close_copy, drain, goes_on, is_stale, order, sync,
+    written,
+};
 use lvm_disk::{Arrange, Shelf};
 use lvm_driver::Driver;
 use lvm_faults::{Act, Planned};
 use lvm_num::Mode;
 use lvm_resync::{SyncFault, sync_volume};
 use lvm_session::{CopyState, Taken};
-use lvm_tests_session::{
-    STALE, Setup, begin, close, close_copy, drain, goes_on, is_stale, order, written,
-};
-use lvm_tests_values::check;
 use lvm_transfer::Patience;
 use std::process::Abort;
 

@@ -1,14 +1,13 @@
 //! Writes that go to a copy which is being brought up, and what they do where its disk fails.
+use crate::fixtures::{
+    MODES, STALE, Setup, begin, check, close, close_copy, drain, got, is_stale, open_copy, order,
+    turn, write,
+};
 use lvm_disk::{Arrange, Shelf};
 use lvm_driver::{DrainFault, Driver};
 use lvm_faults::{Act, Planned};
 use lvm_num::Mode;
 use lvm_session::{CopyState, Taken};
-use lvm_tests_session::{
-    MODES, STALE, Setup, begin, close, close_copy, drain, got, is_stale, open_copy, order, turn,
-    write,
-};
-use lvm_tests_values::check;
 use std::process::Abort;
 
 fn turns<S: Shelf>(rt: &impl Abort, driver: &mut Driver<S>, most: u32) {

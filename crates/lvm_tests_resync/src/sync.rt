@@ -1,16 +1,13 @@
 //! Stale copies that are brought up beside requests.
-use crate::fixtures::{FRESH, sync};
+use crate::fixtures::{
+    FRESH, MODES, STALE, Setup, begin, check, close, drain, goes_on, got, is_stale, open_copy,
+    order, sync, turn, write, written,
+};
 use lvm_disk::{Arrange, Shelf};
 use lvm_driver::Driver;
 use lvm_faults::{Act, Planned};
-use lvm_num::Mode;
 use lvm_resync::{SyncFault, sync_group, sync_partition, sync_volume};
 use lvm_session::Taken;
-use lvm_tests_session::{
-    MODES, STALE, Setup, begin, close, drain, goes_on, got, is_stale, open_copy, order, turn,
-    write, written,
-};
-use lvm_tests_values::check;
 use lvm_transfer::Patience;
 use std::process::Abort;
 

@@ -10,6 +10,11 @@ use Rattle.lvm_load.proofs.workload.draw_all.Goals as goal
 pub loop-drawn-init : goal.loop-drawn-init
 loop-drawn-init g c = (NoneDrawn, at_first (state_of g.S.Shelf.device c.args.driver.now) c.requires.unstuck, c.requires.patient, omega arith, c.requires.room, c.requires.clients.2)
 
+pub ask-requires-clause-unstuck : goal.ask-requires-clause-unstuck
+ask-requires-clause-unstuck g c =
+    let device = g.S.Shelf.device in
+    (and_then (state_of device c.args.driver.now) (state_of device c.loop-drawn.driver) (state_of device c.next_client.new.driver) c.loop-drawn.invariant.1 c.next_client.ensures.runs).unstuck
+
 pub returns-in_default-clause-draws : goal.returns-in_default-clause-draws
 returns-in_default-clause-draws g c =
     let device = g.S.Shelf.device in

@@ -1,4 +1,5 @@
-//! Groups and their statuses.
+//! The values that the tests build.
+ghost use Rattle.std.specs.Prelude.{IsTrue};
 
 use lvm_num::{
     Descriptor, LvRow, Mode, Name, Policy, Pp, PvRow, Rows, Status, StatusRow, VolumeNumbers,
@@ -10,6 +11,18 @@ pub type Member = (u16, u16, bool);
 
 /// A volume by its number, its name, its copies, its logical partitions and their map.
 pub type Volume = (u16, &'static str, u8, u32, &'static [(u16, u16)]);
+
+/// Ends the test where this isn't so, and says of what.
+pub fn check(rt: &impl Abort, is: bool, what: &str)
+    ensures { IsTrue is }
+{
+    assert!(rt; is, "{what}");
+}
+
+/// The same, with a place or a count.
+pub fn check_at(rt: &impl Abort, is: bool, what: &str, at: usize) {
+    assert!(rt; is, "{what} {at}");
+}
 
 pub fn name(rt: &impl Abort, text: &str) -> Name {
     Name::read(text.as_bytes()).expect(rt, "a name")
