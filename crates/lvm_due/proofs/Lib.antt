@@ -1,6 +1,7 @@
 mod Alike
 mod Calm
 mod Frames
+mod Making
 mod Moving
 mod Narrow
 mod Noting

@@ -31,9 +31,11 @@ use Rattle.lvm_session.specs.Judging.{facts_of, group_of, held_of, is_failing, i
 use Rattle.lvm_session.specs.Marks.{WantsDirtyIf, hits_copy}
 use Rattle.lvm_session.specs.Sound.{IsGoing, rows_of, waiting_rows}
 use Rattle.lvm_due.specs.Due.{any_fails, is_freed, none, overlap, waits_entry, IsCalm, IsQuiet, IsQuietFor, Moves, ReadsSame}
+use Rattle.lvm_due.specs.Making.{may_land}
+use Rattle.lvm_due.proofs.Frames.{get_set}
 use Rattle.lvm_due.proofs.Telling.{fails_read, failing_read}
 use Rattle.lvm_due.proofs.Starting.{start_fails, start_waits}
-use Rattle.lvm_due.proofs.Queues.{get_set, has_number, one_numbered, position_is, position_set, row_of, unqueued}
+use Rattle.lvm_due.proofs.Queues.{has_number, one_numbered, position_is, position_set, row_of, unqueued}
 
 not_both : {X : Type 0} {b : Bool} → b ≡ true → b ≡ false → X
 not_both is not_so = absurd (let e : true ≡ false = sym is ∙ not_so in cc e)
@@ -137,6 +139,13 @@ module _ (old : State) (new : Core) (place : ℕ) (how : Outcome) (going : IsGoi
   landing_moves o there =
       let its : o ≡ landed_as how lands.request = cc (there, landed_there) in
       subst (λ (ask : Ask). Moves (is_freed ask) waits_entry old.core new place) (sym (ap (λ (x : Open). x.request.ask) its)) landed_moves
+
+-- it lands once
+pub landed_may_not : (old : State) (new : Core) (place : ℕ) (how : Outcome) → Lands old (state old.device new) place how → (o : Open) → slice_get new.requests place ≡ Some o → may_land o.request ≡ false
+landed_may_not old new place how lands o there =
+    let requests : new.requests ≡ slice_set old.core.requests place (landed_as how lands.request) = ap (λ (s : State). s.core.requests) lands.is in
+    let its : landed_as how lands.request ≡ o = cc (sym (ap (λ (os : List Open). slice_get os place) requests ∙ get_set old.core.requests place lands.request (landed_as how lands.request) lands.there) ∙ there) in
+    ap (λ (x : Open). may_land x.request) (sym its)
 
 -- ---- Admit
 

@@ -3,6 +3,7 @@
 
 mod due;
 mod laws;
+mod making;
 mod places;
 mod quiet;
 

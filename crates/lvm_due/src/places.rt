@@ -16,7 +16,8 @@ pub fn join(span: &mut Span, other: Span)
     }
 }
 
-fn add_if(span: &mut Span, place: usize, is: bool)
+/// A place is added, where this is so.
+pub fn add_if(span: &mut Span, place: usize, is: bool)
     requires { place + 1 < 2 ^ 64 }
     ensures { AddsIf is place span.old span.new }
 {

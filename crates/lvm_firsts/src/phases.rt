@@ -31,8 +31,8 @@ fn any_flies(targets: &[Target]) -> bool
         .any(|target| matches!(target.state, TargetState::Flying))
 }
 
-// Whether the transfer of one of them isn't started.
-fn any_waits(targets: &[Target]) -> bool
+/// Whether the transfer of one of them isn't started.
+pub fn any_waits(targets: &[Target]) -> bool
     ensures { result ≡ any_waits targets.now }
 {
     targets
@@ -40,8 +40,8 @@ fn any_waits(targets: &[Target]) -> bool
         .any(|target| matches!(target.state, TargetState::Waiting))
 }
 
-// Whether the transfer of one of them has ended well, or none is under way.
-fn are_at_rest(targets: &[Target]) -> bool
+/// Whether the transfer of one of them has ended well, or none is under way.
+pub fn are_at_rest(targets: &[Target]) -> bool
     ensures { result ≡ are_at_rest targets.now }
 {
     any_is_done(targets) || !any_flies(targets)
