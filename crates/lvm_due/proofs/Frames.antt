@@ -26,7 +26,7 @@ use Rattle.lvm_firsts.specs.Spans.{is_in, Spans}
 use Rattle.lvm_due.specs.declared.due.Due.{Due}
 use Rattle.lvm_due.specs.Due.{is_held, AddsMaking, Covers, IsDue, Joins, Moves}
 use Rattle.lvm_due.specs.Making.{may_admit, may_land, may_note, may_start}
-use Rattle.lvm_due.proofs.Making.{admit_none, land_none, note_none, pin_none, start_none}
+use Rattle.lvm_due.proofs.Unmade.{admit_none, land_none, note_none, pin_none, start_none}
 use Rattle.lvm_due.proofs.Telling.{facts_but, failing_read, fails_beside, is_unsettled, note_same, pending_read}
 use Rattle.lvm_due.proofs.Spanning.{Keeps, adds_keep, joins_keep, not_both, out_of}
 use Rattle.lvm_due.proofs.Unread.{blocked_unread, starts_unread}

@@ -1,7 +1,6 @@
 mod Alike
 mod Calm
 mod Frames
-mod Making
 mod Moving
 mod Narrow
 mod Noting
@@ -10,4 +9,5 @@ mod Spanning
 mod Starting
 mod Table
 mod Telling
+mod Unmade
 mod Unread

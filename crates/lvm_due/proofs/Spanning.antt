@@ -102,7 +102,7 @@ joins_keep make is place n other s t u low keeps joins = record {
 pub skipped_due : (core : Core) (place : ℕ) (o : Open) (was now : Due) → slice_get core.requests place ≡ Some o → landing_at core place o ≡ None → Skips place was.landing now.landing → now ≡ record was { landing = now.landing } → IsDue core was → IsDue core now
 skipped_due core place o was now there none skips rest due =
     let landing : Spans (landing_at core) core.requests now.landing =
-        record { within = let within = due.landing.within in let to = skips.within in omega (arith, within, to); none = λ k p at out. by k p at out (k == place) refl } in
+    record { within = let within = due.landing.within in let to = skips.within in omega (arith, within, to); none = λ k p at out. by k p at out (k == place) refl } in
     subst (IsDue core) (sym rest) (record { landing = landing; admission = due.admission; pinning = due.pinning; note = due.note; «data» = due.data })
   where
     by : (k : ℕ) (p : Open) → slice_get core.requests k ≡ Some p → is_in now.landing k ≡ false → (b : Bool) → (k == place) ≡ b → landing_at core k p ≡ None

@@ -34,7 +34,7 @@ use Rattle.lvm_due.specs.Due.{AddsMaking, IsDue, ReadsSame}
 use Rattle.lvm_due.specs.Making.{may_admit, may_land, may_note, may_start}
 use Rattle.lvm_due.proofs.Alike.{admission_alike, data_alike, landing_alike, note_alike, pinning_alike}
 use Rattle.lvm_due.proofs.Telling.{facts_but, fails_beside, is_unsettled, note_same, pending_read}
-use Rattle.lvm_due.proofs.Making.{admit_none, land_none, note_none, pin_none, start_none}
+use Rattle.lvm_due.proofs.Unmade.{admit_none, land_none, note_none, pin_none, start_none}
 use Rattle.lvm_due.proofs.Spanning.{Keeps, adds_keep, not_both, out_of}
 
 -- ---- one begins

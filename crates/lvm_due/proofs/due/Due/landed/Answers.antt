@@ -2,7 +2,7 @@ use Rattle.std.proofs.Common.{refl}
 use Rattle.lvm_session.specs.Fields.{core_of}
 use Rattle.lvm_firsts.proofs.Places.{stands}
 use Rattle.lvm_due.specs.Due.{is_freed, waits_entry}
-use Rattle.lvm_due.proofs.Making.{land_none}
+use Rattle.lvm_due.proofs.Unmade.{land_none}
 use Rattle.lvm_due.proofs.Moving.{landed_may_not, landing_moves}
 use Rattle.lvm_due.proofs.Spanning.{skipped_due}
 use Rattle.lvm_due.proofs.due.Due.landed.Goals as goal
