@@ -22,8 +22,8 @@ use Rattle.lvm_kept.specs.Recovered.{IsRecordRange}
 use Rattle.lvm_kept.specs.Torn.{IsOtherOrRecord, StandsOn}
 use Rattle.lvm_kept.proofs.Contained.{room-same}
 use Rattle.lvm_kept.proofs.Records.{earlier_stays}
-use Rattle.lvm_homes.specs.declared.homes.Homes.{Homes}
-use Rattle.lvm_homes.specs.Homes.{second_slots, next_slot}
+use Rattle.lvm_rec.specs.declared.homes.Homes.{Homes}
+use Rattle.lvm_rec.specs.Homes.{second_slots, next_slot}
 use Rattle.lvm_write.proofs.Writing.{told_at, changes_more}
 use Rattle.lvm_write.proofs.Shows.{slot_two, turns}
 use Rattle.lvm_begin.specs.Beginning.{Beginning, Part, TheDescriptor, TheStatus, TheNotes, describes, states, brought, IsOfParts}

@@ -21,7 +21,7 @@ use Rattle.lvm_status.specs.Update.{Stored}
 use Rattle.lvm_steps.specs.Moments.{ImagesKept, StaysKept}
 use Rattle.lvm_steps.proofs.Booleans.{clash}
 use Rattle.lvm_steps.proofs.Making.{media_may}
-use Rattle.lvm_homes.specs.declared.homes.Homes.{Homes}
+use Rattle.lvm_rec.specs.declared.homes.Homes.{Homes}
 use Rattle.lvm_write.specs.Written.{KeepsShelf, IsDarkened, IsGivenUp}
 use Rattle.lvm_write.specs.Parts.{Spends}
 use Rattle.lvm_write.proofs.Transfers.{keeps_then, spends_then, darkened_then, given_up_then}

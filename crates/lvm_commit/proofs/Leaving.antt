@@ -19,14 +19,14 @@ use Rattle.lvm_num.proofs.ListLemmas.{any_one}
 use Rattle.lvm_disk.specs.Device.{Device, image_of}
 use Rattle.lvm_kept.specs.Contents.{Contents, contents_of}
 use Rattle.lvm_kept.specs.Group.{passes, is_of, members_in, IsOneOf}
-use Rattle.lvm_left.specs.Marking.{IsLeft, IsLeftIn, Marks, IsMarkable}
-use Rattle.lvm_left.proofs.MarkLemmas.{left_same, left_again}
+use Rattle.lvm_stale.specs.Marking.{IsLeft, IsLeftIn, Marks, IsMarkable}
+use Rattle.lvm_stale.proofs.MarkLemmas.{left_same, left_again}
 use Rattle.lvm_status.specs.Members.{HasItsRows}
 use Rattle.lvm_status.specs.Update.{Stored, members_there}
 use Rattle.lvm_status.proofs.Disks.{member-below}
 use Rattle.lvm_status.proofs.Sound.{and_left, not_false}
 use Rattle.lvm_steps.proofs.Booleans.{either, clash, second}
-use Rattle.lvm_homes.specs.declared.homes.Homes.{Homes}
+use Rattle.lvm_rec.specs.declared.homes.Homes.{Homes}
 use Rattle.lvm_write.proofs.Writing.{if_told, told_at}
 use Rattle.lvm_commit.specs.Committed.{MayMark, HoldsCommitted}
 use Rattle.lvm_commit.specs.Settling.{there, IsForgotten, IsOf, SessionIsHeld, WantsMarks, IsPassedOver, MarksLeft}

@@ -21,8 +21,8 @@ use Rattle.lvm_kept.proofs.Contained.{room-same}
 use Rattle.lvm_kept.proofs.Finding.{images_within}
 use Rattle.lvm_kept.proofs.Records.{descriptor_shows, status_shows, wider, whole_is_new}
 use Rattle.lvm_steps.proofs.Committing.{commit_keeps}
-use Rattle.lvm_homes.specs.declared.homes.Homes.{Homes}
-use Rattle.lvm_homes.specs.Homes.{second_slots, next_slot}
+use Rattle.lvm_rec.specs.declared.homes.Homes.{Homes}
+use Rattle.lvm_rec.specs.Homes.{second_slots, next_slot}
 use Rattle.lvm_write.specs.Written.{write_of}
 use Rattle.lvm_write.specs.Shows.{IsSlotFit}
 use Rattle.lvm_write.proofs.Shows.{descriptor_may_be_written, status_may_be_written, slot_two, turns}

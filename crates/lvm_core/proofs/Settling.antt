@@ -15,7 +15,7 @@ use Rattle.lvm_vol.specs.Log.{Log}
 use Rattle.lvm_mwc.specs.declared.notes.DiskNotes.{DiskNotes}
 use Rattle.lvm_mwc.specs.Cache.{no_notes}
 use Rattle.lvm_status.specs.Update.{Updates, members_there}
-use Rattle.lvm_homes.specs.declared.homes.Homes.{Homes}
+use Rattle.lvm_rec.specs.declared.homes.Homes.{Homes}
 use Rattle.lvm_core.specs.declared.parts.Room.{Room}
 use Rattle.lvm_core.specs.Sound.{IsQuiet}
 use Rattle.lvm_core.specs.Settled.{IsSettled, HasSpareNumbers}

@@ -35,7 +35,7 @@ use crate::parts::Parts;
 use crate::prepared::Prepared;
 use lvm_disk::{Arrange, Shelf};
 use lvm_history::History;
-use lvm_homes::Homes;
+use lvm_rec::Homes;
 use lvm_num::{Descriptor, Memory, Name, Pp, Stamp};
 use lvm_session::{Power, Session};
 use lvm_stale::StaleTable;

@@ -7,7 +7,7 @@ use Rattle.lvm_disk.specs.Device.{Media, Range, Device, IsReady, image_of}
 use Rattle.lvm_disk.specs.Steps.{BothTold}
 use Rattle.lvm_vol.specs.Log.{Log, cut_log, spare_entries}
 use Rattle.lvm_kept.specs.Plans.{Plan as Bringing, ChangesBy}
-use Rattle.lvm_homes.specs.declared.homes.Homes.{Homes}
+use Rattle.lvm_rec.specs.declared.homes.Homes.{Homes}
 use Rattle.lvm_write.specs.Parts.{Spends}
 use Rattle.lvm_write.specs.Written.{LogsPlan, KeepsShelf, IsDarkened, IsGivenUp}
 use Rattle.lvm_write.proofs.Transfers.{darkened_then, given_up_then}

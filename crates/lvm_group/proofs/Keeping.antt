@@ -32,7 +32,7 @@ use Rattle.lvm_steps.specs.Moments.{StaysKept}
 use Rattle.lvm_stamps.specs.Behind.{StampsBefore, beginning_at, IsBehind}
 use Rattle.lvm_stamps.proofs.Records.{session_may_go}
 use Rattle.lvm_stamps.proofs.Stamps.{before_is_behind}
-use Rattle.lvm_homes.specs.declared.homes.Homes.{Homes}
+use Rattle.lvm_rec.specs.declared.homes.Homes.{Homes}
 use Rattle.lvm_write.specs.Homes.{SparesNewest}
 use Rattle.lvm_write.specs.Written.{write_of, KeepsShelf}
 use Rattle.lvm_write.proofs.Shows.{descriptor_may_be_written, status_may_be_written}

@@ -7,7 +7,7 @@ ghost use Rattle.lvm_group.specs.Steps.{LookGives};
 use crate::judge::judge;
 use lvm_core::Cause;
 use lvm_disk::Shelf;
-use lvm_homes::Homes;
+use lvm_rec::Homes;
 use lvm_num::Pbuf;
 use lvm_survey::{Surveyed, survey_disks};
 use lvm_transfer::Patience;

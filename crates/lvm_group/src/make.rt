@@ -20,7 +20,7 @@ use crate::write::write;
 use lvm_core::{Cause, Parts, Room};
 use lvm_disk::Shelf;
 use lvm_history::History;
-use lvm_homes::Homes;
+use lvm_rec::Homes;
 use lvm_num::{Memory, Name};
 use lvm_transfer::Patience;
 use lvm_vol::{Entry, Vol};

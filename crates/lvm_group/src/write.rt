@@ -15,7 +15,7 @@ use crate::plan::Plan;
 use lvm_begin::{Begun, begin_new};
 use lvm_core::Cause;
 use lvm_disk::Shelf;
-use lvm_homes::Homes;
+use lvm_rec::Homes;
 use lvm_num::DiskSet;
 use lvm_transfer::Patience;
 

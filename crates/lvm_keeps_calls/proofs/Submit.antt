@@ -48,8 +48,8 @@ use Rattle.lvm_session.specs.Owners.{AreOwned, IsDataOf, flies, target_flies}
 use Rattle.lvm_session.specs.Requests.{IsOpenOne, IsRecorded, mode_for}
 use Rattle.lvm_session.specs.Causes.{AreCaused, AreCounted, IsAnswered, IsCaused, IsChosenSince, fails_on, is_held_stale}
 use Rattle.lvm_session.specs.Sound.{IsAsked, IsCopy, IsFitting, IsGoing, IsOn, IsSound, IsTold, count_if, is_dark, is_hand, pins, waiting_rows, waits, with_row}
-use Rattle.lvm_submit.proofs.Numbered.{below_next}
-use Rattle.lvm_submit.proofs.Taking.{IsTaken, history_room, taken}
+use Rattle.lvm_calls.proofs.Numbered.{below_next}
+use Rattle.lvm_calls.proofs.Taking.{IsTaken, history_room, taken}
 use Rattle.lvm_keeps.specs.Keeps.{SubmitKeeps}
 use Rattle.lvm_keeps.proofs.Causes.{answered_still, copies_still, counted_still, origin_still}
 use Rattle.lvm_keeps.proofs.Fitting.{still_fits}

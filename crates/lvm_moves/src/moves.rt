@@ -16,7 +16,7 @@ use lvm_disk::Shelf;
 use lvm_due::{Due, is_quiet};
 use lvm_firsts::{first_admission, first_landing};
 use lvm_land::land_at;
-use lvm_pins::pin_first;
+use crate::pins::pin_first;
 use lvm_session::{Event, Session};
 use lvm_vol::Outcome;
 

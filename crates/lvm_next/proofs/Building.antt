@@ -23,9 +23,9 @@ use Rattle.lvm_kept.specs.Group.{IsOneOf, IsSome}
 use Rattle.lvm_stale.specs.Table.{has_row}
 use Rattle.lvm_next.specs.Next.{IsNextStatus, IsLeftBehind, is_passive, has_passive}
 use Rattle.lvm_next.specs.Rows.{AreMemberRows}
-use Rattle.lvm_left.specs.Marking.{is_served, IsLeftIn, Marks, IsMarkable}
+use Rattle.lvm_stale.specs.Marking.{is_served, IsLeftIn, Marks, IsMarkable}
 use Rattle.lvm_next.proofs.RowLemmas.{found_one}
-use Rattle.lvm_left.proofs.MarkLemmas.{has_row-same}
+use Rattle.lvm_stale.proofs.MarkLemmas.{has_row-same}
 
 -- ---- elements
 

@@ -34,7 +34,7 @@ use Rattle.lvm_session.specs.State.{Core, State, state, votes_there}
 use Rattle.lvm_keeps.proofs.Lists.{all_on, all_push, all_removed}
 use Rattle.lvm_keeps.proofs.Losing.{loss_is_caused}
 use Rattle.lvm_keeps.proofs.Small.{both, is_false, not_so}
-use Rattle.lvm_turn_answers.proofs.Stepping.{turn_counts}
+use Rattle.lvm_keeps_turn.proofs.Stepping.{turn_counts}
 use Rattle.lvm_turn_losses.specs.Losing.{LosesVotesByFaults, LostForFaults}
 use Rattle.lvm_running.proofs.Shapes.{Given, turn_goes}
 use Rattle.lvm_driver.specs.Drains.{IsAny}

@@ -11,7 +11,7 @@ ghost use Rattle.lvm_due.specs.Due.{IsDue};
 use crate::first::make_first;
 use lvm_disk::Shelf;
 use lvm_due::Due;
-use lvm_finish::finish;
+use crate::ending::finish;
 use lvm_session::{Power, Session, Turned};
 
 // Of a session that goes on.

@@ -8,7 +8,7 @@ ghost use Rattle.lvm_starts.specs.Starts.{CanStart};
 use lvm_disk::Shelf;
 use lvm_launch::{read_copy, start_data, start_note, write_copy};
 use lvm_session::{Event, Session, Turned};
-use lvm_update::start_status;
+use crate::start::start_status;
 
 /// The transfer of an event that starts one is started. Answers `Moved`, or `Dark` where the power is found off.
 pub fn make_start<S: Shelf>(session: &mut Session, shelf: &mut S, event: Event) -> Turned

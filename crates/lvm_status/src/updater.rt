@@ -6,16 +6,15 @@ ghost use Rattle.lvm_num.specs.declared.descriptor.PvRow.{PvRow};
 ghost use Rattle.lvm_num.specs.Descriptor.{IsValid, IsLaidOut, partitions_in};
 ghost use Rattle.lvm_num.specs.Votes.{total_votes};
 ghost use Rattle.lvm_num.specs.Disks.{has, IsLowest};
-ghost use Rattle.lvm_left.specs.Marking.{IsLeftIn, Marks, IsMarkable};
+ghost use Rattle.lvm_stale.specs.Marking.{IsLeftIn, Marks, IsMarkable};
 ghost use Rattle.lvm_status.specs.Members.{HasItsRows, all_rows, all_members};
 ghost use Rattle.lvm_status.specs.Update.{members_there};
 
 use crate::{Change, Progress, Writes};
-use lvm_left::mark_volumes;
+use lvm_stale::{StaleTable, mark_volumes};
 use lvm_num::{
     Descriptor, DiskSet, LvRow, Memory, Pp, Rows, Stamp, Status, has_member, with_volumes,
 };
-use lvm_stale::StaleTable;
 use std::alloc::Global;
 use std::marker::Model;
 

@@ -10,7 +10,7 @@ use Rattle.lvm_num.specs.Name.{is_name}
 use Rattle.lvm_disk.specs.Device.{Media, Flight, Device, IsReady, image_of}
 use Rattle.lvm_vol.specs.Log.{Log}
 use Rattle.lvm_stamps.specs.Behind.{IsBehind}
-use Rattle.lvm_homes.specs.declared.homes.Homes.{Homes}
+use Rattle.lvm_rec.specs.declared.homes.Homes.{Homes}
 use Rattle.lvm_begin.specs.Beginning.{Part, IsOfParts}
 use Rattle.lvm_core.specs.declared.refused.Cause.{Cause}
 use Rattle.lvm_core.specs.declared.refused.Cause.TheVariants as cause

@@ -17,7 +17,7 @@ use Rattle.lvm_stamps.proofs.Stamps.{later_is_ahead_too, before_is_behind}
 use Rattle.lvm_stamps.proofs.Shelves.{unwritten_stays_behind}
 use Rattle.lvm_stamps.proofs.Records.{all_is_behind_end}
 use Rattle.lvm_write.specs.Written.{KeepsShelf}
-use Rattle.lvm_homes.specs.declared.homes.Homes.{Homes}
+use Rattle.lvm_rec.specs.declared.homes.Homes.{Homes}
 use Rattle.lvm_write.specs.Homes.{SparesNewest}
 use Rattle.lvm_survey.specs.declared.row.Survey.{Survey}
 use Rattle.lvm_survey.specs.Surveyed.{surveyed}

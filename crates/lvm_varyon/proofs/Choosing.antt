@@ -12,7 +12,7 @@ use Rattle.lvm_num.proofs.Newest.{is_one}
 use Rattle.lvm_kept.specs.Group.{is_status_of, is_voter, has_quorum, status_among}
 use Rattle.lvm_kept.proofs.Finding.{is_offered, offered}
 use Rattle.lvm_quorum.specs.declared.choice.Choice.{Choice}
-use Rattle.lvm_homes.specs.declared.homes.Homes.{Homes}
+use Rattle.lvm_rec.specs.declared.homes.Homes.{Homes}
 use Rattle.lvm_quorum.specs.Choosing.{IsChosenGroup, IsOnly, IsGreatestEpoch}
 use Rattle.lvm_write.specs.Homes.{SpareNewest}
 use Rattle.lvm_quorum.proofs.Chosen.{found_valid, row_valid}

@@ -11,7 +11,7 @@ use Rattle.lvm_core.specs.Leaves.{MayBeFound}
 use Rattle.lvm_recovery.specs.Planned.{ArePlanned}
 use Rattle.lvm_varyon.proofs.Beside.{beside_found, both_beside, copies_beside, notes_beside}
 use Rattle.lvm_kept.specs.Torn.{IsOfNote}
-use Rattle.lvm_homes.specs.declared.homes.Homes.{Homes}
+use Rattle.lvm_rec.specs.declared.homes.Homes.{Homes}
 use Rattle.lvm_write.specs.Notes.{empty_note_sector}
 use Rattle.lvm_write.specs.Written.{KeepsShelf}
 use Rattle.lvm_write.proofs.Transfers.{keeps_here}

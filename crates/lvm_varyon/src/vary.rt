@@ -20,7 +20,7 @@ use crate::writes::{make_equal, read_disks, write_plan};
 use lvm_core::{Cause, Driver, Parts, Refused, Room};
 use lvm_disk::Shelf;
 use lvm_history::History;
-use lvm_homes::Homes;
+use lvm_rec::Homes;
 use lvm_num::{Name, Pbuf, Stamp};
 use lvm_transfer::Patience;
 use std::alloc::Global;

@@ -19,7 +19,7 @@ use crate::plan::Plan;
 use lvm_begin::{Begun, begin_again};
 use lvm_core::Cause;
 use lvm_disk::Shelf;
-use lvm_homes::Homes;
+use lvm_rec::Homes;
 use lvm_num::{DiskSet, Pbuf};
 use lvm_recovery::equalise;
 use lvm_survey::{Survey, Surveyed, survey_disks};

@@ -10,7 +10,7 @@ ghost use Rattle.lvm_survey.specs.Surveyed.{IsSurveyValid};
 use lvm_begin::{Begun, begin_again, begin_new};
 use lvm_disk::Shelf;
 use lvm_faults::{Planned, names_disks};
-use lvm_homes::Homes;
+use lvm_rec::Homes;
 use lvm_memory::MemShelf;
 use lvm_num::{
     Descriptor, DiskSet, LvRow, Mode, Name, Pbuf, Policy, Pp, PvRow, Rows, Stamp, Status,

@@ -18,7 +18,7 @@ use lvm_driver::laws::whole_groups_begin;
 use lvm_driver::{Closed, DrainFault, Driver};
 use lvm_faults::{Planned, names_disks};
 use lvm_history::History;
-use lvm_homes::Homes;
+use lvm_rec::Homes;
 use lvm_memory::MemShelf;
 use lvm_num::{
     Descriptor, DiskSet, LvRow, Mode, Name, Policy, Pp, PvRow, Rows, Stamp, Status, StatusRow,
