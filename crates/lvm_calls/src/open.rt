@@ -7,9 +7,9 @@ ghost use Rattle.lvm_session.specs.Asking.{IsAwake};
 ghost use Rattle.lvm_session.specs.Sound.{IsGoing};
 ghost use Rattle.lvm_calls.specs.Opening.{HasCopy, counts_seen};
 
-use crate::opened::opened;
 use crate::copy::copy_fault;
 use crate::enter::enter_step;
+use crate::opened::opened;
 use lvm_disk::Shelf;
 use lvm_session::{CopyFault, Open, Session};
 

@@ -7,9 +7,9 @@ ghost use Rattle.lvm_session.specs.Judging.{copies_in};
 ghost use Rattle.lvm_session.specs.Sound.{IsGoing};
 ghost use Rattle.lvm_calls.specs.Opening.{HasCopy, IsOpened};
 
+use crate::enter::step_place;
 use crate::faults::faults_of;
 use lvm_copies::volume_of;
-use crate::enter::step_place;
 use lvm_disk::Shelf;
 use lvm_num::{Descriptor, DiskSet, Pp, copies_of};
 use lvm_session::{OpenCopy, Session, Step};

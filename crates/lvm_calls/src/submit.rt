@@ -5,8 +5,8 @@ ghost use Rattle.lvm_session.specs.Rooms.{HasRooms, SameRooms};
 ghost use Rattle.lvm_session.specs.Calls.{SubmitGives};
 ghost use Rattle.lvm_session.specs.Asking.{IsAsking, IsAwake};
 
-use crate::begin::begin;
 use crate::ask::ask_fault;
+use crate::begin::begin;
 use lvm_path::Ask;
 use lvm_session::{AskFault, Session};
 

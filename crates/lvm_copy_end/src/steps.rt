@@ -6,8 +6,8 @@ ghost use Rattle.lvm_session.specs.Marks.{Reviews, WantsStale, is_entailed};
 ghost use Rattle.lvm_copy_end.specs.Reviewing.{MayReview};
 
 use crate::behind::mark_left;
-use crate::judged::copy_ends;
 use crate::ending::end_copy_if;
+use crate::judged::copy_ends;
 use lvm_session::Session;
 
 // What missing disks leave behind becomes wanted stale.

@@ -11,12 +11,12 @@ ghost use Rattle.lvm_due.specs.Due.{IsDue};
 ghost use Rattle.lvm_admit.specs.Choosing.{MayChoose};
 ghost use Rattle.lvm_moves.specs.Moving.{FirstGives};
 
+use crate::pins::pin_first;
 use lvm_admit::admit_at;
 use lvm_disk::Shelf;
 use lvm_due::{Due, is_quiet};
 use lvm_firsts::{first_admission, first_landing};
 use lvm_land::land_at;
-use crate::pins::pin_first;
 use lvm_session::{Event, Session};
 use lvm_vol::Outcome;
 

@@ -10,9 +10,9 @@ ghost use Rattle.lvm_session.specs.Rooms.{SameRooms};
 ghost use Rattle.lvm_session.specs.Ends.{FlipsIf};
 ghost use Rattle.lvm_reap.specs.Learning.{MayReturn, NoteWriteEnds, StatusWriteEnds};
 
-use lvm_rec::Homes;
-use lvm_num::{Kind, Pbuf};
 use crate::back::return_flight;
+use lvm_num::{Kind, Pbuf};
+use lvm_rec::Homes;
 use lvm_session::Session;
 use lvm_status::Change;
 

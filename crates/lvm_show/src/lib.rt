@@ -8,8 +8,8 @@ mod member;
 mod words;
 
 pub use counts::{
-    all_free, all_partitions, all_stale, carriers, free_on, missing_members, quorum_votes, stale_in,
-    stale_on,
+    all_free, all_partitions, all_stale, carriers, free_on, missing_members, quorum_votes,
+    stale_in, stale_on,
 };
 pub use group::{show_group, show_volumes};
 pub use map::show_map;

@@ -5,8 +5,8 @@ ghost use Rattle.lvm_num.specs.Disks.{has};
 ghost use Rattle.lvm_num.specs.Status.{IsValidStatus};
 ghost use Rattle.lvm_stale.specs.Marking.{is_served, IsLeft, IsLeftBelow, IsLeftIn, Marks, IsMarkable};
 
-use lvm_num::{DiskSet, LvRow, Pp, copies_of};
 use crate::table::StaleTable;
+use lvm_num::{DiskSet, LvRow, Pp, copies_of};
 
 /// Marks the copies of these volumes that are left behind: those on disks that don't answer, where a copy
 /// of the same logical partition is fresh on one that does.

@@ -11,10 +11,10 @@ ghost use Rattle.lvm_status.specs.Members.{HasItsRows, all_rows, all_members};
 ghost use Rattle.lvm_status.specs.Update.{members_there};
 
 use crate::{Change, Progress, Writes};
-use lvm_stale::{StaleTable, mark_volumes};
 use lvm_num::{
     Descriptor, DiskSet, LvRow, Memory, Pp, Rows, Stamp, Status, has_member, with_volumes,
 };
+use lvm_stale::{StaleTable, mark_volumes};
 use std::alloc::Global;
 use std::marker::Model;
 

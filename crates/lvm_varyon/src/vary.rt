@@ -20,8 +20,8 @@ use crate::writes::{make_equal, read_disks, write_plan};
 use lvm_core::{Cause, Driver, Parts, Refused, Room};
 use lvm_disk::Shelf;
 use lvm_history::History;
-use lvm_rec::Homes;
 use lvm_num::{Name, Pbuf, Stamp};
+use lvm_rec::Homes;
 use lvm_transfer::Patience;
 use std::alloc::Global;
 

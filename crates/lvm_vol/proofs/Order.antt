@@ -265,12 +265,12 @@ module _ (run : ℕ) where
       (λ s how' started' got' new. subst (AnswerOf (past ++ f ∷ [])) new (own began (begun_same past f refl)))
       (λ s new. absurd (cc new))
       (λ id is. ⊎_elim
-          (λ old. q.lands id old)
-          (λ new. let at = stands-at 1 (begun past) r q.ids began in
-          let same : r.id ≡ id = eqb-true r.id id new in
-          let low = at.low in let high = at.high in
-          (omega (arith, same, low), omega (arith, same, high)))
-          (or-split (list_any (lands_id id) past) (lands_id id f) (sym (any-push (lands_id id) past f) ∙ is)))
+      (λ old. q.lands id old)
+      (λ new. let at = stands-at 1 (begun past) r q.ids began in
+      let same : r.id ≡ id = eqb-true r.id id new in
+      let low = at.low in let high = at.high in
+      (omega (arith, same, low), omega (arith, same, high)))
+      (or-split (list_any (lands_id id) past) (lands_id id f) (sym (any-push (lands_id id) past f) ∙ is)))
       (λ id is. any-push (lands_id id) past f ∙ ap (λ (t : Bool). t || lands_id id f) (q.takes id (sym (any_same (takes_id id) past f refl) ∙ is)))
     where
       own : Stands r (begun past) → begun (past ++ Landed r how started got ∷ []) ≡ begun past → IsAnswer (past ++ Landed r how started got ∷ []) r how got
@@ -294,9 +294,9 @@ module _ (run : ℕ) where
       (λ s new. subst (λ (x : Request). Stands x (begun past)) (own_request new) (stands_begun past r follows.0))
       (λ id is. q.lands id (sym (any_same (lands_id id) past f refl) ∙ is))
       (λ id is. any_same (lands_id id) past f refl ∙ ⊎_elim
-          (λ old. q.takes id old)
-          (λ new. ap (λ (n : ℕ). list_any (lands_id n) past) (sym (eqb-true r.id id new)) ∙ follows.1)
-          (or-split (list_any (takes_id id) past) (takes_id id f) (sym (any-push (takes_id id) past f) ∙ is)))
+      (λ old. q.takes id old)
+      (λ new. ap (λ (n : ℕ). list_any (lands_id n) past) (sym (eqb-true r.id id new)) ∙ follows.1)
+      (or-split (list_any (takes_id id) past) (takes_id id f) (sym (any-push (takes_id id) past f) ∙ is)))
     where
       own_request : {s : Request} → Taken r ≡ Taken s → r ≡ s
       own_request is = cc is

@@ -10,9 +10,9 @@ use crate::tests::fixtures::{
 use lvm_commit::{CommitEnd, commit_descriptor, commit_status};
 use lvm_disk::Shelf;
 use lvm_faults::{Act, Planned};
-use lvm_rec::Homes;
 use lvm_memory::MemShelf;
 use lvm_num::{Descriptor, Pbuf, Pp, Rows, Stamp};
+use lvm_rec::Homes;
 use lvm_stale::StaleTable;
 use lvm_status::{Change, Updater};
 use lvm_survey::Survey;

@@ -6,12 +6,12 @@ ghost use Rattle.lvm_survey.specs.Surveyed.{IsSurveyValid};
 
 use lvm_disk::Shelf;
 use lvm_faults::{Planned, names_disks};
-use lvm_rec::Homes;
 use lvm_memory::MemShelf;
 use lvm_num::{
     Descriptor, DiskSet, LvRow, Mode, Name, Pbuf, Policy, Pp, PvRow, Rows, Stamp, Status,
     StatusRow, VolumeNumbers,
 };
+use lvm_rec::Homes;
 use lvm_survey::{Survey, SurveyRow, Surveyed, survey_disks};
 use lvm_transfer::{Patience, relight};
 use std::process::Abort;

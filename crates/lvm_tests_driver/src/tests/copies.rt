@@ -1,5 +1,7 @@
 //! A copy that is brought up.
-use crate::tests::fixtures::{MIRROR, MODES, Setup, begin, check, close, close_copy, is_stale, turn};
+use crate::tests::fixtures::{
+    MIRROR, MODES, Setup, begin, check, close, close_copy, is_stale, turn,
+};
 use crate::tests::steps::{Step, break_off, does, play, play_out};
 use lvm_disk::{Arrange, Shelf};
 use lvm_faults::{Act, Planned};

@@ -17,7 +17,6 @@ use lvm_disk::{Arrange, Shelf};
 use lvm_driver::laws::whole_groups_begin;
 use lvm_faults::{Planned, names_disks};
 use lvm_history::History;
-use lvm_rec::Homes;
 use lvm_memory::MemShelf;
 use lvm_num::{
     Descriptor, DiskSet, LvRow, Mode, Name, Policy, Pp, PvRow, Rows, Stamp, Status, StatusRow,
@@ -25,6 +24,7 @@ use lvm_num::{
 };
 use lvm_path::Ask;
 use lvm_ranges::below::driver::{Closed, DrainFault, Driver};
+use lvm_rec::Homes;
 use lvm_session::{AskFault, CopyFault, CopyState, Power, Taken, Turned};
 use lvm_session_start::{Room, take_parts};
 use lvm_transfer::Patience;

@@ -1,5 +1,7 @@
 //! Groups of two disks that come on, and that don't.
-use crate::tests::fixtures::{Begin, begin_first, blank_shelf, check, group, images_of, name_of, volume};
+use crate::tests::fixtures::{
+    Begin, begin_first, blank_shelf, check, group, images_of, name_of, volume,
+};
 use lvm_core::{Cause, Driver, Room};
 use lvm_disk::{Arrange, Shelf};
 use lvm_faults::{Act, Planned};

@@ -9,9 +9,9 @@ use crate::tests::fixtures::{
     DATA, FIRST, LARGE, LATER, NAMESAKE, NONE, OTHER, check, first_two, group, name_of, status,
 };
 use Answer::*;
-use lvm_rec::Homes;
 use lvm_num::{Descriptor, Rows, Stamp, Status};
 use lvm_quorum::{Choice, ChooseFault, choose};
+use lvm_rec::Homes;
 use lvm_survey::{Survey, SurveyRow};
 use lvm_write::homes_of;
 use std::process::Abort;

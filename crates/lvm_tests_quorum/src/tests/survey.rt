@@ -1,5 +1,7 @@
 //! What the records of disks in memory are found to be.
-use crate::tests::fixtures::{DATA, FIRST, LATER, NAMESAKE, NONE, check, group, image_shelf, status};
+use crate::tests::fixtures::{
+    DATA, FIRST, LATER, NAMESAKE, NONE, check, group, image_shelf, status,
+};
 use lvm_disk::Shelf;
 use lvm_faults::{Act, Planned};
 use lvm_num::{Kind, Pbuf, Rows, Stamp};

@@ -18,13 +18,13 @@ use lvm_driver::laws::whole_groups_begin;
 use lvm_driver::{Closed, DrainFault, Driver};
 use lvm_faults::{Planned, names_disks};
 use lvm_history::History;
-use lvm_rec::Homes;
 use lvm_memory::MemShelf;
 use lvm_num::{
     Descriptor, DiskSet, LvRow, Mode, Name, Policy, Pp, PvRow, Rows, Stamp, Status, StatusRow,
     VolumeNumbers, fill, word_of,
 };
 use lvm_path::Ask;
+use lvm_rec::Homes;
 use lvm_resync::{SyncFault, sync_volume};
 use lvm_session::{AskFault, CopyFault, CopyState, Power, Taken, Turned};
 use lvm_session_start::{Room, take_parts};
