@@ -13,6 +13,7 @@ use Rattle.std.proofs.lemmas.List.Elements.{All-append, All-cons, All-take, All-
 use Rattle.std.proofs.lemmas.List.Folds.{list_any_none, list_any-append, list_any_at}
 use Rattle.std.proofs.lemmas.List.Quantifiers.{all_pairs_remove}
 use Rattle.lvm_num.specs.Status.{IsVolumeNumber, AreDirty}
+use Rattle.lvm_num.proofs.Bounds.{few_dirty}
 use Rattle.lvm_stale.specs.Rows.{SetsAmong}
 
 -- the number stands at this place
@@ -91,7 +92,7 @@ dirty-insert xs x i all here at = record {
 
 -- there is room for one that isn't there
 pub room : (xs : List ℕ) (x i : ℕ) → AreDirty xs → IsVolumeNumber x → BelongsAt xs x i → length xs < 511
-room xs x i all here at = omega (arith, fits (insert xs i x) (dirty-insert xs x i all here at), length-insert xs i x at.within)
+room xs x i all here at = omega (arith, few_dirty (insert xs i x) (dirty-insert xs x i all here at), length-insert xs i x at.within)
 
 -- ---- one less
 
