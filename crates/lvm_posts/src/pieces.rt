@@ -59,6 +59,12 @@ fn append(bytes: &mut Vec<u8>, more: &[u8])
     }
 }
 
+// Adds a block that a word fills to bytes that have room for it.
+fn append_word(bytes: &mut Vec<u8>, word: u64)
+{
+    append(bytes, [word.to_be_bytes(); 64].as_flattened());
+}
+
 /// Puts so many blocks of a range into bytes that have room for a whole piece, from the one on that stands so far
 /// behind the first, which is filled with the word.
 pub fn fill_bytes(bytes: &mut Vec<u8>, word: u64, skip: u64, count: u32)
@@ -71,6 +77,6 @@ pub fn fill_bytes(bytes: &mut Vec<u8>, word: u64, skip: u64, count: u32)
 {
     bytes.clear();
     for k in 0..count {
-        append(bytes, &fill(word.wrapping_add(skip + u64::from(k))));
+        append_word(bytes, word.wrapping_add(skip + u64::from(k)));
     }
 }
