@@ -1,7 +1,0 @@
-use Rattle.std.proofs.Common.{refl}
-use Rattle.lvm_due.proofs.Frames.{moved_due}
-use Rattle.lvm_due.proofs.due.Due.moved.Goals as goal
-
-pub returns : goal.returns
-returns c frees pins old new low free enter moves due =
-    moved_due frees pins old new c.args.place _ _ _ c.args.freed c.args.entries low free enter c.add.ensures c.join.ensures c.join-2.ensures c.join-3.ensures refl refl moves due

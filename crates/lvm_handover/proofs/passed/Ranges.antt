@@ -1,3 +1,0 @@
--- Passed on from `lvm_ranges`.
-pub use Rattle.lvm_earlier.proofs.passed.Ranges.{answered_for, ended_well, off_votes, range_cause, reads_on, room_first, table_same, table_then}
-pub use Rattle.lvm_earlier.proofs.passed.Ranges.{turn_table}

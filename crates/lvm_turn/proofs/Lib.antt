@@ -1,8 +1,0 @@
-mod Growing
-pub mod Keeping
-pub mod Parting
-pub mod Nested
-pub mod Ends
-pub mod Clients
-pub mod Leaving
-pub mod Idle
