@@ -1,16 +1,19 @@
 -- What some records of a session did, one after another.
-use Rattle.std.proofs.Common.{◌≡◌, ⊎_elim, ℕ, ◌+◌, Bool, true, false, ◌&&◌, ◌||◌, not, map, IsTrue, IsFalse, refl, sym, ◌∙◌, ap, arith}
+use Rattle.std.proofs.Common.{◌≡◌, inl, inr, ⊎_elim, ℕ, ◌+◌, ◌≤◌, Bool, true, false, ◌&&◌, ◌||◌, not, map, IsTrue, IsFalse, refl, sym, ◌∙◌, ap, subst, arith}
 use Rattle.std.proofs.lemmas.Bool.{false≢true}
 use Rattle.lvm_num.specs.declared.record.Stamp.{Stamp}
+use Rattle.lvm_num.specs.declared.descriptor.Descriptor.{Descriptor}
 use Rattle.lvm_num.specs.declared.status.StatusRow.{StatusRow}
 use Rattle.lvm_num.specs.declared.status.Status.{Status}
 use Rattle.lvm_num.specs.Buffer.{Buffer, Sector}
 use Rattle.lvm_num.specs.Disks.{Disks}
 use Rattle.lvm_num.specs.Descriptor.{is_member}
 use Rattle.lvm_num.specs.Status.{calls_missing, calls_stale}
+use Rattle.lvm_num.specs.Votes.{CanWrite}
 use Rattle.lvm_disk.specs.Counts.{NoneFalls}
 use Rattle.lvm_disk.specs.Device.{Device, image_of}
 use Rattle.lvm_disk.specs.Paths.{DeviceStep, Path, Here, Then}
+use Rattle.lvm_disk.proofs.Paths.{append-path}
 use Rattle.lvm_disk.proofs.Rising.{rose_before, rose_after, none_falls_at_once, none_falls_on}
 use Rattle.lvm_disk.proofs.Stepping.{step_counts}
 use Rattle.lvm_kept.specs.Plans.{Plan, ChangesBy}
@@ -22,7 +25,7 @@ use Rattle.lvm_write.specs.Parts.{Spends}
 use Rattle.lvm_write.specs.Written.{KeepsShelf}
 use Rattle.lvm_write.proofs.Transfers.{keeps_then, spends_then}
 use Rattle.lvm_write.proofs.Writing.{logs_wider, both_map, changes_more}
-use Rattle.lvm_commit.specs.Settling.{there, OnlyLoses, HasLostQuorum, SpendsNumbers, ComesBack}
+use Rattle.lvm_commit.specs.Settling.{StaysCommitted, there, OnlyLoses, HasLostQuorum, SpendsNumbers, ComesBack}
 use Rattle.lvm_commit.specs.Rounds.{WasTried}
 
 -- ---- counts

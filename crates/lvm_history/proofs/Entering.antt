@@ -21,7 +21,7 @@ use Rattle.lvm_vol.specs.Facts.{Request, Fact, Making, Made, Split, Removing, Re
 use Rattle.lvm_vol.specs.Log.{Log, open_count, landed_count, plain_fact, cut_log, spare_entries, spare_bytes, awaited, blocks_begun, entries_of, entries_from, next_id, blocks_given, next_request, has_id, asked, no_request, request_of, lands_id, takes_id, is_open, is_answered, is_got, got_by, held, blocks_of, blocks_begun_with, got_without_bytes, need, is_uncut_after, is_uncut_from, is_uncut}
 use Rattle.lvm_checker.specs.Fitting.{is_bounded}
 use Rattle.lvm_vol.specs.Order.{Follows, Ordered, IsWhole, IsGotOf}
-use Rattle.lvm_checker.specs.Rows.{no_ask, ask_of, is_landing, is_taking}
+use Rattle.lvm_checker.specs.Rows.{facts_of, no_ask, ask_of, is_landing, is_taking}
 use Rattle.lvm_history.specs.Keeping.{ask_at, ask_found, is_open_by, awaited_by, is_answered_by, entry_kept, IsOneOfAsks, asks_from, row_of, IsKept, IsRoomy, if_uncut, blocks_first, Kept, log_of, IsSound}
 use Rattle.lvm_vol.proofs.Order.{IdsFrom, stands_last, stands-at, stands_begun, numbered, begun-push, any-push, ordered-push}
 use Rattle.lvm_vol.proofs.Asking.{found_of, and_left, open_of, follows_taken}

@@ -11,7 +11,7 @@ use Rattle.lvm_num.specs.Buffer.{Sector}
 use Rattle.lvm_num.specs.Geometry.{data_start}
 use Rattle.lvm_num.specs.DescriptorBytes.{descriptor_of}
 use Rattle.lvm_num.specs.StatusBytes.{status_of}
-use Rattle.lvm_num.specs.Record.{Frames, frame, record_sectors, slot_start, slot_size, stamp_lt}
+use Rattle.lvm_num.specs.Record.{Frames, Stamped, frame, record_sectors, slot_start, slot_size, stamp_lt}
 use Rattle.lvm_num.specs.Torn.{Sectors, AllBefore, stamp_of}
 use Rattle.lvm_num.proofs.Torn.{sectors-fit}
 use Rattle.lvm_rec.specs.Slots.{newest_on, IsOfSlot, IsTornWrite}

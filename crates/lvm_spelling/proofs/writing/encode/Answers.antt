@@ -1,3 +1,4 @@
+use Rattle.std.proofs.Common.{arith}
 use Rattle.lvm_num.proofs.Bounds.{few_members, few_volumes}
 use Rattle.lvm_spelling.proofs.writing.encode.Goals as goal
 
