@@ -1,7 +1,7 @@
 //! Ranges of a disk in memory, written and read.
-use crate::tests::fixtures::{blank_shelf, check};
+use crate::tests::fixtures::{Transfer, blank_shelf, check};
 use Answer::*;
-use Ask::*;
+use Transfer::*;
 use lvm_disk::Shelf;
 use lvm_faults::{Act, Planned};
 use lvm_history::History;
@@ -11,14 +11,6 @@ use lvm_raw::{RawFault, read_disk, write_disk};
 use lvm_transfer::{Patience, relight};
 use lvm_vol::{Entry, Outcome};
 use std::process::Abort;
-
-// Blocks of a disk from one on, so many, the first of which is filled with the word, and each other with
-// the next, wrapping.
-#[derive(Clone, Copy)]
-enum Ask {
-    Write(u16, u64, u32, u64),
-    Read(u16, u64, u32, u64),
-}
 
 #[derive(Clone, Copy, PartialEq, Eq)]
 enum Answer {
@@ -35,7 +27,7 @@ struct Case {
     // The history's room for entries and for bytes.
     room: (u32, u64),
     // What is answered, and how many entries the history has then.
-    asks: &'static [(Ask, Answer, u32)],
+    asks: &'static [(Transfer, Answer, u32)],
     // How the requests landed, in their order.
     landed: &'static [Outcome],
 }
@@ -238,7 +230,12 @@ fn read<S: Shelf>(
     }
 }
 
-fn asked(rt: &impl AllocGlobal, shelf: &mut MemShelf, history: &mut History, what: Ask) -> Answer {
+fn asked(
+    rt: &impl AllocGlobal,
+    shelf: &mut MemShelf,
+    history: &mut History,
+    what: Transfer,
+) -> Answer {
     match what {
         Write(disk, first, count, word) => write(rt, shelf, history, disk, (first, count), word),
         Read(disk, first, count, word) => read(rt, shelf, history, disk, (first, count), word),

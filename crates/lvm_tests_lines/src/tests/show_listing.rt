@@ -1,7 +1,7 @@
 ghost use Rattle.std.specs.Prelude.{◌≡◌, ◌==◌};
 ghost use Rattle.std.specs.List.{find};
 ghost use Rattle.std.specs.Option.{option_copied};
-ghost use Rattle.lvm_num.specs.Descriptor.{volume_of, member_of};
+ghost use Rattle.lvm_num.specs.Descriptor.{volume_of, member_of, IsValid};
 ghost use Rattle.lvm_num.specs.declared.descriptor.PvRow.{PvRow};
 
 use crate::tests::fixtures::check;
@@ -34,31 +34,34 @@ fn member_of(pvs: &[PvRow], disk: u16) -> Option<&PvRow>
     pvs.iter().find(|row| row.disk == disk)
 }
 
-fn map(rt: &(impl Abort + AllocGlobal), d: &Descriptor, t: &StaleTable, lv: u16) -> Text {
+fn check_valid(rt: &impl Abort, d: &Descriptor)
+    ensures { IsValid d.now }
+{
     let valid = d.is_valid();
     assert!(rt; valid);
+}
+
+fn map(rt: &(impl Abort + AllocGlobal), d: &Descriptor, t: &StaleTable, lv: u16) -> Text {
+    check_valid(rt, d);
     let there = volume_of(d.lvs.as_slice(), lv).is_some();
     assert!(rt; there);
     show_map(rt.alloc(), d, t, lv).expect(rt, "memory")
 }
 
 fn disk(rt: &(impl Abort + AllocGlobal), d: &Descriptor, t: &StaleTable, disk: u16) -> Text {
-    let valid = d.is_valid();
-    assert!(rt; valid);
+    check_valid(rt, d);
     let there = member_of(d.pvs.as_slice(), disk).is_some();
     assert!(rt; there);
     show_disk(rt.alloc(), d, t, disk).expect(rt, "memory")
 }
 
 fn all(rt: &(impl Abort + AllocGlobal), d: &Descriptor, t: &StaleTable) -> Text {
-    let valid = d.is_valid();
-    assert!(rt; valid);
+    check_valid(rt, d);
     show_group(rt.alloc(), d, t).expect(rt, "memory")
 }
 
 fn volumes(rt: &(impl Abort + AllocGlobal), d: &Descriptor, t: &StaleTable) -> Text {
-    let valid = d.is_valid();
-    assert!(rt; valid);
+    check_valid(rt, d);
     show_volumes(rt.alloc(), d, t).expect(rt, "memory")
 }
 
