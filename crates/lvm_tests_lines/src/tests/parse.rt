@@ -162,8 +162,9 @@ fn disks_and_cuts_are_spelled(rt: HostRuntime) {
 #[test]
 fn groups_are_spelled(rt: HostRuntime) {
     let datavg = name(&rt, b"datavg");
-    spells(&rt, b"varyonvg -n datavg", Command::Varyon { name: datavg });
-    spells(&rt, b"varyonvg datavg", Command::Varyon { name: datavg });
+    for line in ["varyonvg -n datavg", "varyonvg datavg"] {
+        spells(&rt, line.as_bytes(), Command::Varyon { name: datavg });
+    }
     spells(&rt, b"varyoffvg datavg", Command::Varyoff { name: datavg });
     spells(
         &rt,
@@ -297,10 +298,12 @@ fn a_new_volume_is_spelled(rt: HostRuntime) {
 
 #[test]
 fn a_volume_is_active_unless_it_is_said(rt: HostRuntime) {
-    let active = volume_in(&rt, Mode::Active, 2, Policy::Parallel, 7);
-    spells(&rt, b"mklv -y lv00 -c 2 datavg 7", active);
-    let active = volume_in(&rt, Mode::Active, 2, Policy::Parallel, 7);
-    spells(&rt, b"mklv -y lv00 -c 2 -w y datavg 7", active);
-    let active = volume_in(&rt, Mode::Active, 2, Policy::Parallel, 7);
-    spells(&rt, b"mklv -w a -c 2 -y lv00 datavg 7", active);
+    for line in [
+        "mklv -y lv00 -c 2 datavg 7",
+        "mklv -y lv00 -c 2 -w y datavg 7",
+        "mklv -w a -c 2 -y lv00 datavg 7",
+    ] {
+        let active = volume_in(&rt, Mode::Active, 2, Policy::Parallel, 7);
+        spells(&rt, line.as_bytes(), active);
+    }
 }
