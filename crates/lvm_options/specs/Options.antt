@@ -1,17 +1,10 @@
 -- The options of a line, each at most once.
-use Rattle.std.specs.Prelude.{◌≡◌, ℕ, true, false, if◌then◌else◌, List, Option, Some, None, is_some, Result, Ok, Err, codes}
+use Rattle.std.specs.Prelude.{ℕ, true, false, if◌then◌else◌, List, Some, None, is_some, codes}
 use Rattle.std.specs.Option.{option_map}
 use Rattle.lvm_literals.specs.Words.{copies_in, size_in, name_in, mode_in, policy_in}
-use Rattle.lvm_operands.specs.declared.rest.Misfit.{Misfit}
-use Rattle.lvm_operands.specs.declared.rest.Rest.{Rest}
 use Rattle.lvm_operands.specs.Reading.{Choice, NoOption, Alone, Valued, is_new}
 use Rattle.lvm_options.specs.declared.chosen.MkvgOptions.{MkvgOptions}
 use Rattle.lvm_options.specs.declared.chosen.MklvOptions.{MklvOptions}
-
--- the value that was read is given, and what stands behind it is left; or it doesn't fit
-abbrev pub Keeps : {T : Type 0} → Result (T × Rest) Misfit → Option T → Result (Option Rest) Misfit → Type 0
-Keeps (Ok read) given result = (given ≡ Some read.0) × (result ≡ Ok (Some read.1))
-Keeps (Err misfit) given result = result ≡ Err misfit
 
 -- the options of `mkvg`, of which `-y NAME` must stand
 abbrev pub mkvg_choice : MkvgOptions → List ℕ → Choice MkvgOptions

@@ -1,7 +1,7 @@
 //! Options in any order, each at most once.
-ghost use Rattle.std.specs.Prelude.{◌≡◌, ◌<◌, Ok, Err, is_some};
+ghost use Rattle.std.specs.Prelude.{◌≡◌, ◌<◌, Ok, Err};
 ghost use Rattle.lvm_operands.specs.Reading.{is_new, options};
-ghost use Rattle.lvm_options.specs.Options.{Keeps, mkvg_choice, no_mkvg_options, mklv_choice, no_mklv_options};
+ghost use Rattle.lvm_options.specs.Options.{mkvg_choice, no_mkvg_options, mklv_choice, no_mklv_options};
 ghost use Rattle.lvm_operands.specs.Rests.{left, Reads, ReadsOption};
 
 use crate::chosen::{MklvOptions, MkvgOptions};
@@ -15,29 +15,6 @@ fn is_new(word: &[u8], name: &[u8], stood: bool) -> bool
     word == name && !stood
 }
 
-// The word is this option, of which no value was given before.
-fn is_first<T>(word: &[u8], name: &[u8], given: &Option<T>) -> bool
-    ensures { result ≡ is_new word.now name.now (is_some given.now) }
-{
-    is_new(word, name, given.is_some())
-}
-
-// Gives an option the value that was read, if it is one; what follows it.
-fn keep<'a, T: Copy>(
-    given: &mut Option<T>,
-    read: Result<(T, Rest<'a>), Misfit>,
-) -> Result<Option<Rest<'a>>, Misfit>
-    ensures { Keeps read.entry given.new result }
-{
-    match read {
-        Ok((value, behind)) => {
-            *given = Some(value);
-            Ok(Some(behind))
-        }
-        Err(misfit) => Err(misfit),
-    }
-}
-
 // Reads the next option of a `mkvg`, if one is next; what follows it.
 fn mkvg_option<'a>(options: &mut MkvgOptions, rest: Rest<'a>) -> Result<Option<Rest<'a>>, Misfit>
     ensures { ReadsOption mkvg_choice options.old options.new (left rest.entry) result }
@@ -49,11 +26,23 @@ fn mkvg_option<'a>(options: &mut MkvgOptions, rest: Rest<'a>) -> Result<Option<R
         options.force = true;
         return Ok(Some(behind));
     }
-    if is_first(word.bytes, b"-y", &options.name) {
-        return keep(&mut options.name, name(behind));
+    if is_new(word.bytes, b"-y", options.name.is_some()) {
+        return match name(behind) {
+            Ok((name, behind)) => {
+                options.name = Some(name);
+                Ok(Some(behind))
+            }
+            Err(misfit) => Err(misfit),
+        };
     }
-    if is_first(word.bytes, b"-s", &options.mib) {
-        return keep(&mut options.mib, size(behind));
+    if is_new(word.bytes, b"-s", options.mib.is_some()) {
+        return match size(behind) {
+            Ok((mib, behind)) => {
+                options.mib = Some(mib);
+                Ok(Some(behind))
+            }
+            Err(misfit) => Err(misfit),
+        };
     }
     Ok(None)
 }
@@ -81,17 +70,41 @@ fn mklv_option<'a>(options: &mut MklvOptions, rest: Rest<'a>) -> Result<Option<R
     let Some((word, behind)) = next_word(rest) else {
         return Ok(None);
     };
-    if is_first(word.bytes, b"-y", &options.name) {
-        return keep(&mut options.name, name(behind));
+    if is_new(word.bytes, b"-y", options.name.is_some()) {
+        return match name(behind) {
+            Ok((name, behind)) => {
+                options.name = Some(name);
+                Ok(Some(behind))
+            }
+            Err(misfit) => Err(misfit),
+        };
     }
-    if is_first(word.bytes, b"-c", &options.copies) {
-        return keep(&mut options.copies, copies(behind));
+    if is_new(word.bytes, b"-c", options.copies.is_some()) {
+        return match copies(behind) {
+            Ok((copies, behind)) => {
+                options.copies = Some(copies);
+                Ok(Some(behind))
+            }
+            Err(misfit) => Err(misfit),
+        };
     }
-    if is_first(word.bytes, b"-w", &options.mode) {
-        return keep(&mut options.mode, mode(behind));
+    if is_new(word.bytes, b"-w", options.mode.is_some()) {
+        return match mode(behind) {
+            Ok((mode, behind)) => {
+                options.mode = Some(mode);
+                Ok(Some(behind))
+            }
+            Err(misfit) => Err(misfit),
+        };
     }
-    if is_first(word.bytes, b"-d", &options.policy) {
-        return keep(&mut options.policy, policy(behind));
+    if is_new(word.bytes, b"-d", options.policy.is_some()) {
+        return match policy(behind) {
+            Ok((policy, behind)) => {
+                options.policy = Some(policy);
+                Ok(Some(behind))
+            }
+            Err(misfit) => Err(misfit),
+        };
     }
     Ok(None)
 }
