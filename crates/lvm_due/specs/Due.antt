@@ -51,6 +51,10 @@ IsQuietFor core (owner.Status disk) = Unit {0}
 IsQuietFor core (owner.Note disk) = Unit {0}
 IsQuietFor core owner.Copy = Unit {0}
 
+-- the request at a place holds a pin, or holds none
+abbrev pub HoldsPin : Core → ℕ → Bool → Type 0
+HoldsPin core place pinned = (o : Open) → slice_get core.requests place ≡ Some o → o.request.pinned ≡ pinned
+
 -- ---- what is added
 
 -- it isn't admitted
@@ -73,6 +77,10 @@ none o = false
 -- it waits for an entry of the cache
 abbrev pub waits_entry : Open → Bool
 waits_entry o = wants_entry o.request.phase
+
+-- so it does, where a pin was given up
+abbrev pub enters : Bool → Open → Bool
+enters given_up o = given_up && waits_entry o
 
 -- it isn't admitted, and some block is one of these
 abbrev pub is_freed : Ask → Open → Bool

@@ -5,7 +5,7 @@ use Rattle.lvm_path.specs.declared.request.Phase.TheVariants as phase
 use Rattle.lvm_path.specs.declared.request.Request.{Request}
 use Rattle.lvm_path.specs.Asks.{is_write}
 use Rattle.lvm_session.specs.Enabled.{wants_record}
-use Rattle.lvm_firsts.specs.Might.{any_waits, are_at_rest, is_unbegun}
+use Rattle.lvm_firsts.specs.Might.{are_at_rest, is_unbegun, might_transfer}
 
 -- in this phase it may land
 abbrev pub may_land_in : Phase → Request → Bool
@@ -40,7 +40,7 @@ abbrev pub may_start_in : Phase → Request → Bool
 may_start_in phase.Held r = false
 may_start_in phase.WantEntry r = false
 may_start_in phase.WantRecord r = true
-may_start_in phase.Data r = any_waits r.targets.items
+may_start_in phase.Data r = might_transfer r
 may_start_in phase.WantStatus r = false
 may_start_in phase.Landed r = false
 

@@ -14,10 +14,10 @@ ghost use Rattle.lvm_session.specs.Events.{Admits, Lands, Pins, StartsData};
 ghost use Rattle.lvm_session.specs.Ends.{DataLearns, Learns, NoteLearns};
 ghost use Rattle.lvm_session.specs.Turns.{is_start, Makes};
 ghost use Rattle.lvm_session.specs.Sound.{IsGoing, IsTold};
-ghost use Rattle.lvm_due.specs.Due.{none, AddsMaking, Covers, IsDue, IsQuiet, IsQuietFor, Moves};
+ghost use Rattle.lvm_due.specs.Due.{none, AddsMaking, Covers, HoldsPin, IsDue, IsQuiet, IsQuietFor, Moves};
 
 use crate::making::{may_admit, may_land, may_note, may_start};
-use crate::places::{add_if, entries, freed_by, join};
+use crate::places::{add_if, entries, entries_if, freed_by, join};
 use crate::quiet::{any_fails, is_quiet, place_of, stays_quiet};
 use lvm_firsts::{Span, might_pin};
 use lvm_session::{Event, Owner, Session};
@@ -90,24 +90,30 @@ impl Due {
         }
     }
 
-    /// The request at a place has landed.
-    pub fn landed(&mut self, session: &Session, place: usize)
+    /// The request at a place has landed; it held a pin before, where this is so.
+    pub fn landed(&mut self, session: &Session, place: usize, pinned: bool)
         requires there { place < length session.now.requests.items }
-        ensures { (old : State) (how : Outcome) → IsGoing old.core → Lands old (state old.device (core_of session.now)) place how → IsDue old.core self.old → IsDue (core_of session.now) self.new }
+        ensures { (old : State) (how : Outcome) → IsGoing old.core → HoldsPin old.core place pinned → Lands old (state old.device (core_of session.now)) place how → IsDue old.core self.old → IsDue (core_of session.now) self.new }
     {
         let freed = freed_by(session, &session.requests[place].request.ask);
         let still = is_quiet(session, place);
-        self.moved_if(session, place, still, freed, entries(session));
+        self.moved_if(session, place, still, freed, entries_if(session, pinned));
         self.landing.skip(place);
     }
 
-    /// It has been admitted; the session was quiet there before, where this is so.
-    pub fn admitted(&mut self, session: &Session, place: usize, quiet: bool)
+    /// It has been admitted; the session was quiet there before, and it held a pin, where this is so.
+    pub fn admitted(&mut self, session: &Session, place: usize, quiet: bool, pinned: bool)
         requires there { place < length session.now.requests.items }
-        ensures { (old : State) → IsGoing old.core → (quiet ≡ true → IsQuiet old.core place) → Admits old (state old.device (core_of session.now)) place → IsDue old.core self.old → IsDue (core_of session.now) self.new }
+        ensures { (old : State) → IsGoing old.core → (quiet ≡ true → IsQuiet old.core place) → HoldsPin old.core place pinned → Admits old (state old.device (core_of session.now)) place → IsDue old.core self.old → IsDue (core_of session.now) self.new }
     {
         let still = stays_quiet(session, place, quiet);
-        self.moved_if(session, place, still, Span::all(0), entries(session));
+        self.moved_if(
+            session,
+            place,
+            still,
+            Span::all(0),
+            entries_if(session, pinned),
+        );
     }
 
     /// It has pinned its track group.

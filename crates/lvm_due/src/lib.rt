@@ -9,4 +9,5 @@ mod quiet;
 
 pub use due::Due;
 pub use laws::dues_are_narrow;
+pub use places::holds_pin;
 pub use quiet::{is_quiet, is_quiet_for};

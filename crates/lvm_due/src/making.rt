@@ -3,7 +3,7 @@ ghost use Rattle.std.specs.Prelude.{◌≡◌};
 ghost use Rattle.lvm_due.specs.Making.{may_admit, may_land, may_note, may_start};
 
 use lvm_facts::is_unbegun;
-use lvm_firsts::{any_waits, are_at_rest};
+use lvm_firsts::{are_at_rest, might_transfer};
 use lvm_path::{Phase, Request};
 
 /// Whether it may land.
@@ -47,7 +47,7 @@ pub fn may_start(request: &Request) -> bool
 {
     match request.phase {
         Phase::WantRecord => true,
-        Phase::Data => any_waits(&request.targets),
+        Phase::Data => might_transfer(request),
         Phase::Held | Phase::WantEntry | Phase::WantStatus | Phase::Landed => false,
     }
 }
