@@ -72,6 +72,7 @@ module _ {S : Type 0} (device : S → Device) where
 
     pub serving_rests : (before after : ℕ) → after ≤ before → RoseBy (before - after) (device driver.0).counts.waits (device new.0).counts.waits → (left : S × Core) → left ≡ new → IsSettled new.1
         → IsSoundBetween (state_of device new) → HasRested device by before after left
+    unfolding its_turned
     serving_rests before after few waited left same settled between = subst (λ (h : Holder S). HasRested device h before after left) (sym is) (subst (HasRested device (holder.Serving driver) before after) (sym same) (record {
       turned = its_turned before after few waited;
       empty = λ none. absurd ((subst IsOfKind is kind) none);
@@ -81,6 +82,7 @@ module _ {S : Type 0} (device : S → Device) where
 
     pub serving_breaks : (before after : ℕ) → after ≤ before → RoseBy (before - after) (device driver.0).counts.waits (device new.0).counts.waits → (why : DrainFault) → FailsSo after (state_of device new) why
         → HasBrokenOff device by before after new why
+    unfolding its_turned
     serving_breaks before after few waited why fails = subst (λ (h : Holder S). HasBrokenOff device h before after new why) (sym is) (record {
       turned = its_turned before after few waited;
       volumes = subst IsOfKind is kind;
