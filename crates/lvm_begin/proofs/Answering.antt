@@ -7,10 +7,10 @@ use Rattle.lvm_num.specs.Disks.{Disks, has}
 use Rattle.lvm_disk.specs.Device.{Device}
 use Rattle.lvm_kept.specs.Torn.{RecordWrite, IsOfRecord}
 use Rattle.lvm_num.specs.declared.record.Framed.{Framed}
-use Rattle.lvm_homes.specs.declared.homes.Homes.{Homes}
+use Rattle.lvm_rec.specs.declared.homes.Homes.{Homes}
 use Rattle.lvm_write.specs.declared.write.Wrote.{Wrote}
 use Rattle.lvm_write.specs.declared.write.Wrote.TheVariants as wrote
-use Rattle.lvm_homes.specs.Homes.{second_slots, next_slot, Flips}
+use Rattle.lvm_rec.specs.Homes.{second_slots, next_slot, Flips}
 use Rattle.lvm_write.specs.Written.{write_of, StandsTold}
 use Rattle.lvm_write.specs.Writes.{DiskWritesEnd, RecordWritesEnd}
 use Rattle.lvm_begin.specs.declared.begin.Begun.{Begun}

@@ -1,5 +1,5 @@
 -- Which records may follow the parts of a beginning, and where its sectors lie.
-use Rattle.std.proofs.Common.{◌≡◌, ◌⊎◌, inl, inr, ⊎_elim, ℕ, ◌+◌, ◌*◌, ◌<◌, ◌≤◌, Bool, true, false, [], ◌∷◌, List, length, IsTrue, IsFalse, refl, sym, ◌∙◌, ap, arith}
+use Rattle.std.proofs.Common.{◌≡◌, ◌⊎◌, inl, inr, ⊎_elim, ℕ, ◌+◌, ◌*◌, ◌<◌, ◌≤◌, Bool, true, [], ◌∷◌, List, length, IsTrue, IsFalse, refl, sym, ◌∙◌, ap, arith}
 use Rattle.std.specs.Prelude.{if◌then◌else◌, not}
 use Rattle.std.proofs.lemmas.Bool.{cases_lt}
 use Rattle.std.proofs.lemmas.Bool.Decides.{nat_tests}
@@ -22,9 +22,10 @@ use Rattle.lvm_kept.specs.Recovered.{IsRecordRange}
 use Rattle.lvm_kept.specs.Torn.{IsOtherOrRecord, StandsOn}
 use Rattle.lvm_kept.proofs.Contained.{room-same}
 use Rattle.lvm_kept.proofs.Records.{earlier_stays}
-use Rattle.lvm_homes.specs.declared.homes.Homes.{Homes}
-use Rattle.lvm_homes.specs.Homes.{second_slots, next_slot}
+use Rattle.lvm_rec.specs.declared.homes.Homes.{Homes}
+use Rattle.lvm_rec.specs.Homes.{second_slots, next_slot}
 use Rattle.lvm_write.proofs.Writing.{told_at, changes_more}
+use Rattle.lvm_write.proofs.Shows.{slot_two, turns}
 use Rattle.lvm_begin.specs.Beginning.{Beginning, Part, TheDescriptor, TheStatus, TheNotes, describes, states, brought, IsOfParts}
 use Rattle.lvm_begin.specs.Ends.{BothFlip}
 use Rattle.lvm_begin.specs.Shown.{TargetsSpareNewest, OthersSpareNewest, RangesAreOfRecords, StampsAreOfBeginning}
@@ -34,17 +35,6 @@ use Rattle.lvm_rec.proofs.NextLemmas.{slot_for_same}
 use Rattle.lvm_begin.proofs.Slots.{other_comes_next}
 
 -- ---- slots
-
-slot_number : (t : Bool) → (if t then 1 else 0) < 2
-slot_number true = omega arith
-slot_number false = omega arith
-
--- the other slot of the two
-turns : (t : Bool) (slot : ℕ) → ((◌≡◌ {A = ℕ} (if t then 1 else 0) 0) × (slot ≡ 1)) ⊎ ((◌≡◌ {A = ℕ} (if t then 1 else 0) 1) × (slot ≡ 0)) → ◌≡◌ {A = ℕ} (if not t then 1 else 0) slot
-turns true slot (inl is) = let wrong = is.0 in absurd (omega (arith, wrong))
-turns true slot (inr is) = sym is.1
-turns false slot (inl is) = sym is.1
-turns false slot (inr is) = let wrong = is.0 in absurd (omega (arith, wrong))
 
 flipped : (kind : Kind) (b : Beginning) (next : Homes) (d : ℕ) → BothFlip b.targets b.homes next → IsTrue (b.targets d) → next_slot kind next d ≡ (if not (second_slots kind b.homes d) then 1 else 0)
 flipped kind b next d flips target = ap (λ (t : Bool). if t then 1 else 0) (flips kind d ∙ ap (λ (t : Bool). if t then not (second_slots kind b.homes d) else second_slots kind b.homes d) target)
@@ -114,7 +104,7 @@ module _ (b : Beginning) (fits_descriptor : length b.descriptor.content ≤ long
 
   -- the sector behind each of these places is in none of them
   not_behind : (s : ℕ) → (s ≡ 9) ⊎ (s ≡ 128 + 64 * status_slot) ⊎ (s ≡ 1664 + 1152 * descriptor_slot) → IsPlace s → ⊥
-  not_behind s which place = apart descriptor_slot status_slot (slot_number (second_slots kind.Descriptor b.homes d)) (slot_number (second_slots kind.Status b.homes d)) which place
+  not_behind s which place = apart descriptor_slot status_slot (slot_two (second_slots kind.Descriptor b.homes d)) (slot_two (second_slots kind.Status b.homes d)) which place
     where
       apart : (i j : ℕ) → i < 2 → j < 2 → (s ≡ 9) ⊎ (s ≡ 128 + 64 * j) ⊎ (s ≡ 1664 + 1152 * i) → (s ≡ 8) ⊎ ((64 + 64 * j ≤ s) × (s < 128 + 64 * j)) ⊎ ((512 + 1152 * i ≤ s) × (s < 1664 + 1152 * i)) → ⊥
       apart i j li lj (inl e) (inl f) = omega (arith, e, f)
@@ -141,7 +131,7 @@ module _ (b : Beginning) (fits_descriptor : length b.descriptor.content ≤ long
       by_first (inl note) = inl (omega (arith, note), ends 9 (omega (arith, note)) (λ place. not_behind 9 (inl refl) place))
       by_first (inr (inl in_status)) = inr (inl (
         status_slot,
-        slot_number (second_slots kind.Status b.homes d),
+        slot_two (second_slots kind.Status b.homes d),
         (
           in_status.0,
           let within = ends (128 + 64 * status_slot) in_status.1 (λ place. not_behind (128 + 64 * status_slot) (inr (inl refl)) place) in omega (arith, within),
@@ -149,7 +139,7 @@ module _ (b : Beginning) (fits_descriptor : length b.descriptor.content ≤ long
       ))
       by_first (inr (inr in_descriptor)) = inr (inr (
         descriptor_slot,
-        slot_number (second_slots kind.Descriptor b.homes d),
+        slot_two (second_slots kind.Descriptor b.homes d),
         (
           in_descriptor.0,
           let within = ends (1664 + 1152 * descriptor_slot) in_descriptor.1 (λ place. not_behind (1664 + 1152 * descriptor_slot) (inr (inr refl)) place) in omega (arith, within),
@@ -184,9 +174,9 @@ stamps_are_of_beginning b parts old new describes_frames states_frames describes
     all_before kind slot two k inside magic = later_too (stamp_of (old.sector d (slot_start kind slot + k))) b.epoch (before kind d slot was_there two k inside magic)
 
     by_kind : (kind : Kind) → AllBefore kind (record { epoch = b.epoch; seq = 3 }) (slot_start kind slot) (new.sector d)
-    by_kind kind.Descriptor = earlier_stays (describes b) (record { epoch = b.epoch; seq = 3 }) old new describes_frames (λ e. slot_number (second_slots kind.Descriptor b.homes e))
+    by_kind kind.Descriptor = earlier_stays (describes b) (record { epoch = b.epoch; seq = 3 }) old new describes_frames (λ e. slot_two (second_slots kind.Descriptor b.homes e))
         (changes_more (IsOfParts b parts) (IsOtherOrRecord (describes b)) old new (beside_descriptors b describes_frames.content states_frames.content parts) by)
         (of_session b.descriptor.stamp b.epoch describes_in.0 describes_in.1) d (all_before kind.Descriptor) slot two
-    by_kind kind.Status = earlier_stays (states b) (record { epoch = b.epoch; seq = 3 }) old new states_frames (λ e. slot_number (second_slots kind.Status b.homes e))
+    by_kind kind.Status = earlier_stays (states b) (record { epoch = b.epoch; seq = 3 }) old new states_frames (λ e. slot_two (second_slots kind.Status b.homes e))
         (changes_more (IsOfParts b parts) (IsOtherOrRecord (states b)) old new (beside_statuses b describes_frames.content states_frames.content parts) by)
         (of_session b.status.stamp b.epoch states_in.0 states_in.1) d (all_before kind.Status) slot two

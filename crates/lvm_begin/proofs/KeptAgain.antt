@@ -22,7 +22,7 @@ use Rattle.lvm_write.specs.Notes.{empty_note_sector}
 use Rattle.lvm_write.proofs.Writing.{both_at, told_at}
 use Rattle.lvm_begin.specs.Beginning.{Beginning, Part, TheDescriptor, TheStatus, TheNotes, describes, states, brought, again_order, IsOfParts, MayBeginAgain}
 use Rattle.lvm_begin.specs.Kept.{AgainStaysKept}
-use Rattle.lvm_begin.specs.Runs.{IsStage, AreBegun}
+use Rattle.lvm_begin.specs.Runs.{AreBegun}
 use Rattle.lvm_begin.proofs.Found.{may_restate}
 use Rattle.lvm_begin.proofs.Keeping.{is_written, kept_then}
 use Rattle.lvm_begin.proofs.Showing.{descriptor_is}
@@ -58,9 +58,7 @@ module _ (b : Beginning) (forget : Bool) (group : Descriptor) (status : Status) 
 
     status_kept : AreBegun b after_descriptor described new → Path DeviceStep (StaysKept described) described new
     status_kept (inl path) = state_path new path
-    status_kept (inr more) =
-        let stated : Device = more.0 in
-        let stage : IsStage b TheStatus described stated = more.1 in
+    status_kept (inr (stated, stage, more)) =
         let start : Image = image_of described.sizes media in
         let moved = both_at described.media stated.media (λ was is. ChangesBy (brought b TheStatus) (image_of described.sizes was) (image_of stated.sizes is)) media stage.keeps.media told in
         let now : Image = image_of stated.sizes moved.0 in
@@ -69,7 +67,7 @@ module _ (b : Beginning) (forget : Bool) (group : Descriptor) (status : Status) 
         let rest : contents_of now ≡ record (contents_of start) { status = (contents_of now).status; note = (contents_of now).note } = shows.rest ∙ (λ t. record (contents_of start) { status = (contents_of now).status; note = note t }) in
         let has : HasNewest (contents_of now) group disks newest = newest_stays_newest group disks newest (contents_of start) (contents_of now) rest restate.newest_is in
         let showing : AreShowing (contents_of now) group.id b.targets = subst (λ (c : Contents). AreShowing c group.id b.targets) (sym shows.rest) restate.showing in
-        kept_then described stated new (state_path stated stage.path) (notes_kept stated moved.0 moved.1 stage.still quiet has showing new more.2)
+        kept_then described stated new (state_path stated stage.path) (notes_kept stated moved.0 moved.1 stage.still quiet has showing new more)
 
   -- ---- the descriptor
 
@@ -79,9 +77,7 @@ module _ (b : Beginning) (forget : Bool) (group : Descriptor) (status : Status) 
 
     all_kept : AreBegun b (again_order forget) old new → Path DeviceStep (StaysKept old) old new
     all_kept (inl path) = describe_path new path
-    all_kept (inr more) =
-        let described : Device = more.0 in
-        let stage : IsStage b TheDescriptor old described = more.1 in
+    all_kept (inr (described, stage, more)) =
         let start : Image = image_of old.sizes media in
         let moved = both_at old.media described.media (λ was is. ChangesBy (brought b TheDescriptor) (image_of old.sizes was) (image_of described.sizes is)) media stage.keeps.media told in
         let now : Image = image_of described.sizes moved.0 in
@@ -93,7 +89,7 @@ module _ (b : Beginning) (forget : Bool) (group : Descriptor) (status : Status) 
         let restate = may_restate group disks b.targets newest was (as_read (states b) status) (contents_of start) (contents_of now) may.found may.restamp shows has may.own may.was_found may.marks may.later in
         let state : MayWriteAll Status status_of (states b) status now = writable_stays Status status_of (states b) status start now may.state
         (records_are_outside (describes b) kind.Status start now (λ e. absurd (cc (e))) may.describe.frames may.describe.slots moved.2) in
-        kept_then old described new (describe_path described stage.path) (status_kept described moved.0 moved.1 stage.still may.quiet state restate new more.2)
+        kept_then old described new (describe_path described stage.path) (status_kept described moved.0 moved.1 stage.still may.quiet state restate new more)
 
 pub again_stays_kept : {P : Device → Type 0} (b : Beginning) (forget : Bool) (old new : Device) → old.flights ≡ [] → Path DeviceStep P old new → AreBegun b (again_order forget) old new → AgainStaysKept b forget old new
 again_stays_kept b forget old new still path begun group status disks was may = by_media old.media refl may

@@ -41,8 +41,8 @@ near false len k fits less = (omega arith, omega (arith, fits, less))
 module _ (b : Beginning) (fits : length b.status.content ≤ 31740) where
   of_region : (q : Part) (d s : ℕ) (value : Sector) → brought b q d s value → Region q s
   unfolding Region
-  of_region TheDescriptor d s value is = subst (λ (n : ℕ). 512 ≤ n) (sym is.its.place) (far (Rattle.lvm_homes.specs.Homes.second_slots kind.Descriptor b.homes d) is.its.part)
-  of_region TheStatus d s value is = subst (λ (n : ℕ). (64 ≤ n) × (n < 192)) (sym is.its.place) (near (Rattle.lvm_homes.specs.Homes.second_slots kind.Status b.homes d) (length b.status.content) is.its.part fits is.its.inside)
+  of_region TheDescriptor d s value is = subst (λ (n : ℕ). 512 ≤ n) (sym is.its.place) (far (Rattle.lvm_rec.specs.Homes.second_slots kind.Descriptor b.homes d) is.its.part)
+  of_region TheStatus d s value is = subst (λ (n : ℕ). (64 ≤ n) × (n < 192)) (sym is.its.place) (near (Rattle.lvm_rec.specs.Homes.second_slots kind.Status b.homes d) (length b.status.content) is.its.part fits is.its.inside)
   of_region TheNotes d s value is = is.place
 
   -- sectors of one part are what they were, where another was written
@@ -58,12 +58,12 @@ module _ (b : Beginning) (fits : length b.status.content ≤ 31740) where
   still_stands TheDescriptor q mid new d differ keeps stands = if_told new.media (λ media. StandsOn (describes b) (image_of new.sizes media) d)
       (λ n told k inside.
       let back = both_from mid.media new.media (λ was is. ChangesBy (brought b q) (image_of mid.sizes was) (image_of new.sizes is)) n keeps.media told in
-      same_sector TheDescriptor q back.0 n mid.sizes new.sizes d (slot_start kind.Descriptor ((describes b).slots d) + k) differ (far (Rattle.lvm_homes.specs.Homes.second_slots kind.Descriptor b.homes d) k) back.2
+      same_sector TheDescriptor q back.0 n mid.sizes new.sizes d (slot_start kind.Descriptor ((describes b).slots d) + k) differ (far (Rattle.lvm_rec.specs.Homes.second_slots kind.Descriptor b.homes d) k) back.2
       ∙ told_at mid.media (λ media. StandsOn (describes b) (image_of mid.sizes media) d) back.0 back.1 stands k inside)
   still_stands TheStatus q mid new d differ keeps stands = if_told new.media (λ media. StandsOn (states b) (image_of new.sizes media) d)
       (λ n told k inside.
       let back = both_from mid.media new.media (λ was is. ChangesBy (brought b q) (image_of mid.sizes was) (image_of new.sizes is)) n keeps.media told in
-      same_sector TheStatus q back.0 n mid.sizes new.sizes d (slot_start kind.Status ((states b).slots d) + k) differ (near (Rattle.lvm_homes.specs.Homes.second_slots kind.Status b.homes d) (length b.status.content) k fits inside) back.2
+      same_sector TheStatus q back.0 n mid.sizes new.sizes d (slot_start kind.Status ((states b).slots d) + k) differ (near (Rattle.lvm_rec.specs.Homes.second_slots kind.Status b.homes d) (length b.status.content) k fits inside) back.2
       ∙ told_at mid.media (λ media. StandsOn (states b) (image_of mid.sizes media) d) back.0 back.1 stands k inside)
   still_stands TheNotes q mid new d differ keeps stands = if_told new.media (λ media. media d note_sector ≡ Rattle.lvm_write.specs.Notes.empty_note_sector b.epoch)
       (λ n told.

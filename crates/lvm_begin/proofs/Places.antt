@@ -6,7 +6,7 @@ use Rattle.lvm_num.specs.Buffer.{Sector}
 use Rattle.lvm_num.specs.Record.{longest_content, record_sectors, slot_start}
 use Rattle.lvm_num.specs.Geometry.{data_start}
 use Rattle.lvm_kept.specs.Torn.{IsOfRecord, IsOtherOrRecord}
-use Rattle.lvm_homes.specs.Homes.{second_slots}
+use Rattle.lvm_rec.specs.Homes.{second_slots}
 use Rattle.lvm_begin.specs.Beginning.{Beginning, Part, TheDescriptor, TheStatus, TheNotes, describes, states, brought, IsOfParts}
 
 descriptor_place : (second : Bool) (len k s : ℕ) → len ≤ 571388 → k < record_sectors len → s ≡ slot_start kind.Descriptor (if second then 1 else 0) + k → (512 ≤ s) × (s < 2816)

@@ -2,7 +2,7 @@
 use Rattle.std.proofs.Common.{◌≡◌, ℕ, List, refl}
 use Rattle.lvm_num.specs.Buffer.{Buffer}
 use Rattle.lvm_disk.specs.Device.{Device}
-use Rattle.lvm_homes.specs.declared.homes.Homes.{Homes}
+use Rattle.lvm_rec.specs.declared.homes.Homes.{Homes}
 use Rattle.lvm_begin.specs.declared.begin.Begun.{Begun}
 use Rattle.lvm_begin.specs.declared.begin.Begun.TheVariants as begun
 use Rattle.lvm_begin.specs.Beginning.{Beginning, Part}

@@ -15,7 +15,7 @@ use Rattle.lvm_kept.specs.Plans.{Plan}
 use Rattle.lvm_kept.specs.Torn.{RecordWrite, MayWriteAll, written as as_read, IsOfRecord, IsOfNote}
 use Rattle.lvm_steps.specs.Making.{MayMake, IsUnused}
 use Rattle.lvm_steps.specs.VaryingOn.{MayRestamp, Carries, HasNoActive}
-use Rattle.lvm_homes.specs.declared.homes.Homes.{Homes}
+use Rattle.lvm_rec.specs.declared.homes.Homes.{Homes}
 use Rattle.lvm_write.specs.Notes.{empty_note_sector, NoteTold}
 use Rattle.lvm_write.specs.Written.{write_of, StandsTold}
 

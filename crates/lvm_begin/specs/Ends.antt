@@ -5,8 +5,8 @@ use Rattle.lvm_num.specs.Buffer.{Buffer}
 use Rattle.lvm_num.specs.Disks.{Disks}
 use Rattle.lvm_disk.specs.Counts.{Rose}
 use Rattle.lvm_disk.specs.Device.{Device}
-use Rattle.lvm_homes.specs.declared.homes.Homes.{Homes}
-use Rattle.lvm_homes.specs.Homes.{second_slots}
+use Rattle.lvm_rec.specs.declared.homes.Homes.{Homes}
+use Rattle.lvm_rec.specs.Homes.{second_slots}
 use Rattle.lvm_write.specs.Written.{KeepsShelf, IsDarkened, IsGivenUp}
 use Rattle.lvm_write.specs.Writes.{IsBack}
 use Rattle.lvm_begin.specs.Beginning.{Beginning, Part, IsOfParts, Stands, AllStand}

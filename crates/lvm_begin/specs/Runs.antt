@@ -21,14 +21,10 @@ IsAnswer (wrote.Ended failed buf) (begun.Ended back) = (back ≡ buf) × ((d : �
 IsAnswer (wrote.Ended failed buf) (begun.DiskFailed disk back) = (back ≡ buf) × IsTrue (has failed disk) × ((d : ℕ) → d < disk → IsFalse (has failed d))
 IsAnswer (wrote.Ended failed buf) begun.Dark = ⊥
 IsAnswer (wrote.Ended failed buf) begun.Stuck = ⊥
-IsAnswer wrote.Dark (begun.Ended back) = ⊥
-IsAnswer wrote.Dark (begun.DiskFailed disk back) = ⊥
 IsAnswer wrote.Dark begun.Dark = Unit {0}
-IsAnswer wrote.Dark begun.Stuck = ⊥
-IsAnswer wrote.Stuck (begun.Ended back) = ⊥
-IsAnswer wrote.Stuck (begun.DiskFailed disk back) = ⊥
-IsAnswer wrote.Stuck begun.Dark = ⊥
 IsAnswer wrote.Stuck begun.Stuck = Unit {0}
+IsAnswer wrote.Dark _ = ⊥
+IsAnswer wrote.Stuck _ = ⊥
 
 -- ---- one write
 

@@ -14,7 +14,7 @@ use Rattle.lvm_kept.specs.Group.{is_named}
 use Rattle.lvm_kept.specs.Plans.{ChangesBy}
 use Rattle.lvm_kept.specs.Recovered.{IsRecordRange}
 use Rattle.lvm_kept.specs.Torn.{MayWriteAll, written as as_read}
-use Rattle.lvm_homes.specs.declared.homes.Homes.{Homes}
+use Rattle.lvm_rec.specs.declared.homes.Homes.{Homes}
 use Rattle.lvm_write.specs.Homes.{SparesNewest}
 use Rattle.lvm_write.specs.Written.{IsInPlan, KeepsShelf, StandsTold}
 use Rattle.lvm_stamps.specs.Behind.{StampsBefore, beginning_at}

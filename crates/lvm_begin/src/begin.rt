@@ -5,7 +5,7 @@ ghost use Rattle.lvm_num.specs.Disks.{has};
 ghost use Rattle.lvm_num.specs.Record.{longest_content};
 ghost use Rattle.lvm_disk.specs.Device.{IsReady};
 ghost use Rattle.lvm_kept.specs.Torn.{IsOfNote, IsOfRecord};
-ghost use Rattle.lvm_homes.specs.Homes.{Flips};
+ghost use Rattle.lvm_rec.specs.Homes.{Flips};
 ghost use Rattle.lvm_write.specs.Notes.{empty_note_sector, NoteTold};
 ghost use Rattle.lvm_write.specs.Written.{write_of, StandsTold, HaveRoom};
 ghost use Rattle.lvm_write.specs.Writes.{DiskWritesLeave};
@@ -15,8 +15,8 @@ ghost use Rattle.lvm_begin.specs.Kept.{NewStaysKept, AgainStaysKept};
 ghost use Rattle.lvm_begin.specs.Runs.{IsAnswer, OneGives, ManyGives};
 
 use lvm_disk::Shelf;
-use lvm_homes::Homes;
 use lvm_num::{DiskSet, Kind, Pbuf, Stamp};
+use lvm_rec::Homes;
 use lvm_transfer::Patience;
 use lvm_write::{Wrote, empty_notes, write_record};
 

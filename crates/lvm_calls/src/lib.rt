@@ -1,11 +1,22 @@
-//! The calls of a client of a session: why a request or a copy isn't taken, how far the copy is that is open, and
-//! the taking of an answer.
+//! The calls of a client of a session: requests that are submitted and answers that are taken, copies that
+//! are opened, told and closed.
 #![tactic(auto)]
 
 mod answer;
 mod ask;
+mod begin;
 mod copy;
+mod enter;
+mod faults;
+mod numbers;
+mod open;
+mod opened;
+mod submit;
 
 pub use answer::take;
 pub use ask::{ask_fault, has_numbers};
 pub use copy::{close_copy, copy_fault, copy_state};
+pub use enter::{enter_step, step_place};
+pub use numbers::next_id;
+pub use open::open_copy;
+pub use submit::submit_request;

@@ -45,15 +45,7 @@ module _ (run : ℕ) (asks : List Ask) (blocks : List (List ℕ)) where
           by_test : (t : Bool) → (begun == id) ≡ t → IsTrue (t || list_any (is_beginning id) rows) → Stands (Begun (request_in run asks blocks id)) (facts_of run asks blocks (row.Begun begun ∷ rows))
           by_test true is some = inl (ap (λ (n : ℕ). Begun (request_in run asks blocks n)) (eqb-true begun id is))
           by_test false is some = inr (rest some)
-      by_row (row.Landed n how started) some rest = inr (rest some)
-      by_row (row.Taken client n) some rest = inr (rest some)
-      by_row (row.Making lv size m) some rest = inr (rest some)
-      by_row (row.Made lv) some rest = inr (rest some)
-      by_row (row.Split from lv) some rest = inr (rest some)
-      by_row (row.Removing vol) some rest = inr (rest some)
-      by_row (row.Removed vol) some rest = inr (rest some)
-      by_row row.Cut some rest = inr (rest some)
-      by_row (row.On moment) some rest = inr (rest some)
+      by_row _ some rest = inr (rest some)
 
   -- any request that began is one that a row begins
   row_of_begun : (r : Request) (rows : List Row) → Stands (Begun r) (facts_of run asks blocks rows) → IsTrue (list_any (is_beginning r.id) rows) × (r ≡ request_in run asks blocks r.id)
@@ -96,15 +88,7 @@ module _ (run : ℕ) (asks : List Ask) (blocks : List (List ℕ)) where
     where
       by_row : (h : Row) → lands r (fact_of run asks blocks h) ≡ is_landing r.id h
       by_row (row.Landed n how started) = ap (λ (t : Bool). t && (r.id == n)) (ap (λ (m : ℕ). m == run) own ∙ equal run) ∙ eq_comm r.id n
-      by_row (row.Begun n) = refl
-      by_row (row.Taken client n) = refl
-      by_row (row.Making lv size m) = refl
-      by_row (row.Made lv) = refl
-      by_row (row.Split from lv) = refl
-      by_row (row.Removing vol) = refl
-      by_row (row.Removed vol) = refl
-      by_row row.Cut = refl
-      by_row (row.On moment) = refl
+      by_row _ = refl
 
   taking_is : (r : Request) (rows : List Row) → r.run ≡ run → list_any (takes r) (facts_of run asks blocks rows) ≡ list_any (is_taking r.id) rows
   taking_is r [] own = refl
@@ -112,15 +96,7 @@ module _ (run : ℕ) (asks : List Ask) (blocks : List (List ℕ)) where
     where
       by_row : (h : Row) → takes r (fact_of run asks blocks h) ≡ is_taking r.id h
       by_row (row.Taken client n) = ap (λ (t : Bool). t && (r.id == n)) (ap (λ (m : ℕ). m == run) own ∙ equal run) ∙ eq_comm r.id n
-      by_row (row.Begun n) = refl
-      by_row (row.Landed n how started) = refl
-      by_row (row.Making lv size m) = refl
-      by_row (row.Made lv) = refl
-      by_row (row.Split from lv) = refl
-      by_row (row.Removing vol) = refl
-      by_row (row.Removed vol) = refl
-      by_row row.Cut = refl
-      by_row (row.On moment) = refl
+      by_row _ = refl
 
   begins_are : (rows : List Row) → count_by (begins_in run) (facts_of run asks blocks rows) ≡ count_by is_begin rows
   begins_are [] = refl
@@ -133,15 +109,7 @@ module _ (run : ℕ) (asks : List Ask) (blocks : List (List ℕ)) where
     where
       by_row : (h : Row) → begins_in run (fact_of run asks blocks h) ≡ is_begin h
       by_row (row.Begun n) = equal run
-      by_row (row.Landed n how started) = refl
-      by_row (row.Taken client n) = refl
-      by_row (row.Making lv size m) = refl
-      by_row (row.Made lv) = refl
-      by_row (row.Split from lv) = refl
-      by_row (row.Removing vol) = refl
-      by_row (row.Removed vol) = refl
-      by_row row.Cut = refl
-      by_row (row.On moment) = refl
+      by_row _ = refl
 
   later_of : (moment : ℕ) (rows : List Row) → IsTrue (list_all (is_earlier_on moment) rows) → IsLater (facts_of run asks blocks rows) moment
   later_of moment [] all = tt
@@ -149,15 +117,7 @@ module _ (run : ℕ) (asks : List Ask) (blocks : List (List ℕ)) where
     where
       by_row : (h : Row) → IsTrue (is_earlier_on moment h) × IsTrue (list_all (is_earlier_on moment) rows) → IsLater (facts_of run asks blocks rows) moment → IsLater (facts_of run asks blocks (h ∷ rows)) moment
       by_row (row.On other) its rest = let test = its.0 in (grind (arith, nat_tests, test), rest)
-      by_row (row.Begun n) its rest = rest
-      by_row (row.Landed n how started) its rest = rest
-      by_row (row.Taken client n) its rest = rest
-      by_row (row.Making lv size m) its rest = rest
-      by_row (row.Made lv) its rest = rest
-      by_row (row.Split from lv) its rest = rest
-      by_row (row.Removing vol) its rest = rest
-      by_row (row.Removed vol) its rest = rest
-      by_row row.Cut its rest = rest
+      by_row _ its rest = rest
 
   of_later : (moment : ℕ) (rows : List Row) → IsLater (facts_of run asks blocks rows) moment → IsTrue (list_all (is_earlier_on moment) rows)
   of_later moment [] later = refl
@@ -260,21 +220,11 @@ module _ (run : ℕ) (asks : List Ask) (blocks : List (List ℕ)) where
   -- only a Got has blocks to be judged
   pub got_free : (past : List Fact) (r : Request) (how : Outcome) (got : List (List ℕ)) → is_got how ≡ false → GotMay past r how got
   got_free past r outcome.Got got isnt = absurd (let e : ◌≡◌ {A = Bool} true false = isnt in cc)
-  got_free past r outcome.Done got isnt = tt
-  got_free past r outcome.Lost got isnt = tt
-  got_free past r outcome.ReadFailed got isnt = tt
-  got_free past r outcome.NoFresh got isnt = tt
-  got_free past r outcome.Off got isnt = tt
-  got_free past r outcome.Dark got isnt = tt
+  got_free past r _ got isnt = tt
 
   pub got_judged : (past : List Fact) (r : Request) (how : Outcome) (got : List (List ℕ)) → is_got how ≡ true → Gets past r got ↔ GotMay past r how (cond (is_got how) got [])
   got_judged past r outcome.Got got is = (λ gets. gets, λ gets. gets)
-  got_judged past r outcome.Done got is = absurd (let e : ◌≡◌ {A = Bool} false true = is in cc)
-  got_judged past r outcome.Lost got is = absurd (let e : ◌≡◌ {A = Bool} false true = is in cc)
-  got_judged past r outcome.ReadFailed got is = absurd (let e : ◌≡◌ {A = Bool} false true = is in cc)
-  got_judged past r outcome.NoFresh got is = absurd (let e : ◌≡◌ {A = Bool} false true = is in cc)
-  got_judged past r outcome.Off got is = absurd (let e : ◌≡◌ {A = Bool} false true = is in cc)
-  got_judged past r outcome.Dark got is = absurd (let e : ◌≡◌ {A = Bool} false true = is in cc)
+  got_judged past r _ got is = absurd (let e : ◌≡◌ {A = Bool} false true = is in cc)
 
   -- block k of those at a request's place
   block_at : (a : Ask) (j : ℕ) → j < a.count → block_of (blocks_at blocks a) a.at (a.at + j) ≡ get_or blocks (a.place + j) []

@@ -7,7 +7,7 @@ use Rattle.std.proofs.lemmas.List.Sums.{fold_push}
 use Rattle.std.proofs.lemmas.List.Folds.{list_any-append}
 use Rattle.std.proofs.lemmas.Slice.Eq.{bytes_eq-Decides}
 use Rattle.std.proofs.lemmas.Bool.Decides.{nat_tests}
-use Rattle.std.proofs.lemmas.Bool.{eqb-true}
+use Rattle.std.proofs.lemmas.Bool.{eqb-true, or_parts}
 use Rattle.lvm_num.specs.Buffer.{Sector, zero_sector}
 use Rattle.lvm_vol.specs.declared.entry.Vol.{Vol}
 use Rattle.lvm_vol.specs.declared.entry.Vol.TheVariants.{Lv}
@@ -19,7 +19,7 @@ use Rattle.lvm_checker.specs.declared.row.Row.TheVariants as row
 use Rattle.lvm_checker.specs.declared.values.Seen.{Seen}
 use Rattle.lvm_checker.specs.declared.values.Sought.{Sought}
 use Rattle.lvm_checker.specs.declared.values.Sought.TheVariants as sought
-use Rattle.lvm_vol.specs.Facts.{Request, Fact, Making, Made, Split, Removing, Removed, Begun, Landed, Taken, Cut, On, Stands, same_vol, same_request, is_over, block_of}
+use Rattle.lvm_vol.specs.Facts.{Request, Fact, Making, Split, Removed, Begun, Landed, Cut, Stands, same_vol, same_request, is_over, block_of}
 use Rattle.lvm_vol.specs.May.{Known, Knowledge, nothing_known, is_open_in, without, is_off, is_some_open, also, ended, read, landed, cut, source, change, after_fact, after, known, May}
 use Rattle.lvm_vol.specs.Log.{is_got}
 use Rattle.lvm_checker.specs.Rows.{ask_of, blocks_at, request_in, fact_of, facts_of}
@@ -98,24 +98,12 @@ closes vol b r Cut = true
 closes vol b r (Making lv blocks m) = same_vol (Lv lv) vol && nat_lt b blocks
 closes vol b r (Split from lv) = same_vol (Lv lv) vol
 closes vol b r (Removed gone) = same_vol gone vol
-closes vol b r (Made lv) = false
-closes vol b r (Removing gone) = false
-closes vol b r (Begun s) = false
-closes vol b r (Taken s) = false
-closes vol b r (On moment) = false
+closes vol b r _ = false
 
 -- the fact opens a write of block b that passes the test
 abbrev pub opens : (Request → Bool) → Vol → ℕ → Fact → Bool
 opens p vol b (Begun r) = r.write && is_over r vol b && p r
-opens p vol b (Landed s how started got) = false
-opens p vol b Cut = false
-opens p vol b (Making lv blocks m) = false
-opens p vol b (Split from lv) = false
-opens p vol b (Removed gone) = false
-opens p vol b (Made lv) = false
-opens p vol b (Removing gone) = false
-opens p vol b (Taken s) = false
-opens p vol b (On moment) = false
+opens p vol b _ = false
 
 abbrev pub any_open : (Request → Bool) → Vol → ℕ → List Fact → Bool
 any_open p vol b [] = false
@@ -123,19 +111,11 @@ any_open p vol b (f ∷ facts) = opens (λ r. p r && not (list_any (closes vol b
 
 without_absent : (s : Request) (ws : List Request) → is_open_in s ws ≡ false → without s ws ≡ ws
 without_absent s [] none = refl
-without_absent s (w ∷ ws) none = by_test (same_request s w) refl (without_absent s ws (or_right (same_request s w) (is_open_in s ws) none))
+without_absent s (w ∷ ws) none = by_test (same_request s w) refl (without_absent s ws (or_parts (same_request s w) (is_open_in s ws) none).1)
   where
-    or_right : (a c : Bool) → (a || c) ≡ false → c ≡ false
-    or_right true c is = absurd (let e : ◌≡◌ {A = Bool} true false = is in cc)
-    or_right false c is = is
-
-    or_left : (a c : Bool) → (a || c) ≡ false → a ≡ false
-    or_left true c is = is
-    or_left false c is = refl
-
     by_test : (t : Bool) → same_request s w ≡ t → without s ws ≡ ws → without s (w ∷ ws) ≡ w ∷ ws
     by_test false is rest = ap (λ (t : Bool). cond (not t) (w ∷ without s ws) (without s ws)) is ∙ ap (λ (l : List Request). w ∷ l) rest
-    by_test true is rest = let e = or_left (same_request s w) (is_open_in s ws) none in absurd (cc)
+    by_test true is rest = let e = (or_parts (same_request s w) (is_open_in s ws) none).0 in absurd (cc)
 
 landed_open : (r : Request) (how : Outcome) (started : Bool) (x y : Sector) (k : Known) → (landed r how started x y k).open_writes ≡ cond r.write (without r k.open_writes) k.open_writes
 landed_open r how started x y k = by_tests r.write (is_open_in r k.open_writes) refl
@@ -186,10 +166,7 @@ open_step q (Removed gone) vol b s = by_test (same_vol gone vol)
     by_test : (t : Bool) → list_any q (cond t (record (s vol b) { values = None; open_writes = []; loose = false }) (s vol b)).open_writes ≡ (list_any (λ v. q v && not t) (s vol b).open_writes || false)
     by_test true = sym (or_false (list_any (λ v. q v && false) (s vol b).open_writes) ∙ any_none (λ v. q v && false) (s vol b).open_writes (λ v. and_false (q v)))
     by_test false = any_ext q (λ v. q v && true) (s vol b).open_writes (λ v. sym (and_true (q v))) ∙ sym (or_false (list_any (λ v. q v && true) (s vol b).open_writes))
-open_step q (Made lv) vol b s = any_ext q (λ v. q v && true) (s vol b).open_writes (λ v. sym (and_true (q v))) ∙ sym (or_false (list_any (λ v. q v && true) (s vol b).open_writes))
-open_step q (Removing gone) vol b s = any_ext q (λ v. q v && true) (s vol b).open_writes (λ v. sym (and_true (q v))) ∙ sym (or_false (list_any (λ v. q v && true) (s vol b).open_writes))
-open_step q (Taken r) vol b s = any_ext q (λ v. q v && true) (s vol b).open_writes (λ v. sym (and_true (q v))) ∙ sym (or_false (list_any (λ v. q v && true) (s vol b).open_writes))
-open_step q (On moment) vol b s = any_ext q (λ v. q v && true) (s vol b).open_writes (λ v. sym (and_true (q v))) ∙ sym (or_false (list_any (λ v. q v && true) (s vol b).open_writes))
+open_step q _ vol b s = any_ext q (λ v. q v && true) (s vol b).open_writes (λ v. sym (and_true (q v))) ∙ sym (or_false (list_any (λ v. q v && true) (s vol b).open_writes))
 
 open_after : (p : Request → Bool) (facts : List Fact) (vol : Vol) (b : ℕ) (s : Knowledge)
     → list_any p (after s facts vol b).open_writes ≡ (list_any (λ r. p r && not (list_any (closes vol b r) facts)) (s vol b).open_writes || any_open p vol b facts)
@@ -239,15 +216,7 @@ module _ (run : ℕ) (asks : List Ask) (blocks : List (List ℕ)) (vol : Vol) (b
           ap (λ (t : Bool). is_over_ask (ask_of asks other) vol b && (ask_of asks other).write && ((run == run) && t)) is
           ∙ ap (λ (t : Bool). is_over_ask (ask_of asks other) vol b && (ask_of asks other).write && t) (and_false (run == run))
           ∙ and_false (is_over_ask (ask_of asks other) vol b && (ask_of asks other).write)
-  ending_is id write over row.Cut = refl
-  ending_is id write over (row.Making lv size mode) = refl
-  ending_is id write over (row.Made lv) = refl
-  ending_is id write over (row.Split from lv) = refl
-  ending_is id write over (row.Removing gone) = refl
-  ending_is id write over (row.Removed gone) = refl
-  ending_is id write over (row.Begun begun) = refl
-  ending_is id write over (row.Taken client taken) = refl
-  ending_is id write over (row.On moment) = refl
+  ending_is id write over _ = refl
 
   endings_are : (id : ℕ) → (ask_of asks id).write ≡ true → is_over_ask (ask_of asks id) vol b ≡ true → (rows : List Row) → list_any (closes vol b (request_in run asks blocks id)) (facts_of run asks blocks rows) ≡ list_any (is_ending id vol b) rows
   endings_are id write over [] = refl
@@ -341,12 +310,7 @@ read_seen outcome.Got v x k = by_loose k.loose
     by_loose : (t : Bool) → seen_of (cond t k (record k { values = Some (v ∷ []) })) x ≡ cond t (seen_of k x) (record (seen_of k x) { known = true; allowed = bytes_eq v x })
     by_loose true = refl
     by_loose false = with_parts (record k { values = Some (v ∷ []) }) x true (bytes_eq v x) k.loose (is_off k.mode) refl (one_value v x) refl refl
-read_seen outcome.Done v x k = refl
-read_seen outcome.Lost v x k = refl
-read_seen outcome.ReadFailed v x k = refl
-read_seen outcome.NoFresh v x k = refl
-read_seen outcome.Off v x k = refl
-read_seen outcome.Dark v x k = refl
+read_seen _ v x k = refl
 
 seen_choice : (t : Bool) (a b : Known) (c d : Seen) (x : Sector) → seen_of a x ≡ c → seen_of b x ≡ d → seen_of (cond t a b) x ≡ cond t c d
 seen_choice true a b c d x left right = left
@@ -382,12 +346,7 @@ seen_row run asks blocks vol b x before k (row.Landed id how started) opened =
 
     got_is : (o : Outcome) → seen_read (seen_of k x) o (bytes_eq (block_of (cond (is_got o) (blocks_at blocks (ask_of asks id)) []) (ask_of asks id).at b) x) ≡ seen_read (seen_of k x) o (bytes_eq (block_of (blocks_at blocks (ask_of asks id)) (ask_of asks id).at b) x)
     got_is outcome.Got = refl
-    got_is outcome.Done = refl
-    got_is outcome.Lost = refl
-    got_is outcome.ReadFailed = refl
-    got_is outcome.NoFresh = refl
-    got_is outcome.Off = refl
-    got_is outcome.Dark = refl
+    got_is _ = refl
 
     by_write : (w : Bool) → (ask_of asks id).write ≡ w
         → seen_of (cond w (cond (is_open_in (request_in run asks blocks id) k.open_writes) (ended (request_in run asks blocks id) how started (block_of (cond (ask_of asks id).write (blocks_at blocks (ask_of asks id)) []) (ask_of asks id).at b) k) k)
@@ -418,15 +377,7 @@ seen_row run asks blocks vol b x before k (row.On moment) opened = refl
 
 pub source_row : (run : ℕ) (asks : List Ask) (blocks : List (List ℕ)) (r : Row) (vol : Vol) → source (fact_of run asks blocks r) vol ≡ row_source r vol
 source_row run asks blocks (row.Making lv size m) vol = refl
-source_row run asks blocks (row.Made lv) vol = refl
-source_row run asks blocks (row.Split from lv) vol = refl
-source_row run asks blocks (row.Removing gone) vol = refl
-source_row run asks blocks (row.Removed gone) vol = refl
-source_row run asks blocks (row.Begun id) vol = refl
-source_row run asks blocks (row.Landed id how started) vol = refl
-source_row run asks blocks (row.Taken client id) vol = refl
-source_row run asks blocks row.Cut vol = refl
-source_row run asks blocks (row.On moment) vol = refl
+source_row run asks blocks _ vol = refl
 
 pub origin-cons : (r : Row) (rows : List Row) (vol : Vol) → origin_of (r ∷ rows) vol ≡ row_source r (origin_of rows vol)
 origin-cons r rows vol = ap (λ (l : List Row). fold (λ v q. row_source q v) vol l) (reverse-append (r ∷ []) rows) ∙ fold_push (λ v q. row_source q v) vol (reverse rows) r

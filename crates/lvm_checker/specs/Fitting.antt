@@ -8,40 +8,16 @@ use Rattle.lvm_checker.specs.declared.row.Row.TheVariants as row
 
 abbrev pub is_begin : Row → Bool
 is_begin (row.Begun id) = true
-is_begin (row.Making lv size mode) = false
-is_begin (row.Made lv) = false
-is_begin (row.Split from lv) = false
-is_begin (row.Removing vol) = false
-is_begin (row.Removed vol) = false
-is_begin (row.Landed id how started) = false
-is_begin (row.Taken client id) = false
-is_begin row.Cut = false
-is_begin (row.On moment) = false
+is_begin _ = false
 
 abbrev pub is_beginning : ℕ → Row → Bool
 is_beginning id (row.Begun begun) = begun == id
-is_beginning id (row.Making lv size mode) = false
-is_beginning id (row.Made lv) = false
-is_beginning id (row.Split from lv) = false
-is_beginning id (row.Removing vol) = false
-is_beginning id (row.Removed vol) = false
-is_beginning id (row.Landed landed how started) = false
-is_beginning id (row.Taken client taken) = false
-is_beginning id row.Cut = false
-is_beginning id (row.On moment) = false
+is_beginning id _ = false
 
 -- if a group was varied on, it was before this moment
 abbrev pub is_earlier_on : ℕ → Row → Bool
 is_earlier_on moment (row.On other) = nat_lt other moment
-is_earlier_on moment (row.Making lv size mode) = true
-is_earlier_on moment (row.Made lv) = true
-is_earlier_on moment (row.Split from lv) = true
-is_earlier_on moment (row.Removing vol) = true
-is_earlier_on moment (row.Removed vol) = true
-is_earlier_on moment (row.Begun id) = true
-is_earlier_on moment (row.Landed id how started) = true
-is_earlier_on moment (row.Taken client id) = true
-is_earlier_on moment row.Cut = true
+is_earlier_on moment _ = true
 
 -- the request's blocks have numbers of 64 bits
 abbrev pub is_bounded : Ask → Bool

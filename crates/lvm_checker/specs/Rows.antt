@@ -8,7 +8,7 @@ use Rattle.lvm_vol.specs.declared.entry.Entry.TheVariants as entry
 use Rattle.lvm_checker.specs.declared.row.Ask.{Ask}
 use Rattle.lvm_checker.specs.declared.row.Row.{Row}
 use Rattle.lvm_checker.specs.declared.row.Row.TheVariants as row
-use Rattle.lvm_vol.specs.Facts.{Request, Fact, Making, Made, Split, Removing, Removed, Begun, Landed, Taken, Cut, On, begun}
+use Rattle.lvm_vol.specs.Facts.{Request, Fact, Making, Made, Split, Removing, Removed, Begun, Landed, Taken, Cut, On}
 use Rattle.lvm_vol.specs.Order.{Ordered}
 use Rattle.lvm_vol.specs.Log.{Log, is_got, needed, is_uncut, blocks_of}
 
@@ -48,24 +48,8 @@ facts_of run asks blocks rows = map (fact_of run asks blocks) rows
 
 abbrev pub is_landing : ℕ → Row → Bool
 is_landing id (row.Landed landed how started) = landed == id
-is_landing id (row.Making lv size mode) = false
-is_landing id (row.Made lv) = false
-is_landing id (row.Split from lv) = false
-is_landing id (row.Removing vol) = false
-is_landing id (row.Removed vol) = false
-is_landing id (row.Begun begun) = false
-is_landing id (row.Taken client taken) = false
-is_landing id row.Cut = false
-is_landing id (row.On moment) = false
+is_landing id _ = false
 
 abbrev pub is_taking : ℕ → Row → Bool
 is_taking id (row.Taken client taken) = taken == id
-is_taking id (row.Making lv size mode) = false
-is_taking id (row.Made lv) = false
-is_taking id (row.Split from lv) = false
-is_taking id (row.Removing vol) = false
-is_taking id (row.Removed vol) = false
-is_taking id (row.Begun begun) = false
-is_taking id (row.Landed landed how started) = false
-is_taking id row.Cut = false
-is_taking id (row.On moment) = false
+is_taking id _ = false

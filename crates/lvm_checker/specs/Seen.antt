@@ -42,12 +42,7 @@ seen_ended s outcome.NoFresh started same = s
 -- a read has ended, which got the value or another
 abbrev pub seen_read : Seen → Outcome → Bool → Seen
 seen_read s outcome.Got same = if s.loose then s else record s { known = true; allowed = same }
-seen_read s outcome.Done same = s
-seen_read s outcome.Lost same = s
-seen_read s outcome.ReadFailed same = s
-seen_read s outcome.NoFresh same = s
-seen_read s outcome.Off same = s
-seen_read s outcome.Dark same = s
+seen_read s _ same = s
 
 -- the write is one of those looked for
 abbrev pub is_sought : Sought → ℕ → Ask → List (List ℕ) → ℕ → Sector → Bool
@@ -62,36 +57,18 @@ is_ending n vol b row.Cut = true
 is_ending n vol b (row.Making lv size mode) = same_vol (Lv lv) vol && nat_lt b size
 is_ending n vol b (row.Split from lv) = same_vol (Lv lv) vol
 is_ending n vol b (row.Removed gone) = same_vol gone vol
-is_ending n vol b (row.Made lv) = false
-is_ending n vol b (row.Removing gone) = false
-is_ending n vol b (row.Begun id) = false
-is_ending n vol b (row.Taken client id) = false
-is_ending n vol b (row.On moment) = false
+is_ending n vol b _ = false
 
 -- the row begins a write of block b, and it is one of those looked for
 abbrev pub is_opening : Sought → List Ask → List (List ℕ) → Vol → ℕ → Sector → Row → Bool
 is_opening s asks blocks vol b x (row.Begun id) = (ask_of asks id).write && is_over_ask (ask_of asks id) vol b && is_sought s id (ask_of asks id) blocks b x
-is_opening s asks blocks vol b x (row.Landed id how started) = false
-is_opening s asks blocks vol b x row.Cut = false
-is_opening s asks blocks vol b x (row.Making lv size mode) = false
-is_opening s asks blocks vol b x (row.Split from lv) = false
-is_opening s asks blocks vol b x (row.Removed gone) = false
-is_opening s asks blocks vol b x (row.Made lv) = false
-is_opening s asks blocks vol b x (row.Removing gone) = false
-is_opening s asks blocks vol b x (row.Taken client id) = false
-is_opening s asks blocks vol b x (row.On moment) = false
+is_opening s asks blocks vol b x _ = false
 
 abbrev pub id_of : Row → ℕ
 id_of (row.Begun id) = id
 id_of (row.Landed id how started) = id
 id_of (row.Taken client id) = id
-id_of row.Cut = 0
-id_of (row.Making lv size mode) = 0
-id_of (row.Split from lv) = 0
-id_of (row.Removed gone) = 0
-id_of (row.Made lv) = 0
-id_of (row.Removing gone) = 0
-id_of (row.On moment) = 0
+id_of _ = 0
 
 -- one of the writes looked for is open after the rows
 abbrev pub is_any_open : Sought → List Ask → List (List ℕ) → Vol → ℕ → Sector → List Row → Bool
@@ -101,15 +78,7 @@ is_any_open s asks blocks vol b x (r ∷ rows) = (is_opening s asks blocks vol b
 -- of which volume a block's value was before the row
 abbrev pub row_source : Row → Vol → Vol
 row_source (row.Split from lv) vol = if same_vol (Lv lv) vol then Lv from else vol
-row_source (row.Making lv size mode) vol = vol
-row_source (row.Made lv) vol = vol
-row_source (row.Removing gone) vol = vol
-row_source (row.Removed gone) vol = vol
-row_source (row.Begun id) vol = vol
-row_source (row.Landed id how started) vol = vol
-row_source (row.Taken client id) vol = vol
-row_source row.Cut vol = vol
-row_source (row.On moment) vol = vol
+row_source _ vol = vol
 
 -- and before all these rows
 abbrev pub origin_of : List Row → Vol → Vol

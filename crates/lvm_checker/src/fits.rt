@@ -1,5 +1,5 @@
 //! Whether a history is legal, found by looking through its rows.
-ghost use Rattle.std.specs.Prelude.{◌≡◌, ◌↔◌, ℕ, ◌+◌, ◌<◌, ◌≤◌, ◌^◌, ◌==◌, nat_lt, not, ◌&&◌, IsTrue, length, count_by, true};
+ghost use Rattle.std.specs.Prelude.{◌≡◌, ◌↔◌, ℕ, ◌+◌, ◌<◌, ◌==◌, not, ◌&&◌, IsTrue, count_by, true};
 ghost use Rattle.std.specs.List.{list_any, list_all};
 ghost use Rattle.lvm_vol.specs.Legal.{Fits, Gets, Legal};
 ghost use Rattle.lvm_checker.specs.Rows.{facts_of, fact_of, request_in, ask_of, blocks_at, is_landing, is_taking};

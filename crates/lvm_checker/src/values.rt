@@ -3,14 +3,14 @@
 //! The rows are followed from the first to the last. Of the values that the block may have only this is
 //! kept: whether they are known, and whether the one asked for is among them. Which writes are open is
 //! found by looking back, so that nothing is stored.
-ghost use Rattle.std.specs.Prelude.{◌≡◌, ◌↔◌, ℕ, ◌&&◌, ◌||◌, ◌==◌, nat_le, nat_lt, not, IsTrue, List, length, true, false, fold, reverse};
+ghost use Rattle.std.specs.Prelude.{◌≡◌, ◌↔◌, ℕ, ◌&&◌, ◌||◌, ◌==◌, not, IsTrue, true, false, fold};
 ghost use Rattle.std.specs.List.{list_any};
 ghost use Rattle.std.specs.Str.{bytes_eq};
 ghost use Rattle.lvm_num.specs.Buffer.{zero_sector};
-ghost use Rattle.lvm_vol.specs.Facts.{same_vol, block_of};
+ghost use Rattle.lvm_vol.specs.Facts.{block_of};
 ghost use Rattle.lvm_vol.specs.May.{is_off, known, May};
-ghost use Rattle.lvm_checker.specs.Rows.{ask_of, blocks_at, facts_of, fact_of};
-ghost use Rattle.lvm_checker.specs.Seen.{is_over_ask, is_sought, is_ending, is_opening, id_of, is_any_open, row_source, origin_of, seen_ended, seen_read, seen_step};
+ghost use Rattle.lvm_checker.specs.Rows.{ask_of, blocks_at, facts_of};
+ghost use Rattle.lvm_checker.specs.Seen.{is_over_ask, is_ending, is_opening, id_of, is_any_open, row_source, origin_of, seen_ended, seen_read, seen_step};
 
 use crate::row::{Ask, Row};
 use lvm_num::Mode;

@@ -1,28 +1,31 @@
 -- What some records of a session did, one after another.
-use Rattle.std.proofs.Common.{◌≡◌, ⊎_elim, ℕ, ◌+◌, Bool, true, false, ◌&&◌, ◌||◌, not, map, IsTrue, IsFalse, refl, sym, ◌∙◌, ap, arith}
+use Rattle.std.proofs.Common.{◌≡◌, inl, inr, ⊎_elim, ℕ, ◌+◌, ◌≤◌, Bool, true, false, ◌&&◌, ◌||◌, not, map, IsTrue, IsFalse, refl, sym, ◌∙◌, ap, subst, arith}
 use Rattle.std.proofs.lemmas.Bool.{false≢true}
 use Rattle.lvm_num.specs.declared.record.Stamp.{Stamp}
+use Rattle.lvm_num.specs.declared.descriptor.Descriptor.{Descriptor}
 use Rattle.lvm_num.specs.declared.status.StatusRow.{StatusRow}
 use Rattle.lvm_num.specs.declared.status.Status.{Status}
 use Rattle.lvm_num.specs.Buffer.{Buffer, Sector}
 use Rattle.lvm_num.specs.Disks.{Disks}
 use Rattle.lvm_num.specs.Descriptor.{is_member}
 use Rattle.lvm_num.specs.Status.{calls_missing, calls_stale}
+use Rattle.lvm_num.specs.Votes.{CanWrite}
 use Rattle.lvm_disk.specs.Counts.{NoneFalls}
 use Rattle.lvm_disk.specs.Device.{Device, image_of}
 use Rattle.lvm_disk.specs.Paths.{DeviceStep, Path, Here, Then}
+use Rattle.lvm_disk.proofs.Paths.{append-path}
 use Rattle.lvm_disk.proofs.Rising.{rose_before, rose_after, none_falls_at_once, none_falls_on}
 use Rattle.lvm_disk.proofs.Stepping.{step_counts}
 use Rattle.lvm_kept.specs.Plans.{Plan, ChangesBy}
 use Rattle.lvm_kept.specs.Torn.{RecordWrite}
 use Rattle.lvm_status.specs.Update.{Stored}
 use Rattle.lvm_steps.proofs.Booleans.{either, clash}
-use Rattle.lvm_homes.specs.declared.homes.Homes.{Homes}
+use Rattle.lvm_rec.specs.declared.homes.Homes.{Homes}
 use Rattle.lvm_write.specs.Parts.{Spends}
 use Rattle.lvm_write.specs.Written.{KeepsShelf}
 use Rattle.lvm_write.proofs.Transfers.{keeps_then, spends_then}
 use Rattle.lvm_write.proofs.Writing.{logs_wider, both_map, changes_more}
-use Rattle.lvm_commit.specs.Settling.{there, OnlyLoses, HasLostQuorum, SpendsNumbers, ComesBack}
+use Rattle.lvm_commit.specs.Settling.{StaysCommitted, there, OnlyLoses, HasLostQuorum, SpendsNumbers, ComesBack}
 use Rattle.lvm_commit.specs.Rounds.{WasTried}
 
 -- ---- counts
@@ -89,6 +92,27 @@ keeps_wider few many P Q old new fewer more keeps = record {
   media = both_map old.media new.media (λ was is. ChangesBy P (image_of old.sizes was) (image_of new.sizes is)) (λ was is. ChangesBy Q (image_of old.sizes was) (image_of new.sizes is)) keeps.media
       (λ m n was is by. changes_more P Q (image_of old.sizes m) (image_of new.sizes n) more by);
 }
+
+-- what was committed since a later point was so since an earlier one
+pub stays_before : (first mid last : Stored) (old m new : Device) → mid.committed ≡ first.committed → mid.stamp.epoch ≡ first.stamp.epoch → first.stamp.seq ≤ mid.stamp.seq → mid.group ≡ first.group
+    → Path DeviceStep (λ d. Unit {0}) old m → StaysCommitted mid last m new → StaysCommitted first last old new
+stays_before first mid last old m new committed epoch later group path stays = ⊎_elim
+    (λ same. inl (same ∙ committed))
+    (λ came. inr (record {
+      write = came.write;
+      kind = came.kind;
+      content = came.content;
+      epoch = came.epoch ∙ epoch;
+      later = (let l = came.later in omega (arith, l, later));
+      earlier = came.earlier;
+      members = came.members;
+      votes = subst (λ (g : Descriptor). CanWrite g came.members) group came.votes;
+      moment = came.moment;
+      before = append-path path came.before;
+      after = came.after;
+      stands = came.stands;
+    }))
+    stays
 
 -- ---- whatever the answer
 

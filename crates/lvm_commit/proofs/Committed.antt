@@ -16,7 +16,7 @@ use Rattle.lvm_kept.specs.Committed.{DescriptorStands, IsWithinDisks}
 use Rattle.lvm_kept.proofs.Finding.{some_same, enough-too, finds_from, newest_among}
 use Rattle.lvm_commit.specs.Committed.{IsAlike, Began, ShowsCommitted}
 use Rattle.lvm_commit.specs.Laws.{IsLaterDescriptor, StatusIsCommitted, DescriptorIsCommitted}
-use Rattle.lvm_steps.proofs.FindsLemmas.{with_others, still_finds}
+use Rattle.lvm_kept.proofs.FindsLemmas.{with_others, still_finds}
 use Rattle.lvm_steps.proofs.Members.{among_all, same_id, same_votes, same_room}
 
 -- ---- other statuses, other notes, other data

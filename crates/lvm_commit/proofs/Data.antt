@@ -9,6 +9,7 @@ use Rattle.lvm_num.specs.Descriptor.{copies_of}
 use Rattle.lvm_num.specs.Geometry.{sector_of}
 use Rattle.lvm_num.specs.Record.{Stamped}
 use Rattle.lvm_num.specs.Votes.{all_disks, CanWrite}
+use Rattle.lvm_num.proofs.ListLemmas.{of_passing}
 use Rattle.lvm_vol.specs.Facts.{Fact}
 use Rattle.lvm_kept.specs.Contents.{Contents}
 use Rattle.lvm_kept.specs.Group.{passes, is_of, is_voter, status_among, IsFound, members_in, status_by, ReadsBy, is_stale_by, block_at, IsOneOf}
@@ -21,7 +22,7 @@ use Rattle.lvm_steps.proofs.Booleans.{split, no_some}
 use Rattle.lvm_commit.specs.Committed.{ShowsCommitted}
 use Rattle.lvm_commit.specs.LawsOfData.{IsFree, IsSectorOf, PartitionChange, FreeDataKeeps}
 use Rattle.lvm_commit.proofs.Found.{shows_group, only_found}
-use Rattle.lvm_commit.proofs.Free.{all_that_pass, none_stands}
+use Rattle.lvm_commit.proofs.Free.{none_stands}
 use Rattle.lvm_steps.proofs.Members.{one_group, parts_of}
 
 module _ (group : Descriptor) (status : Status) (there : Disks) (pp : Pp) (old new : Contents) (facts : List Fact) (within : IsWithinDisks old) (enough : CanWrite group there) (shows : ShowsCommitted old group status there)
@@ -32,7 +33,7 @@ module _ (group : Descriptor) (status : Status) (there : Disks) (pp : Pp) (old n
 
   -- so no copy of a volume that is found has other data
   unchanged : (id : ℕ) (k : Descriptor) → IsFound old id k → (set : Disks) → ((d : ℕ) → IsTrue (set d) → passes (is_of id) (old.descriptor d) ≡ true) → (s : Option (Stamped Status)) → BlocksChange old new facts k set s
-  unchanged id k is set show s row lp b volume inside = inl (all_that_pass (λ (p : Pp). block_at new k.mib p b ≡ block_at old k.mib p b) (λ (p : Pp). set p.disk && not (is_stale_by s p)) (copies_of row lp) (λ p one passed. ⊎_elim
+  unchanged id k is set show s row lp b volume inside = inl (of_passing (λ (p : Pp). block_at new k.mib p b ≡ block_at old k.mib p b) (λ (p : Pp). set p.disk && not (is_stale_by s p)) (copies_of row lp) (λ p one passed. ⊎_elim
       (λ same. same)
       (λ (its : IsSectorOf group.mib pp p.disk (sector_of k.mib p.pp b)). absurd (elsewhere p one (split (set p.disk) (not (is_stale_by s p)) passed).0 its))
       (change.each p.disk (sector_of k.mib p.pp b))))

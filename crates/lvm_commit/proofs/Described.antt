@@ -9,7 +9,6 @@ use Rattle.lvm_num.specs.Descriptor.{IsValid, is_member}
 use Rattle.lvm_num.specs.DescriptorBytes.{descriptor_of}
 use Rattle.lvm_num.specs.Record.{Frames}
 use Rattle.lvm_num.specs.Status.{calls_missing}
-use Rattle.lvm_num.specs.Votes.{CanWrite}
 use Rattle.lvm_vol.specs.Facts.{Fact}
 use Rattle.lvm_disk.specs.Device.{Media, Device, image_of, HasSectors}
 use Rattle.lvm_disk.specs.Steps.{BothTold}
@@ -22,7 +21,7 @@ use Rattle.lvm_status.specs.Update.{Stored}
 use Rattle.lvm_steps.specs.Moments.{ImagesKept, StaysKept}
 use Rattle.lvm_steps.proofs.Booleans.{clash}
 use Rattle.lvm_steps.proofs.Making.{media_may}
-use Rattle.lvm_homes.specs.declared.homes.Homes.{Homes}
+use Rattle.lvm_rec.specs.declared.homes.Homes.{Homes}
 use Rattle.lvm_write.specs.Written.{KeepsShelf, IsDarkened, IsGivenUp}
 use Rattle.lvm_write.specs.Parts.{Spends}
 use Rattle.lvm_write.proofs.Transfers.{keeps_then, spends_then, darkened_then, given_up_then}
@@ -35,7 +34,7 @@ use Rattle.lvm_commit.specs.LawsOfFinding.{FindsNoMore, FindsNoMoreOn}
 use Rattle.lvm_commit.proofs.Leaving.{wants_marks, round_left, left_then}
 use Rattle.lvm_commit.specs.Settling.{EndsAtOnce, IsForgotten, StaysCommitted, MarksLeft, there, IsOf, SessionIsHeld, WantsMarks, OthersAreLeft, OnlyLoses, HasLostQuorum, SpendsNumbers, IsOfStatus, IsOfCommit, IsOneRecord, StatusStaysKept, DescriptorStaysKept, StatusFindsNothingNew, StaysHeld, CommitLeaves, ComesBack, StatusEnds, DescriptorEnds}
 use Rattle.lvm_commit.specs.Rounds.{MarksRound, stamped, session_write, WasTried, RecordGives}
-use Rattle.lvm_commit.proofs.Chaining.{Goes, path_counts, keeps_wider, loses_less, loses_then, not_there, record_returns, returns_then, lost_quorum_then, spends_numbers_then}
+use Rattle.lvm_commit.proofs.Chaining.{Goes, path_counts, keeps_wider, loses_less, loses_then, not_there, record_returns, returns_then, lost_quorum_then, spends_numbers_then, stays_before}
 use Rattle.lvm_commit.proofs.Round.{none_or_some, failed_is_missing, was_there_on}
 use Rattle.lvm_commit.proofs.Ready.{spends_one, spends_none}
 use Rattle.lvm_commit.proofs.NoMore.{then_no_more}
@@ -126,23 +125,9 @@ module _ (d : Descriptor) (first mid last : Stored) (homes after final : Homes) 
   commit_off have total lost = lost_quorum_then first mid last old m new have total one.loses one.rises lost
 
   commit_committed : StaysCommitted mid last m new → StaysCommitted first last old new
-  commit_committed stays = ⊎_elim
-      (λ same. inl (same ∙ k.committed))
-      (λ came. inr (record {
-        write = came.write;
-        kind = came.kind;
-        content = came.content;
-        epoch = came.epoch ∙ ap (λ (s : Stamp). s.epoch) stamp;
-        later = (let l = came.later in let seq = ap (λ (s : Stamp). s.seq) stamp in omega (arith, l, seq));
-        earlier = came.earlier;
-        members = came.members;
-        votes = subst (λ (g : Descriptor). CanWrite g came.members) one.loses.group came.votes;
-        moment = came.moment;
-        before = append-path (map-path (λ d. Unit {0}) (λ d is. tt) k.gives.leaves.moments) came.before;
-        after = came.after;
-        stands = came.stands;
-      }))
-      stays
+  commit_committed stays =
+      let seq = ap (λ (s : Stamp). s.seq) stamp in
+      stays_before first mid last old m new k.committed (ap (λ (s : Stamp). s.epoch) stamp) (omega (arith, seq)) one.loses.group (map-path (λ d. Unit {0}) (λ d is. tt) k.gives.leaves.moments) stays
 
   commit_numbers : SpendsNumbers 1 mid last → SpendsNumbers 1 first last
   commit_numbers spends = ⊎_elim

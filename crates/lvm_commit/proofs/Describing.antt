@@ -14,8 +14,8 @@ use Rattle.lvm_kept.specs.Contents.{contents_of}
 use Rattle.lvm_kept.specs.Torn.{RecordWrite, IsOfRecord}
 use Rattle.lvm_status.specs.Update.{Stored}
 use Rattle.lvm_steps.specs.Moments.{ImagesKept}
-use Rattle.lvm_homes.specs.declared.homes.Homes.{Homes}
-use Rattle.lvm_homes.specs.Homes.{second_slots}
+use Rattle.lvm_rec.specs.declared.homes.Homes.{Homes}
+use Rattle.lvm_rec.specs.Homes.{second_slots}
 use Rattle.lvm_commit.specs.declared.commit.CommitEnd.{CommitEnd}
 use Rattle.lvm_commit.specs.declared.commit.CommitEnd.TheVariants as commit_end
 use Rattle.lvm_commit.specs.Committed.{next_stamp}
@@ -24,11 +24,11 @@ use Rattle.lvm_commit.specs.LawsOfFinding.{FindsNoMoreOn}
 use Rattle.lvm_commit.specs.Settling.{there, IsOf, SessionIsHeld, IsOfCommit, DescriptorStaysKept, DescriptorEnds}
 use Rattle.lvm_commit.specs.Rounds.{CommitsRound, stamped, session_write, HowRecord, RecordGives}
 use Rattle.lvm_commit.proofs.Chaining.{Goes, goes_from, record_returns}
-use Rattle.lvm_commit.proofs.Round.{record_goes, quorum_lost, some_failed, failed_is_missing, was_there_on}
+use Rattle.lvm_commit.proofs.Round.{record_goes, quorum_lost, some_failed, failed_is_missing, was_there_on, stamp_taken}
 use Rattle.lvm_commit.proofs.Ready.{spends_none}
-use Rattle.lvm_commit.proofs.Writes.{slot_two}
 use Rattle.lvm_commit.proofs.Holding.{with_told}
 use Rattle.lvm_commit.proofs.HoldingDescriptor.{descriptor_moment_kept, descriptor_moment_finds}
+use Rattle.lvm_write.proofs.Shows.{slot_two}
 
 module _ (first mid : Stored) (homes after : Homes) (old m : Device) (content : List ℕ) (number p q : ℕ) (r : CommitEnd)
     (gives : RecordGives (session_write kind.Descriptor content (stamped first) homes) number p q (stamped first) mid homes after old m r) where
@@ -39,13 +39,7 @@ module _ (first mid : Stored) (homes after : Homes) (old m : Device) (content : 
   describes = goes_from (IsOfRecord w) p q first mid (next_stamp first.stamp) old m (record_goes w number (stamped first) mid homes after old m refl p q r gives)
 
   pub stamp_is : mid.stamp ≡ next_stamp first.stamp
-  stamp_is = by_end r gives.how
-    where
-      by_end : (r : CommitEnd) → HowRecord w number p (stamped first) mid homes after old m r → mid.stamp ≡ next_stamp first.stamp
-      by_end (commit_end.Done buf) how = how.0.stamp
-      by_end (commit_end.WentOff have total buf) how = how.0.stamp
-      by_end commit_end.Dark how = how.1.stamp
-      by_end commit_end.Stuck how = how.1.stamp
+  stamp_is = stamp_taken w number p (stamped first) mid homes after old m r gives.how
 
   -- ---- at its end
 

@@ -58,25 +58,25 @@ held_before : (a b : Bool) → not a && b ≡ false → b ≡ true → a ≡ tru
 held_before true b e is = refl
 held_before false b e is = absurd (false≢true (sym e ∙ is))
 
+-- it goes on in flight, all that isn't written beside it as it was
+flies_on : (t : Status) (v x : Updates) (disk : ℕ) → x.group ≡ v.group → x.stamp ≡ v.stamp → x.unstarted ≡ v.unstarted → x.started ≡ without_disk v.started disk → x.in_flight ≡ Some t
+    → (is_held x ≡ true → x.in_flight ≡ Some x.committed) → EndsAs t v disk x
+flies_on t v x disk group stamp unstarted started flies held = record {
+  group = group;
+  stamp = stamp;
+  unstarted = λ d. ap (λ (set : Disks). set d) unstarted;
+  started = λ d. inl (ap (λ (set : Disks). set d) started);
+  flown = inl flies;
+  held = held;
+}
+
 -- it is committed by this write, or not
 commits_as : (t : Status) (v n : Updates) (disk : ℕ) → n.group ≡ v.group → n.stamp ≡ v.stamp → n.unstarted ≡ v.unstarted → n.started ≡ without_disk v.started disk → n.in_flight ≡ Some t → n.committed ≡ v.committed
     → (is_held v ≡ true → v.committed ≡ t) → (b : Bool) → not (is_held v) && is_held n ≡ b → EndsAs t v disk (if b then with_commit n else n)
-commits_as t v n disk group stamp unstarted started flies committed held true e = record {
-  group = group;
-  stamp = stamp;
-  unstarted = λ d. ap (λ (set : Disks). set d) unstarted;
-  started = λ d. inl (ap (λ (set : Disks). set d) started);
-  flown = inl flies;
-  held = λ is. flies ∙ ap (λ (o : Option Status). Some (unwrap_or o n.committed)) (sym flies);
-}
-commits_as t v n disk group stamp unstarted started flies committed held false e = record {
-  group = group;
-  stamp = stamp;
-  unstarted = λ d. ap (λ (set : Disks). set d) unstarted;
-  started = λ d. inl (ap (λ (set : Disks). set d) started);
-  flown = inl flies;
-  held = λ is. flies ∙ ap (λ (s : Status). Some s) (sym (held (held_before (is_held v) (is_held n) e is)) ∙ sym committed);
-}
+commits_as t v n disk group stamp unstarted started flies committed held true e =
+    flies_on t v (with_commit n) disk group stamp unstarted started flies (λ is. flies ∙ ap (λ (o : Option Status). Some (unwrap_or o n.committed)) (sym flies))
+commits_as t v n disk group stamp unstarted started flies committed held false e =
+    flies_on t v n disk group stamp unstarted started flies (λ is. flies ∙ ap (λ (s : Status). Some s) (sym (held (held_before (is_held v) (is_held n) e is)) ∙ sym committed))
 
 flies_still : (t : Status) (n : Updates) → n.in_flight ≡ Some t → (b : Bool) → (if b then with_commit n else n).in_flight ≡ Some t
 flies_still t n flies b = commit_cases (λ m. m.in_flight ≡ Some t) n b flies flies

@@ -1,5 +1,5 @@
 -- What quorums find of a session's group: the committed descriptor and the committed status.
-use Rattle.std.proofs.Common.{◌≡◌, inl, inr, ⊎_elim, ℕ, ◌<◌, Bool, true, false, List, Option, Some, refl, sym, ap, subst, ◌∙◌, eq-eqb}
+use Rattle.std.proofs.Common.{◌≡◌, ◌⊎◌, inl, inr, ⊎_elim, ℕ, ◌<◌, Bool, true, false, List, Option, Some, refl, sym, ap, subst, ◌∙◌, eq-eqb}
 use Rattle.std.specs.Prelude.{IsTrue, []}
 use Rattle.std.proofs.lemmas.Bool.{eqb-true}
 use Rattle.lvm_num.specs.declared.descriptor.Descriptor.{Descriptor}
@@ -12,7 +12,7 @@ use Rattle.lvm_num.proofs.VotesLemmas.{read_meets_write}
 use Rattle.lvm_vol.specs.Facts.{Fact}
 use Rattle.lvm_kept.specs.Contents.{Contents}
 use Rattle.lvm_kept.specs.Group.{passes, is_of, is_status_of, descriptor_among, Finds, IsFound, members_in, status_by, Reads}
-use Rattle.lvm_kept.specs.Committed.{DescriptorStands, StatusStands, IsWithinDisks}
+use Rattle.lvm_kept.specs.Committed.{Stands, DescriptorStands, StatusStands, IsWithinDisks}
 use Rattle.lvm_kept.specs.Kept.{Kept}
 use Rattle.lvm_kept.proofs.Finding.{some_same, offered, is_offered, offers, finding_reads, finds_descriptor, meets_writers, newest_among}
 use Rattle.lvm_steps.proofs.Booleans.{clash}
@@ -28,31 +28,28 @@ not_before X of on set n d r newest lt in_set shows own found =
     let same : newest ≡ last.0 = some_same newest last.0 (sym found ∙ last.1) in
     ap (λ (x : Stamped X). stamp_lt x.stamp r.stamp) same ∙ last.2
 
+-- a record that all of these have, and no other one that isn't earlier, stands with itself as the next one
+stands_alone : (X : Type 0) (of : X → Bool) (on : ℕ → Option (Stamped X)) (set : Disks) (now : Stamped X) → IsTrue (of now.value) → ((d : ℕ) → IsTrue (set d) → on d ≡ Some now)
+    → ((d : ℕ) (r : Stamped X) → on d ≡ Some r → IsTrue (of r.value) → (stamp_lt r.stamp now.stamp ≡ true) ⊎ (r ≡ now)) → Stands of on set now now
+stands_alone X of on set now own have newest = record {
+  own = own;
+  next_own = own;
+  later = inl refl;
+  have = λ d i. inl (have d i);
+  newest = λ d r is its. ⊎_elim (λ low. inl low) (λ same. inr (inl same)) (newest d r is its);
+}
+
 module _ (c : Contents) (group : Descriptor) (status : Status) (there : Disks) (shows : ShowsCommitted c group status there) where
   -- the committed records stand on the members that aren't missing
   pub descriptor_stands : DescriptorStands c group.id there shows.descriptor shows.descriptor
-  descriptor_stands = record {
-    own = own;
-    next_own = own;
-    later = inl refl;
-    have = λ d i. inl (shows.described d i);
-    newest = λ d r is its. ⊎_elim (λ low. inl low) (λ same. inr (inl same)) (shows.latest d r is (eqb-true r.value.id group.id its));
-  }
-    where
-      own : IsTrue (is_of group.id shows.descriptor.value)
-      own = eq-eqb shows.descriptor.value.id group.id (ap (λ (g : Descriptor). g.id) shows.value)
+  descriptor_stands =
+      stands_alone Descriptor (is_of group.id) c.descriptor there shows.descriptor (eq-eqb shows.descriptor.value.id group.id (ap (λ (g : Descriptor). g.id) shows.value)) shows.described
+      (λ d r is its. shows.latest d r is (eqb-true r.value.id group.id its))
 
   pub status_stands : StatusStands c group.id there shows.stands shows.stands
-  status_stands = record {
-    own = own;
-    next_own = own;
-    later = inl refl;
-    have = λ d i. inl (shows.stated d i);
-    newest = λ d r is its. ⊎_elim (λ low. inl low) (λ same. inr (inl same)) (shows.last d r is (eqb-true r.value.id group.id its));
-  }
-    where
-      own : IsTrue (is_status_of group.id shows.stands.value)
-      own = eq-eqb shows.stands.value.id group.id (ap (λ (s : Status). s.id) shows.committed ∙ shows.own)
+  status_stands =
+      stands_alone Status (is_status_of group.id) c.status there shows.stands (eq-eqb shows.stands.value.id group.id (ap (λ (s : Status). s.id) shows.committed ∙ shows.own)) shows.stated
+      (λ d r is its. shows.last d r is (eqb-true r.value.id group.id its))
 
   -- they show the group
   pub shows_group : (d : ℕ) → IsTrue (there d) → passes (is_of group.id) (c.descriptor d) ≡ true

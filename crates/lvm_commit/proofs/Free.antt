@@ -1,7 +1,6 @@
 -- A partition that no volume has: data of copies stands elsewhere.
-use Rattle.std.proofs.Common.{◌≡◌, inl, inr, ℕ, zero, suc, ◌+◌, ◌*◌, ◌%◌, ◌<◌, ◌≤◌, Bool, true, false, List, [], ◌∷◌, refl, sym, subst, take, drop, arith}
-use Rattle.std.specs.Prelude.{if◌then◌else◌, filter, Contains}
-use Rattle.std.specs.List.{AllByRecursion}
+use Rattle.std.proofs.Common.{◌≡◌, inl, inr, ℕ, zero, suc, ◌+◌, ◌*◌, ◌%◌, ◌<◌, ◌≤◌, List, [], ◌∷◌, sym, subst, take, drop, arith}
+use Rattle.std.specs.Prelude.{Contains}
 use Rattle.std.proofs.lemmas.Bool.{cases_lt}
 use Rattle.std.proofs.lemmas.List.Elements.{Contains-append_left, Contains-append_right}
 use Rattle.std.proofs.Math.Nat.{mul-le-mul_right, mod-lt}
@@ -35,15 +34,6 @@ of_volume : (rows : List LvRow) (row : LvRow) (p : Pp) → IsOneOf rows row → 
 of_volume [] row p volume one = absurd volume
 of_volume (r ∷ rows) row p (inl here) one = Contains-append_left r.map (partitions_in rows) p (one_contains r.map p (subst (λ (x : LvRow). IsOneOf x.map p) here one))
 of_volume (r ∷ rows) row p (inr there) one = Contains-append_right r.map (partitions_in rows) p (of_volume rows row p there one)
-
--- what holds of each that passes
-pub all_that_pass : {X : Type 0} (P : X → Type 0) (q : X → Bool) (xs : List X) → ((x : X) → IsOneOf xs x → q x ≡ true → P x) → AllByRecursion P (filter q xs)
-all_that_pass P q [] each = tt
-all_that_pass P q (x ∷ xs) each = by_test (q x) refl (all_that_pass P q xs (λ y one. each y (inr one)))
-  where
-    by_test : (t : Bool) → q x ≡ t → AllByRecursion P (filter q xs) → AllByRecursion P (if t then x ∷ filter q xs else filter q xs)
-    by_test true passed rest = (each x (inl refl) passed, rest)
-    by_test false passed rest = rest
 
 -- ---- sectors
 

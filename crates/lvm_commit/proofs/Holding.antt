@@ -16,7 +16,7 @@ use Rattle.lvm_disk.proofs.Stepping.{step_same}
 use Rattle.lvm_kept.specs.Plans.{ChangesBy}
 use Rattle.lvm_kept.specs.Torn.{RecordWrite, IsOfRecord, StandsOn}
 use Rattle.lvm_status.specs.Update.{Stored}
-use Rattle.lvm_homes.specs.declared.homes.Homes.{Homes}
+use Rattle.lvm_rec.specs.declared.homes.Homes.{Homes}
 use Rattle.lvm_write.specs.Written.{write_of, KeepsShelf, IsWriting, written_well}
 use Rattle.lvm_write.proofs.Writing.{told_at}
 use Rattle.lvm_stamps.specs.Laws.{IsNoLater, IsWhole}

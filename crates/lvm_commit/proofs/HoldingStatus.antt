@@ -17,7 +17,7 @@ use Rattle.lvm_kept.specs.Torn.{RecordWrite, IsOfRecord}
 use Rattle.lvm_status.specs.Update.{Stored}
 use Rattle.lvm_steps.specs.Moments.{StaysKept}
 use Rattle.lvm_steps.proofs.Making.{media_may}
-use Rattle.lvm_homes.specs.declared.homes.Homes.{Homes}
+use Rattle.lvm_rec.specs.declared.homes.Homes.{Homes}
 use Rattle.lvm_write.specs.Written.{KeepsShelf, IsWriting}
 use Rattle.lvm_write.proofs.Writing.{if_told, told_at, both_from}
 use Rattle.lvm_commit.specs.Committed.{next_stamp, MayMark, HoldsCommitted}

@@ -15,17 +15,18 @@ use Rattle.lvm_num.specs.Descriptor.{IsValid, IsMember, IsPartitionOf, is_member
 use Rattle.lvm_num.specs.Status.{calls_stale, calls_missing, calls_dirty}
 use Rattle.lvm_num.specs.Buffer.{Buffer}
 use Rattle.lvm_num.specs.Votes.{all_disks, votes_in, is_enough_to_write, CanWrite}
+use Rattle.lvm_num.proofs.ListLemmas.{any_one}
 use Rattle.lvm_disk.specs.Device.{Device, image_of}
 use Rattle.lvm_kept.specs.Contents.{Contents, contents_of}
 use Rattle.lvm_kept.specs.Group.{passes, is_of, members_in, IsOneOf}
-use Rattle.lvm_left.specs.Marking.{IsLeftIn, Marks, IsMarkable}
-use Rattle.lvm_left.proofs.MarkLemmas.{left_same, left_again}
+use Rattle.lvm_stale.specs.Marking.{IsLeft, IsLeftIn, Marks, IsMarkable}
+use Rattle.lvm_stale.proofs.MarkLemmas.{left_same, left_again}
 use Rattle.lvm_status.specs.Members.{HasItsRows}
 use Rattle.lvm_status.specs.Update.{Stored, members_there}
 use Rattle.lvm_status.proofs.Disks.{member-below}
 use Rattle.lvm_status.proofs.Sound.{and_left, not_false}
 use Rattle.lvm_steps.proofs.Booleans.{either, clash, second}
-use Rattle.lvm_homes.specs.declared.homes.Homes.{Homes}
+use Rattle.lvm_rec.specs.declared.homes.Homes.{Homes}
 use Rattle.lvm_write.proofs.Writing.{if_told, told_at}
 use Rattle.lvm_commit.specs.Committed.{MayMark, HoldsCommitted}
 use Rattle.lvm_commit.specs.Settling.{there, IsForgotten, IsOf, SessionIsHeld, WantsMarks, IsPassedOver, MarksLeft}
@@ -57,14 +58,6 @@ any_of failed (row ∷ rows) d among fails = by_test (row.disk == d) refl among 
         → failed row.disk || list_any (λ (r : PvRow). failed r.disk) rows ≡ true
     by_test true is among rest = front (failed row.disk) (list_any (λ (r : PvRow). failed r.disk) rows) (ap failed (eqb-true row.disk d is) ∙ fails)
     by_test false is among rest = behind (failed row.disk) (list_any (λ (r : PvRow). failed r.disk) rows) (rest among fails)
-
-some_one : (test : Pp → Bool) (xs : List Pp) → IsTrue (list_any test xs) → (x : Pp) × IsOneOf xs x × IsTrue (test x)
-some_one test [] is = absurd (false≢true is)
-some_one test (y ∷ ys) is = by_test (test y) refl (some_one test ys) is
-  where
-    by_test : (t : Bool) → test y ≡ t → (IsTrue (list_any test ys) → (x : Pp) × IsOneOf ys x × IsTrue (test x)) → IsTrue (t || list_any test ys) → (x : Pp) × IsOneOf (y ∷ ys) x × IsTrue (test x)
-    by_test true e further is = (y, inl refl, e)
-    by_test false e further is = let rest = further is in (rest.0, inr rest.1, rest.2)
 
 -- ---- what may be marked
 
@@ -139,29 +132,19 @@ module _ (d : Descriptor) (first mid last : Stored) (failed : Disks) (misses : M
       there_same : there last ≡ there mid
       there_same = λ i e. is_member (group_same i) e && not (marks.missing e i)
 
+      -- a copy that is left behind under the one table is so under the other, if each logical partition's are
+      left_so : (old now : Status) → ((row : LvRow) (lp : ℕ) (p : Pp) → IsLeft (there mid) old (copies_of row lp) p → IsLeft (there mid) now (copies_of row lp) p) → (p : Pp) → IsLeftIn (there mid) old d.lvs p
+          → IsLeftIn (there mid) now d.lvs p
+      left_so old now keeps p is = record { row = is.row; volume = is.volume; left = record { lp = is.left.lp; below = is.left.below; left = keeps is.row is.left.lp p is.left.left } }
+
       on_last : (p : Pp) → IsLeftIn (there mid) mid.wanted d.lvs p → IsLeftIn (there last) last.wanted d.lvs p
-      on_last p left = subst (λ (set : Disks). IsLeftIn set last.wanted d.lvs p) (sym there_same) (record {
-        row = left.row;
-        volume = left.volume;
-        left = record {
-          lp = left.left.lp;
-          below = left.left.below;
-          left = left_again (there mid) (IsLeftIn (there mid) mid.wanted d.lvs) mid.wanted last.wanted (copies_of left.row left.left.lp) marks p left.left.left;
-        };
-      })
+      on_last p left = subst (λ (set : Disks). IsLeftIn set last.wanted d.lvs p) (sym there_same)
+          (left_so mid.wanted last.wanted (λ row lp p is. left_again (there mid) (IsLeftIn (there mid) mid.wanted d.lvs) mid.wanted last.wanted (copies_of row lp) marks p is) p left)
 
       on_mid : (p : Pp) → IsLeftIn (there last) last.wanted d.lvs p → IsLeftIn (there mid) mid.wanted d.lvs p
       on_mid p is =
-          let left = subst (λ (set : Disks). IsLeftIn set last.wanted d.lvs p) there_same is in
-          record {
-            row = left.row;
-            volume = left.volume;
-            left = record {
-              lp = left.left.lp;
-              below = left.left.below;
-              left = left_same (there mid) (IsLeftIn (there mid) mid.wanted d.lvs) mid.wanted last.wanted (copies_of left.row left.left.lp) marks p left.left.left;
-            };
-          }
+          left_so last.wanted mid.wanted (λ row lp p left. left_same (there mid) (IsLeftIn (there mid) mid.wanted d.lvs) mid.wanted last.wanted (copies_of row lp) marks p left) p
+          (subst (λ (set : Disks). IsLeftIn set last.wanted d.lvs p) there_same is)
 
     last_forgotten : IsForgotten first → IsForgotten last
     last_forgotten was = subst IsForgotten (sym marked.rest) (forgotten was)
@@ -217,7 +200,7 @@ module _ (d : Descriptor) (first last : Stored) (valid : IsValid d) (round : Mar
       → (q : Pp) × IsOneOf (copies_of row lp) q × IsFalse (calls_stale last.wanted q) × IsTrue (there last q.disk)
   other_of p left row lp volume copy =
       let place = one_place d row left.row lp left.left.lp p valid volume left.volume copy left.left.left.one in
-      let q = some_one (λ (r : Pp). there last r.disk && not (calls_stale last.wanted r)) (copies_of left.row left.left.lp) left.left.left.served in (
+      let q = any_one (λ (r : Pp). there last r.disk && not (calls_stale last.wanted r)) (copies_of left.row left.left.lp) left.left.left.served in (
         q.0,
         subst (λ (r : LvRow). IsOneOf (copies_of r lp) q.0) (sym place.row_is) (subst (λ (n : ℕ). IsOneOf (copies_of left.row n) q.0) (sym place.lp_is) q.1),
         not_false (calls_stale last.wanted q.0) (second (there last q.0.disk) (not (calls_stale last.wanted q.0)) q.2),

@@ -21,7 +21,7 @@ use Rattle.lvm_steps.proofs.Booleans.{either, clash}
 use Rattle.lvm_steps.proofs.Making.{media_may}
 use Rattle.lvm_write.proofs.Writing.{if_told, told_at, both_at}
 use Rattle.lvm_commit.specs.LawsOfFinding.{FindsNothingNew, FindsNoMore, DescriptorFindsNoMore, RestFindsNothingNew, FindsNothingNewOn, FindsNoMoreOn, TransferFindsNothingNew}
-use Rattle.lvm_steps.proofs.FindsLemmas.{still_finds}
+use Rattle.lvm_kept.proofs.FindsLemmas.{still_finds}
 use Rattle.lvm_commit.proofs.Still.{still_image, data_differs}
 
 -- ---- by fewer disks

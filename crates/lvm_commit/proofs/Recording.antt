@@ -8,8 +8,8 @@ use Rattle.lvm_num.specs.declared.status.Status.{Status}
 use Rattle.lvm_disk.specs.Device.{Device}
 use Rattle.lvm_kept.specs.Torn.{RecordWrite, IsOfRecord}
 use Rattle.lvm_status.specs.Update.{Stored}
-use Rattle.lvm_homes.specs.declared.homes.Homes.{Homes}
-use Rattle.lvm_homes.specs.Homes.{Flips}
+use Rattle.lvm_rec.specs.declared.homes.Homes.{Homes}
+use Rattle.lvm_rec.specs.Homes.{Flips}
 use Rattle.lvm_write.specs.Written.{StandsTold, write_of, IsDarkened, IsGivenUp}
 use Rattle.lvm_write.specs.declared.write.Wrote.{Wrote}
 use Rattle.lvm_write.specs.Writes.{RecordWritesEnd, DiskWritesLeave, EachTried}

@@ -14,7 +14,7 @@ use Rattle.lvm_disk.specs.Device.{Device}
 use Rattle.lvm_kept.specs.Torn.{RecordWrite, IsOfRecord}
 use Rattle.lvm_status.specs.Update.{Stored, members_there}
 use Rattle.lvm_steps.proofs.Booleans.{either, clash, first as left_of}
-use Rattle.lvm_homes.specs.declared.homes.Homes.{Homes}
+use Rattle.lvm_rec.specs.declared.homes.Homes.{Homes}
 use Rattle.lvm_write.specs.Written.{KeepsShelf}
 use Rattle.lvm_commit.specs.declared.commit.CommitEnd.{CommitEnd}
 use Rattle.lvm_commit.specs.declared.commit.CommitEnd.TheVariants as commit_end
@@ -22,6 +22,15 @@ use Rattle.lvm_commit.specs.Settling.{there, many_there, OnlyLoses, HasLostQuoru
 use Rattle.lvm_commit.specs.Rounds.{HasFew, WasTried, HowRecord, RecordGives}
 use Rattle.lvm_commit.proofs.Counting.{counts_less, counts_fewer}
 use Rattle.lvm_commit.proofs.Chaining.{Goes, path_counts, loses_same, record_loses, was_there}
+
+-- ---- the stamp
+
+-- it is taken, whatever the end
+pub stamp_taken : (w : RecordWrite) (number before : ℕ) (first last : Stored) (slots next : Homes) (old new : Device) (r : CommitEnd) → HowRecord w number before first last slots next old new r → last.stamp ≡ first.stamp
+stamp_taken w number before first last slots next old new (commit_end.Done buf) how = how.0.stamp
+stamp_taken w number before first last slots next old new (commit_end.WentOff have total buf) how = how.0.stamp
+stamp_taken w number before first last slots next old new commit_end.Dark how = how.1.stamp
+stamp_taken w number before first last slots next old new commit_end.Stuck how = how.1.stamp
 
 -- ---- how many are there
 

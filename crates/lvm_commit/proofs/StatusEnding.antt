@@ -12,7 +12,7 @@ use Rattle.lvm_kept.specs.Contents.{contents_of}
 use Rattle.lvm_kept.specs.Plans.{ChangesBy}
 use Rattle.lvm_status.specs.Update.{Stored}
 use Rattle.lvm_steps.proofs.Making.{media_may}
-use Rattle.lvm_homes.specs.declared.homes.Homes.{Homes}
+use Rattle.lvm_rec.specs.declared.homes.Homes.{Homes}
 use Rattle.lvm_write.proofs.Transfers.{darkened_then, given_up_then}
 use Rattle.lvm_write.proofs.Writing.{told_at, both_map}
 use Rattle.lvm_commit.specs.declared.commit.CommitEnd.{CommitEnd}

@@ -13,20 +13,19 @@ use Rattle.lvm_disk.proofs.Paths.{map-path, last-path}
 use Rattle.lvm_kept.specs.Torn.{RecordWrite, IsOfRecord}
 use Rattle.lvm_status.specs.Update.{Stored}
 use Rattle.lvm_steps.specs.Moments.{StaysKept}
-use Rattle.lvm_homes.specs.declared.homes.Homes.{Homes}
-use Rattle.lvm_homes.specs.Homes.{second_slots}
+use Rattle.lvm_rec.specs.declared.homes.Homes.{Homes}
+use Rattle.lvm_rec.specs.Homes.{second_slots}
 use Rattle.lvm_vgsa.proofs.RoundTrip.{is_read_again}
 use Rattle.lvm_commit.specs.declared.commit.CommitEnd.{CommitEnd}
-use Rattle.lvm_commit.specs.declared.commit.CommitEnd.TheVariants as commit_end
 use Rattle.lvm_commit.specs.Committed.{next_stamp}
 use Rattle.lvm_commit.specs.LawsOfFinding.{FindsNothingNewOn}
 use Rattle.lvm_commit.specs.Settling.{there, MaySettle, IsOf, OnlyLoses, IsOfStatus, IsOneRecord, WantsMarks, SessionIsHeld, ComesBack}
-use Rattle.lvm_commit.specs.Rounds.{WasTried, HowRecord, RecordGives, stamped, session_write}
+use Rattle.lvm_commit.specs.Rounds.{WasTried, RecordGives, stamped, session_write}
 use Rattle.lvm_commit.proofs.Chaining.{Goes, keeps_wider, record_returns, was_there}
-use Rattle.lvm_commit.proofs.Round.{record_goes, none_or_some, failed_is_missing}
-use Rattle.lvm_commit.proofs.Writes.{slot_two}
+use Rattle.lvm_commit.proofs.Round.{record_goes, none_or_some, failed_is_missing, stamp_taken}
 use Rattle.lvm_commit.proofs.Holding.{with_told}
 use Rattle.lvm_commit.proofs.HoldingStatus.{status_moment_kept, status_moment_finds, status_holds}
+use Rattle.lvm_write.proofs.Shows.{slot_two}
 
 -- ---- whose sectors are written
 
@@ -40,13 +39,7 @@ module _ (d : Descriptor) (now last : Stored) (slots next : Homes) (mid new : De
   reads = is_read_again now.wanted valid
 
   pub stamp_then : last.stamp ≡ next_stamp now.stamp
-  stamp_then = by_end result gives.how
-    where
-      by_end : (r : CommitEnd) → HowRecord w number left (stamped now) last slots next mid new r → last.stamp ≡ next_stamp now.stamp
-      by_end (commit_end.Done buf) how = how.0.stamp
-      by_end (commit_end.WentOff have total buf) how = how.0.stamp
-      by_end commit_end.Dark how = how.1.stamp
-      by_end commit_end.Stuck how = how.1.stamp
+  stamp_then = stamp_taken w number left (stamped now) last slots next mid new result gives.how
 
   of_status : (e s : ℕ) (value : Sector) → IsOfRecord w e s value → IsOfStatus now last e s value
   of_status e s value is =

@@ -20,7 +20,7 @@ use Rattle.lvm_stale.specs.Table.{SameMissing}
 use Rattle.lvm_steps.specs.Moments.{StaysKept}
 use Rattle.lvm_status.proofs.Sound.{and_left, not_false}
 use Rattle.lvm_steps.proofs.Booleans.{clash, second}
-use Rattle.lvm_homes.specs.declared.homes.Homes.{Homes}
+use Rattle.lvm_rec.specs.declared.homes.Homes.{Homes}
 use Rattle.lvm_write.proofs.Transfers.{keeps_here, spends_none as none_waited}
 use Rattle.lvm_write.proofs.Writing.{if_told}
 use Rattle.lvm_commit.specs.declared.commit.CommitEnd.{CommitEnd}

@@ -1,6 +1,7 @@
 -- The next status of a session keeps the history.
 use Rattle.std.proofs.Common.{◌≡◌, inl, inr, ⊎_elim, ℕ, ◌<◌, Bool, true, false, ◌&&◌, List, [], ◌∷◌, ◌++◌, Option, Some, refl, sym, subst, ◌∙◌}
 use Rattle.std.specs.Prelude.{IsTrue, not}
+use Rattle.std.proofs.lemmas.Bool.{and_from, not-true, not_from_false}
 use Rattle.lvm_num.specs.Geometry.{track_group_of}
 use Rattle.lvm_num.specs.Status.{calls_stale, calls_dirty}
 use Rattle.lvm_num.specs.declared.place.Pp.{Pp}
@@ -13,6 +14,7 @@ use Rattle.lvm_num.specs.Disks.{Disks}
 use Rattle.lvm_num.specs.Descriptor.{copies_of}
 use Rattle.lvm_num.specs.Votes.{all_disks}
 use Rattle.lvm_num.specs.Record.{Stamped}
+use Rattle.lvm_num.proofs.ListLemmas.{of_passing}
 use Rattle.lvm_vol.specs.declared.entry.Vol.TheVariants.{Lv}
 use Rattle.lvm_vol.specs.Facts.{Fact, Cut}
 use Rattle.lvm_vol.specs.May.{Known, known, IsValue}
@@ -29,7 +31,6 @@ use Rattle.lvm_steps.proofs.Booleans.{either, split}
 use Rattle.lvm_steps.proofs.Making.{stays_by}
 use Rattle.lvm_steps.proofs.ServesLemmas.{serving, put_keeps}
 use Rattle.lvm_commit.specs.Committed.{MayMark}
-use Rattle.lvm_commit.proofs.Free.{all_that_pass}
 use Rattle.lvm_commit.specs.Laws.{MayFollow, StatusFollows, StatusGoesOn}
 use Rattle.lvm_commit.proofs.Found.{shows_group, only_found, status_read}
 use Rattle.lvm_steps.proofs.PassingLemmas.{at_passing, some_passing, one_passes}
@@ -48,18 +49,6 @@ no_true : {X : Type 0} (t : Bool) → t ≡ true → t ≡ false → X
 no_true true a b = absurd cc
 no_true false a b = absurd cc
 
-both_of : (a b : Bool) → a ≡ true → b ≡ true → (a && b) ≡ true
-both_of true b h k = k
-both_of false b h k = absurd cc
-
-not_so : (b : Bool) → not b ≡ true → b ≡ false
-not_so true h = absurd cc
-not_so false h = refl
-
-so_not : (b : Bool) → b ≡ false → not b ≡ true
-so_not true h = absurd cc
-so_not false h = refl
-
 -- ---- a status with the marks of another, and further ones
 
 module _ (c : Contents) (group : Descriptor) (was next : Stamped Status) (marks : MayMark c group was.value next.value) where
@@ -70,8 +59,8 @@ module _ (c : Contents) (group : Descriptor) (was next : Stamped Status) (marks 
   still_fresh : (set : Disks) (row : LvRow) (lp : ℕ) (p : Pp) → IsOneOf group.lvs row → IsOneOf (copies_of row lp) p → passing next set p ≡ true → passing was set p ≡ true
   still_fresh set row lp p one copy is =
       let parts = split (set p.disk) (not (is_stale_by (Some next) p)) is in
-      both_of (set p.disk) (not (is_stale_by (Some was) p)) parts.0 (so_not (is_stale_by (Some was) p) (⊎_elim
-      (λ (stale : is_stale_by (Some was) p ≡ true). no_true (is_stale_by (Some next) p) (marks.stale row lp p one copy stale) (not_so (is_stale_by (Some next) p) parts.1))
+      and_from (set p.disk) (not (is_stale_by (Some was) p)) parts.0 (not_from_false (is_stale_by (Some was) p) (⊎_elim
+      (λ (stale : is_stale_by (Some was) p ≡ true). no_true (is_stale_by (Some next) p) (marks.stale row lp p one copy stale) (not-true (is_stale_by (Some next) p) parts.1))
       (λ fresh. fresh)
       (either (is_stale_by (Some was) p))))
 
@@ -79,12 +68,12 @@ module _ (c : Contents) (group : Descriptor) (was next : Stamped Status) (marks 
   marked_blocks facts set blocks row lp b one inside =
       let kept = blocks row lp b one inside in
       record {
-        allowed = all_that_pass (λ p. IsValue k (block_at c group.mib p b)) (passing next set) (copies_of row lp) (λ p copy is.
+        allowed = of_passing (λ p. IsValue k (block_at c group.mib p b)) (passing next set) (copies_of row lp) (λ p copy is.
             at_passing (λ p. IsValue k (block_at c group.mib p b)) (passing was set) (copies_of row lp) kept.allowed p copy (still_fresh set row lp p one copy is));
         equal = ⊎_elim
             (λ (hold : HoldOne c group.mib (fresh_on set (Some was) row lp) b). inl (
               hold.0,
-              all_that_pass (λ p. block_at c group.mib p b ≡ hold.0) (passing next set) (copies_of row lp) (λ p copy is.
+              of_passing (λ p. block_at c group.mib p b ≡ hold.0) (passing next set) (copies_of row lp) (λ p copy is.
                   at_passing (λ p. block_at c group.mib p b ≡ hold.0) (passing was set) (copies_of row lp) hold.1 p copy (still_fresh set row lp p one copy is)),
             ))
             (λ differ. inr (by row.mode refl differ))
@@ -95,7 +84,7 @@ module _ (c : Contents) (group : Descriptor) (was next : Stamped Status) (marks 
       k = known (facts ++ Cut ∷ []) (Lv row.number) b
 
       by : (m : Mode) → row.mode ≡ m → MayDiffer c (Some was) row.number m (fresh_on set (Some was) row lp) k b → MayDiffer c (Some next) row.number m (fresh_on set (Some next) row lp) k b
-      by Active is named = all_that_pass (λ p. IsTrue (is_named c p.disk row.number (track_group_of b))) (passing next set) (copies_of row lp) (λ p copy passed.
+      by Active is named = of_passing (λ p. IsTrue (is_named c p.disk row.number (track_group_of b))) (passing next set) (copies_of row lp) (λ p copy passed.
           at_passing (λ p. IsTrue (is_named c p.disk row.number (track_group_of b))) (passing was set) (copies_of row lp) named p copy (still_fresh set row lp p one copy passed))
       by Passive is dirty = marks.dirty row one is dirty
       by Off is loose = loose
@@ -107,10 +96,10 @@ module _ (c : Contents) (group : Descriptor) (was next : Stamped Status) (marks 
       let parts = split (members p.0.disk) (not (is_stale_by (Some was) p.0)) p.2 in
       ⊎_elim
       (λ (stale : is_stale_by (Some next) p.0 ≡ true). ⊎_elim
-      (λ (was_so : IsTrue (calls_stale was.value p.0)). no_true (calls_stale was.value p.0) was_so (not_so (is_stale_by (Some was) p.0) parts.1))
-      (λ other. one_passes (passing next members) (copies_of row lp) other.0 other.1 (both_of (members other.0.disk) (not (is_stale_by (Some next) other.0)) other.3 (so_not (is_stale_by (Some next) other.0) other.2)))
+      (λ (was_so : IsTrue (calls_stale was.value p.0)). no_true (calls_stale was.value p.0) was_so (not-true (is_stale_by (Some was) p.0) parts.1))
+      (λ other. one_passes (passing next members) (copies_of row lp) other.0 other.1 (and_from (members other.0.disk) (not (is_stale_by (Some next) other.0)) other.3 (not_from_false (is_stale_by (Some next) other.0) other.2)))
       (marks.added row lp p.0 one low p.1 stale))
-      (λ fresh. one_passes (passing next members) (copies_of row lp) p.0 p.1 (both_of (members p.0.disk) (not (is_stale_by (Some next) p.0)) parts.0 (so_not (is_stale_by (Some next) p.0) fresh)))
+      (λ fresh. one_passes (passing next members) (copies_of row lp) p.0 p.1 (and_from (members p.0.disk) (not (is_stale_by (Some next) p.0)) parts.0 (not_from_false (is_stale_by (Some next) p.0) fresh)))
       (either (is_stale_by (Some next) p.0))
 
 -- ---- the next one

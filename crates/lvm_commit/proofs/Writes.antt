@@ -1,5 +1,5 @@
 -- A record of the session may be written, and once it stands what is committed is held.
-use Rattle.std.proofs.Common.{◌≡◌, ◌⊎◌, inl, inr, ⊎_elim, ℕ, ◌<◌, Bool, true, false, List, Some, Result, Ok, refl, sym, ap, subst, ◌∙◌, arith}
+use Rattle.std.proofs.Common.{◌≡◌, ◌⊎◌, inl, inr, ⊎_elim, ℕ, Bool, true, List, Some, Result, Ok, refl, sym, ap, subst, ◌∙◌, arith}
 use Rattle.std.specs.Prelude.{IsTrue, not, if◌then◌else◌}
 use Rattle.std.proofs.lemmas.Bool.Decides.{nat_tests}
 use Rattle.lvm_num.specs.declared.record.Kind.{Kind}
@@ -21,11 +21,11 @@ use Rattle.lvm_kept.proofs.Contained.{room-same}
 use Rattle.lvm_kept.proofs.Finding.{images_within}
 use Rattle.lvm_kept.proofs.Records.{descriptor_shows, status_shows, wider, whole_is_new}
 use Rattle.lvm_steps.proofs.Committing.{commit_keeps}
-use Rattle.lvm_homes.specs.declared.homes.Homes.{Homes}
-use Rattle.lvm_homes.specs.Homes.{second_slots, next_slot}
+use Rattle.lvm_rec.specs.declared.homes.Homes.{Homes}
+use Rattle.lvm_rec.specs.Homes.{second_slots, next_slot}
 use Rattle.lvm_write.specs.Written.{write_of}
 use Rattle.lvm_write.specs.Shows.{IsSlotFit}
-use Rattle.lvm_write.proofs.Shows.{descriptor_may_be_written, status_may_be_written}
+use Rattle.lvm_write.proofs.Shows.{descriptor_may_be_written, status_may_be_written, slot_two, turns}
 use Rattle.lvm_stamps.specs.Behind.{StampsBefore}
 use Rattle.lvm_stamps.specs.Laws.{IsNoLater, IsWhole}
 use Rattle.lvm_stamps.proofs.Records.{later_may_go}
@@ -44,17 +44,6 @@ use Rattle.lvm_commit.proofs.Volumes.{next_is_later, committed_may_commit}
 
 before_next : (s : Stamp) → stamp_lt s (next_stamp s) ≡ true
 before_next s = grind (arith, nat_tests)
-
-pub slot_two : (t : Bool) → (if t then 1 else 0) < 2
-slot_two true = omega arith
-slot_two false = omega arith
-
--- the other slot of the two
-turns : (t : Bool) (slot : ℕ) → ((◌≡◌ {A = ℕ} (if t then 1 else 0) 0) × (slot ≡ 1)) ⊎ ((◌≡◌ {A = ℕ} (if t then 1 else 0) 1) × (slot ≡ 0)) → ◌≡◌ {A = ℕ} (if not t then 1 else 0) slot
-turns true slot (inl is) = let wrong = is.0 in absurd (omega (arith, wrong))
-turns true slot (inr is) = sym is.1
-turns false slot (inl is) = sym is.1
-turns false slot (inr is) = let wrong = is.0 in absurd (omega (arith, wrong))
 
 differ : kind.Descriptor ≡ kind.Status → ⊥
 differ e = absurd cc

@@ -15,7 +15,7 @@ use Rattle.lvm_disk.specs.Device.{Image}
 use Rattle.lvm_kept.specs.Contents.{Contents, contents_of, has_records}
 use Rattle.lvm_kept.specs.Group.{has_room, Finds, members_in, IsOneOf}
 pub use Rattle.lvm_kept.specs.Group.{IsAlike}
-use Rattle.lvm_homes.specs.declared.homes.Homes.{Homes}
+use Rattle.lvm_rec.specs.declared.homes.Homes.{Homes}
 use Rattle.lvm_write.specs.Homes.{SparesNewest}
 use Rattle.lvm_stamps.specs.Behind.{StampsBefore}
 

@@ -19,7 +19,7 @@ use Rattle.lvm_kept.specs.Places.{SameRecords}
 use Rattle.lvm_kept.specs.Raw.{OnlyAdds}
 use Rattle.lvm_steps.specs.Moments.{StaysKept}
 use Rattle.lvm_steps.specs.Requests.{IsOfData}
-use Rattle.lvm_homes.specs.declared.homes.Homes.{Homes}
+use Rattle.lvm_rec.specs.declared.homes.Homes.{Homes}
 use Rattle.lvm_commit.specs.Committed.{ShowsCommitted, HoldsCommitted}
 
 -- ---- where it may go

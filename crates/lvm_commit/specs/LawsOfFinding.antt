@@ -17,7 +17,7 @@ use Rattle.lvm_kept.specs.Plans.{ChangesBy}
 use Rattle.lvm_kept.specs.Raw.{OnlyAdds}
 use Rattle.lvm_kept.specs.Torn.{IsOfRecord, DescriptorsChange}
 use Rattle.lvm_steps.specs.Requests.{IsOfData}
-use Rattle.lvm_homes.specs.declared.homes.Homes.{Homes}
+use Rattle.lvm_rec.specs.declared.homes.Homes.{Homes}
 use Rattle.lvm_write.specs.Written.{write_of}
 use Rattle.lvm_stamps.specs.Laws.{IsNoLater, IsWhole}
 use Rattle.lvm_commit.specs.Committed.{next_stamp, HoldsCommitted}

@@ -16,8 +16,8 @@ use Rattle.lvm_kept.specs.Contents.{contents_of}
 use Rattle.lvm_kept.specs.Kept.{Kept}
 use Rattle.lvm_kept.specs.Plans.{ChangesBy}
 use Rattle.lvm_kept.specs.Torn.{RecordWrite, IsOfRecord, StandsOn, MayWriteAll}
-use Rattle.lvm_homes.specs.declared.homes.Homes.{Homes}
-use Rattle.lvm_homes.specs.Homes.{Flips}
+use Rattle.lvm_rec.specs.declared.homes.Homes.{Homes}
+use Rattle.lvm_rec.specs.Homes.{Flips}
 use Rattle.lvm_write.specs.Written.{write_of}
 use Rattle.lvm_stamps.specs.Laws.{IsNoLater, IsWhole}
 use Rattle.lvm_commit.specs.Committed.{next_stamp, IsAlike, MayMark, HoldsCommitted}

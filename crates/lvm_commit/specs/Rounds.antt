@@ -13,10 +13,10 @@ use Rattle.lvm_num.specs.Votes.{votes_in, total_votes, is_enough_to_write, CanWr
 use Rattle.lvm_disk.specs.Device.{Device, IsReady}
 use Rattle.lvm_kept.specs.Torn.{RecordWrite, IsOfRecord}
 use Rattle.lvm_stale.specs.Table.{SameStale}
-use Rattle.lvm_left.specs.Marking.{IsLeftIn, Marks}
+use Rattle.lvm_stale.specs.Marking.{IsLeftIn, Marks}
 use Rattle.lvm_status.specs.Update.{Stored, no_disks}
-use Rattle.lvm_homes.specs.declared.homes.Homes.{Homes}
-use Rattle.lvm_homes.specs.Homes.{Flips}
+use Rattle.lvm_rec.specs.declared.homes.Homes.{Homes}
+use Rattle.lvm_rec.specs.Homes.{Flips}
 use Rattle.lvm_write.specs.declared.write.Wrote.{Wrote}
 use Rattle.lvm_write.specs.Writes.{RecordWritesEnd, DiskWritesLeave}
 use Rattle.lvm_write.specs.Written.{write_of, EndsOn, StandsTold, written_well, IsDarkened, IsGivenUp}

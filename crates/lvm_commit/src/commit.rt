@@ -6,8 +6,8 @@ ghost use Rattle.lvm_commit.specs.Settling.{EndsAtOnce, MayCommit, IsContentOf, 
 
 use crate::write::{is_committed, write_descriptor, write_wanted};
 use lvm_disk::Shelf;
-use lvm_homes::Homes;
 use lvm_num::{Descriptor, Pbuf};
+use lvm_rec::Homes;
 use lvm_status::Updater;
 use lvm_transfer::Patience;
 

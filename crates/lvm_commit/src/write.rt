@@ -17,8 +17,8 @@ ghost use Rattle.lvm_commit.specs.Rounds.{IsInFlight, Starts, IsSent, HasEnded, 
 
 use crate::commit::CommitEnd;
 use lvm_disk::Shelf;
-use lvm_homes::Homes;
 use lvm_num::{Descriptor, DiskSet, Kind, Pbuf, Stamp};
+use lvm_rec::Homes;
 use lvm_status::{Change, Updater, members_there};
 use lvm_transfer::Patience;
 use lvm_vgsa::encode_into;

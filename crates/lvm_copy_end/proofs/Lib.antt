@@ -1,2 +1,5 @@
 mod Leaving
 pub mod Marks
+mod Entailing
+pub mod Left
+pub mod Reviewing

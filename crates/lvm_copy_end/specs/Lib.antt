@@ -1,1 +1,4 @@
 pub mod Ending
+pub mod Losing
+pub mod Left
+pub mod Reviewing

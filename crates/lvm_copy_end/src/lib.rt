@@ -1,8 +1,16 @@
-//! The copy that is open ends.
+//! The copy that is open ends: what ends of transfers entail for it, and what follows of a change of what is
+//! missing or committed.
 #![tactic(auto)]
 
+mod behind;
 mod ending;
+mod entailed;
+mod hits;
+mod judged;
 mod marking;
+mod steps;
 
 pub use ending::{end_copy, end_copy_if, leave_if_inside};
+pub use entailed::entail;
 pub use marking::is_whole;
+pub use steps::review;

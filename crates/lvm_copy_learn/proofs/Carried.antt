@@ -11,7 +11,7 @@ use Rattle.lvm_num.specs.declared.descriptor.Descriptor.{Descriptor}
 use Rattle.lvm_num.specs.declared.place.Pp.{Pp}
 use Rattle.lvm_num.specs.declared.status.Status.{Status}
 use Rattle.lvm_num.specs.Descriptor.{IsPartitionOf, IsValid, is_size, volume_of}
-use Rattle.lvm_left.proofs.MarkLemmas.{has_row-same}
+use Rattle.lvm_stale.proofs.MarkLemmas.{has_row-same}
 use Rattle.lvm_stale.specs.Table.{SameMembers, is_pp}
 use Rattle.lvm_status.specs.declared.change.Change.TheVariants as change
 use Rattle.lvm_status.specs.Calls.{IsMarkable}
@@ -34,8 +34,8 @@ use Rattle.lvm_over.specs.Hands.{IsOutIf}
 use Rattle.lvm_copies.proofs.Members.{copies_in_are, place_of}
 use Rattle.lvm_copy_end.specs.Ending.{CanEnd, MayEndCopy}
 use Rattle.lvm_session.specs.Sound.{IsCopy, IsReadFrom}
-use Rattle.lvm_review.specs.Reviewing.{IsLocated, MayReview}
-use Rattle.lvm_review.proofs.Reviewing.{markable}
+use Rattle.lvm_copy_end.specs.Reviewing.{IsLocated, MayReview}
+use Rattle.lvm_copy_end.proofs.Reviewing.{markable}
 use Rattle.lvm_ends.specs.Ended.{HasEnded}
 use Rattle.lvm_ends.proofs.Ended.{among_all, its_copy, its_place, was_out}
 use Rattle.lvm_copy_learn.specs.Carried.{MayPass, Passes}

@@ -14,8 +14,8 @@ use Rattle.lvm_session.specs.State.{Core}
 use Rattle.lvm_session.specs.Judging.{is_running, is_waiting, place_of}
 use Rattle.lvm_session.specs.Bringing.{has_row, is_out, is_whole, step_place, step_row}
 use Rattle.lvm_session.specs.Sound.{IsCopy, IsGoing, waiting_rows, with_row}
-use Rattle.lvm_submit.proofs.Numbered.{below_next}
-use Rattle.lvm_submit.proofs.Rows.{few_waiting, row_of}
+use Rattle.lvm_calls.proofs.Numbered.{below_next}
+use Rattle.lvm_calls.proofs.Rows.{few_waiting, row_of}
 
 -- ---- it leaves
 

@@ -8,8 +8,8 @@ ghost use Rattle.lvm_session.specs.Ends.{GoesOn, with_copy};
 ghost use Rattle.lvm_session.specs.Marks.{WantsFresh};
 ghost use Rattle.lvm_copy_learn.specs.Carried.{MayGoOn, MayPass, MovesTo, Passes};
 
+use lvm_calls::{enter_step, step_place};
 use lvm_copy_end::is_whole;
-use lvm_copy_step::{enter_step, step_place};
 use lvm_num::DiskSet;
 use lvm_session::{OpenCopy, Session, Step};
 use lvm_status::Change;

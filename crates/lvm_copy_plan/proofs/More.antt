@@ -10,6 +10,7 @@ use Rattle.lvm_num.specs.declared.descriptor.LvRow.{LvRow}
 use Rattle.lvm_num.specs.declared.descriptor.Descriptor.{Descriptor}
 use Rattle.lvm_num.specs.Descriptor.{IsPartitionOf, IsValid, copies_of, partitions_used, volume_of}
 use Rattle.lvm_num.specs.Disks.{Disks}
+use Rattle.lvm_num.proofs.ListLemmas.{one_of_either, one_of_left}
 use Rattle.lvm_map.specs.FirstFit.{is_among, IsAllocated, more_copies}
 use Rattle.lvm_map.specs.Laws.{IsNewPlace}
 use Rattle.lvm_map.proofs.FreeLists.{is_pp-same}
@@ -19,7 +20,6 @@ use Rattle.lvm_map.proofs.PlaceLemmas.{volume_at, laid_out}
 use Rattle.lvm_map.proofs.Validity.{more_are_valid, copies_stay}
 use Rattle.lvm_kept.specs.Group.{IsOneOf}
 use Rattle.lvm_commit.proofs.Copies.{contains}
-use Rattle.lvm_volume_plan.proofs.Sublists.{one_cases, one_left}
 use Rattle.lvm_copy_plan.specs.Copies.{with_map, with_copies, further_copies}
 use Rattle.lvm_copy_plan.proofs.Parts.{IsPart, all_of, one_part}
 use Rattle.lvm_copy_plan.proofs.Rows.{is_set}
@@ -96,7 +96,7 @@ module _ (d : Descriptor) (usable : Disks) (lv copies : ℕ) (row : LvRow) (pps 
   -- the old ones stay
   pub old_copies : (lp : ℕ) (p : Pp) → lp < row.lps → IsOneOf (copies_of row lp) p → IsOneOf (copies_of new lp) p
   old_copies lp p lt one = subst (λ (xs : List Pp). IsOneOf xs p) (take-append-drop row.copies (copies_of new lp))
-      (one_left (take row.copies (copies_of new lp)) (behind lp) p (subst (λ (xs : List Pp). IsOneOf xs p) (sym (copies_stay d usable row copies pps lp (laid_out d lv row valid volume).whole more all lt)) one))
+      (one_of_left (take row.copies (copies_of new lp)) (behind lp) p (subst (λ (xs : List Pp). IsOneOf xs p) (sym (copies_stay d usable row copies pps lp (laid_out d lv row valid volume).whole more all lt)) one))
 
   -- and each of the others is a further one
   pub old_or_further : (lp : ℕ) (p : Pp) → IsOneOf (copies_of new lp) p → IsOneOf (copies_of row lp) p ⊎ Contains (further_copies new row.copies) p
@@ -104,6 +104,6 @@ module _ (d : Descriptor) (usable : Disks) (lv copies : ℕ) (row : LvRow) (pps 
     | inl lt ↦ ⊎_elim
         (λ old. inl (subst (λ (xs : List Pp). IsOneOf xs p) (copies_stay d usable row copies pps lp (laid_out d lv row valid volume).whole more all lt) old))
         (λ further. inr (contains (further_copies new row.copies) p (one_part behind p 0 row.lps lp lt (subst (λ (m : ℕ). IsOneOf (behind m) p) (let here : lp ≡ 0 + lp = omega arith in here) further))))
-        (one_cases (take row.copies (copies_of new lp)) (behind lp) p (subst (λ (xs : List Pp). IsOneOf xs p) (sym (take-append-drop row.copies (copies_of new lp))) one))
+        (one_of_either (take row.copies (copies_of new lp)) (behind lp) p (subst (λ (xs : List Pp). IsOneOf xs p) (sym (take-append-drop row.copies (copies_of new lp))) one))
     | inr past ↦ absurd (none_past new lp p all.whole past one)
   ]

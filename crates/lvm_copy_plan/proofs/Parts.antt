@@ -7,9 +7,9 @@ use Rattle.std.proofs.lemmas.List.Elements.{All-append, All-nil}
 use Rattle.std.proofs.Math.Nat.{mul-le-mul_right}
 use Rattle.lvm_num.specs.declared.place.Pp.{Pp}
 use Rattle.lvm_num.proofs.Pairs.{AllPairs-append}
+use Rattle.lvm_num.proofs.ListLemmas.{one_of_left, one_of_right}
 use Rattle.lvm_kept.specs.Group.{IsOneOf}
 use Rattle.lvm_map.proofs.Parts.{parts}
-use Rattle.lvm_volume_plan.proofs.Sublists.{one_left, one_right}
 
 -- ---- of each logical partition a part of its copies
 
@@ -107,8 +107,8 @@ module _ (h : ℕ → List Pp) (copies : ℕ) where
 -- one of a part is one of all
 pub one_part : (h : ℕ → List Pp) (x : Pp) (a n lp : ℕ) → lp < n → IsOneOf (h (a + lp)) x → IsOneOf (flat_map h (range_with_len a n)) x
 one_part h x a zero lp lt one = absurd (omega (arith, lt))
-one_part h x a (suc n) zero lt one = one_left (h a) (flat_map h (range_with_len (a + 1) n)) x (subst (λ (m : ℕ). IsOneOf (h m) x) (let here : a + zero ≡ a = omega arith in here) one)
-one_part h x a (suc n) (suc lp) lt one = one_right (h a) (flat_map h (range_with_len (a + 1) n)) x
+one_part h x a (suc n) zero lt one = one_of_left (h a) (flat_map h (range_with_len (a + 1) n)) x (subst (λ (m : ℕ). IsOneOf (h m) x) (let here : a + zero ≡ a = omega arith in here) one)
+one_part h x a (suc n) (suc lp) lt one = one_of_right (h a) (flat_map h (range_with_len (a + 1) n)) x
     (one_part h x (a + 1) n lp (omega (arith, lt)) (subst (λ (m : ℕ). IsOneOf (h m) x) (let here : a + suc lp ≡ (a + 1) + lp = omega arith in here) one))
 
 -- with one logical partition more

@@ -2,8 +2,7 @@
 ghost use Rattle.std.specs.Prelude.{◌≡◌, ◌≤◌, ◌+◌, ◌*◌, ◌==◌, if◌then◌else◌, length, take, drop, IfOk};
 ghost use Rattle.lvm_copy_plan.specs.Copies.{with_map, with_copies, first_copies, further_copies};
 
-use lvm_num::{Descriptor, LvRow, Memory, Pp, Rows};
-use lvm_volume_plan::with_volumes;
+use lvm_num::{Descriptor, LvRow, Memory, Pp, Rows, with_volumes};
 use std::alloc::Global;
 
 /// The group in which the volume of the number has so many copies, as this map has them.

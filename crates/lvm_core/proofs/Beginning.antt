@@ -16,7 +16,7 @@ use Rattle.lvm_mwc.specs.declared.notes.DiskNotes.{DiskNotes}
 use Rattle.lvm_mwc.specs.Cache.{Cached, has_disk, no_notes}
 use Rattle.lvm_mwc.specs.Entries.{AreEntries}
 use Rattle.lvm_status.specs.Update.{Updates}
-use Rattle.lvm_homes.specs.declared.homes.Homes.{Homes}
+use Rattle.lvm_rec.specs.declared.homes.Homes.{Homes}
 use Rattle.lvm_session.specs.declared.open.Power.TheVariants as power
 use Rattle.lvm_session.specs.State.{Core, state}
 use Rattle.lvm_session.specs.Placed.{ArePlaced}

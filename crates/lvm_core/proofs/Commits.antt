@@ -24,11 +24,11 @@ use Rattle.lvm_kept.specs.Group.{IsOneOf}
 use Rattle.lvm_stale.specs.Table.{has_row, is_pp}
 use Rattle.lvm_status.specs.Calls.{IsMarkable}
 use Rattle.lvm_status.specs.Update.{Stored, members_there}
-use Rattle.lvm_homes.specs.declared.homes.Homes.{Homes}
+use Rattle.lvm_rec.specs.declared.homes.Homes.{Homes}
 use Rattle.lvm_write.specs.Written.{HasRoom}
 use Rattle.lvm_commit.specs.Committed.{MayMark, HoldsCommitted}
 use Rattle.lvm_kept.specs.Contents.{Contents}
-use Rattle.lvm_left.specs.Marking.{is_served}
+use Rattle.lvm_stale.specs.Marking.{is_served}
 use Rattle.lvm_commit.specs.LawsOfData.{IsFree}
 use Rattle.lvm_commit.specs.Settling.{NoneIsLeft, there, IsOf, MayCommit, MaySettle, SessionIsHeld}
 use Rattle.lvm_session.specs.Sound.{is_dark}
@@ -146,19 +146,19 @@ isnt false contra = refl
 
 module _ (core : Core) (stale fresh : List Pp) (first : Stored) (marked : IsMarked stale fresh core.status first) (settled : IsSettled core) (group : core.status.group ≡ record core.descriptor { lvs = [] }) where
   pub first_is_of : IsOf core.descriptor first
-  first_is_of = sym (marked.group ∙ group)
+  first_is_of = sym (marked.rest.group ∙ group)
 
   pub begun : IsBegun core first
-  begun = record { group = marked.group; stamp = marked.stamp; committed = marked.committed; rows = marked.rows; missing = marked.missing; forgotten = marked.forgotten }
+  begun = record { group = marked.rest.group; stamp = marked.rest.stamp; committed = marked.rest.committed; rows = marked.rest.rows; missing = marked.rest.missing; forgotten = marked.rest.forgotten }
 
   -- the disks hold what was committed, whatever is wanted now
   pub first_held : (device : Device) → IsHeld device core → SessionIsHeld device core.descriptor first core.homes
   first_held device held =
       let Held : Status → Disks → Stamp → Type 0 = λ c s t. IfSome device.media (λ media. HoldsCommitted (image_of device.sizes media) core.descriptor c s t core.homes) in
-      let same : there first ≡ is_there core = λ t d. is_member ((marked.group ∙ group) t) d && not (marked.missing d t) in
-      subst (λ (c : Status). Held c (there first) first.stamp) (sym marked.committed)
+      let same : there first ≡ is_there core = λ t d. is_member ((marked.rest.group ∙ group) t) d && not (marked.rest.missing d t) in
+      subst (λ (c : Status). Held c (there first) first.stamp) (sym marked.rest.committed)
       (subst (λ (s : Disks). Held core.status.committed s first.stamp) (sym same)
-      (subst (λ (t : Stamp). Held core.status.committed (is_there core) t) (sym marked.stamp) held))
+      (subst (λ (t : Stamp). Held core.status.committed (is_there core) t) (sym marked.rest.stamp) held))
 
   -- what is wanted says the same of the volumes
   module _ (valid : IsValid core.descriptor) (unused : AreUnused core.descriptor (stale ++ fresh)) where
@@ -173,7 +173,7 @@ module _ (core : Core) (stale fresh : List Pp) (first : Stored) (marked : IsMark
     as_before false = refl
 
     committed_is : core.status.wanted ≡ first.committed
-    committed_is = sym settled.committed ∙ sym marked.committed
+    committed_is = sym settled.committed ∙ sym marked.rest.committed
 
     same_stale : (row : LvRow) (lp : ℕ) (p : Pp) → IsOneOf core.descriptor.lvs row → IsOneOf (copies_of row lp) p → calls_stale first.wanted p ≡ calls_stale first.committed p
     same_stale row lp p volume one =
@@ -187,7 +187,7 @@ module _ (core : Core) (stale fresh : List Pp) (first : Stored) (marked : IsMark
     pub first_none : NoneIsLeft core.descriptor core.status → NoneIsLeft core.descriptor first
     first_none none p left =
         let copies = copies_of left.row left.left.lp in
-        let there_same : there first ≡ there core.status = (λ t d. is_member (marked.group t) d && not (marked.missing d t)) in
+        let there_same : there first ≡ there core.status = (λ t d. is_member (marked.rest.group t) d && not (marked.rest.missing d t)) in
         let serves : is_served (there core.status) core.status.wanted copies ≡ is_served (there first) first.wanted copies =
         any_same (λ (q : Pp). there core.status q.disk && not (calls_stale core.status.wanted q)) (λ (q : Pp). there first q.disk && not (calls_stale first.wanted q)) copies
         (λ q copy. sym (λ t. there_same t q.disk && not (same_wanted left.row left.left.lp q left.volume copy t))) in
@@ -205,7 +205,7 @@ module _ (core : Core) (stale fresh : List Pp) (first : Stored) (marked : IsMark
     wants_marks c = record {
       stale = λ row lp p volume one is. same_stale row lp p volume one ∙ is;
       added = λ row lp p volume low one is. inl (sym (same_stale row lp p volume one) ∙ is);
-      dirty = λ row volume soft is. ap (λ (dirty : List ℕ). list_any (λ n. n == row.number) dirty) marked.dirty ∙ ap (λ (s : Status). calls_dirty s row.number) committed_is ∙ is;
+      dirty = λ row volume soft is. ap (λ (dirty : List ℕ). list_any (λ n. n == row.number) dirty) marked.rest.dirty ∙ ap (λ (s : Status). calls_dirty s row.number) committed_is ∙ is;
     }
 
   -- where all is so already

@@ -1,12 +1,14 @@
 -- A power cut ends a session at which nothing is open: a Cut is all that it enters.
-use Rattle.std.proofs.Common.{◌≡◌, ◌+◌, ℕ, Bool, true, false, cond, List, [], ◌∷◌, ◌++◌, Option, None, count_by, refl, sym, ◌∙◌, ap, subst, arith}
+use Rattle.std.proofs.Common.{◌≡◌, ◌+◌, ◌≤◌, ℕ, Bool, true, false, cond, List, [], ◌∷◌, ◌++◌, length, Option, None, count_by, refl, sym, ◌∙◌, ap, subst, arith}
 use Rattle.std.proofs.lemmas.List.{append-nil}
 use Rattle.lvm_disk.specs.Device.{Device, Flight}
 use Rattle.lvm_vol.specs.Facts.{Fact, Cut, begun_by}
 use Rattle.lvm_vol.specs.Log.{Log, cut_log, is_uncut, lands_id, with_fact}
 use Rattle.lvm_keeps.proofs.Telling.{open_still}
 use Rattle.lvm_session.specs.declared.open.Open.{Open}
+use Rattle.lvm_session.specs.declared.open.Power.{Power}
 use Rattle.lvm_session.specs.declared.open.Power.TheVariants as power
+use Rattle.lvm_session.specs.declared.flown.Flown.{Flown}
 use Rattle.lvm_session.specs.declared.bringing.OpenCopy.{OpenCopy}
 use Rattle.lvm_session.specs.State.{Core}
 use Rattle.lvm_session.specs.Dark.{AreTold, all_dark, hand_of_copy}
@@ -44,8 +46,10 @@ cut_landed log landed = by_test (is_uncut log.facts)
     by_test true = landed_still log.facts Cut refl (λ id. refl) landed
     by_test false = landed
 
-pub cut_fits : (core : Core) → IsFitting core → IsFitting (cut_core core)
-cut_fits core fits = record {
+-- the parts fit with a pool of as many buffers, whatever was entered, whatever is open, and whether the session is on or off
+pub fits_again : (core : Core) (log : Log) (requests : List Open) (copy : Option OpenCopy) (flying : List Flown) (pool : List Bool) (on : Power) → length pool ≡ length core.pool → IsFitting core
+    → IsFitting (record core { history = log; requests = requests; copy = copy; flying = flying; pool = pool; power = on })
+fits_again core log requests copy flying pool on long fits = record {
   valid = fits.valid;
   id = fits.id;
   rows = fits.rows;
@@ -54,11 +58,14 @@ cut_fits core fits = record {
   notes = fits.notes;
   most = fits.most;
   queue = fits.queue;
-  a_buffer = fits.a_buffer;
-  buffers = fits.buffers;
+  a_buffer = subst (λ n. 1 ≤ n) (sym long) fits.a_buffer;
+  buffers = subst (λ n. n ≤ 1024) (sym long) fits.buffers;
   last = fits.last;
   forgotten = fits.forgotten;
 }
+
+pub cut_fits : (core : Core) → IsFitting core → IsFitting (cut_core core)
+cut_fits core fits = fits_again core (cut_log core.history) [] None [] core.pool power.Dark refl fits
 
 -- ---- the buffers
 

@@ -8,7 +8,7 @@ use Rattle.lvm_num.specs.DescriptorBytes.{descriptor_bytes}
 use Rattle.lvm_disk.specs.Device.{Device}
 use Rattle.lvm_pbuf.specs.Out.{IsOut}
 use Rattle.lvm_status.specs.Update.{Stored}
-use Rattle.lvm_homes.specs.declared.homes.Homes.{Homes}
+use Rattle.lvm_rec.specs.declared.homes.Homes.{Homes}
 use Rattle.lvm_commit.specs.declared.commit.CommitEnd.{CommitEnd}
 use Rattle.lvm_commit.specs.declared.commit.CommitEnd.TheVariants as commit_end
 use Rattle.lvm_commit.specs.Settling.{IfBack, EndsAtOnce, IsOfStatus, IsOfCommit, StatusStaysKept, DescriptorStaysKept, StatusFindsNothingNew, CommitFindsNoMore, CommitLeaves, SettleEnds, StatusEnds, DescriptorEnds}
@@ -89,9 +89,7 @@ badly_with next old new fault commit_end.Stuck ends = ends
 -- what is wanted and the slots stay as they were written
 pub status_ends : (next : Descriptor) (mid new : Core) (how : CommitEnd) (answer : Result (Unit {0}) CommitFault) → EndsWith next mid new how answer → (new.status ≡ mid.status) × (new.homes ≡ mid.homes)
 status_ends next mid new (commit_end.Done buf) answer ends = (ap (λ (c : Core). c.status) ends.1, ap (λ (c : Core). c.homes) ends.1)
-status_ends next mid new (commit_end.WentOff have total buf) answer ends = (ap (λ (c : Core). c.status) ends.1, ap (λ (c : Core). c.homes) ends.1)
-status_ends next mid new commit_end.Dark answer ends = (ap (λ (c : Core). c.status) ends.1, ap (λ (c : Core). c.homes) ends.1)
-status_ends next mid new commit_end.Stuck answer ends = (ap (λ (c : Core). c.status) ends.1, ap (λ (c : Core). c.homes) ends.1)
+status_ends next mid new _ answer ends = (ap (λ (c : Core). c.status) ends.1, ap (λ (c : Core). c.homes) ends.1)
 
 -- ---- a descriptor
 

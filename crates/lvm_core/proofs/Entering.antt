@@ -17,12 +17,7 @@ open_entered facts (entry.Making lv blocks mode) is id = open_still facts (Makin
 open_entered facts (entry.Made lv) is id = open_still facts (Made lv) refl id refl
 open_entered facts (entry.Removing vol) is id = open_still facts (Removing vol) refl id refl
 open_entered facts (entry.Removed vol) is id = open_still facts (Removed vol) refl id refl
-open_entered facts (entry.Split from lv) is id = absurd is
-open_entered facts (entry.On moment) is id = absurd is
-open_entered facts (entry.Begun client num vol at count write place) is id = absurd is
-open_entered facts (entry.Landed num how started) is id = absurd is
-open_entered facts (entry.Taken client num) is id = absurd is
-open_entered facts entry.Cut is id = absurd is
+open_entered facts _ is id = absurd is
 
 pub entered_sound : (device : Device) (core : Core) (e : Entry) → IsOfVolume e → IsSoundBetween (state device core) → IsSoundBetween (state device (record core { history = with_fact core.history (plain_fact e) }))
 entered_sound device core e is sound = record {

@@ -21,34 +21,20 @@ use Rattle.lvm_write.specs.Written.{HaveRoom}
 use Rattle.lvm_commit.specs.Settling.{HasSameRows, IsForgotten, MayCommit, MaySettle, many_there, there}
 use Rattle.lvm_commit.proofs.Wanting.{row_stays}
 use Rattle.lvm_core.specs.Committing.{is_among, Marks}
-use Rattle.lvm_core.specs.Steps.{IsMarked}
+use Rattle.lvm_core.specs.Steps.{IsMarked, WantsMarksAtMost}
 
 -- ---- so far
 
 -- These marks were made, and nothing where none was to be.
 pub record SoFar (to_stale to_fresh : List Pp) (none : Type 0) (old now : Stored) : Type 0 where
-  pub group : now.group ≡ old.group
-  pub committed : now.committed ≡ old.committed
-  pub idle : now.in_flight ≡ None
-  pub stamp : now.stamp ≡ old.stamp
-  pub rows : HasSameRows old.wanted now.wanted
+  pub rest : WantsMarksAtMost old now
   pub marks : Marks to_stale to_fresh old.wanted now.wanted
-  pub missing : SameMissing old.wanted now.wanted
-  pub dirty : now.wanted.dirty ≡ old.wanted.dirty
-  pub forgotten : IsForgotten old → IsForgotten now
   pub same : none → now ≡ old
 
 pub none_marked : (none : Type 0) (old : Stored) → old.in_flight ≡ None → SoFar [] [] none old old
 none_marked none old idle = record {
-  group = refl;
-  committed = refl;
-  idle = idle;
-  stamp = refl;
-  rows = record { id = refl; big = refl; disks = refl };
+  rest = record { group = refl; committed = refl; idle = idle; stamp = refl; rows = record { id = refl; big = refl; disks = refl }; missing = λ d. refl; dirty = refl; forgotten = λ was. was };
   marks = λ p. all_as_before (calls_stale old.wanted p);
-  missing = λ d. refl;
-  dirty = refl;
-  forgotten = λ was. was;
   same = λ none. refl;
 }
   where
@@ -104,22 +90,27 @@ wanted_keeps old new u is idle rest = by_test (is_held u && not (is_owed u)) res
       stamp = ap (λ (x : Updates). x.stamp) e ∙ ap (λ (x : Updates). x.stamp) is;
     }
 
-rows_then : (a b c : Status) → HasSameRows a b → SameMembers b c → HasSameRows a c
-rows_then a b c one two = record { id = two.id ∙ one.id; big = two.big ∙ one.big; disks = two.disks ∙ one.disks }
+-- a change that wants a mark changes marks at most
+wants_mark : (old new : Stored) → Wanted old new → SameMembers old.wanted new.wanted → SameMissing old.wanted new.wanted → new.wanted.dirty ≡ old.wanted.dirty → WantsMarksAtMost old new
+wants_mark old new kept members missing dirty =
+    let rows : HasSameRows old.wanted new.wanted = record { id = members.id; big = members.big; disks = members.disks } in
+    record { group = kept.group; committed = kept.committed; idle = kept.idle; stamp = kept.stamp; rows = rows; missing = missing; dirty = dirty; forgotten = kept.forgotten }
 
 -- the same marks, said of other lists
 remarked : (stale fresh more fresher : List Pp) (none : Type 0) (old now : Stored) → SoFar stale fresh none old now → Marks more fresher old.wanted now.wanted → SoFar more fresher none old now
-remarked stale fresh more fresher none old now so_far marks = record {
-  group = so_far.group;
-  committed = so_far.committed;
-  idle = so_far.idle;
-  stamp = so_far.stamp;
-  rows = so_far.rows;
-  marks = marks;
-  missing = so_far.missing;
-  dirty = so_far.dirty;
-  forgotten = so_far.forgotten;
-  same = so_far.same;
+remarked stale fresh more fresher none old now so_far marks = record { rest = so_far.rest; marks = marks; same = so_far.same }
+
+-- first marks, and then more
+rest_then : (old mid new : Stored) → WantsMarksAtMost old mid → WantsMarksAtMost mid new → WantsMarksAtMost old new
+rest_then old mid new one two = record {
+  group = two.group ∙ one.group;
+  committed = two.committed ∙ one.committed;
+  idle = two.idle;
+  stamp = two.stamp ∙ one.stamp;
+  rows = record { id = two.rows.id ∙ one.rows.id; big = two.rows.big ∙ one.rows.big; disks = two.rows.disks ∙ one.rows.disks };
+  missing = λ d. two.missing d ∙ one.missing d;
+  dirty = two.dirty ∙ one.dirty;
+  forgotten = λ was. two.forgotten (one.forgotten was);
 }
 
 module _ (pps : List Pp) (none : Type 0) (i : ℕ) (p : Pp) (within : i < length pps) (its : p ≡ get_or pps i p) (old now : Stored) where
@@ -175,21 +166,14 @@ module _ (pps : List Pp) (none : Type 0) (i : ℕ) (p : Pp) (within : i < length
     pub stale_wanted : SoFar (take i pps) [] none old now → calls_stale now.wanted p ≡ false → (none → calls_stale old.wanted p ≡ true) → BecomesStale p now.wanted new.wanted → seen new ≡ with_wanted (seen now) (change.Stale p) new.wanted
         → SoFar (take (i + 1) pps) [] none old new
     stale_wanted so_far isnt clash becomes rest =
-        let kept = wanted_keeps now new (record (seen now) { wanted = new.wanted; unstarted = given_up (change.Stale p) (seen now).unstarted }) refl so_far.idle rest in
+        let kept = wanted_keeps now new (record (seen now) { wanted = new.wanted; unstarted = given_up (change.Stale p) (seen now).unstarted }) refl so_far.rest.idle rest in
         record {
-          group = kept.group ∙ so_far.group;
-          committed = kept.committed ∙ so_far.committed;
-          idle = kept.idle;
-          stamp = kept.stamp ∙ so_far.stamp;
-          rows = rows_then old.wanted now.wanted new.wanted so_far.rows becomes.members;
+          rest = rest_then old now new so_far.rest (wants_mark now new kept becomes.members becomes.missing becomes.dirty);
           marks = λ q.
               becomes.stale q
               ∙ ap (λ (b : Bool). b || is_pp q p) (so_far.marks q)
               ∙ both (calls_stale old.wanted q) (is_among (take i pps) q) (is_pp q p)
               ∙ ap (λ (b : Bool). (calls_stale old.wanted q || b) && not false) (sym (more_among pps i p q within its));
-          missing = λ d. becomes.missing d ∙ so_far.missing d;
-          dirty = becomes.dirty ∙ so_far.dirty;
-          forgotten = λ was. kept.forgotten (so_far.forgotten was);
           same = λ no. absurd (let e = ap (λ (u : Stored). calls_stale u.wanted p) (so_far.same no) in let f = clash no in cc (e, f, isnt));
         }
       where
@@ -203,21 +187,14 @@ module _ (pps : List Pp) (none : Type 0) (i : ℕ) (p : Pp) (within : i < length
     pub fresh_wanted : SoFar [] (take i pps) none old now → calls_stale now.wanted p ≡ true → (none → calls_stale old.wanted p ≡ false) → BecomesFresh p now.wanted new.wanted → seen new ≡ with_wanted (seen now) (change.Fresh p) new.wanted
         → SoFar [] (take (i + 1) pps) none old new
     fresh_wanted so_far is clash becomes rest =
-        let kept = wanted_keeps now new (record (seen now) { wanted = new.wanted; unstarted = given_up (change.Fresh p) (seen now).unstarted }) refl so_far.idle rest in
+        let kept = wanted_keeps now new (record (seen now) { wanted = new.wanted; unstarted = given_up (change.Fresh p) (seen now).unstarted }) refl so_far.rest.idle rest in
         record {
-          group = kept.group ∙ so_far.group;
-          committed = kept.committed ∙ so_far.committed;
-          idle = kept.idle;
-          stamp = kept.stamp ∙ so_far.stamp;
-          rows = rows_then old.wanted now.wanted new.wanted so_far.rows becomes.members;
+          rest = rest_then old now new so_far.rest (wants_mark now new kept becomes.members becomes.missing becomes.dirty);
           marks = λ q.
               becomes.stale q
               ∙ ap (λ (b : Bool). b && not (is_pp q p)) (so_far.marks q)
               ∙ both (calls_stale old.wanted q || false) (is_among (take i pps) q) (is_pp q p)
               ∙ ap (λ (b : Bool). (calls_stale old.wanted q || false) && not b) (sym (more_among pps i p q within its));
-          missing = λ d. becomes.missing d ∙ so_far.missing d;
-          dirty = becomes.dirty ∙ so_far.dirty;
-          forgotten = λ was. kept.forgotten (so_far.forgotten was);
           same = λ no. absurd (let e = ap (λ (u : Stored). calls_stale u.wanted p) (so_far.same no) in let f = clash no in cc (e, f, is));
         }
       where
@@ -230,18 +207,11 @@ module _ (pps : List Pp) (none : Type 0) (i : ℕ) (p : Pp) (within : i < length
 
 pub marked_both : (to_stale to_fresh : List Pp) (old mid new : Stored) → IsMarked to_stale [] old mid → IsMarked [] to_fresh mid new → IsMarked to_stale to_fresh old new
 marked_both to_stale to_fresh old mid new one two = record {
-  group = two.group ∙ one.group;
-  committed = two.committed ∙ one.committed;
-  idle = two.idle;
-  stamp = two.stamp ∙ one.stamp;
-  rows = record { id = two.rows.id ∙ one.rows.id; big = two.rows.big ∙ one.rows.big; disks = two.rows.disks ∙ one.rows.disks };
+  rest = rest_then old mid new one.rest two.rest;
   marks = λ p.
       two.marks p
       ∙ ap (λ (b : Bool). (b || false) && not (is_among to_fresh p)) (one.marks p)
       ∙ both (calls_stale old.wanted p) (is_among to_stale p) (is_among to_fresh p);
-  missing = λ d. two.missing d ∙ one.missing d;
-  dirty = two.dirty ∙ one.dirty;
-  forgotten = λ was. two.forgotten (one.forgotten was);
   same = λ are.
       let first : mid ≡ old = one.same (record { stale = are.stale; fresh = λ k d lt. absurd (omega (arith, lt)) }) in
       two.same (record { stale = λ k d lt. absurd (omega (arith, lt)); fresh = subst (λ (u : Stored). All (λ (p : Pp). calls_stale u.wanted p ≡ false) to_fresh) (sym first) are.fresh }) ∙ first;
@@ -255,26 +225,26 @@ marked_both to_stale to_fresh old mid new one two = record {
 -- ---- then it may be written
 
 pub there_same : (to_stale to_fresh : List Pp) (old new : Stored) → IsMarked to_stale to_fresh old new → there new ≡ there old
-there_same to_stale to_fresh old new marked = λ t d. is_member (marked.group t) d && not (marked.missing d t)
+there_same to_stale to_fresh old new marked = λ t d. is_member (marked.rest.group t) d && not (marked.rest.missing d t)
 
 may_settle : (d : Descriptor) (device : Device) (to_stale to_fresh : List Pp) (old new : Stored) → IsMarked to_stale to_fresh old new → MaySettle d old device → MaySettle d new device
 may_settle d device to_stale to_fresh old new marked may = record {
   valid = may.valid;
-  own = may.own ∙ sym marked.group;
-  idle = marked.idle;
-  id = marked.rows.id ∙ may.id ∙ ap (λ (g : Descriptor). g.id) (sym marked.group);
-  rows = λ disk. row_stays old.wanted new.wanted marked.rows disk ∙ may.rows disk ∙ ap (λ (g : Descriptor). is_member g disk) (sym marked.group);
-  epoch = λ none. may.epoch (ap (λ (s : Stamp). s.epoch) (sym marked.stamp) ∙ none);
+  own = may.own ∙ sym marked.rest.group;
+  idle = marked.rest.idle;
+  id = marked.rest.rows.id ∙ may.id ∙ ap (λ (g : Descriptor). g.id) (sym marked.rest.group);
+  rows = λ disk. row_stays old.wanted new.wanted marked.rest.rows disk ∙ may.rows disk ∙ ap (λ (g : Descriptor). is_member g disk) (sym marked.rest.group);
+  epoch = λ none. may.epoch (ap (λ (s : Stamp). s.epoch) (sym marked.rest.stamp) ∙ none);
   room = subst (λ (set : Disks). HaveRoom device set) (sym (there_same to_stale to_fresh old new marked)) may.room;
-  votes = subst (λ (g : Descriptor). CanWrite g (there new)) (sym marked.group) (subst (λ (set : Disks). CanWrite old.group set) (sym (there_same to_stale to_fresh old new marked)) may.votes);
+  votes = subst (λ (g : Descriptor). CanWrite g (there new)) (sym marked.rest.group) (subst (λ (set : Disks). CanWrite old.group set) (sym (there_same to_stale to_fresh old new marked)) may.votes);
 }
 
 pub may_commit : (records : ℕ) (d : Descriptor) (device : Device) (to_stale to_fresh : List Pp) (old new : Stored) → IsMarked to_stale to_fresh old new → MayCommit records d old device → MayCommit records d new device
 may_commit records d device to_stale to_fresh old new marked may = record {
   ready = may.ready;
   settle = may_settle d device to_stale to_fresh old new marked may.settle;
-  numbers = subst (λ (n : ℕ). new.stamp.seq + records + n < 2 ^ 32) (sym many) (subst (λ (t : Stamp). t.seq + records + many_there old < 2 ^ 32) (sym marked.stamp) may.numbers);
+  numbers = subst (λ (n : ℕ). new.stamp.seq + records + n < 2 ^ 32) (sym many) (subst (λ (t : Stamp). t.seq + records + many_there old < 2 ^ 32) (sym marked.rest.stamp) may.numbers);
 }
   where
     many : many_there new ≡ many_there old
-    many = λ t. count_by (λ (row : PvRow). not (marked.missing row.disk t)) (marked.group t).pvs
+    many = λ t. count_by (λ (row : PvRow). not (marked.rest.missing row.disk t)) (marked.rest.group t).pvs

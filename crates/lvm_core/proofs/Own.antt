@@ -19,24 +19,11 @@ use Rattle.lvm_session.specs.Placed.{ArePlaced}
 use Rattle.lvm_session.specs.Sound.{count_if, has_number, is_dark, out_with}
 use Rattle.lvm_core.specs.Sound.{HasNoneOpen, HaveAllLanded, IsFitting, IsSoundBetween}
 use Rattle.lvm_core.specs.Committing.{with_one_out}
-use Rattle.lvm_core.proofs.Dark.{cut_core, cut_fits, cut_landed, dark_is, on_shelf, out_is}
+use Rattle.lvm_core.proofs.Dark.{cut_core, cut_fits, fits_again, cut_landed, dark_is, on_shelf, out_is}
 
 -- the parts fit with a pool of as many buffers, whatever was entered, and whether the session is on or off
 pub fits_with : (core : Core) (log : Log) (pool : List Bool) (on : Power) → length pool ≡ length core.pool → IsFitting core → IsFitting (record core { history = log; pool = pool; power = on })
-fits_with core log pool on long fits = record {
-  valid = fits.valid;
-  id = fits.id;
-  rows = fits.rows;
-  group = fits.group;
-  entries = fits.entries;
-  notes = fits.notes;
-  most = fits.most;
-  queue = fits.queue;
-  a_buffer = subst (λ n. 1 ≤ n) (sym long) fits.a_buffer;
-  buffers = subst (λ n. n ≤ 1024) (sym long) fits.buffers;
-  last = fits.last;
-  forgotten = fits.forgotten;
-}
+fits_with core log pool on long fits = fits_again core log core.requests core.copy core.flying pool on long fits
 
 pub fits_pool : (core : Core) (pool : List Bool) → length pool ≡ length core.pool → IsFitting core → IsFitting (record core { pool = pool })
 fits_pool core pool long fits = fits_with core core.history pool core.power long fits

@@ -1,5 +1,5 @@
 -- What a session and its shelf are after records were written: it is sound, and goes on as it says.
-use Rattle.std.proofs.Common.{◌≡◌, inl, inr, ⊎_elim, ℕ, ◌+◌, ◌≤◌, ◌<◌, ◌++◌, Bool, true, false, true≢false, ◌&&◌, not, List, [], refl, sym, ◌∙◌, ap, subst}
+use Rattle.std.proofs.Common.{◌≡◌, inr, ℕ, ◌+◌, ◌≤◌, ◌<◌, ◌++◌, Bool, true, false, true≢false, ◌&&◌, not, List, [], refl, sym, ◌∙◌, ap, subst, arith}
 use Rattle.std.specs.Prelude.{IsTrue, IsFalse, Ok, Result, Contains, count_by}
 use Rattle.lvm_num.specs.declared.descriptor.PvRow.{PvRow}
 use Rattle.lvm_num.specs.declared.descriptor.Descriptor.{Descriptor}
@@ -10,7 +10,7 @@ use Rattle.lvm_num.specs.Descriptor.{IsValid, is_member}
 use Rattle.lvm_num.specs.Status.{calls_missing}
 use Rattle.lvm_num.specs.Votes.{votes_in, is_enough_to_write, CanWrite}
 use Rattle.lvm_disk.specs.Device.{Device, IsReady, image_of}
-use Rattle.lvm_disk.specs.Paths.{DeviceStep, Path}
+use Rattle.lvm_disk.specs.Paths.{DeviceStep, Path, Here}
 use Rattle.lvm_vol.specs.Facts.{Fact}
 use Rattle.lvm_vol.specs.Log.{Log, cut_log}
 use Rattle.lvm_kept.specs.Moments.{Moment, StaysCalm}
@@ -31,6 +31,7 @@ use Rattle.lvm_commit.specs.declared.commit.CommitEnd.TheVariants as commit_end
 use Rattle.lvm_commit.specs.Committed.{IsAlike}
 use Rattle.lvm_commit.specs.Settling.{HasSameRows, IsForgotten, there, many_there, IsCommitted, HasLostQuorum, AreWell, SpendsNumbers, StaysCommitted, IsOfSession, SettleEnds}
 use Rattle.lvm_commit.proofs.Wanting.{row_stays}
+use Rattle.lvm_commit.proofs.Chaining.{stays_before}
 use Rattle.lvm_core.specs.declared.fault.CommitFault.{CommitFault}
 use Rattle.lvm_session.specs.declared.open.Power.TheVariants as power
 use Rattle.lvm_session.specs.State.{Core, State, state, is_there}
@@ -187,23 +188,9 @@ module _ (Held Plain : Type 0) (next : Descriptor) (plan : Plan) (first : Stored
   }
 
   stays_from : StaysCommitted first new.core.status old.device new.device → StaysCommitted old.core.status new.core.status old.device new.device
-  stays_from stays = ⊎_elim
-      (λ same. inl (same ∙ begins.committed))
-      (λ came. inr (record {
-        write = came.write;
-        kind = came.kind;
-        content = came.content;
-        epoch = came.epoch ∙ ap (λ (t : Stamp). t.epoch) begins.stamp;
-        later = subst (λ (t : Stamp). t.seq < came.write.framed.stamp.seq) begins.stamp came.later;
-        earlier = came.earlier;
-        members = came.members;
-        votes = subst (λ (g : Descriptor). CanWrite g came.members) begins.group came.votes;
-        moment = came.moment;
-        before = came.before;
-        after = came.after;
-        stands = came.stands;
-      }))
-      stays
+  stays_from stays =
+      let seq = ap (λ (t : Stamp). t.seq) begins.stamp in
+      stays_before old.core.status first new.core.status old.device old.device new.device begins.committed (ap (λ (t : Stamp). t.epoch) begins.stamp) (omega (arith, seq)) begins.group (Here tt) stays
 
   pub records_end : (Done : Type 0) → (answer ≡ Ok tt → Held → Plain → IsSettled new.core → new.core ≡ base next → AreWell new.core.status old.device new.device → IsReady new.device → new.device.counts.cuts ≡ old.device.counts.cuts → Done)
       → RecordsEnd Done before old new answer

@@ -10,11 +10,12 @@ use Rattle.lvm_num.specs.declared.status.Status.{Status}
 use Rattle.lvm_num.specs.Descriptor.{IsValid, is_member, most_members}
 use Rattle.lvm_num.specs.Status.{calls_missing}
 use Rattle.lvm_num.specs.Votes.{CanWrite}
+use Rattle.lvm_num.proofs.Bounds.{few_members}
 use Rattle.lvm_vol.specs.Log.{Log}
 use Rattle.lvm_mwc.specs.declared.notes.DiskNotes.{DiskNotes}
 use Rattle.lvm_mwc.specs.Cache.{no_notes}
 use Rattle.lvm_status.specs.Update.{Updates, members_there}
-use Rattle.lvm_homes.specs.declared.homes.Homes.{Homes}
+use Rattle.lvm_rec.specs.declared.homes.Homes.{Homes}
 use Rattle.lvm_core.specs.declared.parts.Room.{Room}
 use Rattle.lvm_core.specs.Sound.{IsQuiet}
 use Rattle.lvm_core.specs.Settled.{IsSettled, HasSpareNumbers}
@@ -54,7 +55,3 @@ module _ (d : Descriptor) (s : Status) (room : Room) (r : Parts) (log : Log) (st
       let members : length r.updater.group.pvs ≤ most_members d.big = subst (λ (g : Descriptor). length g.pvs ≤ most_members d.big) (sym (ap (λ (u : Updates). u.group) reserved.status)) valid.head.members in
       let most = few_members d.big in
       omega (arith, few, members, most, low)
-    where
-      few_members : (b : Bool) → most_members b ≤ 128
-      few_members true = omega arith
-      few_members false = omega arith

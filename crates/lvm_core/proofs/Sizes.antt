@@ -1,5 +1,5 @@
 -- How long the bytes of a descriptor are at most: they fit their slot.
-use Rattle.std.proofs.Common.{◌≡◌, ◌+◌, ◌*◌, ◌≤◌, Bool, true, false, List, [], ◌∷◌, length, refl, arith, length-append}
+use Rattle.std.proofs.Common.{◌≡◌, ◌+◌, ◌*◌, ◌≤◌, Bool, List, [], ◌∷◌, length, refl, arith, length-append}
 use Rattle.std.specs.Prelude.{flat_map, All}
 use Rattle.std.proofs.lemmas.List.Elements.{All-head, All-tail}
 use Rattle.lvm_num.specs.declared.place.Pp.{Pp}
@@ -7,11 +7,12 @@ use Rattle.lvm_num.specs.declared.descriptor.PvRow.{PvRow}
 use Rattle.lvm_num.specs.declared.descriptor.LvRow.{LvRow}
 use Rattle.lvm_num.specs.declared.descriptor.Descriptor.{Descriptor}
 use Rattle.lvm_num.specs.declared.record.Kind.TheVariants as kind
-use Rattle.lvm_num.specs.Descriptor.{IsValid, IsVolume, partitions_in, most_members, most_volumes}
+use Rattle.lvm_num.specs.Descriptor.{IsValid, IsVolume, partitions_in}
 use Rattle.lvm_num.specs.DescriptorBytes.{member_bytes, volume_bytes, partition_bytes, descriptor_bytes}
 use Rattle.lvm_num.specs.Name.{padded}
 use Rattle.lvm_num.specs.Record.{longest_content}
 use Rattle.lvm_num.proofs.NameLemmas.{length-name, length-padded}
+use Rattle.lvm_num.proofs.Bounds.{few_members, few_volumes}
 use Rattle.lvm_stale.proofs.Volumes.{few_partitions}
 
 -- ---- a descriptor
@@ -36,25 +37,11 @@ maps_size [] = refl
 maps_size (row ∷ rows) =
     omega (arith, length-append (flat_map partition_bytes row.map) (flat_map (λ (r : LvRow). flat_map partition_bytes r.map) rows), map_size row.map, maps_size rows, length-append row.map (partitions_in rows))
 
-few_members : (d : Descriptor) → IsValid d → length d.pvs ≤ 128
-few_members d valid = by_size d.big valid.head.members
-  where
-    by_size : (big : Bool) → length d.pvs ≤ most_members big → length d.pvs ≤ 128
-    by_size true le = le
-    by_size false le = omega (arith, le)
-
-few_volumes : (d : Descriptor) → IsValid d → length d.lvs ≤ 511
-few_volumes d valid = by_size d.big valid.head.volumes
-  where
-    by_size : (big : Bool) → length d.lvs ≤ most_volumes big → length d.lvs ≤ 511
-    by_size true le = le
-    by_size false le = omega (arith, le)
-
 pub descriptor_fits : (d : Descriptor) → IsValid d → length (descriptor_bytes d) ≤ longest_content kind.Descriptor
 descriptor_fits d valid =
     let short = length-name d.name valid.head.name in
     let few : length (partitions_in d.lvs) ≤ 130048 = few_partitions d valid in
-    omega (arith, size, length-padded d.name (omega (arith, short)), members_size d.pvs, volumes_size d.big d.lvs valid.volumes.each, maps_size d.lvs, few_members d valid, few_volumes d valid, few)
+    omega (arith, size, length-padded d.name (omega (arith, short)), members_size d.pvs, volumes_size d.big d.lvs valid.volumes.each, maps_size d.lvs, valid.head.members, few_members d.big, valid.head.volumes, few_volumes d.big, few)
   where
     size : length (descriptor_bytes d)
         ≡ 32 + length (padded d.name) + length (flat_map member_bytes d.pvs) + length (flat_map volume_bytes d.lvs) + length (flat_map (λ (row : LvRow). flat_map partition_bytes row.map) d.lvs)

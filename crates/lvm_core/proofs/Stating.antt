@@ -126,17 +126,17 @@ module _ (stale fresh : List Pp) (before after : ℕ) (old new : State) (answer 
       let loses = w.settles.leaves.loses in
       let marked = w.marked in
       record {
-        group = loses.group ∙ marked.group;
-        rows = record { id = loses.rows.id ∙ marked.rows.id; big = loses.rows.big ∙ marked.rows.big; disks = loses.rows.disks ∙ marked.rows.disks };
+        group = loses.group ∙ marked.rest.group;
+        rows = record { id = loses.rows.id ∙ marked.rest.rows.id; big = loses.rows.big ∙ marked.rest.rows.big; disks = loses.rows.disks ∙ marked.rest.rows.disks };
         stale = stale_stays;
         further = λ p is. ⊎_elim
             (λ was. ⊎_elim (λ old. inl old) (λ new. inr (inl (among_at stale p new))) (was_marked (calls_stale old.core.status.wanted p) (is_among stale p) (is_among fresh p) (sym (marked.marks p) ∙ was)))
             (λ (passed : IsPassedOver old.core.descriptor w.first new.core.status p). inr (inr (passed_behind NoDescriptor (Contains fresh) old new old.core.descriptor (inl refl) stale_stays p is (passed_so p passed))))
             (w.settles.leaves.left.only p is);
-        dirty = loses.dirty ∙ marked.dirty;
-        stays = λ d is. loses.stays d (marked.missing d ∙ is);
+        dirty = loses.dirty ∙ marked.rest.dirty;
+        stays = λ d is. loses.stays d (marked.rest.missing d ∙ is);
         lost = λ d is isnt.
-            let its = loses.lost d is (marked.missing d ∙ isnt) in
+            let its = loses.lost d is (marked.rest.missing d ∙ isnt) in
             (subst (λ (set : Disks). IsTrue (set d)) there_is_so its.0, its.1);
       }
 
@@ -148,13 +148,13 @@ module _ (stale fresh : List Pp) (before after : ℕ) (old new : State) (answer 
       (λ d off. ap (λ (set : Disks). set d) there_is_so ∙ off)
       (λ d s value it. (
         it.0,
-        record { kind = it.1.kind; status = it.1.status; own = it.1.own ∙ ap (λ (g : Descriptor). g.id) w.marked.group; content = it.1.content },
+        record { kind = it.1.kind; status = it.1.status; own = it.1.own ∙ ap (λ (g : Descriptor). g.id) w.marked.rest.group; content = it.1.content },
         record {
           frames = it.2.frames;
           slots = it.2.slots;
           targets = λ disk is. subst (λ (set : Disks). IsTrue (set disk)) (there_is_so ∙ sym (there_is old.core.descriptor old.core.status sound.fitting.group)) (it.2.targets disk is);
-          epoch = it.2.epoch ∙ ap (λ (t : Stamp). t.epoch) w.marked.stamp;
-          later = subst (λ (t : Stamp). t.seq < it.0.framed.stamp.seq) w.marked.stamp it.2.later;
+          epoch = it.2.epoch ∙ ap (λ (t : Stamp). t.epoch) w.marked.rest.stamp;
+          later = subst (λ (t : Stamp). t.seq < it.0.framed.stamp.seq) w.marked.rest.stamp it.2.later;
           latest = it.2.latest;
           its = it.2.its;
         },

@@ -20,17 +20,21 @@ use Rattle.lvm_core.specs.Committing.{Marks, AreMarked, with_one_out}
 
 -- ---- the marks
 
--- These marks are wanted now, nothing else is, and nothing is in flight.
-pub record IsMarked (to_stale to_fresh : List Pp) (old new : Stored) : Type 0 where
+-- At most marks of partitions are wanted that weren't, and nothing is in flight.
+pub record WantsMarksAtMost (old new : Stored) : Type 0 where
   pub group : new.group ≡ old.group
   pub committed : new.committed ≡ old.committed
   pub idle : new.in_flight ≡ None
   pub stamp : new.stamp ≡ old.stamp
   pub rows : HasSameRows old.wanted new.wanted
-  pub marks : Marks to_stale to_fresh old.wanted new.wanted
   pub missing : SameMissing old.wanted new.wanted
   pub dirty : new.wanted.dirty ≡ old.wanted.dirty
   pub forgotten : IsForgotten old → IsForgotten new
+
+-- These marks are wanted now, and nothing else is.
+pub record IsMarked (to_stale to_fresh : List Pp) (old new : Stored) : Type 0 where
+  pub rest : WantsMarksAtMost old new
+  pub marks : Marks to_stale to_fresh old.wanted new.wanted
   pub same : AreMarked to_stale to_fresh old.wanted → new ≡ old
 
 -- ---- after the records

@@ -13,9 +13,9 @@ ghost use Rattle.lvm_core.specs.Starting.{IsRoom, IsReservedFor, AreReserved, ro
 use crate::look::are_placed;
 use lvm_disk::Shelf;
 use lvm_history::History;
-use lvm_homes::Homes;
 use lvm_num::{Memory, Stamp};
 use lvm_quorum::Choice;
+use lvm_rec::Homes;
 use lvm_session::Session;
 use lvm_session_start::{first_session, take_parts};
 use std::alloc::Global;

@@ -15,9 +15,9 @@ use Rattle.lvm_num.specs.Record.{Stamped}
 use Rattle.lvm_vol.specs.declared.entry.Vol.{Vol}
 use Rattle.lvm_vol.specs.declared.entry.Vol.TheVariants.{Disk, Lv}
 use Rattle.lvm_vol.specs.declared.entry.Outcome.{Outcome}
-use Rattle.lvm_vol.specs.Facts.{Request, Fact, Making, Made, Split, Removing, Removed, Begun, Landed as HasLanded, Taken, Cut, On, same_vol, is_over, block_of}
+use Rattle.lvm_vol.specs.Facts.{Request, Fact, Begun, Landed as HasLanded, Taken, Cut, same_vol, is_over, block_of}
 use Rattle.lvm_vol.specs.Laws.{is_about}
-use Rattle.lvm_vol.specs.May.{Known, known, cut, ended, source, change, May}
+use Rattle.lvm_vol.specs.May.{Known, known, cut, source, change, May}
 use Rattle.lvm_vol.specs.Standing.{Standing, Absent, Open, Settled, Shape, Volume, no_volumes, volumes_after, volumes_after_fact, volumes_in, put}
 use Rattle.lvm_vol.proofs.Knowing.{known-push, others_stay}
 use Rattle.lvm_kept.specs.Contents.{Contents}
@@ -25,7 +25,7 @@ use Rattle.lvm_kept.specs.Kept.{StandsAs, RawAgrees}
 use Rattle.lvm_invariant.specs.State.{ModelState, Queued}
 use Rattle.lvm_invariant.specs.Found.{Votes}
 use Rattle.lvm_invariant.specs.Good.{Good}
-use Rattle.lvm_invariant.specs.Events.{Event, Submit, EnterStep, Admit, Pin, Read, StartWrite, Transfer, LandDone, LandLost, LandGot, LandReadFailed, LandNoFresh, EndStep, Take, TakeEarlier, Want, BeginUpdate, MoveStatus, CommitUpdate, EndUpdate, StartNote, EndNote, Open as OpenCopy, CopyWrite, Clear, ModelStep}
+use Rattle.lvm_invariant.specs.Events.{Event, Submit, LandDone, LandLost, LandGot, LandReadFailed, LandNoFresh, Take, TakeEarlier, ModelStep}
 use Rattle.lvm_crash.specs.Session.{members_showing, GroupStands, HasVolumes, Shows, Describes}
 use Rattle.lvm_crash.specs.Left.{KeepsGroup}
 use Rattle.lvm_crash.specs.Lasting.{AsksOf, DescriptionLasts}
@@ -39,13 +39,7 @@ abbrev pub IsOfSession : Descriptor → Fact → Type 0
 IsOfSession group (Begun q) = (lv : ℕ) × (q.vol ≡ Lv lv) × IsTrue (is_some (volume_of group lv))
 IsOfSession group (HasLanded q how started got) = (lv : ℕ) × (q.vol ≡ Lv lv)
 IsOfSession group (Taken q) = Unit {0}
-IsOfSession group (Making lv blocks mode) = ⊥
-IsOfSession group (Made lv) = ⊥
-IsOfSession group (Split from lv) = ⊥
-IsOfSession group (Removing vol) = ⊥
-IsOfSession group (Removed vol) = ⊥
-IsOfSession group Cut = ⊥
-IsOfSession group (On moment) = ⊥
+IsOfSession group _ = ⊥
 
 -- what holds of a beginning, a landing and an answer that is taken holds of each such entry
 of_session : (group : Descriptor) (P : Fact → Type 0) → ((q : Request) → (lv : ℕ) × (q.vol ≡ Lv lv) × IsTrue (is_some (volume_of group lv)) → P (Begun q))
@@ -53,13 +47,7 @@ of_session : (group : Descriptor) (P : Fact → Type 0) → ((q : Request) → (
 of_session group P begun landed taken (Begun q) of = begun q of
 of_session group P begun landed taken (HasLanded q how started got) of = landed q how started got of
 of_session group P begun landed taken (Taken q) of = taken q
-of_session group P begun landed taken (Making lv blocks mode) of = absurd of
-of_session group P begun landed taken (Made lv) of = absurd of
-of_session group P begun landed taken (Split from lv) of = absurd of
-of_session group P begun landed taken (Removing vol) of = absurd of
-of_session group P begun landed taken (Removed vol) of = absurd of
-of_session group P begun landed taken Cut of = absurd of
-of_session group P begun landed taken (On moment) of = absurd of
+of_session group P begun landed taken _ of = absurd of
 
 pub volumes-append : (volumes : ℕ → Volume) (facts more : List Fact) → volumes_after volumes (facts ++ more) ≡ volumes_after (volumes_after volumes facts) more
 volumes-append volumes [] more = refl
@@ -153,12 +141,6 @@ module _ (votes : Votes) (group : Descriptor) (s : ModelState) (good : Good vote
 
   goes : (event : Event) (new : ModelState) → ModelStep votes event s new → AsksOf group event → Went new
   goes (Submit i q r) new step asks = subst Went (sym step.1) (went _ refl (inr (Begun q, refl, (r.lv, step.0.same.vol, asks))))
-  goes (EnterStep i q r) new step asks = subst Went (sym step.1) (went _ refl (inl refl))
-  goes (Admit i r phase several targets) new step asks = subst Went (sym step.1) (went _ refl (inl refl))
-  goes (Pin i r cache) new step asks = subst Went (sym step.1) (went _ refl (inl refl))
-  goes (Read i r c stage got) new step asks = subst Went (sym step.1) (went _ refl (inl refl))
-  goes (StartWrite i r c) new step asks = subst Went (sym step.1) (went _ refl (inl refl))
-  goes (Transfer i r c stage block) new step asks = subst Went (sym step.1) (went _ refl (inl refl))
   goes (LandDone i r) new step asks = subst Went (sym step.1)
       (went _ refl (inr (_, refl, on_volume i r step.0.started.there (write_asked i r step.0.started.there step.0.started.write))))
   goes (LandLost i r) new step asks = subst Went (sym step.1)
@@ -166,7 +148,6 @@ module _ (votes : Votes) (group : Descriptor) (s : ModelState) (good : Good vote
   goes (LandGot i r got) new step asks = subst Went (sym step.1) (went _ refl (inr (_, refl, on_volume i r step.0.there step.0.request)))
   goes (LandReadFailed i r) new step asks = subst Went (sym step.1) (went _ refl (inr (_, refl, on_volume i r step.0.there step.0.request)))
   goes (LandNoFresh i r) new step asks = subst Went (sym step.1) (went _ refl (inr (_, refl, on_volume i r step.0.there step.0.request)))
-  goes (EndStep i r) new step asks = subst Went (sym step.1) (went _ refl (inl refl))
   goes (Take i r) new step asks = subst Went (sym step.1) (went _ refl (by_step r.step))
     where
       by_step : (t : Bool) → ((if t then s.facts else s.facts ++ Taken (s.name i) ∷ []) ≡ s.facts)
@@ -174,16 +155,7 @@ module _ (votes : Votes) (group : Descriptor) (s : ModelState) (good : Good vote
       by_step true = inl refl
       by_step false = inr (Taken (s.name i), refl, tt)
   goes (TakeEarlier q) new step asks = subst Went (sym step.1) (went _ refl (inr (Taken q, refl, tt)))
-  goes (Want wanted missing open_copy) new step asks = subst Went (sym step.1) (went _ refl (inl refl))
-  goes (BeginUpdate u) new step asks = subst Went (sym step.1) (went _ refl (inl refl))
-  goes (MoveStatus u status flying) new step asks = subst Went (sym step.1) (went _ refl (inl refl))
-  goes (CommitUpdate u has_it ended wanted open_copy) new step asks = subst Went (sym step.1) (went _ refl (inl refl))
-  goes EndUpdate new step asks = subst Went (sym step.1) (went _ refl (inl refl))
-  goes (StartNote flying) new step asks = subst Went (sym step.1) (went _ refl (inl refl))
-  goes (EndNote d names home flying) new step asks = subst Went (sym step.1) (went _ refl (inl refl))
-  goes (OpenCopy o) new step asks = subst Went (sym step.1) (went _ refl (inl refl))
-  goes (CopyWrite i r value target open_copy step_write block) new step asks = subst Went (sym step.1) (went _ refl (inl refl))
-  goes (Clear wanted c) new step asks = subst Went (sym step.1) (went _ refl (inl refl))
+  goes _ new step asks = subst Went (sym step.1) (went _ refl (inl refl))
 
 -- ---- all of it
 

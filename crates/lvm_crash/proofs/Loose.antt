@@ -6,7 +6,7 @@ use Rattle.lvm_vol.specs.declared.entry.Vol.{Vol}
 use Rattle.lvm_vol.specs.declared.entry.Vol.TheVariants.{Lv}
 use Rattle.lvm_vol.specs.declared.entry.Outcome.{Outcome}
 use Rattle.lvm_vol.specs.declared.entry.Outcome.TheVariants as outcome
-use Rattle.lvm_vol.specs.Facts.{Request, Fact, Making, Made, Split, Removing, Removed, Begun, Landed, Taken, Cut, On, same_vol, is_over, block_of}
+use Rattle.lvm_vol.specs.Facts.{Request, Fact, Making, Split, Removed, Begun, Landed, Cut, same_vol, is_over, block_of}
 use Rattle.lvm_vol.specs.May.{Known, Knowledge, nothing_known, is_open_in, is_off, is_some_open, ended, read, cut, source, change, after_fact, after, known}
 
 -- if the block is loose, its volume is off
@@ -34,23 +34,15 @@ either false x y h k = k
 
 ended_off : (r : Request) (how : Outcome) (started : Bool) (x : Sector) (k : Known) → IsOffIfLoose k → IsOffIfLoose (ended r how started x k)
 ended_off r outcome.Done started x k h = λ is. never is
-ended_off r outcome.Lost started x k h = h
 ended_off r outcome.Off true x k h = by_either k.loose (is_off k.mode) h
 ended_off r outcome.Off false x k h = h
 ended_off r outcome.Dark true x k h = by_either k.loose (is_off k.mode) h
 ended_off r outcome.Dark false x k h = h
-ended_off r outcome.Got started x k h = h
-ended_off r outcome.ReadFailed started x k h = h
-ended_off r outcome.NoFresh started x k h = h
+ended_off r _ started x k h = h
 
 read_off : (how : Outcome) (x : Sector) (k : Known) → IsOffIfLoose k → IsOffIfLoose (read how x k)
 read_off outcome.Got x k h = either k.loose k (record k { values = _ }) h h
-read_off outcome.Done x k h = h
-read_off outcome.Lost x k h = h
-read_off outcome.ReadFailed x k h = h
-read_off outcome.NoFresh x k h = h
-read_off outcome.Off x k h = h
-read_off outcome.Dark x k h = h
+read_off _ x k h = h
 
 changed_off : (f : Fact) (vol : Vol) (b : ℕ) (k : Known) → IsOffIfLoose k → IsOffIfLoose (change f vol b k)
 changed_off (Making lv blocks m) vol b k h = either (same_vol (Lv lv) vol && nat_lt b blocks) _ k (λ is. never is) h
@@ -60,10 +52,7 @@ changed_off (Landed r how started got) vol b k h = either (is_over r vol b) _ k
     (either r.write _ (read how (block_of got r.at b) k) (either (is_open_in r k.open_writes) _ k (ended_off r how started (block_of r.blocks r.at b) k h) h) (read_off how (block_of got r.at b) k h)) h
 changed_off Cut vol b k h = off_by b k h
 changed_off (Removed gone) vol b k h = either (same_vol gone vol) _ k (λ is. never is) h
-changed_off (Made lv) vol b k h = h
-changed_off (Removing gone) vol b k h = h
-changed_off (Taken r) vol b k h = h
-changed_off (On moment) vol b k h = h
+changed_off _ vol b k h = h
 
 after_off : (k : Knowledge) (facts : List Fact) → ((vol : Vol) (b : ℕ) → IsOffIfLoose (k vol b)) → (vol : Vol) (b : ℕ) → IsOffIfLoose (after k facts vol b)
 after_off k [] h vol b = h vol b

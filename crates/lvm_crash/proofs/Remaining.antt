@@ -20,11 +20,12 @@ use Rattle.lvm_vol.specs.May.{Known, known, cut, May}
 use Rattle.lvm_vol.specs.Standing.{Standing, Settled, Open, Absent, Shape, volumes_in}
 use Rattle.lvm_vol.proofs.Knowing.{known-push}
 use Rattle.lvm_kept.specs.Contents.{Contents}
-use Rattle.lvm_kept.specs.Group.{descriptor_among, is_voter, has_quorum, status_among, Finds, IsFound, members_in, status_by, Reads, ReadsBy, fresh_on, names_if, IsOneOf, IsSome}
+use Rattle.lvm_kept.specs.Group.{is_voter, status_among, Finds, IsFound, members_in, status_by, Reads, ReadsBy, fresh_on, names_if, IsOneOf, IsSome}
 use Rattle.lvm_kept.specs.Kept.{HasStatus, IsBlockKept, BlocksKept, RawAgrees, IsAvailable, StandsAs, Kept}
 use Rattle.lvm_kept.specs.Committed.{IsWithinDisks}
 use Rattle.lvm_kept.proofs.Finding.{some_same, finding_reads}
 use Rattle.lvm_kept.proofs.Entries.{volume_is_row}
+use Rattle.lvm_kept.proofs.FindsLemmas.{still_finds, finds_before}
 use Rattle.lvm_invariant.specs.State.{ModelState}
 use Rattle.lvm_invariant.specs.Found.{Votes, Found}
 use Rattle.lvm_invariant.specs.Crash.{IsCrash, BlockKept}
@@ -66,19 +67,11 @@ module _ (old : Contents) (status : ℕ → Option (Stamped Status)) (note : ℕ
   abbrev new : Contents
   new = record old { status = status; note = note; block = block }
 
-  group_same : (disks : Disks) (id : ℕ) → descriptor_among new disks id ≡ descriptor_among old disks id
-  unfolding descriptor_among
-  group_same disks id = refl
-
-  quorum_same : (disks : Disks) (id : ℕ) → has_quorum new disks id ≡ has_quorum old disks id
-  unfolding has_quorum is_voter descriptor_among
-  quorum_same disks id = refl
-
   pub before : (disks : Disks) (id : ℕ) (group : Descriptor) → Finds new disks id group → Finds old disks id group
-  before disks id group f = record { quorum = sym (quorum_same disks id) ∙ f.quorum; newest = f.newest; found = sym (group_same disks id) ∙ f.found; is = f.is }
+  before = finds_before old status note block
 
   pub after : (disks : Disks) (id : ℕ) (group : Descriptor) → Finds old disks id group → Finds new disks id group
-  after disks id group f = record { quorum = quorum_same disks id ∙ f.quorum; newest = f.newest; found = group_same disks id ∙ f.found; is = f.is }
+  after = still_finds old status note block
 
   found_before : (id : ℕ) (group : Descriptor) → IsFound new id group → IsFound old id group
   found_before id group is = (is.0, before is.0 id group is.1)

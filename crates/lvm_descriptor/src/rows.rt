@@ -1,7 +1,7 @@
 //! The rows of members and volumes.
-ghost use Rattle.std.specs.Prelude.{◌≡◌, ℕ, true, ◌==◌, ◌&&◌, not, nat_le, nat_lt, [], length};
+ghost use Rattle.std.specs.Prelude.{◌≡◌, true, ◌==◌, ◌&&◌, not, nat_le, nat_lt, []};
 ghost use Rattle.std.specs.List.{list_all, list_any};
-ghost use Rattle.std.specs.Int.{w8, w16, w32};
+ghost use Rattle.std.specs.Int.{w16, w32};
 ghost use Rattle.lvm_num.specs.declared.descriptor.PvRow.{PvRow};
 ghost use Rattle.lvm_num.specs.declared.descriptor.LvRow.{LvRow};
 ghost use Rattle.lvm_num.specs.Descriptor.{most_volumes};

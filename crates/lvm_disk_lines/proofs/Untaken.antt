@@ -95,15 +95,7 @@ module _ (run : ℕ) (range : Asked) where
     where
       by : (why : RawFault) → IsEarlier (look_ends (log_with log old) why).facts
       by fault.Dark = bears_cut IsEarlier earlier_bears (log_with log old) its
-      by (fault.NoDisk d) = its
-      by (fault.OutOfRange size) = its
-      by fault.HistoryFull = its
-      by fault.Stuck = its
-      by (fault.DiskFailed d) = its
-      by (fault.InGroup d) = its
-      by fault.Lost = its
-      by fault.ReadFailed = its
-      by fault.Memory = its
+      by _ = its
 
   module _ {X : Type 0} (Goes : Moment → Moment → Result X RawFault → Type 0) (goes : (old new : Moment) (given : Result X RawFault) → Goes old new given → IsEarlier old.facts → IsEarlier new.facts) where
     raw_keeps : (log : Log) (disk start count patience : ℕ) (old new : Moment) (given : Result X RawFault) → RawGives Goes log disk start count patience old new given → IsEarlier old.facts → IsEarlier new.facts
@@ -114,14 +106,7 @@ module _ (run : ℕ) (range : Asked) where
   stayed : (patience : ℕ) (old new : Moment) (log : Log) (why : RawFault) → RangeStaysOut patience old.device new.device (log_with log old.facts) (log_with log new.facts) why → IsEarlier old.facts → IsEarlier new.facts
   stayed patience old new log fault.Dark out its = looked log old.facts new.facts fault.Dark out.1 its
   stayed patience old new log fault.Stuck out its = looked log old.facts new.facts fault.Stuck out.1 its
-  stayed patience old new log (fault.NoDisk d) out its = absurd out
-  stayed patience old new log (fault.OutOfRange size) out its = absurd out
-  stayed patience old new log fault.HistoryFull out its = absurd out
-  stayed patience old new log (fault.DiskFailed d) out its = absurd out
-  stayed patience old new log (fault.InGroup d) out its = absurd out
-  stayed patience old new log fault.Lost out its = absurd out
-  stayed patience old new log fault.ReadFailed out its = absurd out
-  stayed patience old new log fault.Memory out its = absurd out
+  stayed patience old new log _ out its = absurd out
 
 module _ (log : Log) (disk start count : ℕ) where
   module _ {X : Type 0} (Goes : ℕ → Moment → Moment → Result X RawFault → Type 0)

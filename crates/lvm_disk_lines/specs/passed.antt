@@ -9,6 +9,7 @@ pub mod Mirrors
 pub mod Quiesce
 pub mod QuiescedVariants
 pub mod Ranges
+pub mod Recover
 pub mod RefusalVariants
 pub mod ReplyVariants
 pub mod Running
@@ -16,6 +17,5 @@ pub mod Stage
 pub mod Tie
 pub mod TieCommands
 pub mod TieCopies
-pub mod Recover
 pub mod Varyon
 pub mod Volumes

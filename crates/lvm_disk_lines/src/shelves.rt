@@ -8,7 +8,7 @@ ghost use Rattle.lvm_stage.specs.Stages.{IsBetweenStage, IsFitting};
 
 use lvm_core::Closed;
 use lvm_disk::{Arrange, Shelf};
-use lvm_stage::{Answered, Holder, Refusal, Reply, Stage};
+use lvm_stage::{Answered, Refusal, Reply, Stage};
 use lvm_transfer::relight;
 
 /// Lets a disk fail, or heal.
@@ -46,11 +46,5 @@ pub fn do_cut<S: Shelf>(stage: Stage<S>, word: u64) -> Answered<S>
     } = closed;
     history.cut();
     relight(&mut shelf);
-    let holder = Holder::Off { shelf, history };
-    Stage {
-        holder,
-        posts,
-        bytes,
-    }
-    .answered(Reply::Ok)
+    Stage::off(shelf, history, posts, bytes).answered(Reply::Ok)
 }

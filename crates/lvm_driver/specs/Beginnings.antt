@@ -10,7 +10,7 @@ use Rattle.lvm_num.specs.Votes.{is_enough_to_write, total_votes}
 use Rattle.lvm_disk.specs.Device.{Device}
 use Rattle.lvm_vol.specs.Log.{Log, is_open}
 use Rattle.lvm_vol.specs.Order.{Ordered}
-use Rattle.lvm_homes.specs.declared.homes.Homes.{Homes}
+use Rattle.lvm_rec.specs.declared.homes.Homes.{Homes}
 use Rattle.lvm_session.specs.Placed.{ArePlaced}
 use Rattle.lvm_session.specs.Sound.{IsLit}
 use Rattle.lvm_session.specs.Worked.{faultless, fresh, mirrored, status_of}

@@ -7,10 +7,10 @@ ghost use Rattle.lvm_session.specs.Asking.{IsAsking, IsAwake};
 ghost use Rattle.lvm_session.specs.Sound.{IsTold};
 ghost use Rattle.lvm_due.specs.Due.{IsDue};
 
+use lvm_calls::submit_request;
 use lvm_due::Due;
 use lvm_path::Ask;
 use lvm_session::{AskFault, Session, Taken};
-use lvm_submit::submit_request;
 
 // All places of the table.
 pub fn all_due(session: &Session) -> Due

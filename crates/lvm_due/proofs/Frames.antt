@@ -3,7 +3,7 @@ use Rattle.std.proofs.Common.{◌≡◌, ◌<◌, ◌≤◌, ◌&&◌, ◌||◌,
 use Rattle.std.specs.Prelude.{if◌then◌else◌}
 use Rattle.std.specs.List.{list_any}
 use Rattle.std.specs.Option.{option_map}
-use Rattle.std.proofs.lemmas.Bool.{and_left}
+use Rattle.std.proofs.lemmas.Bool.{and_left, eqb-false, eqb-true}
 use Rattle.std.proofs.lemmas.Option.{slice_get_within}
 use Rattle.lvm_path.specs.declared.ask.Ask.{Ask}
 use Rattle.lvm_path.specs.declared.facts.Facts.{Facts}
@@ -20,13 +20,15 @@ use Rattle.lvm_session.specs.Judging.{facts_of, is_beside, is_failing, is_held_b
 use Rattle.lvm_session.specs.Enabled.{admission_at, can_pin, data_at, is_admit, is_pin, landing_at, note_at, outcome_next, pinning_at, target_next}
 use Rattle.lvm_session.specs.Requests.{wants_entry}
 use Rattle.lvm_firsts.proofs.Might.{pins_not}
-use Rattle.lvm_firsts.specs.Might.{wants_entry as might_want}
+use Rattle.lvm_firsts.specs.Might.{might_pin, wants_entry as might_want}
 use Rattle.lvm_firsts.specs.declared.span.Span.{Span}
-use Rattle.lvm_firsts.specs.Spans.{is_in, Adds, Spans}
+use Rattle.lvm_firsts.specs.Spans.{is_in, Spans}
 use Rattle.lvm_due.specs.declared.due.Due.{Due}
-use Rattle.lvm_due.specs.Due.{is_held, AddsEach, Covers, IsDue, Joins, Moves}
+use Rattle.lvm_due.specs.Due.{is_held, AddsMaking, Covers, IsDue, Joins, Moves}
+use Rattle.lvm_due.specs.Making.{may_admit, may_land, may_note, may_start}
+use Rattle.lvm_due.proofs.Unmade.{admit_none, land_none, note_none, pin_none, start_none}
 use Rattle.lvm_due.proofs.Telling.{facts_but, failing_read, fails_beside, is_unsettled, note_same, pending_read}
-use Rattle.lvm_due.proofs.Spanning.{keep, not_both}
+use Rattle.lvm_due.proofs.Spanning.{Keeps, adds_keep, joins_keep, not_both, out_of}
 use Rattle.lvm_due.proofs.Unread.{blocked_unread, starts_unread}
 
 -- ---- another request of the table
@@ -37,6 +39,11 @@ get_other (x ∷ os) zero is zero o apart there = absurd (apart refl)
 get_other (x ∷ os) zero is (suc k) o apart there = there
 get_other (x ∷ os) (suc place) is zero o apart there = there
 get_other (x ∷ os) (suc place) is (suc k) o apart there = get_other os place is k o (λ same. apart (ap suc same)) there
+
+pub get_set : (os : List Open) (k : ℕ) (was is : Open) → slice_get os k ≡ Some was → slice_get (slice_set os k is) k ≡ Some is
+get_set [] k was is there = absurd (cc there)
+get_set (x ∷ os) zero was is there = refl
+get_set (x ∷ os) (suc k) was is there = get_set os k was is there
 
 pub long_set : (os : List Open) (place : ℕ) (is : Open) → length (slice_set os place is) ≡ length os
 long_set [] place is = refl
@@ -64,6 +71,9 @@ same_phases phase.Landed = refl
 module _ (frees pins : Open → Bool) (old new : Core) (place : ℕ) (moves : Moves frees pins old new place) where
   long_same : length new.requests ≡ length old.requests
   long_same = ap length moves.requests ∙ long_set old.requests place moves.is
+
+  changed_there : slice_get new.requests place ≡ Some moves.is
+  changed_there = ap (λ (os : List Open). slice_get os place) moves.requests ∙ get_set old.requests place moves.was moves.is moves.there
 
   -- what is pending for the others is what was
   pending_same : (r : Request) → is_pending new r ≡ is_pending old r
@@ -114,22 +124,30 @@ module _ (frees pins : Open → Bool) (old new : Core) (place : ℕ) (moves : Mo
 
   -- ---- a wider span of each kind
 
-  module _ (s t : Span) (wider : (k : ℕ) → is_in s k ≡ true → is_in t k ≡ true) (has : is_in t place ≡ true) (within : t.to ≤ length new.requests) where
-    at_others : (was now : ℕ → Open → Option Event) → Spans was old.requests s → ((k : ℕ) (o : Open) → slice_get new.requests k ≡ Some o → slice_get old.requests k ≡ Some o → is_in t k ≡ false → was k o ≡ None → now k o ≡ None) → Spans now new.requests t
-    at_others was now spans same = keep was now old.requests new.requests s t spans within wider
-        (λ k o there out. let before = earlier k o there out in (before, same k o there before out))
+  module _ (s t : Span) where
+    at_others : (was now : ℕ → Open → Option Event) → Keeps now moves.is place (length new.requests) s t → Spans was old.requests s
+        → ((k : ℕ) (o : Open) → slice_get new.requests k ≡ Some o → slice_get old.requests k ≡ Some o → is_in t k ≡ false → was k o ≡ None → now k o ≡ None) → Spans now new.requests t
+    at_others was now keeps spans same = record {
+      within = keeps.within (let within = spans.within in let long = long_same in omega (arith, within, long));
+      none = λ k o there out. by k o there out (k == place) refl;
+    }
       where
-        earlier : (k : ℕ) (o : Open) → slice_get new.requests k ≡ Some o → is_in t k ≡ false → slice_get old.requests k ≡ Some o
-        earlier k o there out =
-            get_other old.requests place moves.is k o (λ same. not_both t k (ap (is_in t) same ∙ has) out)
-            (ap (λ (os : List Open). slice_get os k) (sym moves.requests) ∙ there)
+        by : (k : ℕ) (o : Open) → slice_get new.requests k ≡ Some o → is_in t k ≡ false → (b : Bool) → (k == place) ≡ b → now k o ≡ None
+        by k o there out true here =
+            let k_is : k ≡ place = eqb-true k place here in
+            let at : slice_get new.requests place ≡ Some o = ap (slice_get new.requests) (sym k_is) ∙ there in
+            let its : moves.is ≡ o = cc (sym (changed_there) ∙ at) in
+            ap (λ (n : ℕ). now n o) k_is ∙ ap (now place) (sym its) ∙ keeps.own (ap (is_in t) (sym k_is) ∙ out)
+        by k o there out false apart =
+            let earlier = get_other old.requests place moves.is k o (eqb-false k place apart) (ap (λ (os : List Open). slice_get os k) (sym moves.requests) ∙ there) in
+            same k o there earlier out (spans.none k o earlier (out_of s t k (keeps.wider k) out))
 
-    note_keeps : Spans (note_at old) old.requests s → Spans (note_at new) new.requests t
-    note_keeps spans = at_others (note_at old) (note_at new) spans
+    note_keeps : Keeps (note_at new) moves.is place (length new.requests) s t → Spans (note_at old) old.requests s → Spans (note_at new) new.requests t
+    note_keeps keeps spans = at_others (note_at old) (note_at new) keeps spans
         (λ k o there before out none. ap (λ (disk : Option ℕ). option_map (event.StartNote k) disk) (note_same old new moves.reads moves.notes o) ∙ none)
 
-    data_keeps : Spans (data_at old) old.requests s → Spans (data_at new) new.requests t
-    data_keeps spans = at_others (data_at old) (data_at new) spans
+    data_keeps : Keeps (data_at new) moves.is place (length new.requests) s t → Spans (data_at old) old.requests s → Spans (data_at new) new.requests t
+    data_keeps keeps spans = at_others (data_at old) (data_at new) keeps spans
         (λ k o there before out none. ap (λ (target : Option ℕ). option_map (event.StartData k) target) (starts_same o) ∙ none)
 
     -- what isn't in a span that has those that pass a test doesn't pass
@@ -142,34 +160,38 @@ module _ (frees pins : Open → Bool) (old new : Core) (place : ℕ) (moves : Mo
           by false is = is
 
     module _ (covers : (k : ℕ) (o : Open) → slice_get new.requests k ≡ Some o → frees o ≡ true → is_in t k ≡ true) where
-      landing_keeps : Spans (landing_at old) old.requests s → Spans (landing_at new) new.requests t
-      landing_keeps spans = at_others (landing_at old) (landing_at new) spans
+      landing_keeps : Keeps (landing_at new) moves.is place (length new.requests) s t → Spans (landing_at old) old.requests s → Spans (landing_at new) new.requests t
+      landing_keeps keeps spans = at_others (landing_at old) (landing_at new) keeps spans
           (λ k o there before out none. ap (λ (n : Next). option_map (event.Land k) (outcome_next n)) (next_same o (λ held. moves.waits k o before held (kept frees covers k o there out))) ∙ none)
 
-      admission_keeps : Spans (admission_at old) old.requests s → Spans (admission_at new) new.requests t
-      admission_keeps spans = at_others (admission_at old) (admission_at new) spans
+      admission_keeps : Keeps (admission_at new) moves.is place (length new.requests) s t → Spans (admission_at old) old.requests s → Spans (admission_at new) new.requests t
+      admission_keeps keeps spans = at_others (admission_at old) (admission_at new) keeps spans
           (λ k o there before out none. ap (λ (n : Next). if is_admit n then Some (event.Admit k) else None) (next_same o (λ held. moves.waits k o before held (kept frees covers k o there out))) ∙ none)
 
-    pinning_keeps : ((k : ℕ) (o : Open) → slice_get new.requests k ≡ Some o → pins o ≡ true → is_in t k ≡ true) → Spans (pinning_at old) old.requests s → Spans (pinning_at new) new.requests t
-    pinning_keeps covers spans = at_others (pinning_at old) (pinning_at new) spans (λ k o there before out none. pins_same k o (kept pins covers k o there out) (wants_entry o.request.phase) refl none)
+    pinning_keeps : ((k : ℕ) (o : Open) → slice_get new.requests k ≡ Some o → pins o ≡ true → is_in t k ≡ true) → Keeps (pinning_at new) moves.is place (length new.requests) s t → Spans (pinning_at old) old.requests s
+        → Spans (pinning_at new) new.requests t
+    pinning_keeps covers keeps spans = at_others (pinning_at old) (pinning_at new) keeps spans (λ k o there before out none. pins_same k o (kept pins covers k o there out) (wants_entry o.request.phase) refl none)
 
--- The place is added, to landing and admission those that are freed, and to pinning those of the entries.
+-- The place is added where the request may make an event, to landing and admission those that are freed, and to pinning those of the entries.
 pub moved_due : (frees pins : Open → Bool) (old new : Core) (place : ℕ) (was each now : Due) (freed entries : Span) → place < length new.requests → Covers frees new.requests (length new.requests) freed
-    → Covers pins new.requests (length new.requests) entries → AddsEach place was each → Joins freed each.landing now.landing → Joins freed each.admission now.admission → Joins entries each.pinning now.pinning
-    → now.note ≡ each.note → now.data ≡ each.data → Moves frees pins old new place → IsDue old was → IsDue new now
-moved_due frees pins old new place was each now freed entries low free enter adds lands admits pinned notes datas moves due = record {
-  landing = landing_keeps frees pins old new place moves was.landing now.landing (λ k is. lands.wider k (adds.landing.wider k is)) (lands.wider place adds.landing.has) (lands.within n (first (landing_at old) was.landing each.landing adds.landing due.landing) free.within)
-      (λ k o there is. lands.has k (free.has k o (slice_get_within new.requests k o there) there is)) due.landing;
-  admission = admission_keeps frees pins old new place moves was.admission now.admission (λ k is. admits.wider k (adds.admission.wider k is)) (admits.wider place adds.admission.has) (admits.within n (first (admission_at old) was.admission each.admission adds.admission due.admission) free.within)
-      (λ k o there is. admits.has k (free.has k o (slice_get_within new.requests k o there) there is)) due.admission;
-  pinning = pinning_keeps frees pins old new place moves was.pinning now.pinning (λ k is. pinned.wider k (adds.pinning.wider k is)) (pinned.wider place adds.pinning.has) (pinned.within n (first (pinning_at old) was.pinning each.pinning adds.pinning due.pinning) enter.within)
-      (λ k o there is. pinned.has k (enter.has k o (slice_get_within new.requests k o there) there is)) due.pinning;
-  note = subst (Spans (note_at new) new.requests) (sym notes) (note_keeps frees pins old new place moves was.note each.note adds.note.wider adds.note.has (first (note_at old) was.note each.note adds.note due.note) due.note);
-  «data» = subst (Spans (data_at new) new.requests) (sym datas) (data_keeps frees pins old new place moves was.data each.data adds.data.wider adds.data.has (first (data_at old) was.data each.data adds.data due.data) due.data);
+    → Covers pins new.requests (length new.requests) entries → ((o : Open) → slice_get new.requests place ≡ Some o → AddsMaking o.request place was each) → Joins freed each.landing now.landing
+    → Joins freed each.admission now.admission → Joins entries each.pinning now.pinning → now.note ≡ each.note → now.data ≡ each.data → Moves frees pins old new place → IsDue old was → IsDue new now
+moved_due frees pins old new place was each now freed entries low free enter making lands admits pinned notes datas moves due = record {
+  landing = landing_keeps frees pins old new place moves was.landing now.landing (λ k o there is. lands.has k (free.has k o (slice_get_within new.requests k o there) there is))
+      (joins_keep (landing_at new) moves.is place n freed was.landing each.landing now.landing free.within (adds_keep (landing_at new) moves.is place n was.landing each.landing (may_land moves.is.request) low (land_none new place moves.is) adds.landing) lands) due.landing;
+  admission = admission_keeps frees pins old new place moves was.admission now.admission (λ k o there is. admits.has k (free.has k o (slice_get_within new.requests k o there) there is))
+      (joins_keep (admission_at new) moves.is place n freed was.admission each.admission now.admission free.within
+      (adds_keep (admission_at new) moves.is place n was.admission each.admission (may_admit moves.is.request) low (admit_none new place moves.is) adds.admission) admits) due.admission;
+  pinning = pinning_keeps frees pins old new place moves was.pinning now.pinning (λ k o there is. pinned.has k (enter.has k o (slice_get_within new.requests k o there) there is))
+      (joins_keep (pinning_at new) moves.is place n entries was.pinning each.pinning now.pinning enter.within (adds_keep (pinning_at new) moves.is place n was.pinning each.pinning (might_pin moves.is.request) low (pin_none new place moves.is) adds.pinning) pinned) due.pinning;
+  note = subst (Spans (note_at new) new.requests) (sym notes)
+      (note_keeps frees pins old new place moves was.note each.note (adds_keep (note_at new) moves.is place n was.note each.note (may_note moves.is.request) low (note_none new place moves.is) adds.note) due.note);
+  «data» = subst (Spans (data_at new) new.requests) (sym datas)
+      (data_keeps frees pins old new place moves was.data each.data (adds_keep (data_at new) moves.is place n was.data each.data (may_start moves.is.request) low (start_none new place moves.is) adds.data) due.data);
 }
   where
     n : ℕ
     n = length new.requests
 
-    first : (make : ℕ → Open → Option Event) (s t : Span) → Adds place s t → Spans make old.requests s → t.to ≤ length new.requests
-    first make s t adds spans = adds.within (length new.requests) (let within = spans.within in let same = long_same frees pins old new place moves in omega (arith, within, same)) low
+    adds : AddsMaking moves.is.request place was each
+    adds = making moves.is (changed_there frees pins old new place moves)

@@ -9,4 +9,5 @@ mod Spanning
 mod Starting
 mod Table
 mod Telling
+mod Unmade
 mod Unread

@@ -26,14 +26,16 @@ use Rattle.lvm_session.specs.State.{Core, State, state}
 use Rattle.lvm_session.specs.Bringing.{ends_if, with_end}
 use Rattle.lvm_session.specs.Enabled.{can_pin}
 use Rattle.lvm_session.specs.Ends.{DataLearns, after_data, learned}
-use Rattle.lvm_session.specs.Events.{Admits, Lands, Pins, StartsData, admitted_as, after_admission, after_landing, begun_as, landed_as, makes_dirty, with_flight, with_open}
+use Rattle.lvm_session.specs.Events.{Admits, Lands, Pins, StartsData, admitted_as, after_admission, after_landing, begun_as, landed_as, makes_dirty, with_flight, with_open, without_pin}
 use Rattle.lvm_session.specs.Judging.{facts_of, group_of, held_of, is_failing, is_held_back, is_waiting, mode_of, place_of, policy_of}
 use Rattle.lvm_session.specs.Marks.{WantsDirtyIf, hits_copy}
 use Rattle.lvm_session.specs.Sound.{IsGoing, rows_of, waiting_rows}
-use Rattle.lvm_due.specs.Due.{any_fails, is_freed, none, overlap, waits_entry, IsCalm, IsQuiet, IsQuietFor, Moves, ReadsSame}
+use Rattle.lvm_due.specs.Due.{any_fails, enters, is_freed, none, overlap, waits_entry, HoldsPin, IsCalm, IsQuiet, IsQuietFor, Moves, ReadsSame}
+use Rattle.lvm_due.specs.Making.{may_land}
+use Rattle.lvm_due.proofs.Frames.{get_set}
 use Rattle.lvm_due.proofs.Telling.{fails_read, failing_read}
 use Rattle.lvm_due.proofs.Starting.{start_fails, start_waits}
-use Rattle.lvm_due.proofs.Queues.{get_set, has_number, one_numbered, position_is, position_set, row_of, unqueued}
+use Rattle.lvm_due.proofs.Queues.{has_number, one_numbered, position_is, position_set, row_of, unqueued}
 
 not_both : {X : Type 0} {b : Bool} → b ≡ true → b ≡ false → X
 not_both is not_so = absurd (let e : true ≡ false = sym is ∙ not_so in cc e)
@@ -73,9 +75,14 @@ calm_reads old new descriptor committed was is = record {
   copy = is.copy ∙ sym was.copy;
 }
 
+-- where no pin was given up all can pin that could
+unheld_pins : (cache : Cached) (r : Request) (o : Open) (pinned : Bool) → r.pinned ≡ pinned → waits_entry o ≡ true → enters pinned o ≡ false → can_pin (without_pin cache r) o.request.ask ≡ can_pin cache o.request.ask
+unheld_pins cache r o true held waits kept = not_both waits kept
+unheld_pins cache r o false held waits kept = ap (λ (b : Bool). can_pin (if b then after_unpin cache (lv_of r.ask) (group_of r.ask) else cache) o.request.ask) held
+
 -- ---- Land
 
-module _ (old : State) (new : Core) (place : ℕ) (how : Outcome) (going : IsGoing old.core) (lands : Lands old (state old.device new) place how) (quiet : IsQuiet new place) where
+module _ (old : State) (new : Core) (place : ℕ) (how : Outcome) (going : IsGoing old.core) (lands : Lands old (state old.device new) place how) (quiet : IsQuiet new place) (pinned : Bool) (holds : HoldsPin old.core place pinned) where
   abbrev landed_was : Open
   landed_was = lands.request
 
@@ -116,7 +123,7 @@ module _ (old : State) (new : Core) (place : ℕ) (how : Outcome) (going : IsGoi
           let its = one_numbered old.core.requests k place o lands.request going.told.table.ascending there lands.there is in
           and_right (nat_lt (place_of o.request.id) (place_of r.id)) (conflicts (held_of o.request.ask) (held_of r.ask)) (ap (λ (x : Open). conflicts (held_of x.request.ask) (held_of r.ask)) its ∙ apart)
 
-  landed_moves : Moves (is_freed lands.request.request.ask) waits_entry old.core new place
+  landed_moves : Moves (is_freed lands.request.request.ask) (enters pinned) old.core new place
   landed_moves = record {
     reads = landed_reads;
     notes = ap (λ (c : Core). c.cache.notes) landed_is ∙ unpin_notes lands.request.request.pinned old.core.cache (lv_of lands.request.request.ask) (group_of lands.request.request.ask);
@@ -129,19 +136,27 @@ module _ (old : State) (new : Core) (place : ℕ) (how : Outcome) (going : IsGoi
     fails = sym (calm_one old.core lands.request (sym (fails_read old.core new landed_reads lands.request) ∙ quiet.kept (landed_as how lands.request) landed_there));
     waits = λ k o there held kept. landed_queue o.request (and_left (overlap lands.request.request.ask o.request.ask) (is_write_of (held_of lands.request.request.ask) || is_write_of (held_of o.request.ask))
         (sym (ap (λ (b : Bool). b && overlap lands.request.request.ask o.request.ask) held) ∙ kept));
-    pins = λ o waits kept. not_both waits kept;
+    pins = λ o waits kept. ap (λ (c : Core). can_pin c.cache o.request.ask) landed_is ∙ unheld_pins old.core.cache lands.request.request o pinned (holds lands.request lands.there) waits kept;
   }
 
   -- by what stands at the place now
-  pub landing_moves : (o : Open) → slice_get new.requests place ≡ Some o → Moves (is_freed o.request.ask) waits_entry old.core new place
+  pub landing_moves : (o : Open) → slice_get new.requests place ≡ Some o → Moves (is_freed o.request.ask) (enters pinned) old.core new place
   landing_moves o there =
       let its : o ≡ landed_as how lands.request = cc (there, landed_there) in
-      subst (λ (ask : Ask). Moves (is_freed ask) waits_entry old.core new place) (sym (ap (λ (x : Open). x.request.ask) its)) landed_moves
+      subst (λ (ask : Ask). Moves (is_freed ask) (enters pinned) old.core new place) (sym (ap (λ (x : Open). x.request.ask) its)) landed_moves
+
+-- it lands once
+pub landed_may_not : (old : State) (new : Core) (place : ℕ) (how : Outcome) → Lands old (state old.device new) place how → (o : Open) → slice_get new.requests place ≡ Some o → may_land o.request ≡ false
+landed_may_not old new place how lands o there =
+    let requests : new.requests ≡ slice_set old.core.requests place (landed_as how lands.request) = ap (λ (s : State). s.core.requests) lands.is in
+    let its : landed_as how lands.request ≡ o = cc (sym (ap (λ (os : List Open). slice_get os place) requests ∙ get_set old.core.requests place lands.request (landed_as how lands.request) lands.there) ∙ there) in
+    ap (λ (x : Open). may_land x.request) (sym its)
 
 -- ---- Admit
 
-pub admission_moves : (old : State) (new : Core) (place : ℕ) → Admits old (state old.device new) place → IsQuiet old.core place → IsQuiet new place → Moves none waits_entry old.core new place
-admission_moves old new place admits was is = record {
+pub admission_moves : (old : State) (new : Core) (place : ℕ) → Admits old (state old.device new) place → IsQuiet old.core place → IsQuiet new place → (pinned : Bool) → HoldsPin old.core place pinned
+    → Moves none (enters pinned) old.core new place
+admission_moves old new place admits was is pinned holds = record {
   reads = calm_reads old.core new (ap (λ (c : Core). c.descriptor) core_is) (dirty_commits (makes_dirty old.core admits.request.request.ask admits.targets) (lv_of admits.request.request.ask) old.core.status new.status admits.dirty) was.calm is.calm;
   notes = ap (λ (c : Core). c.cache.notes) core_is ∙ unpin_notes admits.request.request.pinned old.core.cache (lv_of admits.request.request.ask) (group_of admits.request.request.ask);
   was = admits.request;
@@ -152,7 +167,7 @@ admission_moves old new place admits was is = record {
   ask = refl;
   fails = calm_one new one (is.kept one (ap (λ (os : List Open). slice_get os place) requests ∙ get_set old.core.requests place admits.request one admits.there)) ∙ sym (calm_one old.core admits.request (was.kept admits.request admits.there));
   waits = λ k o there held kept. ap (λ (c : Core). is_held_back c o.request) core_is;
-  pins = λ o waits kept. not_both waits kept;
+  pins = λ o waits kept. ap (λ (c : Core). can_pin c.cache o.request.ask) core_is ∙ unheld_pins old.core.cache admits.request.request o pinned (holds admits.request admits.there) waits kept;
 }
   where
     after : Core

@@ -56,11 +56,6 @@ position_set test os k was is there same =
     ap (λ (n : ℕ). cond (nat_lt n (length (slice_set os k is))) (Some n) None) (position_or_len-set test os k is was (same ∙ sym (ap test (get_or_from_slice_get os k was was there))))
     ∙ ap (λ (long : ℕ). cond (nat_lt (position_or_len test os) long) (Some (position_or_len test os)) None) (long_set os k is)
 
-pub get_set : (os : List Open) (k : ℕ) (was is : Open) → slice_get os k ≡ Some was → slice_get (slice_set os k is) k ≡ Some is
-get_set [] k was is there = absurd (cc there)
-get_set (x ∷ os) zero was is there = refl
-get_set (x ∷ os) (suc k) was is there = get_set os k was is there
-
 pub place_within : (test : Open → Bool) (os : List Open) (place : Option ℕ) → place ≡ position test os → IfSome place (λ k. k < length os)
 place_within test os None is = tt
 place_within test os (Some k) is =

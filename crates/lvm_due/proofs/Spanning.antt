@@ -1,5 +1,5 @@
 -- Spans, and what is due outside them.
-use Rattle.std.proofs.Common.{◌≡◌, ◌<◌, ◌≤◌, ◌+◌, ◌==◌, ℕ, Bool, true, false, nat_le, nat_lt, List, Option, Some, None, length, slice_get, refl, sym, ◌∙◌, ap, arith}
+use Rattle.std.proofs.Common.{◌≡◌, ◌<◌, ◌≤◌, ◌+◌, ◌==◌, ℕ, Bool, true, false, nat_le, nat_lt, List, Option, Some, None, length, slice_get, refl, sym, ◌∙◌, ap, subst, arith}
 use Rattle.std.proofs.lemmas.Bool.{and_from, and_parts, eqb-false, eqb-true, le-leb, leb-true, lt-ltb, ltb-true, false_from_ne_true}
 use Rattle.std.proofs.lemmas.Option.{slice_get_within}
 use Rattle.lvm_session.specs.declared.event.Event.{Event}
@@ -7,8 +7,9 @@ use Rattle.lvm_session.specs.declared.open.Open.{Open}
 use Rattle.lvm_session.specs.State.{Core}
 use Rattle.lvm_session.specs.Enabled.{admission_at, data_at, landing_at, note_at, pinning_at}
 use Rattle.lvm_firsts.specs.declared.span.Span.{Span}
-use Rattle.lvm_firsts.specs.Spans.{is_in, Spans}
-use Rattle.lvm_due.specs.Due.{none, AddsIf, Covers, IsDue}
+use Rattle.lvm_firsts.specs.Spans.{is_in, Skips, Spans}
+use Rattle.lvm_due.specs.declared.due.Due.{Due}
+use Rattle.lvm_due.specs.Due.{none, AddsIf, Covers, IsDue, Joins}
 
 pub in_parts : (s : Span) (k : ℕ) → is_in s k ≡ true → (s.from ≤ k) × (k < s.to)
 in_parts s k is = let both = and_parts (nat_le s.from k) (nat_lt k s.to) is in (leb-true s.from k both.0, ltb-true k s.to both.1)
@@ -72,6 +73,44 @@ module _ (which : Open → Bool) (requests : List Open) where
 -- no request passes this test
 pub covers_nothing : (requests : List Open) (n : ℕ) (s : Span) → s.to ≡ 0 → Covers none requests n s
 covers_nothing requests n s to = record { within = omega (arith, to); has = λ k o low there is. absurd (cc is) }
+
+-- ---- a span of requests of which one has changed
+
+-- A span has the places of another one, and that of the request that has changed, unless this makes no such event.
+pub record Keeps (make : ℕ → Open → Option Event) (is : Open) (place n : ℕ) (s t : Span) : Type 0 where
+  pub wider : (k : ℕ) → is_in s k ≡ true → is_in t k ≡ true
+  pub own : is_in t place ≡ false → make place is ≡ None
+  pub within : s.to ≤ n → t.to ≤ n
+
+pub adds_keep : (make : ℕ → Open → Option Event) (is : Open) (place n : ℕ) (s t : Span) (may : Bool) → place < n → (may ≡ false → make place is ≡ None) → AddsIf may place s t → Keeps make is place n s t
+adds_keep make is place n s t true low none adds = record { wider = adds.wider; own = λ out. not_both t place adds.has out; within = λ within. adds.within n within low }
+adds_keep make is place n s t false low none same = record {
+  wider = λ k it. ap (λ (x : Span). is_in x k) same ∙ it;
+  own = λ out. none refl;
+  within = λ within. let to = ap (λ (x : Span). x.to) same in omega (arith, within, to);
+}
+
+pub joins_keep : (make : ℕ → Open → Option Event) (is : Open) (place n : ℕ) (other s t u : Span) → other.to ≤ n → Keeps make is place n s t → Joins other t u → Keeps make is place n s u
+joins_keep make is place n other s t u low keeps joins = record {
+  wider = λ k it. joins.wider k (keeps.wider k it);
+  own = λ out. keeps.own (out_of t u place (joins.wider place) out);
+  within = λ within. joins.within n (keeps.within within) low;
+}
+
+-- ---- a place is left out at which no request lands
+
+pub skipped_due : (core : Core) (place : ℕ) (o : Open) (was now : Due) → slice_get core.requests place ≡ Some o → landing_at core place o ≡ None → Skips place was.landing now.landing → now ≡ record was { landing = now.landing } → IsDue core was → IsDue core now
+skipped_due core place o was now there none skips rest due =
+    let landing : Spans (landing_at core) core.requests now.landing =
+    record { within = let within = due.landing.within in let to = skips.within in omega (arith, within, to); none = λ k p at out. by k p at out (k == place) refl } in
+    subst (IsDue core) (sym rest) (record { landing = landing; admission = due.admission; pinning = due.pinning; note = due.note; «data» = due.data })
+  where
+    by : (k : ℕ) (p : Open) → slice_get core.requests k ≡ Some p → is_in now.landing k ≡ false → (b : Bool) → (k == place) ≡ b → landing_at core k p ≡ None
+    by k p at out true here =
+        let k_is : k ≡ place = eqb-true k place here in
+        let its : o ≡ p = cc (sym there ∙ ap (slice_get core.requests) (sym k_is) ∙ at) in
+        ap (λ (n : ℕ). landing_at core n p) k_is ∙ ap (landing_at core place) (sym its) ∙ none
+    by k p at out false apart = due.landing.none k p at (out_of was.landing now.landing k (skips.others k (eqb-false k place apart)) out)
 
 -- ---- a span that has become wider
 

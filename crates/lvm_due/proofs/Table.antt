@@ -1,7 +1,7 @@
 -- What a request that begins, and one that leaves the table, leave of the events of the others.
 use Rattle.std.proofs.Common.{◌≡◌, ◌<◌, ◌≤◌, ◌+◌, ◌⊎◌, ◌&&◌, ◌||◌, ◌++◌, ◌==◌, inl, inr, not, nat_lt, ℕ, zero, suc, Bool, true, false, List, [], ◌∷◌, Option, Some, None, length, slice_get, refl, sym, subst, ◌∙◌, ap, arith}
 use Rattle.std.specs.List.{list_any, remove}
-use Rattle.std.proofs.lemmas.Bool.{and_left, and_right, false_from_ne_true, le-ltb}
+use Rattle.std.proofs.lemmas.Bool.{and_left, and_right, eqb-false, eqb-true, false_from_ne_true, le-ltb}
 use Rattle.std.proofs.lemmas.List.Folds.{list_any-append}
 use Rattle.std.proofs.lemmas.Option.{slice_get_within}
 use Rattle.lvm_vol.specs.Facts.{begun}
@@ -27,12 +27,15 @@ use Rattle.lvm_session.specs.Sound.{IsAsked, IsTold}
 use Rattle.lvm_mwc.specs.Cache.{Cached}
 use Rattle.lvm_firsts.proofs.Places.{at_place}
 use Rattle.lvm_firsts.specs.declared.span.Span.{Span}
-use Rattle.lvm_firsts.specs.Spans.{is_in, Adds, Leaves, Spans}
+use Rattle.lvm_firsts.specs.Might.{might_pin}
+use Rattle.lvm_firsts.specs.Spans.{is_in, Leaves, Spans}
 use Rattle.lvm_due.specs.declared.due.Due.{Due}
-use Rattle.lvm_due.specs.Due.{AddsEach, IsDue, ReadsSame}
+use Rattle.lvm_due.specs.Due.{AddsMaking, IsDue, ReadsSame}
+use Rattle.lvm_due.specs.Making.{may_admit, may_land, may_note, may_start}
 use Rattle.lvm_due.proofs.Alike.{admission_alike, data_alike, landing_alike, note_alike, pinning_alike}
 use Rattle.lvm_due.proofs.Telling.{facts_but, fails_beside, is_unsettled, note_same, pending_read}
-use Rattle.lvm_due.proofs.Spanning.{keep, not_both, out_of}
+use Rattle.lvm_due.proofs.Unmade.{admit_none, land_none, note_none, pin_none, start_none}
+use Rattle.lvm_due.proofs.Spanning.{Keeps, adds_keep, not_both, out_of}
 
 -- ---- one begins
 
@@ -52,6 +55,10 @@ get_before [] x (suc k) o apart there = there
 get_before (y ∷ os) x zero o apart there = there
 get_before (y ∷ os) x (suc k) o apart there = get_before os x k o (λ same. apart (ap suc same)) there
 
+get_last : (os : List Open) (x : Open) → slice_get (os ++ x ∷ []) (length os) ≡ Some x
+get_last [] x = refl
+get_last (y ∷ os) x = get_last os x
+
 long_push : (os : List Open) (x : Open) → length (os ++ x ∷ []) ≡ length os + 1
 long_push [] x = refl
 long_push (y ∷ os) x = let rest = long_push os x in omega (arith, rest)
@@ -62,6 +69,9 @@ module _ (old new : Core) (client : ℕ) (ask : Ask) (bytes : Option (List ℕ))
 
   begun_requests : new.requests ≡ old.requests ++ fresh ∷ []
   begun_requests = ap (λ (c : Core). c.requests) begins
+
+  long_begun : length new.requests ≡ length old.requests + 1
+  long_begun = ap length begun_requests ∙ long_push old.requests fresh
 
   begun_reads : ReadsSame old new
   begun_reads = record {
@@ -110,34 +120,52 @@ module _ (old new : Core) (client : ℕ) (ask : Ask) (bytes : Option (List ℕ))
       facts_but old new begun_reads (ap (λ (c : Cached). c.notes) begun_cache) o.request (begun_pending o.request)
       ∙ ap (λ (b : Bool). let l : Facts = record (facts_of old o.request) { blocked = b } in l) (begun_behind k o there)
 
-  module _ (s t : Span) (adds : Adds (length old.requests) s t) where
-    begun_keeps : (was now : ℕ → Open → Option Event) → ((k : ℕ) (o : Open) → slice_get old.requests k ≡ Some o → was k o ≡ None → now k o ≡ None) → Spans was old.requests s → Spans now new.requests t
-    begun_keeps was now same spans = keep was now old.requests new.requests s t spans within adds.wider
-        (λ k o there out. let before = earlier k o there out in (before, same k o before))
+  module _ (s t : Span) where
+    begun_keeps : (was now : ℕ → Open → Option Event) → Keeps now fresh (length old.requests) (length new.requests) s t → ((k : ℕ) (o : Open) → slice_get old.requests k ≡ Some o → was k o ≡ None → now k o ≡ None)
+        → Spans was old.requests s → Spans now new.requests t
+    begun_keeps was now keeps same spans = record {
+      within = keeps.within (let within = spans.within in let long = long_begun in omega (arith, within, long));
+      none = λ k o there out. by k o (ap (λ (os : List Open). slice_get os k) (sym begun_requests) ∙ there) out (k == length old.requests) refl;
+    }
       where
-        long : length new.requests ≡ length old.requests + 1
-        long = ap length begun_requests ∙ long_push old.requests fresh
+        by : (k : ℕ) (o : Open) → slice_get (old.requests ++ fresh ∷ []) k ≡ Some o → is_in t k ≡ false → (b : Bool) → (k == length old.requests) ≡ b → now k o ≡ None
+        by k o there out true here =
+            let k_is : k ≡ length old.requests = eqb-true k (length old.requests) here in
+            let its : fresh ≡ o = cc (sym (get_last old.requests fresh) ∙ ap (slice_get (old.requests ++ fresh ∷ [])) (sym k_is) ∙ there) in
+            ap (λ (n : ℕ). now n o) k_is ∙ ap (now (length old.requests)) (sym its) ∙ keeps.own (ap (is_in t) (sym k_is) ∙ out)
+        by k o there out false apart =
+            let before = get_before old.requests fresh k o (eqb-false k (length old.requests) apart) there in
+            same k o before (spans.none k o before (out_of s t k (keeps.wider k) out))
 
-        within : t.to ≤ length new.requests
-        within = adds.within (length new.requests) (let low = spans.within in omega (arith, low, long)) (omega (arith, long))
-
-        earlier : (k : ℕ) (o : Open) → slice_get new.requests k ≡ Some o → is_in t k ≡ false → slice_get old.requests k ≡ Some o
-        earlier k o there out = get_before old.requests fresh k o (λ same. not_both t k (ap (is_in t) same ∙ adds.has) out) (ap (λ (os : List Open). slice_get os k) (sym begun_requests) ∙ there)
-
-  pub begun_due : (place : ℕ) (was now : Due) → place + 1 ≡ length new.requests → AddsEach place was now → IsDue old was → IsDue new now
-  begun_due place was now is added due = record {
-    landing = begun_keeps was.landing now.landing adds.landing (landing_at old) (landing_at new) (λ k o there. landing_alike old new o (begun_facts k o there) k k) due.landing;
-    admission = begun_keeps was.admission now.admission adds.admission (admission_at old) (admission_at new) (λ k o there. admission_alike old new o (begun_facts k o there) k k) due.admission;
-    pinning = begun_keeps was.pinning now.pinning adds.pinning (pinning_at old) (pinning_at new) (λ k o there. pinning_alike old new o (begun_facts k o there) k k (ap (λ (c : Cached). can_pin c o.request.ask) begun_cache)) due.pinning;
-    note = begun_keeps was.note now.note adds.note (note_at old) (note_at new) (λ k o there. note_alike old new o (begun_facts k o there) k k (note_same old new begun_reads (ap (λ (c : Cached). c.notes) begun_cache) o)) due.note;
-    «data» = begun_keeps was.data now.data adds.data (data_at old) (data_at new) (λ k o there. data_alike old new o (begun_facts k o there) k k) due.data;
+  pub begun_due : (place : ℕ) (was now : Due) → place + 1 ≡ length new.requests → ((o : Open) → slice_get new.requests place ≡ Some o → AddsMaking o.request place was now) → IsDue old was → IsDue new now
+  begun_due place was now is making due = record {
+    landing = begun_keeps was.landing now.landing (landing_at old) (landing_at new) (adds_keep (landing_at new) fresh at n was.landing now.landing (may_land fresh.request) low (land_none new at fresh) adds.landing)
+        (λ k o there. landing_alike old new o (begun_facts k o there) k k) due.landing;
+    admission = begun_keeps was.admission now.admission (admission_at old) (admission_at new) (adds_keep (admission_at new) fresh at n was.admission now.admission (may_admit fresh.request) low (admit_none new at fresh) adds.admission)
+        (λ k o there. admission_alike old new o (begun_facts k o there) k k) due.admission;
+    pinning = begun_keeps was.pinning now.pinning (pinning_at old) (pinning_at new) (adds_keep (pinning_at new) fresh at n was.pinning now.pinning (might_pin fresh.request) low (pin_none new at fresh) adds.pinning)
+        (λ k o there. pinning_alike old new o (begun_facts k o there) k k (ap (λ (c : Cached). can_pin c o.request.ask) begun_cache)) due.pinning;
+    note = begun_keeps was.note now.note (note_at old) (note_at new) (adds_keep (note_at new) fresh at n was.note now.note (may_note fresh.request) low (note_none new at fresh) adds.note)
+        (λ k o there. note_alike old new o (begun_facts k o there) k k (note_same old new begun_reads (ap (λ (c : Cached). c.notes) begun_cache) o)) due.note;
+    «data» = begun_keeps was.data now.data (data_at old) (data_at new) (adds_keep (data_at new) fresh at n was.data now.data (may_start fresh.request) low (start_none new at fresh) adds.data)
+        (λ k o there. data_alike old new o (begun_facts k o there) k k) due.data;
   }
     where
-      last : place ≡ length old.requests
-      last = let long = ap length begun_requests ∙ long_push old.requests fresh in omega (arith, is, long)
+      at : ℕ
+      at = length old.requests
 
-      adds : AddsEach (length old.requests) was now
-      adds = subst (λ (n : ℕ). AddsEach n was now) last added
+      n : ℕ
+      n = length new.requests
+
+      low : length old.requests < length new.requests
+      low = let long = long_begun in omega (arith, long)
+
+      last : place ≡ length old.requests
+      last = let long = long_begun in omega (arith, is, long)
+
+      adds : AddsMaking fresh.request (length old.requests) was now
+      adds = subst (λ (k : ℕ). AddsMaking fresh.request k was now) last
+          (making fresh (ap (slice_get new.requests) last ∙ ap (λ (os : List Open). slice_get os (length old.requests)) begun_requests ∙ get_last old.requests fresh))
 
 -- ---- one leaves
 

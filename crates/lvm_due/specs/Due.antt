@@ -5,6 +5,7 @@ use Rattle.lvm_hold.specs.Conflicts.{have_common_block}
 use Rattle.lvm_path.specs.declared.ask.Ask.{Ask}
 use Rattle.lvm_path.specs.declared.request.Phase.{Phase}
 use Rattle.lvm_path.specs.declared.request.Phase.TheVariants as phase
+use Rattle.lvm_path.specs.declared.request.Request.{Request}
 use Rattle.lvm_session.specs.declared.open.Open.{Open}
 use Rattle.lvm_session.specs.declared.flown.Owner.{Owner}
 use Rattle.lvm_session.specs.declared.flown.Owner.TheVariants as owner
@@ -14,7 +15,9 @@ use Rattle.lvm_session.specs.Requests.{wants_entry}
 use Rattle.lvm_session.specs.Enabled.{admission_at, can_pin, data_at, landing_at, note_at, pinning_at}
 use Rattle.lvm_firsts.specs.declared.span.Span.{Span}
 use Rattle.lvm_firsts.specs.Spans.{is_in, Adds, Spans}
+use Rattle.lvm_firsts.specs.Might.{might_pin}
 use Rattle.lvm_due.specs.declared.due.Due.{Due}
+use Rattle.lvm_due.specs.Making.{may_admit, may_land, may_note, may_start}
 
 -- For each kind of event that a request makes none is due at another place.
 pub record IsDue (core : Core) (due : Due) : Type 0 where
@@ -48,6 +51,10 @@ IsQuietFor core (owner.Status disk) = Unit {0}
 IsQuietFor core (owner.Note disk) = Unit {0}
 IsQuietFor core owner.Copy = Unit {0}
 
+-- the request at a place holds a pin, or holds none
+abbrev pub HoldsPin : Core → ℕ → Bool → Type 0
+HoldsPin core place pinned = (o : Open) → slice_get core.requests place ≡ Some o → o.request.pinned ≡ pinned
+
 -- ---- what is added
 
 -- it isn't admitted
@@ -71,6 +78,10 @@ none o = false
 abbrev pub waits_entry : Open → Bool
 waits_entry o = wants_entry o.request.phase
 
+-- so it does, where a pin was given up
+abbrev pub enters : Bool → Open → Bool
+enters given_up o = given_up && waits_entry o
+
 -- it isn't admitted, and some block is one of these
 abbrev pub is_freed : Ask → Open → Bool
 is_freed ask o = is_held o.request.phase && overlap ask o.request.ask
@@ -91,13 +102,13 @@ pub record Joins (other old new : Span) : Type 0 where
   pub has : (k : ℕ) → is_in other k ≡ true → is_in new k ≡ true
   pub within : (n : ℕ) → old.to ≤ n → other.to ≤ n → new.to ≤ n
 
--- a place is added for each kind
-pub record AddsEach (place : ℕ) (old new : Due) : Type 0 where
-  pub landing : Adds place old.landing new.landing
-  pub admission : Adds place old.admission new.admission
-  pub pinning : Adds place old.pinning new.pinning
-  pub note : Adds place old.note new.note
-  pub «data» : Adds place old.data new.data
+-- a place is added for each kind of event that the request at it may make
+pub record AddsMaking (r : Request) (place : ℕ) (old new : Due) : Type 0 where
+  pub landing : AddsIf (may_land r) place old.landing new.landing
+  pub admission : AddsIf (may_admit r) place old.admission new.admission
+  pub pinning : AddsIf (might_pin r) place old.pinning new.pinning
+  pub note : AddsIf (may_note r) place old.note new.note
+  pub «data» : AddsIf (may_start r) place old.data new.data
 
 -- ---- what has changed
 

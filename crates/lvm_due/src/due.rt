@@ -1,5 +1,5 @@
 //! The places at which events are due, and how each event changes them.
-ghost use Rattle.std.specs.Prelude.{◌≡◌, ◌<◌, ◌≤◌, ◌+◌, ◌^◌, ℕ, Bool, true, false, List, Option, Some, length, slice_get};
+ghost use Rattle.std.specs.Prelude.{◌≡◌, ◌<◌, ◌≤◌, ℕ, Bool, true, false, List, Option, Some, length, slice_get};
 ghost use Rattle.lvm_num.specs.Buffer.{Buffer};
 ghost use Rattle.lvm_vol.specs.declared.entry.Outcome.{Outcome};
 ghost use Rattle.lvm_path.specs.declared.ask.Ask.{Ask};
@@ -14,11 +14,12 @@ ghost use Rattle.lvm_session.specs.Events.{Admits, Lands, Pins, StartsData};
 ghost use Rattle.lvm_session.specs.Ends.{DataLearns, Learns, NoteLearns};
 ghost use Rattle.lvm_session.specs.Turns.{is_start, Makes};
 ghost use Rattle.lvm_session.specs.Sound.{IsGoing, IsTold};
-ghost use Rattle.lvm_due.specs.Due.{none, AddsEach, Covers, IsDue, IsQuiet, IsQuietFor, Moves};
+ghost use Rattle.lvm_due.specs.Due.{none, AddsMaking, Covers, HoldsPin, IsDue, IsQuiet, IsQuietFor, Moves};
 
-use crate::places::{entries, freed_by, join};
+use crate::making::{may_admit, may_land, may_note, may_start};
+use crate::places::{add_if, entries, entries_if, freed_by, join};
 use crate::quiet::{any_fails, is_quiet, place_of, stays_quiet};
-use lvm_firsts::Span;
+use lvm_firsts::{Span, might_pin};
 use lvm_session::{Event, Owner, Session};
 
 /// For each kind of event the places of the table at which it may be due.
@@ -53,25 +54,25 @@ impl Due {
         *self = Due::all(session.requests.len());
     }
 
-    // One request may make an event of each kind.
-    fn add(&mut self, place: usize)
-        requires { place + 1 < 2 ^ 64 }
-        ensures { AddsEach place self.old self.new }
+    // The request at a place may make the events that it shows by itself.
+    fn add(&mut self, session: &Session, place: usize)
+        requires { place < length session.now.requests.items }
+        ensures { (o : Open) → slice_get session.now.requests.items place ≡ Some o → AddsMaking o.request place self.old self.new }
     {
-        self.landing.add(place);
-        self.admission.add(place);
-        self.pinning.add(place);
-        self.note.add(place);
-        self.data.add(place);
+        let request = &session.requests[place].request;
+        add_if(&mut self.landing, place, may_land(request));
+        add_if(&mut self.admission, place, may_admit(request));
+        add_if(&mut self.pinning, place, might_pin(request));
+        add_if(&mut self.note, place, may_note(request));
+        add_if(&mut self.data, place, may_start(request));
     }
 
-    // The request at a place has changed: it may make an event of each kind, those that are freed may land or be admitted,
-    // and those of the entries may pin.
-    fn moved(&mut self, place: usize, freed: Span, entries: Span)
-        requires { place + 1 < 2 ^ 64 }
-        ensures { (frees pins : Open → Bool) (old new : Core) → place < length new.requests → Covers frees new.requests (length new.requests) freed → Covers pins new.requests (length new.requests) entries → Moves frees pins old new place → IsDue old self.old → IsDue new self.new }
+    // The request at a place has changed: those that are freed may land or be admitted, and those of the entries may pin.
+    fn moved(&mut self, session: &Session, place: usize, freed: Span, entries: Span)
+        requires { place < length session.now.requests.items }
+        ensures { (frees pins : Open → Bool) (old : Core) → Covers frees session.now.requests.items (length session.now.requests.items) freed → Covers pins session.now.requests.items (length session.now.requests.items) entries → Moves frees pins old (core_of session.now) place → IsDue old self.old → IsDue (core_of session.now) self.new }
     {
-        self.add(place);
+        self.add(session, place);
         join(&mut self.landing, freed);
         join(&mut self.admission, freed);
         join(&mut self.pinning, entries);
@@ -83,29 +84,36 @@ impl Due {
         ensures { (frees pins : Open → Bool) (old : Core) → Covers frees session.now.requests.items (length session.now.requests.items) freed → Covers pins session.now.requests.items (length session.now.requests.items) entries → (still ≡ true → Moves frees pins old (core_of session.now) place) → IsDue old self.old → IsDue (core_of session.now) self.new }
     {
         if still {
-            self.moved(place, freed, entries);
+            self.moved(session, place, freed, entries);
         } else {
             self.fill(session);
         }
     }
 
-    /// The request at a place has landed.
-    pub fn landed(&mut self, session: &Session, place: usize)
+    /// The request at a place has landed; it held a pin before, where this is so.
+    pub fn landed(&mut self, session: &Session, place: usize, pinned: bool)
         requires there { place < length session.now.requests.items }
-        ensures { (old : State) (how : Outcome) → IsGoing old.core → Lands old (state old.device (core_of session.now)) place how → IsDue old.core self.old → IsDue (core_of session.now) self.new }
+        ensures { (old : State) (how : Outcome) → IsGoing old.core → HoldsPin old.core place pinned → Lands old (state old.device (core_of session.now)) place how → IsDue old.core self.old → IsDue (core_of session.now) self.new }
     {
         let freed = freed_by(session, &session.requests[place].request.ask);
         let still = is_quiet(session, place);
-        self.moved_if(session, place, still, freed, entries(session));
+        self.moved_if(session, place, still, freed, entries_if(session, pinned));
+        self.landing.skip(place);
     }
 
-    /// It has been admitted; the session was quiet there before, where this is so.
-    pub fn admitted(&mut self, session: &Session, place: usize, quiet: bool)
+    /// It has been admitted; the session was quiet there before, and it held a pin, where this is so.
+    pub fn admitted(&mut self, session: &Session, place: usize, quiet: bool, pinned: bool)
         requires there { place < length session.now.requests.items }
-        ensures { (old : State) → IsGoing old.core → (quiet ≡ true → IsQuiet old.core place) → Admits old (state old.device (core_of session.now)) place → IsDue old.core self.old → IsDue (core_of session.now) self.new }
+        ensures { (old : State) → IsGoing old.core → (quiet ≡ true → IsQuiet old.core place) → HoldsPin old.core place pinned → Admits old (state old.device (core_of session.now)) place → IsDue old.core self.old → IsDue (core_of session.now) self.new }
     {
         let still = stays_quiet(session, place, quiet);
-        self.moved_if(session, place, still, Span::all(0), entries(session));
+        self.moved_if(
+            session,
+            place,
+            still,
+            Span::all(0),
+            entries_if(session, pinned),
+        );
     }
 
     /// It has pinned its track group.
@@ -113,7 +121,7 @@ impl Due {
         requires there { place < length session.now.requests.items }
         ensures { (old : State) → IsGoing old.core → Pins old (state old.device (core_of session.now)) place → IsDue old.core self.old → IsDue (core_of session.now) self.new }
     {
-        self.moved(place, Span::all(0), entries(session));
+        self.moved(session, place, Span::all(0), entries(session));
     }
 
     // A transfer of the request at a place has been started.
@@ -194,7 +202,7 @@ impl Due {
         requires some { 1 ≤ length session.now.requests.items }
         ensures { (old : Core) (client : ℕ) (ask : Ask) (bytes : Option (List ℕ)) → IsTold old → core_of session.now ≡ submitted old client ask bytes → IsDue old self.old → IsDue (core_of session.now) self.new }
     {
-        self.add(session.requests.len() - 1);
+        self.add(session, session.requests.len() - 1);
     }
 
     /// A request that had landed has left the table.

@@ -3,9 +3,11 @@
 
 mod due;
 mod laws;
+mod making;
 mod places;
 mod quiet;
 
 pub use due::Due;
 pub use laws::dues_are_narrow;
+pub use places::holds_pin;
 pub use quiet::{is_quiet, is_quiet_for};

@@ -1,6 +1,7 @@
 //! The places of requests at which events may have become due.
 ghost use Rattle.std.specs.Prelude.{◌≡◌, ◌<◌, ◌+◌, ◌^◌, length};
-ghost use Rattle.lvm_due.specs.Due.{is_freed, overlap, waits_entry, AddsIf, Covers, Joins};
+ghost use Rattle.lvm_due.specs.Due.{enters, is_freed, overlap, waits_entry, AddsIf, Covers, HoldsPin, Joins};
+ghost use Rattle.lvm_session.specs.Fields.{core_of};
 
 use lvm_firsts::Span;
 use lvm_path::{Ask, Phase};
@@ -16,7 +17,8 @@ pub fn join(span: &mut Span, other: Span)
     }
 }
 
-fn add_if(span: &mut Span, place: usize, is: bool)
+/// A place is added, where this is so.
+pub fn add_if(span: &mut Span, place: usize, is: bool)
     requires { place + 1 < 2 ^ 64 }
     ensures { AddsIf is place span.old span.new }
 {
@@ -41,6 +43,25 @@ pub fn entries(session: &Session) -> Span
         add_if(&mut span, place, waits_entry(&session.requests[place]));
     }
     span
+}
+
+/// Whether the request at a place holds a pin of its track group.
+pub fn holds_pin(session: &Session, place: usize) -> bool
+    requires { place < length session.now.requests.items }
+    ensures { HoldsPin (core_of session.now) place result }
+{
+    session.requests[place].request.pinned
+}
+
+/// The places of those that wait for an entry of the cache, where a pin was given up; else none.
+pub fn entries_if(session: &Session, given_up: bool) -> Span
+    ensures { Covers (enters given_up) session.now.requests.items (length session.now.requests.items) result }
+{
+    if given_up {
+        entries(session)
+    } else {
+        Span::all(0)
+    }
 }
 
 // Whether some block of one volume is a block of both.

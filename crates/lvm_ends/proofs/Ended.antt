@@ -30,10 +30,10 @@ use Rattle.lvm_session.specs.Owners.{flies, same_owner}
 use Rattle.lvm_session.specs.Sound.{IsCopy, count_if, is_hand}
 use Rattle.lvm_copies.proofs.Members.{copies_in_are}
 use Rattle.lvm_launch.proofs.Hands.{at_most_one, get_other, is_out as out_of}
-use Rattle.lvm_learn.specs.Learning.{MayReturn}
+use Rattle.lvm_reap.specs.Learning.{MayReturn}
 use Rattle.lvm_copy_end.specs.Ending.{CanEnd}
-use Rattle.lvm_review.specs.Reviewing.{IsLocated, MayReview}
-use Rattle.lvm_review.proofs.Reviewing.{markable}
+use Rattle.lvm_copy_end.specs.Reviewing.{IsLocated, MayReview}
+use Rattle.lvm_copy_end.proofs.Reviewing.{markable}
 use Rattle.lvm_ends.specs.Ended.{HasEnded}
 
 -- ---- counting

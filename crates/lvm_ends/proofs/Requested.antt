@@ -32,7 +32,7 @@ use Rattle.lvm_session.specs.Owners.{target_flies}
 use Rattle.lvm_session.specs.Requests.{IsOpenOne, IsTarget}
 use Rattle.lvm_firsts.proofs.Places.{at_place}
 use Rattle.lvm_reap.proofs.Listing.{any_within, finds, some_there}
-use Rattle.lvm_review.proofs.Reviewing.{markable}
+use Rattle.lvm_copy_end.proofs.Reviewing.{markable}
 use Rattle.lvm_ends.specs.Ended.{HasEnded, HasId}
 use Rattle.lvm_ends.proofs.Ended.{among_all, by_copy, can_end, hand_back, hand_kept, left, right, was_out}
 

@@ -11,7 +11,7 @@ ghost use Rattle.lvm_session.specs.Rooms.{SameRooms};
 ghost use Rattle.lvm_session.specs.Ends.{DataLearns, IsOfData, after_data, given_back, learned};
 ghost use Rattle.lvm_ends.specs.Ended.{HasEnded, HasId};
 
-use lvm_entails::entail;
+use lvm_copy_end::entail;
 use lvm_num::{Pbuf, Pp};
 use lvm_over::give_back;
 use lvm_path::Target;

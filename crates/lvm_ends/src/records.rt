@@ -5,9 +5,9 @@ ghost use Rattle.lvm_session.specs.Rooms.{SameRooms};
 ghost use Rattle.lvm_session.specs.Ends.{NoteLearns, StatusLearns};
 ghost use Rattle.lvm_ends.specs.Ended.{HasEnded};
 
-use lvm_learn::{learn_note, learn_status};
+use lvm_copy_end::review;
 use lvm_num::Pbuf;
-use lvm_review::review;
+use lvm_reap::{learn_note, learn_status};
 use lvm_session::Session;
 
 /// The write of a note on a disk, at a place of the list of those that are out, has ended well or badly: the disk's

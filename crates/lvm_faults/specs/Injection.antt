@@ -56,11 +56,8 @@ begun i = after_acts (due (next_call i) i.plan) (record i { calls = next_call i 
 
 -- the word of an act that cuts the power, or else another
 abbrev pub cut_or : Act → Option ℕ → Option ℕ
-cut_or (Fail disk) other = other
-cut_or (Heal disk) other = other
 cut_or (Cut word) other = Some word
-cut_or (Pick word) other = other
-cut_or (Delay reaps) other = other
+cut_or _ other = other
 
 -- the word of the first act that cuts the power
 abbrev pub first_cut : List Act → Option ℕ

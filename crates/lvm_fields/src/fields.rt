@@ -1,5 +1,5 @@
 //! Fields from the front of some bytes.
-ghost use Rattle.std.specs.Prelude.{◌≡◌, ℕ, true, ◌≤◌, ◌==◌, ◌&&◌, not, nat_le, length, IfOk};
+ghost use Rattle.std.specs.Prelude.{◌≡◌, true, ◌≤◌, ◌==◌, ◌&&◌, not, nat_le, length, IfOk};
 ghost use Rattle.std.specs.List.{list_all};
 ghost use Rattle.std.specs.Int.{w8, w16, w32, w64};
 ghost use Rattle.lvm_num.specs.Reading.{bytes_at, number_at, zeros_at};

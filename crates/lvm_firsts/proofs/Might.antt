@@ -19,7 +19,7 @@ use Rattle.lvm_path.specs.Asks.{is_write}
 use Rattle.lvm_path.specs.Next.{next_chosen, next_in, next_read, next_write, start_or_wait}
 use Rattle.lvm_path.specs.Targets.{is_begun, is_done, states_of}
 use Rattle.lvm_session.specs.Enabled.{is_admit, is_pin, outcome_next, target_next}
-use Rattle.lvm_firsts.specs.Might.{any_waits, are_at_rest, might_admit_in, might_land_in, might_start_in, wants_entry}
+use Rattle.lvm_firsts.specs.Might.{any_waits, are_at_rest, might_admit_in, might_land_in, might_start_in, none_goes, wants_entry}
 
 -- ---- what something is of each thing that it may do next is so of what it does
 
@@ -204,13 +204,25 @@ module _ (k : Facts) (r : Request) where
       by false dirty pending is = refl
   starts_not phase.Data is =
       by_data target_next None k r (is_write r.ask) (is_begun r.targets.items)
-      (λ read. by_either target_next None (list_any (λ (t : Target). is_done t.state) r.targets.items) (next.Land outcome.Got) _ refl
-      (by_either target_next None (list_any (λ (t : Target). is_flying t.state) r.targets.items) next.Wait _ refl
-      (ap (λ (o : Option ℕ). target_next (option_map_or next.Start o (next.Land outcome.ReadFailed))) (none_found (λ (t : Target). is_waiting t.state) r.targets.items is))))
-      (λ write begun. writes)
-      (λ write begun. by_chosen target_next None k (if k.pending then next.Wait else goes) (λ unusable. refl) refl (by_either target_next None k.pending next.Wait goes refl writes))
+      (λ read. reads (list_any (λ (t : Target). is_done t.state) r.targets.items) (list_any (λ (t : Target). is_flying t.state) r.targets.items)
+      (sym (ap (λ (b : Bool). any_waits r.targets.items && (b || none_goes r.targets.items)) read) ∙ is))
+      (λ write begun. writes write)
+      (λ write begun. by_chosen target_next None k (if k.pending then next.Wait else goes) (λ unusable. refl) refl (by_either target_next None k.pending next.Wait goes refl (writes write)))
     where
-      writes : target_next goes ≡ None
-      writes = ap (λ (o : Option ℕ). target_next (start_or_wait o)) (no_target r.policy r.targets.items is)
+      none_left : (waits : Bool) → (waits && true) ≡ false → waits ≡ false
+      none_left true is = is
+      none_left false is = refl
+
+      writes : is_write r.ask ≡ true → target_next goes ≡ None
+      writes write =
+          let none : any_waits r.targets.items ≡ false = none_left (any_waits r.targets.items) (sym (ap (λ (b : Bool). any_waits r.targets.items && (b || none_goes r.targets.items)) write) ∙ is) in
+          ap (λ (o : Option ℕ). target_next (start_or_wait o)) (no_target r.policy r.targets.items none)
+
+      reads : (done flying : Bool) → (any_waits r.targets.items && (false || (not done && not flying))) ≡ false
+          → target_next (if done then next.Land outcome.Got else if flying then next.Wait else option_map_or next.Start (position (λ (t : Target). is_waiting t.state) r.targets.items) (next.Land outcome.ReadFailed)) ≡ None
+      reads true flying is = refl
+      reads false true is = refl
+      reads false false is =
+          ap (λ (o : Option ℕ). target_next (option_map_or next.Start o (next.Land outcome.ReadFailed))) (none_found (λ (t : Target). is_waiting t.state) r.targets.items (none_left (any_waits r.targets.items) is))
   starts_not phase.WantStatus is = by_either target_next None k.marked (next.Land (if k.kept then outcome.Done else outcome.Lost)) next.Wait refl refl
   starts_not phase.Landed is = refl

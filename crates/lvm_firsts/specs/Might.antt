@@ -73,12 +73,20 @@ might_pin r = wants_entry r.phase && not r.pinned
 abbrev pub any_waits : List Target → Bool
 any_waits targets = list_any (λ (t : Target). is_waiting t.state) targets
 
+-- none of their transfers is under way or has ended well
+abbrev pub none_goes : List Target → Bool
+none_goes targets = not (list_any (λ (t : Target). is_done t.state) targets) && not (list_any (λ (t : Target). is_flying t.state) targets)
+
+-- A transfer of a request whose data may go might be started: one isn't started, and a read tries one after the other.
+abbrev pub might_transfer : Request → Bool
+might_transfer r = any_waits r.targets.items && (is_write r.ask || none_goes r.targets.items)
+
 -- in this phase a transfer of it might be started, where the notes name its track group or don't
 abbrev pub might_start_in : Phase → Request → Bool → Bool
 might_start_in phase.Held r named = false
 might_start_in phase.WantEntry r named = false
 might_start_in phase.WantRecord r named = named
-might_start_in phase.Data r named = any_waits r.targets.items
+might_start_in phase.Data r named = might_transfer r
 might_start_in phase.WantStatus r named = false
 might_start_in phase.Landed r named = false
 

@@ -19,6 +19,11 @@ pub record Adds (place : ℕ) (old new : Span) : Type 0 where
   pub has : is_in new place ≡ true
   pub within : (n : ℕ) → old.to ≤ n → place < n → new.to ≤ n
 
+-- each place but one is there still, and no other behind them
+pub record Skips (place : ℕ) (old new : Span) : Type 0 where
+  pub others : (k : ℕ) → (k ≡ place → ⊥) → is_in old k ≡ true → is_in new k ≡ true
+  pub within : new.to ≡ old.to
+
 -- each place is there still, and the one before each, but those behind so many
 pub record Leaves (len : ℕ) (old new : Span) : Type 0 where
   pub same : (k : ℕ) → k < len → is_in old k ≡ true → is_in new k ≡ true

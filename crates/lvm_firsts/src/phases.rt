@@ -7,7 +7,7 @@ ghost use Rattle.lvm_path.specs.declared.target.Target.{Target};
 ghost use Rattle.lvm_path.specs.Targets.{is_done};
 ghost use Rattle.lvm_session.specs.Fields.{core_of};
 ghost use Rattle.lvm_session.specs.Judging.{IsWithin};
-ghost use Rattle.lvm_firsts.specs.Might.{any_is_usable, any_waits, are_at_rest, might_admit, might_land, might_pin, might_start};
+ghost use Rattle.lvm_firsts.specs.Might.{any_is_usable, any_waits, are_at_rest, might_admit, might_land, might_pin, might_start, might_transfer, none_goes};
 
 use lvm_copies::is_usable;
 use lvm_facts::{has_names, has_usable, is_changed, is_unbegun};
@@ -40,8 +40,15 @@ fn any_waits(targets: &[Target]) -> bool
         .any(|target| matches!(target.state, TargetState::Waiting))
 }
 
-// Whether the transfer of one of them has ended well, or none is under way.
-fn are_at_rest(targets: &[Target]) -> bool
+// Whether none of their transfers is under way or has ended well.
+fn none_goes(targets: &[Target]) -> bool
+    ensures { result ≡ none_goes targets.now }
+{
+    !any_is_done(targets) && !any_flies(targets)
+}
+
+/// Whether the transfer of one of them has ended well, or none is under way.
+pub fn are_at_rest(targets: &[Target]) -> bool
     ensures { result ≡ are_at_rest targets.now }
 {
     any_is_done(targets) || !any_flies(targets)
@@ -96,6 +103,14 @@ pub fn might_pin(request: &Request) -> bool
     matches!(request.phase, Phase::WantEntry) && !request.pinned
 }
 
+/// Whether a transfer of a request whose data may go might be started: one isn't started, and a read tries one after the
+/// other.
+pub fn might_transfer(request: &Request) -> bool
+    ensures { result ≡ might_transfer request.now }
+{
+    any_waits(&request.targets) && (request.ask.is_write() || none_goes(&request.targets))
+}
+
 // Whether a transfer of it might be started: it waits for its record, and notes name its track group; or its data may go,
 // and a transfer isn't started.
 pub fn might_start(session: &Session, request: &Request) -> bool
@@ -104,7 +119,7 @@ pub fn might_start(session: &Session, request: &Request) -> bool
 {
     match request.phase {
         Phase::WantRecord => has_names(session, request),
-        Phase::Data => any_waits(&request.targets),
+        Phase::Data => might_transfer(request),
         Phase::Held | Phase::WantEntry | Phase::WantStatus | Phase::Landed => false,
     }
 }

@@ -1,6 +1,6 @@
 //! At which places of the table events of a kind may be due.
 ghost use Rattle.std.specs.Prelude.{◌≡◌, ◌<◌, ◌+◌, ◌^◌};
-ghost use Rattle.lvm_firsts.specs.Spans.{Adds, Leaves};
+ghost use Rattle.lvm_firsts.specs.Spans.{Adds, Leaves, Skips};
 
 /// Places of the table, from 0: from one on, up to another.
 #[derive(Clone, Copy, Debug, PartialEq, Eq)]
@@ -35,7 +35,19 @@ impl Span {
     pub fn leave(&mut self, len: usize)
         ensures { Leaves len self.old self.new }
     {
-        self.from = self.from.saturating_sub(1);
+        if self.from < self.to {
+            self.from = self.from.saturating_sub(1);
+        }
         self.to = self.to.min(len);
+    }
+
+    /// A place is left out, where it is the first.
+    pub fn skip(&mut self, place: usize)
+        requires { place + 1 < 2 ^ 64 }
+        ensures { Skips place self.old self.new }
+    {
+        if self.from == place {
+            self.from += 1;
+        }
     }
 }

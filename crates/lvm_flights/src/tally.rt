@@ -1,5 +1,5 @@
 //! How often each thing happened to a shelf in memory.
-ghost use Rattle.std.specs.Prelude.{◌≡◌, ◌<◌, length, replicate, slice_index_or, IfOk};
+ghost use Rattle.std.specs.Prelude.{◌≡◌, ◌<◌, length, replicate, IfOk};
 ghost use Rattle.lvm_disk.specs.Counts.{Rose, RoseAt};
 ghost use Rattle.lvm_flights.specs.Tally.{by_disk};
 

@@ -1,5 +1,5 @@
 //! Which ranges were written on a shelf in memory.
-ghost use Rattle.std.specs.Prelude.{◌≡◌, ◌≤◌, [], length, Some, IfOk, if◌then◌else◌};
+ghost use Rattle.std.specs.Prelude.{◌≡◌, ◌≤◌, [], Some, IfOk, if◌then◌else◌};
 ghost use Rattle.lvm_flights.specs.Log.{logged};
 
 use lvm_num::Memory;
@@ -23,7 +23,7 @@ pub struct WriteLog {
 }
 
 impl Model for WriteLog {
-    ghost use Rattle.std.specs.Prelude.{◌≤◌, map, length, Some, None, if◌then◌else◌, vec_capacity};
+    ghost use Rattle.std.specs.Prelude.{◌≤◌, map, Some, None, if◌then◌else◌, vec_capacity};
     ghost use Rattle.lvm_flights.specs.Log.{Logged, range_of};
 
     ghost Value = { Logged };

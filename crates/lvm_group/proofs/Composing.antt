@@ -7,7 +7,7 @@ use Rattle.lvm_disk.specs.Device.{Media, Range, Device, IsReady, image_of}
 use Rattle.lvm_disk.specs.Steps.{BothTold}
 use Rattle.lvm_vol.specs.Log.{Log, cut_log, spare_entries}
 use Rattle.lvm_kept.specs.Plans.{Plan as Bringing, ChangesBy}
-use Rattle.lvm_homes.specs.declared.homes.Homes.{Homes}
+use Rattle.lvm_rec.specs.declared.homes.Homes.{Homes}
 use Rattle.lvm_write.specs.Parts.{Spends}
 use Rattle.lvm_write.specs.Written.{LogsPlan, KeepsShelf, IsDarkened, IsGivenUp}
 use Rattle.lvm_write.proofs.Transfers.{darkened_then, given_up_then}
@@ -39,15 +39,10 @@ refuses_first w patience log device (cause.NoDisk disk) refuses = (record { shel
 refuses_first w patience log device (cause.TooMany limit) refuses = (record { shelf = refl; history = refl }, refuses)
 refuses_first w patience log device (cause.TooSmall disk) refuses = (record { shelf = refl; history = refl }, refuses)
 refuses_first w patience log device cause.HistoryFull refuses = (record { shelf = refl; history = refl }, refuses)
-refuses_first w patience log device (cause.DiskFailed disk) refuses = absurd refuses
-refuses_first w patience log device cause.GroupExists refuses = absurd refuses
-refuses_first w patience log device (cause.ClockBack seen) refuses = absurd refuses
-refuses_first w patience log device cause.Dark refuses = absurd refuses
-refuses_first w patience log device cause.Stuck refuses = absurd refuses
-refuses_first w patience log device cause.Memory refuses = absurd refuses
 refuses_first w patience log device cause.NoRecord refuses = refuses
 refuses_first w patience log device cause.Ambiguous refuses = refuses
 refuses_first w patience log device (cause.NoQuorum have total) refuses = refuses
+refuses_first w patience log device _ refuses = absurd refuses
 
 pub refuses_plan : (w : NewGroup) (patience : ℕ) (log : Log) (device : Device) (why : Cause) → IsReady device → RefusesPlan w (spare_entries log) device.sizes why → Refuses w patience log log device device why
 refuses_plan w patience log device why ready (inl memory) = subst (Refuses w patience log log device device) (sym memory.0) (record {
@@ -66,13 +61,7 @@ refuses_reading w patience was old new (cause.ClockBack seen) may refuses = (has
 refuses_reading w patience was old new cause.Dark may refuses = inl (record { may = may; unwritten = refuses.0; cut = refuses.1; entered = refl })
 refuses_reading w patience was old new cause.Stuck may refuses = inl (record { may = may; unwritten = refuses.0; stuck = refuses.1; entered = refl })
 refuses_reading w patience was old new cause.Memory may refuses = record { may = may; unwritten = refuses.unwritten; rested = refuses.rested; history = refl }
-refuses_reading w patience was old new (cause.NoDisk disk) may refuses = absurd refuses
-refuses_reading w patience was old new (cause.TooMany limit) may refuses = absurd refuses
-refuses_reading w patience was old new (cause.TooSmall disk) may refuses = absurd refuses
-refuses_reading w patience was old new cause.HistoryFull may refuses = absurd refuses
-refuses_reading w patience was old new cause.NoRecord may refuses = absurd refuses
-refuses_reading w patience was old new cause.Ambiguous may refuses = absurd refuses
-refuses_reading w patience was old new (cause.NoQuorum have total) may refuses = absurd refuses
+refuses_reading w patience was old new _ may refuses = absurd refuses
 
 -- ---- the writes, from where they began to where the call did
 
@@ -188,13 +177,4 @@ module _ (w : NewGroup) (was : Log) (old mid new : Device) (free : Free) (may : 
     breaks = breaks (λ b part. Unit {0}) (λ b part. Unit {0}) (λ part any. any) off.1;
     stuck = stuck_before w old mid new un found.reads.rested before left spends off.0;
   })
-  refuses_writing before left (cause.NoDisk disk) spends off = absurd off
-  refuses_writing before left (cause.TooMany limit) spends off = absurd off
-  refuses_writing before left (cause.TooSmall disk) spends off = absurd off
-  refuses_writing before left cause.GroupExists spends off = absurd off
-  refuses_writing before left cause.NoRecord spends off = absurd off
-  refuses_writing before left cause.Ambiguous spends off = absurd off
-  refuses_writing before left (cause.NoQuorum have total) spends off = absurd off
-  refuses_writing before left (cause.ClockBack seen) spends off = absurd off
-  refuses_writing before left cause.HistoryFull spends off = absurd off
-  refuses_writing before left cause.Memory spends off = absurd off
+  refuses_writing before left _ spends off = absurd off

@@ -2,9 +2,10 @@
 use Rattle.std.proofs.Common.{◌≡◌, ◌⊎◌, inl, inr, ⊎_elim, ℕ, ◌+◌, ◌*◌, ◌^◌, ◌<◌, ◌≤◌, Bool, true, false, ◌&&◌, not, List, [], ◌∷◌, ◌++◌, length, get_or, replicate, Option, Some, None, refl, sym, ap, subst, ◌∙◌, arith, length-append}
 use Rattle.std.specs.Prelude.{nat_lt, nat_le, flat_map, IsTrue, IsFalse}
 use Rattle.std.specs.Int.{w16, w64, to_be_bytes}
-use Rattle.std.proofs.lemmas.Bool.{eqb-true, eq-eqb}
+use Rattle.std.proofs.lemmas.Bool.{eqb-true, eq-eqb, and_from, lt-ltb, le-leb}
 use Rattle.std.proofs.lemmas.Bool.Decides.{nat_tests}
 use Rattle.std.proofs.lemmas.List.{length-map}
+use Rattle.lvm_num.specs.declared.record.Kind.{Kind}
 use Rattle.lvm_num.specs.declared.record.Kind.TheVariants as kind
 use Rattle.lvm_num.specs.declared.record.Stamp.{Stamp}
 use Rattle.lvm_num.specs.declared.descriptor.Descriptor.{Descriptor}
@@ -31,7 +32,7 @@ use Rattle.lvm_steps.specs.Moments.{StaysKept}
 use Rattle.lvm_stamps.specs.Behind.{StampsBefore, beginning_at, IsBehind}
 use Rattle.lvm_stamps.proofs.Records.{session_may_go}
 use Rattle.lvm_stamps.proofs.Stamps.{before_is_behind}
-use Rattle.lvm_homes.specs.declared.homes.Homes.{Homes}
+use Rattle.lvm_rec.specs.declared.homes.Homes.{Homes}
 use Rattle.lvm_write.specs.Homes.{SparesNewest}
 use Rattle.lvm_write.specs.Written.{write_of, KeepsShelf}
 use Rattle.lvm_write.proofs.Shows.{descriptor_may_be_written, status_may_be_written}
@@ -143,23 +144,15 @@ module _ (w : NewGroup) (device : Device) (homes : Homes) (its : IsBeginning w d
   rows_few : length status.rows ≤ 32
   rows_few = its.stated.rows_fit
 
+  -- a record of the group's beginning, under the moment at which it is made
+  frames_at : (k : Kind) (seq : ℕ) (content : List ℕ) → 1 ≤ seq → seq < 2 ^ 32 → length content ≤ longest_content k → Frames k (record { stamp = record { epoch = w.moment; seq = seq }; content = content })
+  frames_at k seq content some small fits = record { some_epoch = its.valid.head.some_id; epoch = its.small; some_seq = λ e. absurd (omega (arith, some, e)); seq = small; content = fits }
+
   pub describes_frames : Frames kind.Descriptor b.descriptor
-  describes_frames = record {
-    some_epoch = its.valid.head.some_id;
-    epoch = its.small;
-    some_seq = λ e. absurd (omega (arith, e));
-    seq = omega arith;
-    content = descriptor_fits group its.valid refl its.valid.head.members;
-  }
+  describes_frames = frames_at kind.Descriptor 2 b.descriptor.content (omega arith) (omega arith) (descriptor_fits group its.valid refl its.valid.head.members)
 
   pub states_frames : Frames kind.Status b.status
-  states_frames = record {
-    some_epoch = its.valid.head.some_id;
-    epoch = its.small;
-    some_seq = λ e. absurd (omega (arith, e));
-    seq = omega arith;
-    content = status_fits status its.stated refl rows_few;
-  }
+  states_frames = frames_at kind.Status 1 b.status.content (omega arith) (omega arith) (status_fits status its.stated refl rows_few)
 
   -- where the media is told
   module _ (media : Media) (told : device.media ≡ Some media) where
@@ -167,18 +160,7 @@ module _ (w : NewGroup) (device : Device) (homes : Homes) (its : IsBeginning w d
     image = image_of device.sizes media
 
     pub has_room_for : (d : ℕ) → among w.disks d ≡ true → has_records image d ≡ true
-    has_room_for d target = let room = room_among device.sizes (size_for device.sizes w.disks w.mib) w.disks its.there its.fit d target in both (nat_lt d (length device.sizes)) (nat_le data_start (sectors_on device.sizes d)) (is_lt d (length device.sizes) room.0) (is_le data_start (sectors_on device.sizes d) room.1)
-      where
-        both : (a b : Bool) → a ≡ true → b ≡ true → (a && b) ≡ true
-        both true true p q = refl
-        both true false p q = q
-        both false b p q = absurd cc
-
-        is_lt : (n m : ℕ) → n < m → nat_lt n m ≡ true
-        is_lt n m lt = grind (arith, nat_tests)
-
-        is_le : (n m : ℕ) → n ≤ m → nat_le n m ≡ true
-        is_le n m le = grind (arith, nat_tests)
+    has_room_for d target = let room = room_among device.sizes (size_for device.sizes w.disks w.mib) w.disks its.there its.fit d target in and_from (nat_lt d (length device.sizes)) (nat_le data_start (sectors_on device.sizes d)) (lt-ltb d (length device.sizes) room.0) (le-leb data_start (sectors_on device.sizes d) room.1)
 
     shown_before : ShowsEarlier (contents_of image) w.moment
     shown_before = told_by device.media (λ m. ShowsEarlier (contents_of (image_of device.sizes m)) w.moment) media told its.later

@@ -21,25 +21,19 @@ under_is : {X : Type 0} (o : Option X) (stamp : Stamp) (r : Stamped X) → under
 under_is None stamp r is = absurd cc
 under_is (Some x) stamp r is = (cc, cc)
 
--- the row of a disk that shows a descriptor
+-- the row that shows a record under a stamp
+row_shown : {X : Type 0} (value : SurveyRow → Option X) (stamp : SurveyRow → Stamp) (r : Stamped X) (o : Option SurveyRow) → option_and_then (λ (row : SurveyRow). under (value row) (stamp row)) o ≡ Some r
+    → (row : SurveyRow) × (o ≡ Some row) × (value row ≡ Some r.value) × (stamp row ≡ r.stamp)
+row_shown value stamp r None is = absurd cc
+row_shown value stamp r (Some row) is = let two = under_is (value row) (stamp row) r is in (row, refl, two.0, two.1)
+
 pub descriptor_row : (s : Survey) (d : ℕ) (r : Stamped Descriptor) → (surveyed s).descriptor d ≡ Some r
     → (row : SurveyRow) × (slice_get s.rows d ≡ Some row) × (row.descriptor ≡ Some r.value) × (row.descriptor_stamp ≡ r.stamp)
-descriptor_row s d r is = by_row (slice_get s.rows d) refl is
-  where
-    by_row : (o : Option SurveyRow) → slice_get s.rows d ≡ o → option_and_then (λ (row : SurveyRow). under row.descriptor row.descriptor_stamp) o ≡ Some r
-        → (row : SurveyRow) × (slice_get s.rows d ≡ Some row) × (row.descriptor ≡ Some r.value) × (row.descriptor_stamp ≡ r.stamp)
-    by_row None on is = absurd cc
-    by_row (Some row) on is = let two = under_is row.descriptor row.descriptor_stamp r is in (row, on, two.0, two.1)
+descriptor_row s d r is = row_shown (λ row. row.descriptor) (λ row. row.descriptor_stamp) r (slice_get s.rows d) is
 
--- and of one that shows a status
 pub status_row : (s : Survey) (d : ℕ) (r : Stamped Status) → (surveyed s).status d ≡ Some r
     → (row : SurveyRow) × (slice_get s.rows d ≡ Some row) × (row.status ≡ Some r.value) × (row.status_stamp ≡ r.stamp)
-status_row s d r is = by_row (slice_get s.rows d) refl is
-  where
-    by_row : (o : Option SurveyRow) → slice_get s.rows d ≡ o → option_and_then (λ (row : SurveyRow). under row.status row.status_stamp) o ≡ Some r
-        → (row : SurveyRow) × (slice_get s.rows d ≡ Some row) × (row.status ≡ Some r.value) × (row.status_stamp ≡ r.stamp)
-    by_row None on is = absurd cc
-    by_row (Some row) on is = let two = under_is row.status row.status_stamp r is in (row, on, two.0, two.1)
+status_row s d r is = row_shown (λ row. row.status) (λ row. row.status_stamp) r (slice_get s.rows d) is
 
 -- ---- a group
 

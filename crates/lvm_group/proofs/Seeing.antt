@@ -19,7 +19,7 @@ use Rattle.lvm_survey.specs.declared.row.Survey.{Survey}
 use Rattle.lvm_survey.specs.Surveyed.{surveyed, IsRead as IsRowRead}
 use Rattle.lvm_survey.specs.Surveying.{IsSmall, AreSurveyed}
 use Rattle.lvm_area.specs.Reading.{IsUntouched}
-use Rattle.lvm_homes.specs.declared.homes.Homes.{Homes}
+use Rattle.lvm_rec.specs.declared.homes.Homes.{Homes}
 use Rattle.lvm_write.specs.Homes.{SparesNewest, SpareNewest}
 use Rattle.lvm_survey.proofs.SurveyRows.{descriptor_shown, status_shown, descriptor_past, status_past}
 use Rattle.lvm_core.specs.declared.refused.Cause.{Cause}
@@ -196,13 +196,4 @@ module _ (old new : Device) (s : Survey) (its : IsSurvey old new s) where
     ⊎_elim (λ (end : (moment ≡ last_moment) × (seen ≡ last_moment)). inl end)
         (λ (back : (moment < last_moment) × (moment ≤ seen) × IsLastShown (surveyed s) seen). inr (back.0, back.1, last_is_shown refuses.0 seen back.2)) refuses.2,
   )
-  refuses_found force moment patience reads (cause.NoDisk disk) refuses = absurd refuses
-  refuses_found force moment patience reads (cause.TooMany limit) refuses = absurd refuses
-  refuses_found force moment patience reads (cause.TooSmall disk) refuses = absurd refuses
-  refuses_found force moment patience reads cause.HistoryFull refuses = absurd refuses
-  refuses_found force moment patience reads cause.NoRecord refuses = absurd refuses
-  refuses_found force moment patience reads cause.Ambiguous refuses = absurd refuses
-  refuses_found force moment patience reads (cause.NoQuorum have total) refuses = absurd refuses
-  refuses_found force moment patience reads cause.Dark refuses = absurd refuses
-  refuses_found force moment patience reads cause.Stuck refuses = absurd refuses
-  refuses_found force moment patience reads cause.Memory refuses = absurd refuses
+  refuses_found force moment patience reads _ refuses = absurd refuses

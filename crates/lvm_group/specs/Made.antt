@@ -6,7 +6,7 @@ use Rattle.lvm_disk.specs.Device.{Device, image_of}
 use Rattle.lvm_disk.specs.Steps.{BothTold}
 use Rattle.lvm_vol.specs.Log.{Log, cut_log, spare_entries}
 use Rattle.lvm_kept.specs.Plans.{Plan, ChangesBy}
-use Rattle.lvm_homes.specs.declared.homes.Homes.{Homes}
+use Rattle.lvm_rec.specs.declared.homes.Homes.{Homes}
 use Rattle.lvm_write.specs.Written.{LogsPlan, IsDarkened, IsGivenUp}
 use Rattle.lvm_area.specs.Reading.{IsUnwritten, IsRested, IsCutOff, IsReadStuck}
 use Rattle.lvm_begin.specs.Beginning.{Beginning, Part, new_beginning, new_order, IsOfParts, AllStand}
@@ -140,9 +140,7 @@ Refuses w patience was is old new (cause.ClockBack seen) = HasRead was is old ne
 Refuses w patience was is old new cause.Dark = IsCutReading w was is old new ⊎ IsCutWriting w was is old new
 Refuses w patience was is old new cause.Stuck = IsStuckReading w patience was is old new ⊎ IsStuckWriting w patience was is old new
 Refuses w patience was is old new cause.Memory = LacksMemory w was is old new
-Refuses w patience was is old new cause.NoRecord = ⊥
-Refuses w patience was is old new cause.Ambiguous = ⊥
-Refuses w patience was is old new (cause.NoQuorum have total) = ⊥
+Refuses w patience was is old new _ = ⊥
 
 -- The group on its shelf, or the shelf and the history again, and why.
 abbrev pub MkvgGives : {S : Type 0} → (S → Device) → NewGroup → Room → ℕ → Log → Device → Result (S × Core) (Refused S) → Type 0

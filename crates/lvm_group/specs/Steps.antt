@@ -4,7 +4,7 @@ use Rattle.lvm_num.specs.Record.{last_moment}
 use Rattle.lvm_num.specs.Descriptor.{IsValid}
 use Rattle.lvm_disk.specs.Device.{Device}
 use Rattle.lvm_vol.specs.Log.{Log, cut_log}
-use Rattle.lvm_homes.specs.declared.homes.Homes.{Homes}
+use Rattle.lvm_rec.specs.declared.homes.Homes.{Homes}
 use Rattle.lvm_write.specs.Written.{IsDarkened, IsGivenUp}
 use Rattle.lvm_area.specs.Reading.{IsUnwritten, IsRested, IsCutOff, IsReadStuck}
 use Rattle.lvm_begin.specs.Beginning.{Beginning, new_order, IsOfParts, AllStand}
@@ -45,13 +45,7 @@ RefusesFound force moment patience old new (cause.ClockBack seen) = HasOnlyRead 
 RefusesFound force moment patience old new cause.Dark = IsUnwritten old new × IsCutOff old new
 RefusesFound force moment patience old new cause.Stuck = IsUnwritten old new × IsReadStuck 0 patience old new
 RefusesFound force moment patience old new cause.Memory = HasOnlyRead old new
-RefusesFound force moment patience old new (cause.NoDisk disk) = ⊥
-RefusesFound force moment patience old new (cause.TooMany limit) = ⊥
-RefusesFound force moment patience old new (cause.TooSmall disk) = ⊥
-RefusesFound force moment patience old new cause.HistoryFull = ⊥
-RefusesFound force moment patience old new cause.NoRecord = ⊥
-RefusesFound force moment patience old new cause.Ambiguous = ⊥
-RefusesFound force moment patience old new (cause.NoQuorum have total) = ⊥
+RefusesFound force moment patience old new _ = ⊥
 
 abbrev pub LookGives : Bool → ℕ → ℕ → Device → Device → Result Free Cause → Type 0
 LookGives force moment patience old new (Ok free) = LetsMake force moment old new free
@@ -76,16 +70,7 @@ abbrev pub WritingFails : Beginning → ℕ → Device → Device → Cause → 
 WritingFails b patience old new (cause.DiskFailed disk) = WriteFailsOn b old new disk
 WritingFails b patience old new cause.Dark = IsDarkened 0 old new × StopsAt b new_order old new (λ hand. Unit {0})
 WritingFails b patience old new cause.Stuck = IsGivenUp 0 patience old new × StopsAt b new_order old new (λ hand. Unit {0})
-WritingFails b patience old new (cause.NoDisk disk) = ⊥
-WritingFails b patience old new (cause.TooMany limit) = ⊥
-WritingFails b patience old new (cause.TooSmall disk) = ⊥
-WritingFails b patience old new cause.GroupExists = ⊥
-WritingFails b patience old new cause.NoRecord = ⊥
-WritingFails b patience old new cause.Ambiguous = ⊥
-WritingFails b patience old new (cause.NoQuorum have total) = ⊥
-WritingFails b patience old new (cause.ClockBack seen) = ⊥
-WritingFails b patience old new cause.HistoryFull = ⊥
-WritingFails b patience old new cause.Memory = ⊥
+WritingFails b patience old new _ = ⊥
 
 -- how the writes ended, with the slots that then come next
 abbrev pub NewWritesGive : Beginning → ℕ → Device → Device → Result Homes Cause → Type 0
@@ -96,18 +81,7 @@ NewWritesGive b patience old new (Err why) = WritingFails b patience old new why
 
 abbrev pub cuts_power : Cause → Bool
 cuts_power cause.Dark = true
-cuts_power cause.Stuck = false
-cuts_power (cause.DiskFailed disk) = false
-cuts_power (cause.NoDisk disk) = false
-cuts_power (cause.TooMany limit) = false
-cuts_power (cause.TooSmall disk) = false
-cuts_power cause.GroupExists = false
-cuts_power cause.NoRecord = false
-cuts_power cause.Ambiguous = false
-cuts_power (cause.NoQuorum have total) = false
-cuts_power (cause.ClockBack seen) = false
-cuts_power cause.HistoryFull = false
-cuts_power cause.Memory = false
+cuts_power _ = false
 
 -- the history, with a cut where the power is off
 abbrev pub cut_at : {T : Type 0} → Result T Cause → Log → Log

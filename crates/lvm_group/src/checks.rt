@@ -1,9 +1,9 @@
 //! What is refused of a new group before any disk is read, and how large its partitions are.
-ghost use Rattle.std.specs.Prelude.{◌≡◌, ◌≤◌, ◌<◌, ◌-◌, ◌/◌, ℕ, length, nat_le, find, All, IfOk, IfErr, IfSome, IfNone, IsTrue, slice_index_or};
+ghost use Rattle.std.specs.Prelude.{◌≡◌, ◌<◌, ◌-◌, ◌/◌, find, IfOk, IfErr, IsTrue};
 ghost use Rattle.std.specs.Option.{ForSome};
 ghost use Rattle.lvm_num.specs.Descriptor.{is_size};
 ghost use Rattle.lvm_num.specs.Geometry.{data_start, partition_blocks, partition_count};
-ghost use Rattle.lvm_group.specs.NewGroup.{sectors_on, most_sectors, least_size, size_for, first_absent, first_too_small, MayBegin, RefusesFirst};
+ghost use Rattle.lvm_group.specs.NewGroup.{most_sectors, least_size, size_for, first_absent, first_too_small, MayBegin, RefusesFirst};
 
 use lvm_core::Cause;
 use lvm_disk::Shelf;

@@ -1,5 +1,5 @@
 //! What the disks show that stands against a new group.
-ghost use Rattle.std.specs.Prelude.{◌≡◌, ◌≢◌, ◌↔◌, ◌⊎◌, ◌<◌, ◌≤◌, ◌+◌, ℕ, false, true, Some, IfSome, IfNone, IfOk, IfErr, IsTrue, IsFalse, slice_get};
+ghost use Rattle.std.specs.Prelude.{◌≡◌, ◌≢◌, ◌↔◌, ◌⊎◌, ◌<◌, ◌+◌, false, true, Some, IfSome, IfNone, IfOk, IfErr, IsTrue, IsFalse};
 ghost use Rattle.lvm_survey.specs.Rows.{AreRows};
 ghost use Rattle.lvm_survey.specs.Surveyed.{surveyed};
 ghost use Rattle.lvm_group.specs.Shown.{HasGroup, ShowsEarlier, ShowsMoment};

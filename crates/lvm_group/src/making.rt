@@ -1,7 +1,6 @@
 //! The making of a group.
 ghost use Rattle.std.specs.Prelude.{IfOk};
 ghost use Rattle.lvm_disk.specs.Device.{IsReady};
-ghost use Rattle.lvm_steps.specs.Requests.{at};
 ghost use Rattle.lvm_session_start.specs.Beginning.{AreFaults};
 ghost use Rattle.lvm_core.specs.Sound.{HaveAllLanded};
 ghost use Rattle.lvm_core.specs.Starting.{IsRoom};

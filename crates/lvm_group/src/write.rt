@@ -15,8 +15,8 @@ use crate::plan::Plan;
 use lvm_begin::{Begun, begin_new};
 use lvm_core::Cause;
 use lvm_disk::Shelf;
-use lvm_homes::Homes;
 use lvm_num::DiskSet;
+use lvm_rec::Homes;
 use lvm_transfer::Patience;
 
 /// Writes the records of a planned group to its disks, and answers the slots that come next.

@@ -43,9 +43,7 @@ module _ (before : Device) (w : NewGroup) (patience : ℕ) (was is : Log) (old l
   leaves cause.Stuck (inl reading) = record { rests = reading.stuck.power; orders = reading.unwritten.orders ∙ same }
   leaves cause.Stuck (inr writing) = record { rests = writing.stuck.power; orders = writing.breaks.stops.only.orders ∙ same }
   leaves cause.Memory refuses = record { rests = inr refuses.rested.ready; orders = refuses.unwritten.orders ∙ same }
-  leaves cause.NoRecord refuses = absurd refuses
-  leaves cause.Ambiguous refuses = absurd refuses
-  leaves (cause.NoQuorum have total) refuses = absurd refuses
+  leaves _ refuses = absurd refuses
 
   -- what the entries leave true, and the rooms
   module _ (P : List Fact → Type 0) (bears : Bears P) (holds : P was.facts) where
@@ -66,9 +64,7 @@ module _ (before : Device) (w : NewGroup) (patience : ℕ) (was is : Log) (old l
     entries_bear cause.Stuck (inl reading) = as_is reading.entered
     entries_bear cause.Stuck (inr writing) = subst (λ (l : Log). P l.facts) (sym writing.breaks.entered) (bears_given_up P bears was.facts w.disks holds)
     entries_bear cause.Memory refuses = as_is refuses.history
-    entries_bear cause.NoRecord refuses = absurd refuses
-    entries_bear cause.Ambiguous refuses = absurd refuses
-    entries_bear (cause.NoQuorum have total) refuses = absurd refuses
+    entries_bear _ refuses = absurd refuses
 
   same_rooms : (why : Cause) → Refuses w patience was is old left why → without_facts is ≡ without_facts was
   same_rooms (cause.NoDisk disk) refuses = ap without_facts refuses.0.history
@@ -84,9 +80,7 @@ module _ (before : Device) (w : NewGroup) (patience : ℕ) (was is : Log) (old l
   same_rooms cause.Stuck (inl reading) = ap without_facts reading.entered
   same_rooms cause.Stuck (inr writing) = ap without_facts writing.breaks.entered
   same_rooms cause.Memory refuses = ap without_facts refuses.history
-  same_rooms cause.NoRecord refuses = absurd refuses
-  same_rooms cause.Ambiguous refuses = absurd refuses
-  same_rooms (cause.NoQuorum have total) refuses = absurd refuses
+  same_rooms _ refuses = absurd refuses
 
 -- nothing has changed where it is refused at once
 first_rests : (sizes : List ℕ) (spare : ℕ) (disks : List ℕ) (mib : Option ℕ) (old : Device) (why : Cause) (left : Device) → RefusesFirst sizes spare disks mib why → left ≡ old → Rests why old left
@@ -94,15 +88,7 @@ first_rests sizes spare disks mib old (cause.NoDisk disk) left first same = inl 
 first_rests sizes spare disks mib old (cause.TooMany limit) left first same = inl same
 first_rests sizes spare disks mib old (cause.TooSmall disk) left first same = inl same
 first_rests sizes spare disks mib old cause.HistoryFull left first same = inl same
-first_rests sizes spare disks mib old cause.GroupExists left first same = absurd first
-first_rests sizes spare disks mib old cause.NoRecord left first same = absurd first
-first_rests sizes spare disks mib old cause.Ambiguous left first same = absurd first
-first_rests sizes spare disks mib old (cause.NoQuorum have total) left first same = absurd first
-first_rests sizes spare disks mib old (cause.ClockBack seen) left first same = absurd first
-first_rests sizes spare disks mib old (cause.DiskFailed disk) left first same = absurd first
-first_rests sizes spare disks mib old cause.Dark left first same = absurd first
-first_rests sizes spare disks mib old cause.Stuck left first same = absurd first
-first_rests sizes spare disks mib old cause.Memory left first same = absurd first
+first_rests sizes spare disks mib old _ left first same = absurd first
 
 -- ---- by the call's outcome
 

@@ -28,17 +28,7 @@ out_stays patience old left was is cause.Stuck out = record {
   stays = stays was.facts is.facts (λ P bears holds. subst (λ (l : Log). P l.facts) (sym out.1) holds);
   rooms = ap without_facts out.1;
 }
-out_stays patience old left was is (cause.NoDisk disk) out = absurd out
-out_stays patience old left was is (cause.TooMany limit) out = absurd out
-out_stays patience old left was is (cause.TooSmall disk) out = absurd out
-out_stays patience old left was is cause.GroupExists out = absurd out
-out_stays patience old left was is cause.NoRecord out = absurd out
-out_stays patience old left was is cause.Ambiguous out = absurd out
-out_stays patience old left was is (cause.NoQuorum have total) out = absurd out
-out_stays patience old left was is (cause.ClockBack seen) out = absurd out
-out_stays patience old left was is (cause.DiskFailed disk) out = absurd out
-out_stays patience old left was is cause.HistoryFull out = absurd out
-out_stays patience old left was is cause.Memory out = absurd out
+out_stays patience old left was is _ out = absurd out
 
 -- an outcome, by its shelf's device
 abbrev pub device_outcome : {S : Type 0} → (S → Device) → Result (S × Core) (Refused S) → Result (Device × Core) (Refused Device)

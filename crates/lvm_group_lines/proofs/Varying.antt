@@ -61,33 +61,11 @@ module _ (before old left : Device) (name : List ℕ) (moment patience : ℕ) (l
 -- what the entries after a refusal leave true
 after_bears : (P : List Fact → Type 0) → Bears P → (why : Cause) (log : Log) → P log.facts → P (log_after why log).facts
 after_bears P bears cause.Dark log holds = bears_cut P bears log holds
-after_bears P bears cause.HistoryFull log holds = holds
-after_bears P bears cause.NoRecord log holds = holds
-after_bears P bears cause.Ambiguous log holds = holds
-after_bears P bears (cause.NoQuorum have total) log holds = holds
-after_bears P bears (cause.ClockBack seen) log holds = holds
-after_bears P bears (cause.DiskFailed disk) log holds = holds
-after_bears P bears cause.Stuck log holds = holds
-after_bears P bears cause.Memory log holds = holds
-after_bears P bears (cause.NoDisk disk) log holds = holds
-after_bears P bears (cause.TooMany limit) log holds = holds
-after_bears P bears (cause.TooSmall disk) log holds = holds
-after_bears P bears cause.GroupExists log holds = holds
+after_bears P bears _ log holds = holds
 
 after_rooms : (why : Cause) (log : Log) → without_facts (log_after why log) ≡ without_facts log
 after_rooms cause.Dark log = cut_rooms log
-after_rooms cause.HistoryFull log = refl
-after_rooms cause.NoRecord log = refl
-after_rooms cause.Ambiguous log = refl
-after_rooms (cause.NoQuorum have total) log = refl
-after_rooms (cause.ClockBack seen) log = refl
-after_rooms (cause.DiskFailed disk) log = refl
-after_rooms cause.Stuck log = refl
-after_rooms cause.Memory log = refl
-after_rooms (cause.NoDisk disk) log = refl
-after_rooms (cause.TooMany limit) log = refl
-after_rooms (cause.TooSmall disk) log = refl
-after_rooms cause.GroupExists log = refl
+after_rooms _ log = refl
 
 -- nothing has changed where the history is full
 full_rests : (log : Log) (old : Device) (why : Cause) (left : Device) → IsFullFor log why → left ≡ old → Rests why old left

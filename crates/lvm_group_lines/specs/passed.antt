@@ -10,6 +10,7 @@ pub mod Mirrors
 pub mod Quiesce
 pub mod QuiescedVariants
 pub mod Ranges
+pub mod Recover
 pub mod RefusalVariants
 pub mod ReplyVariants
 pub mod Running
@@ -17,6 +18,5 @@ pub mod Stage
 pub mod Tie
 pub mod TieCommands
 pub mod TieCopies
-pub mod Recover
 pub mod Varyon
 pub mod Volumes

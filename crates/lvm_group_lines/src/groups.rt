@@ -219,11 +219,5 @@ pub fn do_varyoff<S: Shelf>(stage: Stage<S>, name: Name) -> Answered<S>
     }
     let (closed, posts, bytes) = stage.close();
     let Closed { shelf, history } = closed;
-    let holder = Holder::Off { shelf, history };
-    Stage {
-        holder,
-        posts,
-        bytes,
-    }
-    .answered(Reply::Ok)
+    Stage::off(shelf, history, posts, bytes).answered(Reply::Ok)
 }

@@ -12,7 +12,7 @@ use Rattle.lvm_vol.specs.Log.{Log}
 use Rattle.lvm_vol.specs.Order.{Ordered}
 use Rattle.lvm_vol.proofs.Order.{ordered-push}
 use Rattle.lvm_hold.specs.Waiting.{Waiting}
-use Rattle.lvm_homes.specs.declared.homes.Homes.{Homes}
+use Rattle.lvm_rec.specs.declared.homes.Homes.{Homes}
 use Rattle.lvm_status.specs.Calls.{first_updates}
 use Rattle.lvm_status.specs.Members.{HasItsRows}
 use Rattle.lvm_status.specs.Runs.{SetStamp, IsSoundStatus}

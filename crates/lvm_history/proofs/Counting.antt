@@ -199,15 +199,7 @@ three_needed (f ∷ facts) = let rest = three_needed facts in let more = sum_by-
   where
     by_fact : (g : Fact) → 3 * length (begun facts) ≤ needed facts → needed (g ∷ facts) ≡ need g + needed facts → 3 * length (begun (g ∷ facts)) ≤ needed (g ∷ facts)
     by_fact (Begun r) rest more = omega (arith, rest, more)
-    by_fact (Landed r how started got) rest more = omega (arith, rest, more)
-    by_fact (Taken r) rest more = omega (arith, rest, more)
-    by_fact (Making lv blocks m) rest more = omega (arith, rest, more)
-    by_fact (Made lv) rest more = omega (arith, rest, more)
-    by_fact (Split from lv) rest more = omega (arith, rest, more)
-    by_fact (Removing vol) rest more = omega (arith, rest, more)
-    by_fact (Removed vol) rest more = omega (arith, rest, more)
-    by_fact Cut rest more = omega (arith, rest, more)
-    by_fact (On moment) rest more = omega (arith, rest, more)
+    by_fact _ rest more = omega (arith, rest, more)
 
 -- a request is found by its number
 pub find_at : (n : ℕ) (rs : List Request) (r : Request) → IdsFrom n rs → Stands r rs → find (has_id r.id) rs ≡ Some r
@@ -223,24 +215,14 @@ find_at n (s ∷ rs) r ids (inr there) =
     apart : (a b : ℕ) → a < b → (a == b) ≡ false
     apart a b less = grind (arith, nat_tests)
 
+find_absent : (rs : List Request) (id : ℕ) → ((s : Request) → Stands s rs → (s.id == id) ≡ false) → find (has_id id) rs ≡ None
+find_absent [] id other = refl
+find_absent (s ∷ rs) id other = ap (λ (t : Bool). cond t (Some s) (find (has_id id) rs)) (other s (inl refl)) ∙ find_absent rs id (λ r there. other r (inr there))
+
 pub find_below : (n : ℕ) (rs : List Request) (id : ℕ) → IdsFrom n rs → id < n → find (has_id id) rs ≡ None
-find_below n [] id ids below = refl
-find_below n (s ∷ rs) id ids below =
-    let s_id = ids.0 in
-    let e : (s.id == id) ≡ false = apart s.id id (omega arith) in
-    ap (λ (t : Bool). cond t (Some s) (find (has_id id) rs)) e ∙ find_below (n + 1) rs id ids.1 (omega arith)
+find_below n rs id ids below = find_absent rs id (λ s there. let low = (stands-at n rs s ids there).low in apart s.id id (omega (arith, low, below)))
   where
     apart : (a b : ℕ) → b < a → (a == b) ≡ false
-    apart a b less = grind (arith, nat_tests)
-
-pub find_above : (n : ℕ) (rs : List Request) (id : ℕ) → IdsFrom n rs → n + length rs ≤ id → find (has_id id) rs ≡ None
-find_above n [] id ids above = refl
-find_above n (s ∷ rs) id ids above =
-    let s_id = ids.0 in
-    let e : (s.id == id) ≡ false = apart s.id id (omega arith) in
-    ap (λ (t : Bool). cond t (Some s) (find (has_id id) rs)) e ∙ find_above (n + 1) rs id ids.1 (omega arith)
-  where
-    apart : (a b : ℕ) → a < b → (a == b) ≡ false
     apart a b less = grind (arith, nat_tests)
 
 pub stands_get : {X : Type 0} → (xs : List X) (k : ℕ) (d : X) → k < length xs → Stands (get_or xs k d) xs

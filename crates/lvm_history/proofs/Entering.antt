@@ -21,7 +21,7 @@ use Rattle.lvm_vol.specs.Facts.{Request, Fact, Making, Made, Split, Removing, Re
 use Rattle.lvm_vol.specs.Log.{Log, open_count, landed_count, plain_fact, cut_log, spare_entries, spare_bytes, awaited, blocks_begun, entries_of, entries_from, next_id, blocks_given, next_request, has_id, asked, no_request, request_of, lands_id, takes_id, is_open, is_answered, is_got, got_by, held, blocks_of, blocks_begun_with, got_without_bytes, need, is_uncut_after, is_uncut_from, is_uncut}
 use Rattle.lvm_checker.specs.Fitting.{is_bounded}
 use Rattle.lvm_vol.specs.Order.{Follows, Ordered, IsWhole, IsGotOf}
-use Rattle.lvm_checker.specs.Rows.{no_ask, ask_of, is_landing, is_taking}
+use Rattle.lvm_checker.specs.Rows.{facts_of, no_ask, ask_of, is_landing, is_taking}
 use Rattle.lvm_history.specs.Keeping.{ask_at, ask_found, is_open_by, awaited_by, is_answered_by, entry_kept, IsOneOfAsks, asks_from, row_of, IsKept, IsRoomy, if_uncut, blocks_first, Kept, log_of, IsSound}
 use Rattle.lvm_vol.proofs.Order.{IdsFrom, stands_last, stands-at, stands_begun, numbered, begun-push, any-push, ordered-push}
 use Rattle.lvm_vol.proofs.Asking.{found_of, and_left, open_of, follows_taken}
@@ -272,39 +272,15 @@ taken_room k log client id sound shows answered =
 -- an entry that is pushed, and a Cut
 plain_follows : (e : Entry) (run : ℕ) (past : List Fact) → Follows run past (plain_fact e)
 plain_follows (entry.Making lv blocks mode) run past = tt
-plain_follows (entry.Made lv) run past = tt
-plain_follows (entry.Split from lv) run past = tt
-plain_follows (entry.Removing vol) run past = tt
-plain_follows (entry.Removed vol) run past = tt
-plain_follows (entry.On moment) run past = tt
-plain_follows (entry.Begun client id vol at count write place) run past = tt
-plain_follows (entry.Landed id how started) run past = tt
-plain_follows (entry.Taken client id) run past = tt
-plain_follows entry.Cut run past = tt
+plain_follows _ run past = tt
 
 plain_quiet : (e : Entry) → IsQuiet (plain_fact e)
 plain_quiet (entry.Making lv blocks mode) = record { begins = refl; gets = λ n. refl }
-plain_quiet (entry.Made lv) = record { begins = refl; gets = λ n. refl }
-plain_quiet (entry.Split from lv) = record { begins = refl; gets = λ n. refl }
-plain_quiet (entry.Removing vol) = record { begins = refl; gets = λ n. refl }
-plain_quiet (entry.Removed vol) = record { begins = refl; gets = λ n. refl }
-plain_quiet (entry.On moment) = record { begins = refl; gets = λ n. refl }
-plain_quiet (entry.Begun client id vol at count write place) = record { begins = refl; gets = λ n. refl }
-plain_quiet (entry.Landed id how started) = record { begins = refl; gets = λ n. refl }
-plain_quiet (entry.Taken client id) = record { begins = refl; gets = λ n. refl }
-plain_quiet entry.Cut = record { begins = refl; gets = λ n. refl }
+plain_quiet _ = record { begins = refl; gets = λ n. refl }
 
 plain_need : (e : Entry) → need (plain_fact e) ≡ 1
 plain_need (entry.Making lv blocks mode) = refl
-plain_need (entry.Made lv) = refl
-plain_need (entry.Split from lv) = refl
-plain_need (entry.Removing vol) = refl
-plain_need (entry.Removed vol) = refl
-plain_need (entry.On moment) = refl
-plain_need (entry.Begun client id vol at count write place) = refl
-plain_need (entry.Landed id how started) = refl
-plain_need (entry.Taken client id) = refl
-plain_need entry.Cut = refl
+plain_need _ = refl
 
 if_uncut_le : (b : Bool) → if_uncut b ≤ 1
 if_uncut_le true = omega arith
@@ -655,37 +631,23 @@ ask_found-asked k id sound = (0 + counts (take (id - 1) (begun (log_of k).facts)
         ∙ asks-slice_get 0 (begun (log_of k).facts) (id - 1)
         ∙ sym (ap (λ (o : Option Request). option_map (λ r. ask_at (0 + counts (take (id - 1) (begun (log_of k).facts))) r) o) (find-get 1 id (begun (log_of k).facts) q.ids above))
 
+rows_any : (p : Row → Bool) (q : Fact → Bool) → ((g : Fact) → p (row_of g) ≡ q g) → (facts : List Fact) → list_any p (map row_of facts) ≡ list_any q facts
+rows_any p q one [] = refl
+rows_any p q one (f ∷ facts) = ap (λ (t : Bool). t || list_any p (map row_of facts)) (one f) ∙ ap (λ (t : Bool). q f || t) (rows_any p q one facts)
+
 row_landing : (id : ℕ) (facts : List Fact) → list_any (is_landing id) (map row_of facts) ≡ list_any (lands_id id) facts
-row_landing id [] = refl
-row_landing id (f ∷ facts) = ap (λ (t : Bool). t || list_any (is_landing id) (map row_of facts)) (one f) ∙ ap (λ (t : Bool). lands_id id f || t) (row_landing id facts)
+row_landing id = rows_any (is_landing id) (lands_id id) one
   where
     one : (g : Fact) → is_landing id (row_of g) ≡ lands_id id g
     one (Landed r how started got) = refl
-    one (Begun r) = refl
-    one (Taken r) = refl
-    one (Making lv blocks m) = refl
-    one (Made lv) = refl
-    one (Split from lv) = refl
-    one (Removing vol) = refl
-    one (Removed vol) = refl
-    one Cut = refl
-    one (On moment) = refl
+    one _ = refl
 
 row_taking : (id : ℕ) (facts : List Fact) → list_any (is_taking id) (map row_of facts) ≡ list_any (takes_id id) facts
-row_taking id [] = refl
-row_taking id (f ∷ facts) = ap (λ (t : Bool). t || list_any (is_taking id) (map row_of facts)) (one f) ∙ ap (λ (t : Bool). takes_id id f || t) (row_taking id facts)
+row_taking id = rows_any (is_taking id) (takes_id id) one
   where
     one : (g : Fact) → is_taking id (row_of g) ≡ takes_id id g
-    one (Landed r how started got) = refl
-    one (Begun r) = refl
     one (Taken r) = refl
-    one (Making lv blocks m) = refl
-    one (Made lv) = refl
-    one (Split from lv) = refl
-    one (Removing vol) = refl
-    one (Removed vol) = refl
-    one Cut = refl
-    one (On moment) = refl
+    one _ = refl
 
 pub landing_kept : (k : Kept) (log : Log) (id : ℕ) → IsSound k → log_of k ≡ log → list_any (is_landing id) k.rows ≡ list_any (lands_id id) log.facts
 landing_kept k log id sound shows = ap (λ (l : List Row). list_any (is_landing id) l) sound.its_own.its_rows ∙ row_landing id (log_of k).facts ∙ ap (λ (x : Log). list_any (lands_id id) x.facts) shows
@@ -696,28 +658,37 @@ taking_kept k log id sound shows = ap (λ (l : List Row). list_any (is_taking id
 ask_of_log : (k : Kept) (log : Log) (id : ℕ) → IsSound k → log_of k ≡ log → (p : ℕ) × (ask_found k.asks id ≡ option_map (λ r. ask_at p r) (asked log.facts id))
 ask_of_log k log id sound shows = let its = ask_found-asked k id sound in (its.0, its.1 ∙ ap (λ (x : Log). option_map (λ r. ask_at its.0 r) (asked x.facts id)) shows)
 
-pub is_open_kept : (k : Kept) (log : Log) (id : ℕ) → IsSound k → log_of k ≡ log → is_open_by (ask_found k.asks id) (list_any (is_landing id) k.rows) ≡ is_open log.facts id
-is_open_kept k log id sound shows =
+-- what is told of a request by how it was asked, and by whether it has landed
+by_ask : {X : Type 0} (f : Option Ask → Bool → X) (k : Kept) (log : Log) (id : ℕ) → IsSound k → log_of k ≡ log
+    → (p : ℕ) × (f (ask_found k.asks id) (list_any (is_landing id) k.rows) ≡ f (option_map (λ r. ask_at p r) (asked log.facts id)) (list_any (lands_id id) log.facts))
+by_ask f k log id sound shows =
     let its = ask_of_log k log id sound shows in
-    ap (λ (t : Bool). is_open_by (ask_found k.asks id) t) (landing_kept k log id sound shows)
-    ∙ ap (λ (o : Option Ask). is_open_by o (list_any (lands_id id) log.facts)) its.1
-    ∙ by_option its.0 (asked log.facts id)
+    (its.0, ap (λ (t : Bool). f (ask_found k.asks id) t) (landing_kept k log id sound shows) ∙ ap (λ (o : Option Ask). f o (list_any (lands_id id) log.facts)) its.1)
+
+pub is_open_kept : (k : Kept) (log : Log) (id : ℕ) → IsSound k → log_of k ≡ log → is_open_by (ask_found k.asks id) (list_any (is_landing id) k.rows) ≡ is_open log.facts id
+is_open_kept k log id sound shows = let at = by_ask is_open_by k log id sound shows in at.1 ∙ by_option at.0 (asked log.facts id)
   where
     by_option : (p : ℕ) (o : Option Request) → is_open_by (option_map (λ r. ask_at p r) o) (list_any (lands_id id) log.facts) ≡ (is_some o && not (list_any (lands_id id) log.facts))
     by_option p None = refl
     by_option p (Some r) = refl
 
 pub awaited_kept : (k : Kept) (log : Log) (id : ℕ) → IsSound k → log_of k ≡ log → awaited_by (ask_found k.asks id) (list_any (is_landing id) k.rows) ≡ awaited log.facts id
-awaited_kept k log id sound shows =
-    let its = ask_of_log k log id sound shows in
-    ap (λ (t : Bool). awaited_by (ask_found k.asks id) t) (landing_kept k log id sound shows)
-    ∙ ap (λ (o : Option Ask). awaited_by o (list_any (lands_id id) log.facts)) its.1
-    ∙ by_option its.0 (asked log.facts id)
+awaited_kept k log id sound shows = let at = by_ask awaited_by k log id sound shows in at.1 ∙ by_option at.0 (asked log.facts id)
   where
     by_option : (p : ℕ) (o : Option Request) → awaited_by (option_map (λ r. ask_at p r) o) (list_any (lands_id id) log.facts)
         ≡ cond (is_some o && not (list_any (lands_id id) log.facts) && not (unwrap_or o no_request).write) (Some (unwrap_or o no_request).count) None
     by_option p None = refl
     by_option p (Some r) = refl
+
+-- lists that are read out of a history are those that it holds
+pub asked_alike : {X : Type 0} (f : Option Ask → Bool → X) (id : ℕ) {asks asks1 : List Ask} {rows rows1 : List Row} → asks1 ≡ asks → rows1 ≡ rows
+    → f (ask_found asks1 id) (list_any (is_landing id) rows1) ≡ f (ask_found asks id) (list_any (is_landing id) rows)
+asked_alike f id {asks} {asks1} {rows} {rows1} same alike =
+    ap (λ (l : List Ask). f (ask_found l id) (list_any (is_landing id) rows1)) same ∙ ap (λ (l : List Row). f (ask_found asks id) (list_any (is_landing id) l)) alike
+
+pub facts_alike : (run : ℕ) {asks asks1 : List Ask} {blocks blocks1 : List (List ℕ)} {rows rows1 : List Row} → asks1 ≡ asks → blocks1 ≡ blocks → rows1 ≡ rows → facts_of run asks1 blocks1 rows1 ≡ facts_of run asks blocks rows
+facts_alike run {asks} {asks1} {blocks} {blocks1} {rows} {rows1} same alike equal =
+    ap (λ (l : List Row). facts_of run asks1 blocks1 l) equal ∙ ap (λ (l : List Ask). facts_of run l blocks1 rows) same ∙ ap (λ (l : List (List ℕ)). facts_of run asks l rows) alike
 
 pub is_answered_kept : (k : Kept) (log : Log) (client id : ℕ) → IsSound k → log_of k ≡ log
     → is_answered_by (ask_found k.asks id) client (list_any (is_landing id) k.rows) (list_any (is_taking id) k.rows) ≡ is_answered log.facts client id

@@ -97,15 +97,7 @@ got-cases id (f ∷ facts) = ⊎_elim
 
     here : (g : Fact) → (got_by id g ≡ None) ⊎ HasGot id (g ∷ facts)
     here (Landed r how started got) = here_landed r how started got (is_got how) (r.id == id) refl refl
-    here (Making lv blocks m) = inl refl
-    here (Made lv) = inl refl
-    here (Split from lv) = inl refl
-    here (Removing vol) = inl refl
-    here (Removed vol) = inl refl
-    here (Begun r) = inl refl
-    here (Taken r) = inl refl
-    here Cut = inl refl
-    here (On moment) = inl refl
+    here _ = inl refl
 
 module _ (run : ℕ) where
   -- requests of one number are one request

@@ -9,7 +9,7 @@ use Rattle.std.proofs.lemmas.List.Folds.{find-append}
 use Rattle.std.proofs.lemmas.List.Elements.{filter_map-append}
 use Rattle.lvm_vol.specs.declared.entry.Outcome.{Outcome}
 use Rattle.lvm_vol.specs.declared.entry.Entry.TheVariants as entry
-use Rattle.lvm_vol.specs.Facts.{Request, Fact, Making, Made, Split, Removing, Removed, Begun, Landed, Taken, Cut, On, Stands, begun, begun_by}
+use Rattle.lvm_vol.specs.Facts.{Request, Fact, Begun, Landed, Stands, begun, begun_by}
 use Rattle.lvm_vol.specs.Log.{Log, has_id, asked, no_request, request_of, lands_id, takes_id, is_open, is_answered, is_got, need, needed, spare_entries, blocks_begun, spare_bytes, held, blocks_of, place_after, entries_from, entries_of}
 use Rattle.lvm_vol.specs.Order.{Follows, Ordered}
 use Rattle.lvm_vol.proofs.Order.{begun-push, any-push, stands_begun, IsNumbered, numbered}
@@ -78,15 +78,7 @@ entries_behind place (f ∷ past) rest = entries_behind (place_after place f) pa
   where
     by_fact : (g : Fact) → place_after place g + counts (begun past) ≡ place + counts (begun (g ∷ past))
     by_fact (Begun r) = let more = sum_by-cons (λ (s : Request). s.count) r (begun past) in omega (arith, more)
-    by_fact (Landed r how started got) = refl
-    by_fact (Taken r) = refl
-    by_fact (Making lv blocks m) = refl
-    by_fact (Made lv) = refl
-    by_fact (Split from lv) = refl
-    by_fact (Removing vol) = refl
-    by_fact (Removed vol) = refl
-    by_fact Cut = refl
-    by_fact (On moment) = refl
+    by_fact _ = refl
 
 -- the entry that begins a request tells its place
 pub entry_begun : (past rest : List Fact) (r : Request) → slice_get (entries_of (past ++ Begun r ∷ rest)) (length past) ≡ Some (entry.Begun r.client r.id r.vol r.at r.count r.write (blocks_begun past))

@@ -80,15 +80,7 @@ pub record IsSound (h : Kept) : Type 0 where
 -- a row that begins a request names one of so many
 abbrev pub IsOneOfAsks : Row → ℕ → Type 0
 IsOneOfAsks (row.Begun id) n = (1 ≤ id) × (id ≤ n)
-IsOneOfAsks (row.Making lv size mode) n = Unit {0}
-IsOneOfAsks (row.Made lv) n = Unit {0}
-IsOneOfAsks (row.Split from lv) n = Unit {0}
-IsOneOfAsks (row.Removing vol) n = Unit {0}
-IsOneOfAsks (row.Removed vol) n = Unit {0}
-IsOneOfAsks (row.Landed id how started) n = Unit {0}
-IsOneOfAsks (row.Taken client id) n = Unit {0}
-IsOneOfAsks row.Cut n = Unit {0}
-IsOneOfAsks (row.On moment) n = Unit {0}
+IsOneOfAsks _ n = Unit {0}
 
 -- the entry of a row
 abbrev pub entry_kept : List Ask → Row → Entry

@@ -1,5 +1,5 @@
 //! One image file.
-ghost use Rattle.std.specs.Prelude.{◌≡◌, ◌+◌, ◌≤◌, ◌<◌, ◌*◌, ◌^◌, IfOk, OnOk};
+ghost use Rattle.std.specs.Prelude.{◌≡◌, ◌+◌, ◌≤◌, ◌<◌, ◌*◌, ◌^◌};
 ghost use Rattle.lvm_disk.specs.Steps.{ChangedAtMost};
 
 use crate::exclusive::Exclusive;

@@ -7,7 +7,7 @@ use Rattle.lvm_num.specs.Record.{Stamped}
 use Rattle.lvm_disk.specs.Counts.{Rose}
 use Rattle.lvm_vol.specs.declared.entry.Outcome.{Outcome}
 use Rattle.lvm_vol.specs.declared.entry.Outcome.TheVariants as outcome
-use Rattle.lvm_vol.specs.Facts.{Request, Fact, Making, Made, Split, Removing, Removed, Begun, Landed, Taken, Cut, On}
+use Rattle.lvm_vol.specs.Facts.{Request, Fact, Landed}
 use Rattle.lvm_invariant.specs.State.{Marks, Badly, Queued, ModelCopy, ModelState}
 use Rattle.lvm_invariant.specs.Faults.{Faults, HasFailed, SomeFailed, NoneFailed, HasCause}
 use Rattle.lvm_invariant.specs.Caused.{LandingIsCaused, FactIsCaused, Since, Caused}
@@ -67,15 +67,7 @@ module _ (w : Faults) (now : ℕ → ℕ) (place : Option ℕ) (rises : (d : ℕ
 
     fact_stays : (f : Fact) → FactIsCaused w s f → FactIsCaused after new f
     fact_stays (Landed q how started got) h = landing_stays q how h
-    fact_stays (Making lv blocks mode) h = tt
-    fact_stays (Made lv) h = tt
-    fact_stays (Split from lv) h = tt
-    fact_stays (Removing vol) h = tt
-    fact_stays (Removed vol) h = tt
-    fact_stays (Begun q) h = tt
-    fact_stays (Taken q) h = tt
-    fact_stays Cut h = tt
-    fact_stays (On moment) h = tt
+    fact_stays _ h = tt
 
     since_then : Since after new new.facts
     since_then =

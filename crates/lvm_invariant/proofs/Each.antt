@@ -36,7 +36,7 @@ use Rattle.lvm_invariant.specs.Open.{OpenKeeps}
 use Rattle.lvm_invariant.specs.LandGot.{LandGotKeeps}
 use Rattle.lvm_invariant.specs.LandLost.{LandLostKeeps}
 use Rattle.lvm_invariant.specs.Submit.{SubmitKeeps}
-use Rattle.lvm_invariant.specs.State.{ModelPhase, Held, WantEntry, Ready, Going, Landed, Queued, ModelState, covers, is_past, has_landed, is_pinning}
+use Rattle.lvm_invariant.specs.State.{ModelPhase, Held, WantEntry, Ready, Going, Queued, ModelState, covers, is_past, has_landed, is_pinning}
 use Rattle.lvm_invariant.specs.Pin.{PinKeeps}
 use Rattle.lvm_invariant.specs.Good.{Good}
 use Rattle.lvm_invariant.specs.MoveStatus.{MoveStatusKeeps}
@@ -112,11 +112,8 @@ pin_keeps votes s i r cache step good = record {
 }
   where
     is_ready : ModelPhase → Bool
-    is_ready Held = false
-    is_ready WantEntry = false
     is_ready Ready = true
-    is_ready Going = false
-    is_ready Landed = false
+    is_ready _ = false
 
     ready_not_going : {X : Type 0} (p : ModelPhase) → p ≡ Ready → p ≡ Going → X
     ready_not_going p a b = let e : ◌≡◌ {A = Bool} true false = ap is_ready (sym a ∙ b) in absurd cc
@@ -195,11 +192,8 @@ land_no_fresh_keeps votes s i r step good = record {
 }
   where
     is_going : ModelPhase → Bool
-    is_going Held = false
-    is_going WantEntry = false
-    is_going Ready = false
     is_going Going = true
-    is_going Landed = false
+    is_going _ = false
 
     not_going : {X : Type 0} (p q : ModelPhase) → p ≡ Going → p ≡ q → IsFalse (is_going q) → X
     not_going p q e k f = never (is_going p) (ap is_going e) (ap is_going k ∙ f)

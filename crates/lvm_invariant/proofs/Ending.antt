@@ -30,11 +30,7 @@ use Rattle.lvm_invariant.proofs.Entered.{write_asks}
 off_or_dark : (P : Outcome → Type 0) → P outcome.Off → P outcome.Dark → (how : Outcome) → IsFalse (is_calm how) → P how
 off_or_dark P off dark outcome.Off over = off
 off_or_dark P off dark outcome.Dark over = dark
-off_or_dark P off dark outcome.Done over = never true refl over
-off_or_dark P off dark outcome.Lost over = never true refl over
-off_or_dark P off dark outcome.Got over = never true refl over
-off_or_dark P off dark outcome.ReadFailed over = never true refl over
-off_or_dark P off dark outcome.NoFresh over = never true refl over
+off_or_dark P off dark _ over = never true refl over
 
 kind_over : (how : Outcome) → IsFalse (is_calm how) → (q : Request) (started : Bool) → IsOutcomeOf how q started
 kind_over how over q started = off_or_dark (λ (h : Outcome). IsOutcomeOf h q started) tt tt how over

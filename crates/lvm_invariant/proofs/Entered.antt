@@ -164,13 +164,9 @@ not_going p h e = never (has_landed p) h (ap has_landed e)
 
 -- nothing changes of what each block may have
 abbrev pub quiet_landing : Outcome → Bool
-quiet_landing outcome.Done = false
-quiet_landing outcome.Lost = false
-quiet_landing outcome.Off = false
-quiet_landing outcome.Dark = false
-quiet_landing outcome.Got = false
 quiet_landing outcome.ReadFailed = true
 quiet_landing outcome.NoFresh = true
+quiet_landing _ = false
 
 quiet_values : (how : Outcome) → IsTrue (quiet_landing how) → (facts : List Fact) (q : Request) (started : Bool) (lv b : ℕ)
     → ((known (facts ++ HasLanded q how started [] ∷ []) (Lv lv) b).values ≡ (known facts (Lv lv) b).values) × ((known (facts ++ HasLanded q how started [] ∷ []) (Lv lv) b).loose ≡ (known facts (Lv lv) b).loose)
@@ -182,11 +178,7 @@ quiet_values outcome.NoFresh quiet facts q started lv b = (
   after_landing facts q outcome.NoFresh started [] lv b (λ (k : Known). k.values ≡ (known facts (Lv lv) b).values) refl (λ over write still. refl) (λ over is_read. refl),
   after_landing facts q outcome.NoFresh started [] lv b (λ (k : Known). k.loose ≡ (known facts (Lv lv) b).loose) refl (λ over write still. refl) (λ over is_read. refl),
 )
-quiet_values outcome.Done quiet facts q started lv b = absurd cc
-quiet_values outcome.Lost quiet facts q started lv b = absurd cc
-quiet_values outcome.Off quiet facts q started lv b = absurd cc
-quiet_values outcome.Dark quiet facts q started lv b = absurd cc
-quiet_values outcome.Got quiet facts q started lv b = absurd cc
+quiet_values _ quiet facts q started lv b = absurd cc
 
 pub quiet_effect : (s : ModelState) (i : ℕ) (r : Queued) (how : Outcome) (started : Bool) → IsTrue (quiet_landing how) → Sound s → Told s.queue s.name s.facts → s.queue i ≡ Some r → IsFalse r.step
     → (IsTrue r.write → r.phase ≡ Going → ⊥) → ChangeEffect s i r (land r) (s.facts ++ HasLanded (s.name i) how started [] ∷ []) s.cache

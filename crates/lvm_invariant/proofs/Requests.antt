@@ -3,7 +3,7 @@ use Rattle.std.proofs.Common.{◌≡◌, ◌⊎◌, inl, inr, ⊎_elim, ℕ, ◌
 use Rattle.std.specs.Prelude.{IsTrue, IsFalse, ◌==◌, if◌then◌else◌}
 use Rattle.std.proofs.lemmas.Bool.{cases_lt}
 use Rattle.lvm_num.specs.declared.place.Pp.{Pp}
-use Rattle.lvm_invariant.specs.State.{Stage, ModelPhase, Held, WantEntry, Ready, Going, Landed, Queued, ModelState, covers, is_past, has_landed, Started}
+use Rattle.lvm_invariant.specs.State.{Stage, ModelPhase, Held, Going, Queued, ModelState, covers, is_past, has_landed, Started}
 use Rattle.lvm_invariant.specs.Sound.{Conflict, Sound}
 use Rattle.lvm_invariant.specs.Updates.{put, is_pp, staged}
 
@@ -95,10 +95,7 @@ staged_is targets c e stage x h = by_test (is_pp e c)
 
 pub past_not_landed : (p : ModelPhase) → IsTrue (is_past p) → IsTrue (has_landed p) → ⊥
 past_not_landed Held past l = absurd cc
-past_not_landed WantEntry past l = absurd cc
-past_not_landed Ready past l = absurd cc
-past_not_landed Going past l = absurd cc
-past_not_landed Landed past l = absurd cc
+past_not_landed _ past l = absurd cc
 
 pub past_of : (p q : ModelPhase) → p ≡ q → IsTrue (is_past q) → IsTrue (is_past p)
 past_of p q e h = ap is_past e ∙ h

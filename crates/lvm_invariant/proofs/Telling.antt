@@ -7,7 +7,7 @@ use Rattle.lvm_vol.specs.declared.entry.Vol.{Vol}
 use Rattle.lvm_vol.specs.declared.entry.Vol.TheVariants.{Lv}
 use Rattle.lvm_vol.specs.declared.entry.Outcome.{Outcome}
 use Rattle.lvm_vol.specs.declared.entry.Outcome.TheVariants as outcome
-use Rattle.lvm_vol.specs.Facts.{Request, Fact, Making, Made, Split, Removing, Removed, Begun, Landed, Taken, Cut, On, Stands, same_vol, same_request, is_over, block_of}
+use Rattle.lvm_vol.specs.Facts.{Request, Fact, Making, Split, Removed, Begun, Landed, Cut, Stands, same_vol, same_request, is_over, block_of}
 use Rattle.lvm_vol.specs.May.{Known, is_open_in, without, ended, read, landed, change, source, known}
 use Rattle.lvm_vol.specs.Legal.{begins_in, Fits, Legal}
 use Rattle.lvm_vol.proofs.Knowing.{known-push, ended_open, read_open}
@@ -74,34 +74,23 @@ none_if b request (w ∷ ws) is = by_test (same_request request w) (none_if b re
 -- ---- how a request that lands changes what is known
 
 pub ended_mode : (r : Request) (how : Outcome) (started : Bool) (x : Sector) (k : Known) → (ended r how started x k).mode ≡ k.mode
-ended_mode r outcome.Done started x k = refl
-ended_mode r outcome.Lost started x k = refl
 ended_mode r outcome.Off true x k = refl
 ended_mode r outcome.Off false x k = refl
 ended_mode r outcome.Dark true x k = refl
 ended_mode r outcome.Dark false x k = refl
-ended_mode r outcome.Got started x k = refl
-ended_mode r outcome.ReadFailed started x k = refl
-ended_mode r outcome.NoFresh started x k = refl
+ended_mode r _ started x k = refl
 
 -- the power is on, and the group is
 abbrev pub is_calm : Outcome → Bool
-is_calm outcome.Done = true
-is_calm outcome.Lost = true
 is_calm outcome.Off = false
 is_calm outcome.Dark = false
-is_calm outcome.Got = true
-is_calm outcome.ReadFailed = true
-is_calm outcome.NoFresh = true
+is_calm _ = true
 
 ended_tight : (r : Request) (how : Outcome) (started : Bool) (x : Sector) (k : Known) → IsTrue (is_calm how) → IsFalse k.loose → IsFalse (ended r how started x k).loose
 ended_tight r outcome.Done started x k calm tight = refl
-ended_tight r outcome.Lost started x k calm tight = tight
 ended_tight r outcome.Off started x k calm tight = absurd cc
 ended_tight r outcome.Dark started x k calm tight = absurd cc
-ended_tight r outcome.Got started x k calm tight = tight
-ended_tight r outcome.ReadFailed started x k calm tight = tight
-ended_tight r outcome.NoFresh started x k calm tight = tight
+ended_tight r _ started x k calm tight = tight
 
 -- a read changes at most the values
 read_still : {X : Type 0} (part : Known → X) → ((values : Option (List Sector)) (k : Known) → part (record k { values = values }) ≡ part k) → (how : Outcome) (x : Sector) (k : Known) → part (read how x k) ≡ part k
@@ -110,12 +99,7 @@ read_still part same outcome.Got x k = by_loose k.loose
     by_loose : (t : Bool) → part (if t then k else record k { values = Some (x ∷ []) }) ≡ part k
     by_loose true = refl
     by_loose false = same (Some (x ∷ [])) k
-read_still part same outcome.Done x k = refl
-read_still part same outcome.Lost x k = refl
-read_still part same outcome.ReadFailed x k = refl
-read_still part same outcome.NoFresh x k = refl
-read_still part same outcome.Off x k = refl
-read_still part same outcome.Dark x k = refl
+read_still part same _ x k = refl
 
 read_mode : (how : Outcome) (x : Sector) (k : Known) → (read how x k).mode ≡ k.mode
 read_mode how x k = read_still (λ (k : Known). k.mode) (λ values k. refl) how x k
@@ -252,10 +236,7 @@ changed (Landed r how started got) vol b k s h = inl (by_landing (λ (new : Know
     (λ over write there still. filtered (λ (x : Request). not (same_request r x)) k.open_writes s (subst (Stands s) (ended_open r how started (block_of r.blocks r.at b) k) still))
     (λ over is_read still. subst (Stands s) (read_open how (block_of got r.at b) k) still) h)
 changed Cut vol b k s h = absurd h
-changed (Made lv) vol b k s h = inl h
-changed (Removing gone) vol b k s h = inl h
-changed (Taken r) vol b k s h = inl h
-changed (On moment) vol b k s h = inl h
+changed _ vol b k s h = inl h
 
 abbrev pub OpenBegan : List Fact → Type 0
 OpenBegan facts = (vol : Vol) (b : ℕ) (s : Request) → Stands s (known facts vol b).open_writes → Stands (Begun s) facts

@@ -14,7 +14,7 @@ use Rattle.lvm_invariant.proofs.WorkedReads.{read_fails_allowed, none_fresh_allo
 use Rattle.lvm_invariant.specs.Faults.{Faults}
 use Rattle.lvm_invariant.specs.Why.{Why, enters, asked_at, CausedStep}
 use Rattle.lvm_invariant.specs.CauseLaws.{CausedSteps, at_beginning}
-use Rattle.lvm_invariant.specs.WorkedCauses.{none_failed, both_failed, first_failed, LossIsCaused, FailedReadIsCaused, FaultsAreNeeded}
+use Rattle.lvm_invariant.specs.WorkedCauses.{none_failed, both_failed, first_failed, LeadsWithCauses, LossIsCaused, FailedReadIsCaused, FaultsAreNeeded}
 
 -- the counts after an event
 abbrev counted : Event → Faults → (ℕ → ℕ) → Faults
@@ -51,18 +51,19 @@ one_rose n m before after = record { later = omega (arith, before, after); risen
 none_falls : (d : ℕ) → 0 ≤ first_failed d
 none_falls d = omega arith
 
+-- events that are allowed lead to the last of the counts, where each has its reason
+leads_to : (votes : Votes) (events : List Event) (counts : List (ℕ → ℕ)) (s : ModelState) (last : ℕ → ℕ) → AllowsAll votes events s → (counted_all events counts (at_beginning s none_failed)).now ≡ last
+    → Reasons votes events counts s (at_beginning s none_failed) → LeadsWithCauses votes events s last
+leads_to votes events counts s last allowed now reasons =
+    record { after = counted_all events counts (at_beginning s none_failed); now = now; steps = caused_steps votes events counts s (at_beginning s none_failed) allowed reasons }
+
 pub loss_is_caused : LossIsCaused
 loss_is_caused votes mode =
-    let counts : List (ℕ → ℕ) = none_failed ∷ both_failed ∷ both_failed ∷ [] in
-    record {
-      after = counted_all none_fresh counts (at_beginning (at_rest mode false) none_failed);
-      now = refl;
-      steps = caused_steps votes none_fresh counts (at_rest mode false) (at_beginning (at_rest mode false) none_failed) (none_fresh_allowed votes mode) (
-        (λ d. omega arith),
-        (λ c. refl),
-        ((λ d. omega arith), ((λ d gone. inr (one_rose 0 1 refl refl)), (λ c stale. not_so stale)), ((λ d. omega arith), tt, tt)),
-      );
-    }
+    leads_to votes none_fresh (none_failed ∷ both_failed ∷ both_failed ∷ []) (at_rest mode false) both_failed (none_fresh_allowed votes mode) refl (
+      (λ d. omega arith),
+      (λ c. refl),
+      ((λ d. omega arith), ((λ d gone. inr (one_rose 0 1 refl refl)), (λ c stale. not_so stale)), ((λ d. omega arith), tt, tt)),
+    )
 
 -- the chosen copy is to be read
 is_todo : (c : Pp) (stage : Stage) → first_at Todo c ≡ Some stage → stage ≡ Todo
@@ -74,20 +75,15 @@ is_todo c stage = by (is_pp c first_copy)
 
 pub failed_read_is_caused : FailedReadIsCaused
 failed_read_is_caused votes mode =
-    let counts : List (ℕ → ℕ) = none_failed ∷ none_failed ∷ none_failed ∷ first_failed ∷ first_failed ∷ [] in
-    record {
-      after = counted_all read_fails counts (at_beginning (at_rest mode true) none_failed);
-      now = refl;
-      steps = caused_steps votes read_fails counts (at_rest mode true) (at_beginning (at_rest mode true) none_failed) (read_fails_allowed votes mode) (
+    leads_to votes read_fails (none_failed ∷ none_failed ∷ none_failed ∷ first_failed ∷ first_failed ∷ []) (at_rest mode true) first_failed (read_fails_allowed votes mode) refl (
+      (λ d. omega arith),
+      (λ c. refl),
+      (
         (λ d. omega arith),
-        (λ c. refl),
-        (
-          (λ d. omega arith),
-          (λ c stage at. is_todo c stage at),
-          ((λ d. omega arith), (λ bad. absurd cc), (none_falls, (λ bad. one_rose 0 1 refl refl), ((λ d. omega arith), (first_copy, Badly, refl), tt))),
-        ),
-      );
-    }
+        (λ c stage at. is_todo c stage at),
+        ((λ d. omega arith), (λ bad. absurd cc), (none_falls, (λ bad. one_rose 0 1 refl refl), ((λ d. omega arith), (first_copy, Badly, refl), tt))),
+      ),
+    )
 
 -- where no count has risen, nothing has failed
 unrisen : Rose 0 0 → ⊥

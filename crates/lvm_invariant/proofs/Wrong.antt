@@ -16,10 +16,10 @@ use Rattle.lvm_invariant.specs.State.{Marks, Groups, View, Flying, ModelState, c
 use Rattle.lvm_invariant.specs.Found.{Votes}
 use Rattle.lvm_invariant.specs.Good.{Good}
 use Rattle.lvm_invariant.specs.Crash.{IsCrash, IsPossible, Fresh, MayDifferAfter, EachKept, Brings, CopyBrings}
-use Rattle.lvm_invariant.specs.Events.{AllowsAll, after_all}
+use Rattle.lvm_invariant.specs.Events.{Event, CommitUpdate, EndUpdate, AllowsAll, after_all}
 use Rattle.lvm_invariant.specs.First.{two_disks, first_copy, second_copy, is_either, marks_with, stamped, on_both, at_rest}
 use Rattle.lvm_invariant.specs.Worked.{ones, held, both_out, only, recording, written, writing, all_passed, asked, first_group}
-use Rattle.lvm_invariant.specs.Wrong.{asking, going_out, StartsUnrecorded, empty_note, NoteLacksEntry, half_done, DoneUnsettled, ClearedUnpassed, CopyIsSkipped, one_reads, both_write, halfway, CommittedEarly, EndedUncommitted, TwoVotes, LeftFresh, none_is_fresh, NoneFresh, differing, NamesAreNeeded}
+use Rattle.lvm_invariant.specs.Wrong.{asking, going_out, StartsUnrecorded, empty_note, NoteLacksEntry, half_done, DoneUnsettled, ClearedUnpassed, CopyIsSkipped, one_reads, both_write, halfway, Misleads, CommittedEarly, EndedUncommitted, TwoVotes, LeftFresh, none_is_fresh, NoneFresh, differing, NamesAreNeeded}
 use Rattle.lvm_invariant.proofs.First.{nothing, not_so, left, right, both, first_is_good, bringing_up_is_good}
 use Rattle.lvm_invariant.proofs.Worked.{leads}
 use Rattle.lvm_invariant.proofs.WorkedWrites.{submits, admits, recorded, brought, brought_whole, second_wanted, each_mode_writes, write_ends}
@@ -149,29 +149,31 @@ alone_is_newest : (s : ModelState) (disk : ℕ) (r : Stamped Marks) → s.media.
     → stamp_lt r.stamp other.stamp ≡ false
 alone_is_newest s disk r shows same d other is there = ap (λ (o : Option (Stamped Marks)). option_map_or (λ x. stamp_lt r.stamp x.stamp) o false) (sym there ∙ ap s.media.status is ∙ shows) ∙ same
 
-pub committed_early : CommittedEarly
-committed_early votes mode one two = record {
+-- So they mislead where what the one disk shows is neither committed nor in flight.
+halfway_misleads : (votes : Votes) (mode : Mode) (events : List Event) (disk : ℕ) (found : Stamped Marks) → votes.writes ≡ both_write → IsTrue (votes.reads (only disk)) → IsTrue (only disk disk)
+    → IsCrash (after_all events (after_all halfway (at_rest mode false))) (after_all halfway (at_rest mode false)).media → (after_all halfway (at_rest mode false)).media.status disk ≡ Some found → stamp_lt found.stamp found.stamp ≡ false
+    → (IsPossible (after_all events (after_all halfway (at_rest mode false))) found.value → ⊥) → Misleads votes (after_all halfway (at_rest mode false)) events
+halfway_misleads votes mode events disk found two reads inside crash shown same other = record {
   good = halfway_good votes mode two;
   view = (after_all halfway (at_rest mode false)).media;
-  crash = as_it_stands _;
-  set = only 1;
-  reads = ap (λ (f : (ℕ → Bool) → Bool). f (only 1)) one;
-  found = stamped 1 (marks_with false false);
-  newest = record { disk = 1; inside = refl; shown = refl; last = λ d other inside there. alone_is_newest (after_all halfway (at_rest mode false)) 1 (stamped 1 (marks_with false false)) refl refl d other (eqb-true d 1 inside) there };
-  other = λ possible. ⊎_elim (λ (is : marks_with false false ≡ marks_with true false). marks_differ (sym is)) (λ u. nothing u.0 u.1) possible;
+  crash = crash;
+  set = only disk;
+  reads = reads;
+  found = found;
+  newest = record { disk = disk; inside = inside; shown = shown; last = λ d r within there. alone_is_newest (after_all halfway (at_rest mode false)) disk found shown same d r (eqb-true d disk within) there };
+  other = other;
 }
 
+pub committed_early : CommittedEarly
+committed_early votes mode one two =
+    halfway_misleads votes mode (CommitUpdate (stamped 2 (marks_with true false)) (only 0) None (marks_with true false) None ∷ EndUpdate ∷ []) 1 (stamped 1 (marks_with false false)) two
+    (ap (λ (f : (ℕ → Bool) → Bool). f (only 1)) one) refl (as_it_stands _) refl refl
+    (λ possible. ⊎_elim (λ (is : marks_with false false ≡ marks_with true false). marks_differ (sym is)) (λ u. nothing u.0 u.1) possible)
+
 pub ended_uncommitted : EndedUncommitted
-ended_uncommitted votes mode one two = record {
-  good = halfway_good votes mode two;
-  view = (after_all halfway (at_rest mode false)).media;
-  crash = as_it_stands _;
-  set = only 0;
-  reads = ap (λ (f : (ℕ → Bool) → Bool). f (only 0)) one;
-  found = stamped 2 (marks_with true false);
-  newest = record { disk = 0; inside = refl; shown = refl; last = λ d other inside there. alone_is_newest (after_all halfway (at_rest mode false)) 0 (stamped 2 (marks_with true false)) refl refl d other (eqb-true d 0 inside) there };
-  other = λ possible. ⊎_elim (λ (is : marks_with true false ≡ marks_with false false). marks_differ is) (λ u. nothing u.0 u.1) possible;
-}
+ended_uncommitted votes mode one two =
+    halfway_misleads votes mode (EndUpdate ∷ []) 0 (stamped 2 (marks_with true false)) two (ap (λ (f : (ℕ → Bool) → Bool). f (only 0)) one) refl (as_it_stands _) refl refl
+    (λ possible. ⊎_elim (λ (is : marks_with true false ≡ marks_with false false). marks_differ is) (λ u. nothing u.0 u.1) possible)
 
 pub two_votes : TwoVotes
 two_votes = record { votes = record { reads = one_reads; writes = both_write; meet = λ a b read write. meet a b read write }; one = refl; two = refl }

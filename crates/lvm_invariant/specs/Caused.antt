@@ -7,7 +7,7 @@ use Rattle.lvm_disk.specs.Counts.{Rose}
 use Rattle.lvm_vol.specs.declared.entry.Vol.TheVariants.{Lv}
 use Rattle.lvm_vol.specs.declared.entry.Outcome.{Outcome}
 use Rattle.lvm_vol.specs.declared.entry.Outcome.TheVariants as outcome
-use Rattle.lvm_vol.specs.Facts.{Request, Fact, Making, Made, Split, Removing, Removed, Begun, Landed, Taken, Cut, On, is_over}
+use Rattle.lvm_vol.specs.Facts.{Request, Fact, Landed, is_over}
 use Rattle.lvm_invariant.specs.State.{Marks, Badly, Queued, ModelCopy, ModelState}
 use Rattle.lvm_invariant.specs.Faults.{Faults, HasFailed, SomeFailed, NoneFailed, HasCause}
 
@@ -28,15 +28,7 @@ LandingIsCaused w s q outcome.Dark = Unit {0}
 
 abbrev pub FactIsCaused : Faults → ModelState → Fact → Type 0
 FactIsCaused w s (Landed q how started got) = LandingIsCaused w s q how
-FactIsCaused w s (Making lv blocks mode) = Unit {0}
-FactIsCaused w s (Made lv) = Unit {0}
-FactIsCaused w s (Split from lv) = Unit {0}
-FactIsCaused w s (Removing vol) = Unit {0}
-FactIsCaused w s (Removed vol) = Unit {0}
-FactIsCaused w s (Begun q) = Unit {0}
-FactIsCaused w s (Taken q) = Unit {0}
-FactIsCaused w s Cut = Unit {0}
-FactIsCaused w s (On moment) = Unit {0}
+FactIsCaused w s _ = Unit {0}
 
 -- what the history tells since the session began has its causes
 pub record Since (w : Faults) (s : ModelState) (facts : List Fact) : Type 0 where

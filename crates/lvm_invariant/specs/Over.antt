@@ -5,7 +5,7 @@ use Rattle.lvm_vol.specs.declared.entry.Vol.TheVariants.{Lv}
 use Rattle.lvm_vol.specs.declared.entry.Outcome.{Outcome}
 use Rattle.lvm_vol.specs.May.{known, cut}
 use Rattle.lvm_vol.specs.Legal.{Fits, Legal}
-use Rattle.lvm_invariant.specs.State.{Marks, View, ModelPhase, Held, WantEntry, Ready, Going, Landed, Queued, ModelState, has_landed}
+use Rattle.lvm_invariant.specs.State.{Marks, View, ModelPhase, Going, Queued, ModelState, has_landed}
 use Rattle.lvm_invariant.specs.Crash.{IsCrash, BlockKept, IsPossible}
 
 -- no place stands there twice
@@ -21,11 +21,8 @@ pub record IsUnlanded (s : ModelState) (i : ℕ) : Type 0 where
   pub unlanded : IsFalse (has_landed req.phase)
 
 abbrev pub is_going : ModelPhase → Bool
-is_going Held = false
-is_going WantEntry = false
-is_going Ready = false
 is_going Going = true
-is_going Landed = false
+is_going _ = false
 
 -- the places of the requests that are open, and which of them have started
 pub record AreOpen (s : ModelState) (places : List ℕ) (started : ℕ → Bool) : Type 0 where

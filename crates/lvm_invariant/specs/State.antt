@@ -2,7 +2,7 @@
 use Rattle.std.specs.Prelude.{◌≡◌, ◌⊎◌, ℕ, ◌+◌, Bool, true, false, ◌&&◌, not, nat_lt, nat_le, ◌==◌, List, Option, Some, None, option_map, find, IsTrue, IsFalse}
 use Rattle.lvm_num.specs.declared.place.Pp.{Pp}
 use Rattle.lvm_num.specs.declared.descriptor.Mode.{Mode}
-use Rattle.lvm_num.specs.declared.descriptor.Mode.TheVariants.{Active, Passive, Off}
+use Rattle.lvm_num.specs.declared.descriptor.Mode.TheVariants.{Active, Passive}
 use Rattle.lvm_num.specs.Geometry.{track_group_of}
 use Rattle.lvm_num.specs.Record.{Stamped}
 use Rattle.lvm_vol.specs.Facts.{Request, same_request, block_of, Fact}
@@ -13,13 +13,11 @@ use Rattle.lvm_vol.specs.declared.entry.Vol.TheVariants.{Lv}
 -- a volume in this mode keeps notes, or is marked dirty
 abbrev pub has_notes : Mode → Bool
 has_notes Active = true
-has_notes Passive = false
-has_notes Off = false
+has_notes _ = false
 
 abbrev pub has_mark : Mode → Bool
-has_mark Active = false
 has_mark Passive = true
-has_mark Off = false
+has_mark _ = false
 
 -- which partitions a status calls stale, and which volumes dirty
 pub record Marks : Type 0 where
@@ -118,17 +116,11 @@ request_of s i = s.name i
 
 abbrev pub is_held : ModelPhase → Bool
 is_held Held = true
-is_held WantEntry = false
-is_held Ready = false
-is_held Going = false
-is_held Landed = false
+is_held _ = false
 
 abbrev pub has_landed : ModelPhase → Bool
-has_landed Held = false
-has_landed WantEntry = false
-has_landed Ready = false
-has_landed Going = false
 has_landed Landed = true
+has_landed _ = false
 
 abbrev pub is_past : ModelPhase → Bool
 is_past p = not (is_held p) && not (has_landed p)

@@ -4,7 +4,7 @@ use Rattle.lvm_num.specs.declared.place.Pp.{Pp}
 use Rattle.lvm_disk.specs.Counts.{Rose}
 use Rattle.lvm_invariant.specs.State.{Marks, Stage, Todo, Badly, Queued, ModelCopy, ModelState}
 use Rattle.lvm_invariant.specs.Found.{Votes}
-use Rattle.lvm_invariant.specs.Events.{Event, Submit, EnterStep, Admit, Pin, Read, StartWrite, Transfer, LandDone, LandLost, LandGot, LandReadFailed, LandNoFresh, EndStep, Take, TakeEarlier, Want, BeginUpdate, MoveStatus, CommitUpdate, EndUpdate, StartNote, EndNote, Open, CopyWrite, Clear, ModelStep}
+use Rattle.lvm_invariant.specs.Events.{Event, Submit, EnterStep, Admit, Read, Transfer, LandLost, LandReadFailed, Want, CommitUpdate, ModelStep}
 use Rattle.lvm_invariant.specs.Faults.{Faults}
 
 -- a write of the queue has failed on the copy
@@ -48,22 +48,7 @@ Why (LandLost i r) s before after = (c : Pp) × (r.targets c ≡ Some Badly)
 Why (LandReadFailed i r) s before after = (c : Pp) × (stage : Stage) × (r.targets c ≡ Some stage)
 Why (Want wanted missing open_copy) s before after = MissingIsFor s missing before after × MarksAreFor s missing wanted
 Why (CommitUpdate u has_it ended wanted open_copy) s before after = MarksAreFor s s.missing wanted
-Why (Pin i r cache) s before after = Unit {0}
-Why (StartWrite i r c) s before after = Unit {0}
-Why (LandDone i r) s before after = Unit {0}
-Why (LandGot i r got) s before after = Unit {0}
-Why (LandNoFresh i r) s before after = Unit {0}
-Why (EndStep i r) s before after = Unit {0}
-Why (Take i r) s before after = Unit {0}
-Why (TakeEarlier q) s before after = Unit {0}
-Why (BeginUpdate u) s before after = Unit {0}
-Why (MoveStatus u status flying) s before after = Unit {0}
-Why EndUpdate s before after = Unit {0}
-Why (StartNote flying) s before after = Unit {0}
-Why (EndNote d names home flying) s before after = Unit {0}
-Why (Open o) s before after = Unit {0}
-Why (CopyWrite i r value target open_copy step_write block) s before after = Unit {0}
-Why (Clear wanted c) s before after = Unit {0}
+Why _ s before after = Unit {0}
 
 -- which place of the queue is entered
 abbrev pub enters : Event → Option ℕ

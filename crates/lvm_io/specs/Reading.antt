@@ -47,10 +47,7 @@ lines_left reading = (16842752 - reading.given) + length reading.block + begun r
 -- each line leaves fewer to be given out
 abbrev pub LeavesFewer : Reading → Reading → NextLine → Type 0
 LeavesFewer old new (next.Line line) = lines_left new < lines_left old
-LeavesFewer old new next.End = lines_left new ≤ lines_left old
-LeavesFewer old new next.Failed = lines_left new ≤ lines_left old
-LeavesFewer old new next.TooLong = lines_left new ≤ lines_left old
-LeavesFewer old new next.Memory = lines_left new ≤ lines_left old
+LeavesFewer old new _ = lines_left new ≤ lines_left old
 
 -- the count of the bytes that were given is right
 abbrev pub CountsGiven : Reading → Reading → Option (List ℕ) → Option (List ℕ) → Type 0

@@ -1,5 +1,5 @@
 //! A source, a sink and a clock in memory. They fail at the calls that they are told to fail at.
-ghost use Rattle.std.specs.Prelude.{◌≡◌, ◌<◌, ◌≤◌, ◌++◌, [], Some, None, length, take, IfOk};
+ghost use Rattle.std.specs.Prelude.{◌≡◌, ◌<◌, ◌≤◌, [], Some, None, length, IfOk};
 ghost use Rattle.lvm_io.specs.Count.{Rose, next_count};
 ghost use Rattle.lvm_io.specs.Stream.{ReadGives, WriteGives};
 

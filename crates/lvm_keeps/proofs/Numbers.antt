@@ -1,14 +1,11 @@
 -- The numbers of volumes.
-use Rattle.std.proofs.Common.{◌≡◌, ◌==◌, ◌≤◌, ℕ, Bool, true, false, Some, subst, arith}
+use Rattle.std.proofs.Common.{◌≡◌, ◌==◌, ◌≤◌, ℕ, Some, subst, arith}
 use Rattle.std.proofs.lemmas.Bool.{eqb-true}
 use Rattle.lvm_num.specs.declared.descriptor.LvRow.{LvRow}
 use Rattle.lvm_num.specs.declared.descriptor.Descriptor.{Descriptor}
 use Rattle.lvm_num.specs.Descriptor.{IsValid, IsVolume, most_volumes, volume_of}
 use Rattle.lvm_num.proofs.MapsLemmas.{find-Some}
-
-few_volumes : (big : Bool) → most_volumes big ≤ 511
-few_volumes true = omega arith
-few_volumes false = omega arith
+use Rattle.lvm_num.proofs.Bounds.{few_volumes}
 
 -- volumes are numbered from 1 to 511
 pub numbered : (d : Descriptor) (lv : ℕ) (row : LvRow) → IsValid d → volume_of d lv ≡ Some row → (1 ≤ lv) × (lv ≤ 511)

@@ -7,20 +7,13 @@ use Rattle.lvm_num.specs.declared.descriptor.LvRow.{LvRow}
 use Rattle.lvm_num.specs.declared.descriptor.PvRow.{PvRow}
 use Rattle.lvm_num.specs.Descriptor.{IsValid, most_members, most_volumes}
 use Rattle.lvm_num.specs.Status.{calls_dirty}
+use Rattle.lvm_num.proofs.Bounds.{few_members, few_volumes}
 use Rattle.lvm_session.specs.declared.bringing.OpenCopy.{OpenCopy}
 use Rattle.lvm_session.specs.declared.open.Open.{Open}
 use Rattle.lvm_session.specs.State.{Core, is_there}
 use Rattle.lvm_session.specs.Enabled.{same_status}
 use Rattle.lvm_session.specs.Events.{is_passive}
 use Rattle.lvm_session.specs.Left.{copy_updates, if_so, marks_later, updates_left}
-
-pub few_members : (big : Bool) → most_members big ≤ 128
-few_members true = omega arith
-few_members false = omega arith
-
-pub few_volumes : (big : Bool) → most_volumes big ≤ 511
-few_volumes true = omega arith
-few_volumes false = omega arith
 
 pub one_if : (b : Bool) → if_so b 1 ≤ 1
 one_if true = omega arith

@@ -1,3 +1,5 @@
 pub mod Places
 pub mod Growing
 pub mod Submit
+mod Aging
+pub mod Opening

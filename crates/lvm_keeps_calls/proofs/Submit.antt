@@ -13,6 +13,7 @@ use Rattle.lvm_num.specs.declared.descriptor.PvRow.{PvRow}
 use Rattle.lvm_num.specs.Descriptor.{IsValid, most_members, most_volumes, volume_of}
 use Rattle.lvm_num.specs.Geometry.{volume_blocks}
 use Rattle.lvm_num.specs.Status.{calls_dirty}
+use Rattle.lvm_num.proofs.Bounds.{few_members, few_volumes}
 use Rattle.lvm_disk.specs.Device.{Flight}
 use Rattle.lvm_vol.specs.declared.entry.Vol.TheVariants.{Lv}
 use Rattle.lvm_vol.specs.Facts.{Request as Asked, Begun}
@@ -47,8 +48,8 @@ use Rattle.lvm_session.specs.Owners.{AreOwned, IsDataOf, flies, target_flies}
 use Rattle.lvm_session.specs.Requests.{IsOpenOne, IsRecorded, mode_for}
 use Rattle.lvm_session.specs.Causes.{AreCaused, AreCounted, IsAnswered, IsCaused, IsChosenSince, fails_on, is_held_stale}
 use Rattle.lvm_session.specs.Sound.{IsAsked, IsCopy, IsFitting, IsGoing, IsOn, IsSound, IsTold, count_if, is_dark, is_hand, pins, waiting_rows, waits, with_row}
-use Rattle.lvm_submit.proofs.Numbered.{below_next}
-use Rattle.lvm_submit.proofs.Taking.{IsTaken, history_room, taken}
+use Rattle.lvm_calls.proofs.Numbered.{below_next}
+use Rattle.lvm_calls.proofs.Taking.{IsTaken, history_room, taken}
 use Rattle.lvm_keeps.specs.Keeps.{SubmitKeeps}
 use Rattle.lvm_keeps.proofs.Causes.{answered_still, copies_still, counted_still, origin_still}
 use Rattle.lvm_keeps.proofs.Fitting.{still_fits}
@@ -57,7 +58,7 @@ use Rattle.lvm_keeps.proofs.Rows.{all_fly, rows_on}
 use Rattle.lvm_keeps.proofs.Small.{not_so}
 use Rattle.lvm_keeps.proofs.Still.{bring_on, if_on, moved, open_on}
 use Rattle.lvm_keeps.proofs.Telling.{outcome_still}
-use Rattle.lvm_keeps.proofs.Updates.{few_members, few_volumes, one_if}
+use Rattle.lvm_keeps.proofs.Updates.{one_if}
 use Rattle.lvm_keeps.proofs.Whole.{sound_when_on}
 use Rattle.lvm_keeps_calls.proofs.Growing.{answered_other, asked_new, asked_other, chunks_long, few_begin, next_is, open_new, open_other, outcome_new, place_earlier, place_new}
 use Rattle.lvm_keeps_calls.proofs.Places.{blocks_fit}

@@ -19,7 +19,7 @@ use Rattle.lvm_mwc.specs.Cache.{has_disk}
 use Rattle.lvm_mwc.specs.declared.notes.DiskNotes.{DiskNotes}
 use Rattle.lvm_status.specs.Update.{Stored, Updates, seen}
 use Rattle.lvm_status.specs.Runs.{IsSoundStatus}
-use Rattle.lvm_homes.specs.declared.homes.Homes.{Homes}
+use Rattle.lvm_rec.specs.declared.homes.Homes.{Homes}
 use Rattle.lvm_path.specs.declared.target.Target.{Target}
 use Rattle.lvm_path.specs.Targets.{is_failed}
 use Rattle.lvm_session.specs.declared.bringing.CopyEnd.{CopyEnd}

@@ -53,7 +53,7 @@ use Rattle.lvm_session.specs.Left.{copy_updates, if_so, updates_left}
 use Rattle.lvm_session.specs.Owners.{AreOwned, same_owner}
 use Rattle.lvm_session.specs.Requests.{is_failed_and_sure, is_left_out, is_past_held, is_wanted_dirty, is_wanted_due, IsJudged, IsOpenOne, IsPhase, IsRequest, IsTarget, may_lack, mode_for, wants_status, will_be_kept}
 use Rattle.lvm_session.specs.Sound.{count_if, is_clearing, is_hand, IsCopy, IsFitting, IsGoing, IsOn, IsSound, IsTold, may_be_fresh, out_with, stays_fresh, waiting_rows, with_row}
-use Rattle.lvm_submit.proofs.Numbered.{below_next}
+use Rattle.lvm_calls.proofs.Numbered.{below_next}
 use Rattle.lvm_keeps.proofs.Causes.{answered_when_on, counted_when_on}
 use Rattle.lvm_keeps.proofs.Lists.{all_on, length_set}
 use Rattle.lvm_keeps.proofs.Rows.{rows_but_copy}

@@ -16,8 +16,8 @@ use Rattle.lvm_status.specs.Update.{Stored, Updates, is_held, seen}
 use Rattle.lvm_status.specs.Calls.{WantsAtEnd, after_end, closed, comes_held, with_commit, with_end}
 use Rattle.lvm_status.specs.Runs.{Ended, IsSoundStatus}
 use Rattle.lvm_status.proofs.Sound.{steps_stay_sound}
-use Rattle.lvm_homes.specs.declared.homes.Homes.{Homes}
-use Rattle.lvm_homes.specs.Homes.{next_slot}
+use Rattle.lvm_rec.specs.declared.homes.Homes.{Homes}
+use Rattle.lvm_rec.specs.Homes.{next_slot}
 use Rattle.lvm_session.specs.declared.flown.Flown.{Flown}
 use Rattle.lvm_session.specs.declared.flown.Owner.{Owner}
 use Rattle.lvm_session.specs.declared.flown.Owner.TheVariants as owner

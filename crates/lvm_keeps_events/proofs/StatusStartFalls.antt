@@ -13,6 +13,7 @@ use Rattle.lvm_num.specs.declared.status.Status.{Status}
 use Rattle.lvm_num.specs.Descriptor.{is_member, most_members}
 use Rattle.lvm_num.specs.Disks.{has}
 use Rattle.lvm_num.specs.Status.{calls_stale}
+use Rattle.lvm_num.proofs.Bounds.{few_members}
 use Rattle.lvm_path.specs.declared.request.Phase.TheVariants as phase
 use Rattle.lvm_status.specs.declared.writes.Writes.{Writes}
 use Rattle.lvm_status.specs.Update.{Stored, Updates, seen}
@@ -55,10 +56,6 @@ module _ {A : Type 0} (t u p : A → Bool) (less : (x : A) → u x ≡ true → 
           let all = count_less t u less xs in
           omega (arith, a, b, one, none, all)
       by false e rest some = let a = count_cons t x xs in let b = count_cons u x xs in let one = one_less t u less x in let more = rest some in omega (arith, a, b, one, more)
-
-few_members : (big : Bool) → most_members big ≤ 128
-few_members true = omega arith
-few_members false = omega arith
 
 module _ (core : Core) (going : IsGoing core) (next : Stored) (disk : ℕ) (status : Status) (its : IsUnderWay core next disk status) (row : Flown) (pool : List Bool) where
   abbrev flown_status : Stored

@@ -84,7 +84,7 @@ stands_open mib Absent shape (Some row) stands = absurd stands
 stands_open mib Absent shape None stands = tt
 
 -- one that is found nowhere may stand in any way but settled
-stands_unfound : (mib : ℕ) (standing : Standing) (shape : Option Shape) (o : Option LvRow) → o ≡ None → (standing ≡ Settled → ⊥) → StandsAs mib standing shape o
+pub stands_unfound : (mib : ℕ) (standing : Standing) (shape : Option Shape) (o : Option LvRow) → o ≡ None → (standing ≡ Settled → ⊥) → StandsAs mib standing shape o
 stands_unfound mib Settled shape o none not = absurd (not refl)
 stands_unfound mib Open shape None none not = tt
 stands_unfound mib Open shape (Some row) none not = absurd cc

@@ -4,7 +4,7 @@ use Rattle.std.specs.List.{list_any}
 use Rattle.std.proofs.lemmas.List.Sums.{sum_by-append}
 use Rattle.std.proofs.lemmas.Bool.Decides.{nat_tests}
 use Rattle.std.proofs.lemmas.Bool.{eqb-true}
-use Rattle.lvm_vol.specs.Facts.{Request, Fact, Making, Made, Split, Removing, Removed, Begun, Landed, Taken, Cut, On, Stands, same_request}
+use Rattle.lvm_vol.specs.Facts.{Request, Fact, Begun, Landed, Taken, Stands, same_request}
 use Rattle.lvm_vol.specs.Legal.{begins_in, lands, takes, Fits, Legal, LegalFrom, IsOutcomeOf, GotMay}
 use Rattle.lvm_vol.specs.declared.entry.Outcome.{Outcome}
 
@@ -52,6 +52,11 @@ any_more t (g ∷ past) f none last = let e = none in or_false (t g) (list_any t
     or_false false b c h f = f h
     or_false true b c h f = h
 
+both : (a b : Bool) → (a ≡ true → b ≡ true → ⊥) → (a && b) ≡ false
+both true true h = absurd (h refl refl)
+both true false h = refl
+both false b h = refl
+
 -- a landing of a request with a greater number doesn't fit
 land_other : (past : List Fact) (f : Fact) (r : Request) → Low past → Fits past f → count_by (begins_in r.run) past < r.id → lands r f ≡ false
 land_other past (Landed s how started got) r low fits above = both (r.run == s.run) (r.id == s.id) (λ run id.
@@ -60,20 +65,7 @@ land_other past (Landed s how started got) r low fits above = both (r.run == s.r
     let a = low s fits.began in
     let b : count_by (begins_in r.run) past ≡ count_by (begins_in s.run) past = ap (λ (n : ℕ). count_by (begins_in n) past) same_run in
     omega (arith, above, same_id, a, b))
-  where
-    both : (a b : Bool) → (a ≡ true → b ≡ true → ⊥) → (a && b) ≡ false
-    both true true h = absurd (h refl refl)
-    both true false h = refl
-    both false b h = refl
-land_other past (Begun s) r low fits above = refl
-land_other past (Taken s) r low fits above = refl
-land_other past Cut r low fits above = refl
-land_other past (On m) r low fits above = refl
-land_other past (Making lv blocks m) r low fits above = refl
-land_other past (Made lv) r low fits above = refl
-land_other past (Split from lv) r low fits above = refl
-land_other past (Removing v) r low fits above = refl
-land_other past (Removed v) r low fits above = refl
+land_other past _ r low fits above = refl
 
 module _ (r : Request) where
   grows : (past : List Fact) (f : Fact) → count_by (begins_in r.run) (past ++ f ∷ []) < r.id → count_by (begins_in r.run) past < r.id
@@ -106,20 +98,7 @@ take_other past (Taken s) r legal fits above = both (r.run == s.run) (r.id == s.
     let a : count_by (begins_in r.run) past ≡ count_by (begins_in s.run) past = ap (λ (n : ℕ). count_by (begins_in n) past) same_run in
     let none : list_any (lands s) past ≡ false = unlanded s [] past legal low_none refl (omega (arith, above, same_id, a)) in
     let some = fits.answered in cc (none, some))
-  where
-    both : (a b : Bool) → (a ≡ true → b ≡ true → ⊥) → (a && b) ≡ false
-    both true true h = absurd (h refl refl)
-    both true false h = refl
-    both false b h = refl
-take_other past (Landed s how started got) r legal fits above = refl
-take_other past (Begun s) r legal fits above = refl
-take_other past Cut r legal fits above = refl
-take_other past (On m) r legal fits above = refl
-take_other past (Making lv blocks m) r legal fits above = refl
-take_other past (Made lv) r legal fits above = refl
-take_other past (Split from lv) r legal fits above = refl
-take_other past (Removing v) r legal fits above = refl
-take_other past (Removed v) r legal fits above = refl
+take_other past _ r legal fits above = refl
 
 append_none : (l : List Fact) → l ++ [] ≡ l
 append_none [] = refl

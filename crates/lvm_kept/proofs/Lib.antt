@@ -16,5 +16,7 @@ pub mod Blank
 pub mod Changing
 pub mod Entries
 pub mod Worked
+pub mod FindsLemmas
+pub mod SameBlocks
 pub mod Restating
 pub mod Restamping

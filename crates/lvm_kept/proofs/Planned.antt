@@ -15,7 +15,7 @@ pub then_disks : (a b c : Image) → SameDisks a b → SameDisks b c → SameDis
 then_disks a b c p q = record { disks = q.disks ∙ p.disks; size = λ d. q.size d ∙ p.size d }
 
 -- a change by the plan, and then sectors that it brings
-further : (P : Plan) (old mid new : Image) → ChangesBy P old mid → SameDisks mid new → ((d s : ℕ) → (new.sector d s ≡ mid.sector d s) ⊎ P d s (new.sector d s)) → ChangesBy P old new
+pub further : (P : Plan) (old mid new : Image) → ChangesBy P old mid → SameDisks mid new → ((d s : ℕ) → (new.sector d s ≡ mid.sector d s) ⊎ P d s (new.sector d s)) → ChangesBy P old new
 further P old mid new by same each = record {
   same = then_disks old mid new by.same same;
   each = λ d s. ⊎_elim

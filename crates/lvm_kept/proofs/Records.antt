@@ -1,5 +1,5 @@
 -- A record that is being written to some disks, whatever else is.
-use Rattle.std.proofs.Common.{◌≡◌, ◌⊎◌, inl, inr, ⊎_elim, ℕ, ◌+◌, ◌-◌, ◌<◌, ◌≤◌, Bool, true, false, ◌&&◌, List, length, take, Some, None, Result, refl, sym, ap, subst, ◌∙◌, arith}
+use Rattle.std.proofs.Common.{◌≡◌, ◌⊎◌, inl, inr, ⊎_elim, ℕ, ◌+◌, ◌-◌, ◌<◌, ◌≤◌, Bool, true, false, ◌&&◌, List, length, take, Option, Some, None, Result, refl, sym, ap, subst, ◌∙◌, arith}
 use Rattle.std.specs.Prelude.{IsTrue, IsFalse, nat_le, nat_lt, if◌then◌else◌}
 use Rattle.std.proofs.lemmas.Bool.Decides.{nat_tests}
 use Rattle.lvm_num.specs.declared.record.Stamp.{Stamp}
@@ -11,13 +11,13 @@ use Rattle.lvm_num.specs.Buffer.{Sector}
 use Rattle.lvm_num.specs.Geometry.{data_start}
 use Rattle.lvm_num.specs.DescriptorBytes.{descriptor_of}
 use Rattle.lvm_num.specs.StatusBytes.{status_of}
-use Rattle.lvm_num.specs.Record.{Frames, frame, record_sectors, slot_start, slot_size, stamp_lt}
+use Rattle.lvm_num.specs.Record.{Frames, Stamped, frame, record_sectors, slot_start, slot_size, stamp_lt}
 use Rattle.lvm_num.specs.Torn.{Sectors, AllBefore, stamp_of}
 use Rattle.lvm_num.proofs.Torn.{sectors-fit}
 use Rattle.lvm_rec.specs.Slots.{newest_on, IsOfSlot, IsTornWrite}
 use Rattle.lvm_rec.proofs.SlotLaws.{slots-apart, newest_stays_or_is_new, whole_is_newest, keeps_before}
 use Rattle.lvm_disk.specs.Device.{Image}
-use Rattle.lvm_kept.specs.Contents.{newest_at, descriptor_on, status_on, note_on, note_sector, data_at}
+use Rattle.lvm_kept.specs.Contents.{newest_at, descriptor_on, status_on, note_on, note_sector, contents_of}
 use Rattle.lvm_kept.specs.Plans.{ChangesBy}
 use Rattle.lvm_kept.specs.Torn.{NewestStays, RecordWrite, on_disk, IsOfRecord, IsOtherOrRecord, StandsOn, MayWriteAll, written, NewestIsOldOrNew, WholeIsNew, DescriptorWriteShows, StatusWriteShows, EarlierStaysBefore}
 use Rattle.lvm_kept.proofs.Contained.{room-same, newest-same, at-same, note-same, data-same}
@@ -169,40 +169,34 @@ module _ (w : RecordWrite) (old new : Image) (frames : Frames w.kind w.framed) (
   blocks : (d s : ℕ) → data_start ≤ s → new.sector d s ≡ old.sector d s
   blocks d s le = untouched d s (λ part lt e. absurd (omega (arith, e, le, slot-below w.kind (w.slots d) part (slots d) lt)))
 
+  -- all but the records
+  rest_by : (descriptors : ℕ → Option (Stamped Descriptor)) (statuses : ℕ → Option (Stamped Status)) → ((d : ℕ) → descriptor_on new d ≡ descriptors d) → ((d : ℕ) → status_on new d ≡ statuses d)
+      → contents_of new ≡ record (contents_of old) { descriptor = descriptors; status = statuses }
+  rest_by descriptors statuses shown stated t =
+      record { disks = by.same.disks t; size = λ d. by.same.size d t; descriptor = λ d. shown d t; status = λ d. stated d t; note = λ d. notes d t; block = λ d s. data-same old new blocks d s t }
+
 pub descriptor_shows : DescriptorWriteShows
 unfolding descriptor_on status_on
-descriptor_shows w group old new is_kind may by =
-    let disks : new.disks ≡ old.disks = by.same.disks in
-    let size : (d : ℕ) → new.size d ≡ old.size d = by.same.size in
-    let data_same : (d s : ℕ) → data_at new d s ≡ data_at old d s = data-same old new (blocks w old new may.frames may.slots by) in
-    let statuses : (d : ℕ) → status_on new d ≡ status_on old d = other_kind w old new may.frames may.slots by status_of kind.Status (λ e. apart (e ∙ is_kind)) in
-    let notes_same : (d : ℕ) → note_on new d ≡ note_on old d = notes w old new may.frames may.slots by in
-    record {
-      own = λ d. ⊎_elim
-          (λ same. inl (subst (λ k. newest_at descriptor_of k new d ≡ newest_at descriptor_of k old d) is_kind same))
-          (λ is. inr (is.0, subst (λ k. newest_at descriptor_of k new d ≡ Some (written w group)) is_kind is.1))
-          (newest_is Descriptor descriptor_of w group old new d may (wider w old new may.frames may.slots by));
-      rest = λ t. record { disks = disks t; size = λ d. size d t; descriptor = descriptor_on new; status = λ d. statuses d t; note = λ d. notes_same d t; block = λ d s. data_same d s t };
-    }
+descriptor_shows w group old new is_kind may by = record {
+  own = λ d. ⊎_elim
+      (λ same. inl (subst (λ k. newest_at descriptor_of k new d ≡ newest_at descriptor_of k old d) is_kind same))
+      (λ is. inr (is.0, subst (λ k. newest_at descriptor_of k new d ≡ Some (written w group)) is_kind is.1))
+      (newest_is Descriptor descriptor_of w group old new d may (wider w old new may.frames may.slots by));
+  rest = rest_by w old new may.frames may.slots by (descriptor_on new) (status_on old) (λ d. refl) (other_kind w old new may.frames may.slots by status_of kind.Status (λ e. apart (e ∙ is_kind)));
+}
   where
     apart : kind.Status ≡ kind.Descriptor → ⊥
     apart e = absurd cc
 
 pub status_shows : StatusWriteShows
 unfolding descriptor_on status_on
-status_shows w status old new is_kind may by =
-    let disks : new.disks ≡ old.disks = by.same.disks in
-    let size : (d : ℕ) → new.size d ≡ old.size d = by.same.size in
-    let data_same : (d s : ℕ) → data_at new d s ≡ data_at old d s = data-same old new (blocks w old new may.frames may.slots by) in
-    let descriptors : (d : ℕ) → descriptor_on new d ≡ descriptor_on old d = other_kind w old new may.frames may.slots by descriptor_of kind.Descriptor (λ e. apart (e ∙ is_kind)) in
-    let notes_same : (d : ℕ) → note_on new d ≡ note_on old d = notes w old new may.frames may.slots by in
-    record {
-      own = λ d. ⊎_elim
-          (λ same. inl (subst (λ k. newest_at status_of k new d ≡ newest_at status_of k old d) is_kind same))
-          (λ is. inr (is.0, subst (λ k. newest_at status_of k new d ≡ Some (written w status)) is_kind is.1))
-          (newest_is Status status_of w status old new d may (wider w old new may.frames may.slots by));
-      rest = λ t. record { disks = disks t; size = λ d. size d t; descriptor = λ d. descriptors d t; status = status_on new; note = λ d. notes_same d t; block = λ d s. data_same d s t };
-    }
+status_shows w status old new is_kind may by = record {
+  own = λ d. ⊎_elim
+      (λ same. inl (subst (λ k. newest_at status_of k new d ≡ newest_at status_of k old d) is_kind same))
+      (λ is. inr (is.0, subst (λ k. newest_at status_of k new d ≡ Some (written w status)) is_kind is.1))
+      (newest_is Status status_of w status old new d may (wider w old new may.frames may.slots by));
+  rest = rest_by w old new may.frames may.slots by (descriptor_on old) (status_on new) (other_kind w old new may.frames may.slots by descriptor_of kind.Descriptor (λ e. apart (e ∙ is_kind))) (λ d. refl);
+}
   where
     apart : kind.Descriptor ≡ kind.Status → ⊥
     apart e = absurd cc

@@ -30,6 +30,7 @@ use Rattle.lvm_kept.specs.Changes.{RestampingKeeps}
 use Rattle.lvm_kept.proofs.Finding.{some_same, offered, is_offered, offers, finding_reads, finds_from}
 use Rattle.lvm_kept.proofs.Entries.{volume_is_row}
 use Rattle.lvm_kept.proofs.Alike.{like_found, alike_stays}
+use Rattle.lvm_kept.proofs.SameBlocks.{same_blocks}
 
 -- ---- fewer disks
 
@@ -220,20 +221,6 @@ module _ (old : Contents) (descriptor : ℕ → Option (Stamped Descriptor)) (ne
                 was = was;
               }
 
-  -- the data and the notes are the same
-  differ : (s : Option (Stamped Status)) (lv : ℕ) (mode : Mode) (copies : List Pp) (k : Known) (b : ℕ) → MayDiffer old s lv mode copies k b → MayDiffer new s lv mode copies k b
-  differ s lv Active copies k b m = m
-  differ s lv Passive copies k b m = m
-  differ s lv Off copies k b m = m
-
-  same_blocks : (facts : List Fact) (group : Descriptor) (disks : Disks) (s : Option (Stamped Status)) → BlocksKept old facts group disks s → BlocksKept new facts group disks s
-  same_blocks facts group disks s blocks row lp b is inside =
-      let kept = blocks row lp b is inside in
-      record {
-        allowed = kept.allowed;
-        equal = ⊎_elim (λ one. inl one) (λ m. inr (differ s row.number row.mode (fresh_on disks s row lp) (known (facts ++ Cut ∷ []) (Lv row.number) b) b m)) kept.equal;
-      }
-
   module _ (facts : List Fact) (kept : Kept old facts) where
     -- what holds by the members and their status before holds by them now
     by_members : (P : Disks → Option (Stamped Status) → Type 0) (a b : Disks) (id : ℕ) (k h : Descriptor) → P (members_in old a id k) (status_by old b id h) → P (members_in new a id k) (status_by new b id h)
@@ -241,7 +228,7 @@ module _ (old : Contents) (descriptor : ℕ → Option (Stamped Descriptor)) (ne
         subst (λ (s : Option (Stamped Status)). P (members_in new a id k) s) (sym (status_same b id h)) (subst (λ (v : Disks). P v (status_by old b id h)) (sym (members_same a id k)) p)
 
     across : (b : Disks) (id : ℕ) (h k : Descriptor) → Reads new b id h → IsFound new id k → BlocksKept new facts k (members_in new all_disks id k) (status_by new b id h)
-    across b id h k reads is = same_blocks facts k (members_in new all_disks id k) (status_by new b id h)
+    across b id h k reads is = same_blocks old descriptor old.status facts k (members_in new all_disks id k) (status_by new b id h)
         (by_members (λ v s. BlocksKept old facts k v s) all_disks b id k h (kept.lasting.across b id h k (reads_before b id h reads) (is_found_before id k is)))
 
     -- P holds of the voters of a finding set and its status where it does of its members and theirs
@@ -286,10 +273,7 @@ module _ (old : Contents) (descriptor : ℕ → Option (Stamped Descriptor)) (ne
         clash d r stood ids stamps = not-itself next.stamp (ap (λ (x : Stamp). stamp_lt x next.stamp) (sym stamps) ∙ later d r stood ids)
 
     still_none : (d : ℕ) → descriptor d ≡ None → old.descriptor d ≡ None
-    still_none d none = ⊎_elim (λ same. sym same ∙ none) (λ is. absurd (no_some (sym is.0 ∙ none))) (own d)
-      where
-        no_some : Some next ≡ None → ⊥
-        no_some e = absurd cc
+    still_none d none = ⊎_elim (λ same. sym same ∙ none) (λ is. absurd (let e : Some next ≡ None = sym is.0 ∙ none in cc (e))) (own d)
 
     pub restamped : Kept new facts
     restamped = record {

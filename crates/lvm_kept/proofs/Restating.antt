@@ -1,23 +1,19 @@
 -- Changes of statuses, under the same descriptors.
-use Rattle.std.proofs.Common.{◌≡◌, ◌⊎◌, inl, inr, ⊎_elim, ℕ, ◌<◌, List, [], ◌∷◌, ◌++◌, Option, Some, refl, sym, ap, subst, ◌∙◌}
-use Rattle.lvm_num.specs.declared.place.Pp.{Pp}
-use Rattle.lvm_num.specs.declared.descriptor.Mode.{Mode}
-use Rattle.lvm_num.specs.declared.descriptor.Mode.TheVariants.{Active, Passive, Off}
+use Rattle.std.proofs.Common.{◌≡◌, ◌⊎◌, ⊎_elim, ℕ, ◌<◌, List, [], ◌∷◌, Option, Some, refl, sym, ap, subst, ◌∙◌}
 use Rattle.lvm_num.specs.declared.descriptor.LvRow.{LvRow}
 use Rattle.lvm_num.specs.declared.descriptor.Descriptor.{Descriptor}
 use Rattle.lvm_num.specs.declared.status.Status.{Status}
 use Rattle.lvm_num.specs.Disks.{Disks}
 use Rattle.lvm_num.specs.Votes.{all_disks}
 use Rattle.lvm_num.specs.Record.{Stamped}
-use Rattle.lvm_vol.specs.declared.entry.Vol.TheVariants.{Lv}
-use Rattle.lvm_vol.specs.Facts.{Fact, Cut}
-use Rattle.lvm_vol.specs.May.{Known, known}
+use Rattle.lvm_vol.specs.Facts.{Fact}
 use Rattle.lvm_kept.specs.Contents.{Contents}
 use Rattle.lvm_kept.specs.Group.{descriptor_among, is_voter, has_quorum, status_among, Finds, IsFound, members_in, status_by, Reads, ReadsBy, fresh_on, IsOneOf, IsSome}
-use Rattle.lvm_kept.specs.Kept.{HasStatus, MayDiffer, BlocksKept, IsSettledIn, IsAvailable, Kept}
+use Rattle.lvm_kept.specs.Kept.{HasStatus, BlocksKept, IsSettledIn, IsAvailable, Kept}
 use Rattle.lvm_kept.specs.Changes.{Serves, HasNoVolume, StatusChangeKeeps}
 use Rattle.lvm_kept.proofs.Finding.{some_same, finding_reads}
 use Rattle.lvm_kept.proofs.Entries.{volume_is_row}
+use Rattle.lvm_kept.proofs.SameBlocks.{same_blocks}
 
 no_row : (rows : List LvRow) (row : LvRow) → rows ≡ [] → IsOneOf rows row → ⊥
 no_row [] row empty is = is
@@ -49,20 +45,6 @@ module _ (old : Contents) (status : ℕ → Option (Stamped Status)) where
   found_after : (disks : Disks) (id : ℕ) (group : Descriptor) → Finds old disks id group → Finds new disks id group
   found_after disks id group f = record { quorum = quorum_same disks id ∙ f.quorum; newest = f.newest; found = group_same disks id ∙ f.found; is = f.is }
 
-  -- the data and the notes are the same
-  differ : (s : Option (Stamped Status)) (lv : ℕ) (mode : Mode) (copies : List Pp) (k : Known) (b : ℕ) → MayDiffer old s lv mode copies k b → MayDiffer new s lv mode copies k b
-  differ s lv Active copies k b m = m
-  differ s lv Passive copies k b m = m
-  differ s lv Off copies k b m = m
-
-  same_blocks : (facts : List Fact) (group : Descriptor) (disks : Disks) (s : Option (Stamped Status)) → BlocksKept old facts group disks s → BlocksKept new facts group disks s
-  same_blocks facts group disks s blocks row lp b is inside =
-      let kept = blocks row lp b is inside in
-      record {
-        allowed = kept.allowed;
-        equal = ⊎_elim (λ one. inl one) (λ m. inr (differ s row.number row.mode (fresh_on disks s row lp) (known (facts ++ Cut ∷ []) (Lv row.number) b) b m)) kept.equal;
-      }
-
   is_found_before : (id : ℕ) (group : Descriptor) → IsFound new id group → IsFound old id group
   is_found_before id group is = (is.0, found_before is.0 id group is.1)
 
@@ -90,7 +72,7 @@ module _ (old : Contents) (status : ℕ → Option (Stamped Status)) where
     status_there b id h k reads is = by_status (HasStatus k.lvs) b id h reads (kept.lasting.status b id h k reads is) (λ serves. has_status k.lvs) (λ empty s. no_need k.lvs s (empty k is))
 
     across : (b : Disks) (id : ℕ) (h k : Descriptor) → Reads old b id h → IsFound old id k → BlocksKept new facts k (members_in new all_disks id k) (status_by new b id h)
-    across b id h k reads is = same_blocks facts k (members_in old all_disks id k) (status_by new b id h) (by_status (λ s. BlocksKept old facts k (members_in old all_disks id k) s) b id h reads
+    across b id h k reads is = same_blocks old old.descriptor status facts k (members_in old all_disks id k) (status_by new b id h) (by_status (λ s. BlocksKept old facts k (members_in old all_disks id k) s) b id h reads
         (kept.lasting.across b id h k reads is) (λ serves. serves.across k is) (λ empty s row lp n one. absurd (no_row k.lvs row (empty k is) one)))
 
     some : (b : Disks) (id : ℕ) (h k : Descriptor) → Reads old b id h → IsFound old id k → (row : LvRow) (lp : ℕ) → IsOneOf k.lvs row → lp < row.lps
@@ -115,7 +97,7 @@ module _ (old : Contents) (status : ℕ → Option (Stamped Status)) where
 
       copies : BlocksKept new facts group (is_voter new disks id) (status_among new disks id)
       copies = subst (λ (v : Disks). BlocksKept new facts group v (status_among new disks id)) (sym (voter_same disks id))
-          (same_blocks facts group (is_voter old disks id) (status_among new disks id) (finding (λ s. BlocksKept old facts group (is_voter old disks id) s)
+          (same_blocks old old.descriptor status facts group (is_voter old disks id) (status_among new disks id) (finding (λ s. BlocksKept old facts group (is_voter old disks id) s)
           (kept.agrees.copies disks id group was) (λ serves. serves.copies disks group was) (λ empty s row lp n one. absurd (no_row group.lvs row (empty group (disks, was)) one))))
 
       there : HasStatus group.lvs (status_among new disks id)

@@ -2,7 +2,7 @@
 use Rattle.std.specs.Prelude.{◌≡◌, ◌⊎◌, ℕ, Some}
 use Rattle.lvm_num.specs.Buffer.{Sector}
 use Rattle.lvm_disk.specs.Device.{Image, Flight, Device, SameDisks, written, IsInFlight, MayLeave}
-use Rattle.lvm_disk.specs.Paths.{DeviceStep, Started, WasCut, Ended, Broke, Waited, Freed, Lit, Arranged}
+use Rattle.lvm_disk.specs.Paths.{DeviceStep, Started}
 
 -- which values may be brought to a sector of a disk
 abbrev pub Plan : Type 1
@@ -25,10 +25,4 @@ IsPlanned P f = (d s : ℕ) (value : Sector) → written f d s ≡ Some value �
 -- the step starts no flight but one of the plan
 abbrev pub StepIsPlanned : Plan → {old new : Device} → DeviceStep old new → Type 0
 StepIsPlanned P (Started f starts) = IsPlanned P f
-StepIsPlanned P (WasCut cuts) = Unit {0}
-StepIsPlanned P (Ended ticket buf ends) = Unit {0}
-StepIsPlanned P (Broke ticket buf ends) = Unit {0}
-StepIsPlanned P (Waited waits) = Unit {0}
-StepIsPlanned P (Freed buf frees) = Unit {0}
-StepIsPlanned P (Lit none freed lights) = Unit {0}
-StepIsPlanned P (Arranged what arranges) = Unit {0}
+StepIsPlanned P _ = Unit {0}

@@ -44,9 +44,7 @@ told_easy why old new cause stuck counted = record { cause = cause; off = λ is.
 
 told_ask : (why : AskRangeFault) (old new : State) → Told (ask_refusal why) old new
 told_ask ask.NoVolume old new = told_easy _ old new tt (λ e. cc) (λ h t e. cc)
-told_ask (ask.OutOfRange blocks) old new = told_easy _ old new tt (λ e. cc) (λ h t e. cc)
-told_ask (ask.TableFull held) old new = told_easy _ old new tt (λ e. cc) (λ h t e. cc)
-told_ask ask.HistoryFull old new = told_easy _ old new tt (λ e. cc) (λ h t e. cc)
+told_ask _ old new = told_easy _ old new tt (λ e. cc) (λ h t e. cc)
 
 told_of : (answers : List Ending) (why : Refusal) (old new : State) → Tells answers (reply.Refused why) → Told why old new
 told_of answers why old new (TellsAll is) = absurd (cc (is))

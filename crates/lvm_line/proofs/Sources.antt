@@ -23,9 +23,7 @@ use Rattle.lvm_line.proofs.Turns.{leaves_counts}
 -- a range that isn't asked for has another cause
 never_asked : (why : AskRangeFault) (lp : ℕ) → ask_refusal why ≡ refusal.NoFresh lp → ⊥
 never_asked ask.NoVolume lp e = cc e
-never_asked (ask.OutOfRange blocks) lp e = cc e
-never_asked (ask.TableFull held) lp e = cc e
-never_asked ask.HistoryFull lp e = cc e
+never_asked _ lp e = cc e
 
 as_refused : (why other : Refusal) (lp : ℕ) → reply.Refused why ≡ reply.Refused other → why ≡ refusal.NoFresh lp → other ≡ refusal.NoFresh lp
 as_refused why other lp says is = cc (says, is)
@@ -44,12 +42,8 @@ module _ (old new : State) (name : List ℕ) (lp : ℕ) where
             then_ (inr none) = inr none
 
         by : (w : RangeFault) → RangeCause lv its.left (session_over old core) end w → FailsBy w end old.posts old.last new → range_refusal w ≡ refusal.NoFresh lp → LackedSource name lp old new
-        by fault.Dark cause left e = absurd (cc e)
-        by fault.Stuck cause left e = absurd (cc e)
-        by (fault.WentOff have total) cause left e = absurd (cc e)
-        by fault.Lost cause left e = absurd (cc e)
-        by fault.ReadFailed cause left e = absurd (cc e)
         by (fault.NoFresh n) lacks left e = at_end n (leaves_counts end old.posts old.last new left) lacks (cc e)
+        by _ cause left e = absurd (cc e)
 
     finished_lacks : (core : Core) (lv : ℕ) → old.session ≡ Some core → IsNumberOf core.descriptor.lvs name lv → Finishes write Says lv at count core old new (reply.Refused why) → LackedSource name lp old new
     finished_lacks core lv some named (NotBegun none) = absurd (never_asked none.why lp (as_refused why (ask_refusal none.why) lp none.refused.0 is_so))

@@ -21,9 +21,7 @@ use Rattle.lvm_line.specs.Causes.{HasFailedInSession}
 
 closed_counts : (p : Power) (old new : Device) → IsClosed p old new → new.counts ≡ old.counts
 closed_counts power.On old new is = ap (λ (d : Device). d.counts) is
-closed_counts power.Off old new is = ap (λ (d : Device). d.counts) is
-closed_counts power.Dark old new is = ap (λ (d : Device). d.counts) is
-closed_counts power.Stuck old new is = ap (λ (d : Device). d.counts) is
+closed_counts _ old new is = ap (λ (d : Device). d.counts) is
 
 module _ (end : Session) (posts : List Post) (last : ℕ) (new : State) where
   pub over_counts : IsOverWith end posts last new → new.moment.device.counts ≡ end.device.counts

@@ -1,12 +1,11 @@
 //! One line of a script.
-ghost use Rattle.std.specs.Prelude.{◌≡◌, ◌≤◌, ℕ, None, IsSome, IfSome, IfNone};
+ghost use Rattle.std.specs.Prelude.{◌≡◌, None, IsSome};
 ghost use Rattle.lvm_core.specs.Starting.{IsRoom};
 ghost use Rattle.lvm_core.specs.declared.parts.Room.{Room};
-ghost use Rattle.lvm_vol.specs.Log.{Log};
 ghost use Rattle.lvm_parse.specs.Grammar.{line_of};
 ghost use Rattle.lvm_parse.specs.Within.{IsWithin};
 ghost use Rattle.lvm_line.specs.Lines.{CommandInPlace, CommandIsDone, DoesInPlace, IsFinished, IsLine, StandsBehind, asked_after};
-ghost use Rattle.lvm_copy_lines.specs.passed.Stage.{IsStuck, most_refusals, history_in, session_in, state_in, IsBetweenStage, IsFitting};
+ghost use Rattle.lvm_copy_lines.specs.passed.Stage.{history_in, session_in, state_in, IsBetweenStage, IsFitting};
 ghost use Rattle.lvm_copy_lines.specs.passed.Stage.{without_facts};
 
 use lvm_copy_lines::below::disk_lines::{do_arrange, do_cut, do_read, do_write};

@@ -28,9 +28,9 @@ use Rattle.lvm_session.specs.Turns.{Finds, FindsNothing, TurnMakes}
 use Rattle.lvm_keeps.proofs.Small.{not_so}
 use Rattle.lvm_keeps_turn.specs.Turning.{is_last}
 use Rattle.lvm_keeps_events.proofs.Standing.{never_stands_still}
-use Rattle.lvm_turn_answers.specs.Telling.{IsStill, TurnTells, power_by}
-use Rattle.lvm_turn_answers.proofs.Stepping.{turn_counts}
-use Rattle.lvm_turn_answers.proofs.Telling.{turn_tells}
+use Rattle.lvm_keeps_turn.specs.Telling.{IsStill, TurnTells, power_by}
+use Rattle.lvm_keeps_turn.proofs.Stepping.{turn_counts}
+use Rattle.lvm_keeps_turn.proofs.Telling.{turn_tells}
 use Rattle.lvm_load.specs.declared.client.Client.{Client}
 use Rattle.lvm_load.specs.declared.workload.Woven.{Woven}
 use Rattle.lvm_load.specs.declared.totals.Totals.{Totals}

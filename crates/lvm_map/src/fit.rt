@@ -2,7 +2,7 @@
 ghost use Rattle.std.specs.Prelude.{◌<◌, ◌^◌, length, All, IsSome, IfSome, IfOk, IfErr, IsTrue};
 ghost use Rattle.lvm_num.specs.Descriptor.{IsValid, partitions_used, volume_of};
 ghost use Rattle.lvm_num.specs.Disks.{has};
-ghost use Rattle.lvm_map.specs.FirstFit.{is_among, Asked, IsAllocated, IsFault, new_volume, more_copies};
+ghost use Rattle.lvm_map.specs.FirstFit.{is_among, IsAllocated, IsFault, new_volume, more_copies};
 ghost use Rattle.lvm_map.specs.Room.{TakesNext};
 
 use crate::room::Room;

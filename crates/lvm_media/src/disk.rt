@@ -1,5 +1,5 @@
 //! A disk in memory, in pieces of 1 MiB.
-ghost use Rattle.std.specs.Prelude.{◌≡◌, ◌+◌, ◌-◌, ◌%◌, ◌≤◌, ◌<◌, [], ◌∷◌, ◌++◌, ℕ, true, length, slice_index_or, slice_get, slice_set, IfOk, OnOk, replicate};
+ghost use Rattle.std.specs.Prelude.{◌≡◌, ◌+◌, ◌-◌, ◌%◌, ◌≤◌, ◌<◌, [], ◌∷◌, ◌++◌, ℕ, true, length, slice_index_or, slice_set, IfOk, OnOk, replicate};
 ghost use Rattle.std.specs.List.{flat_map};
 ghost use Rattle.lvm_num.specs.Buffer.{zero_sector};
 ghost use Rattle.lvm_media.specs.Media.{sizes_of, AllSectors, sectors_in, put_by, picks, FilledFrom};

@@ -1,5 +1,5 @@
 //! A piece of a disk in memory.
-ghost use Rattle.std.specs.Prelude.{◌≡◌, ◌+◌, ◌-◌, ◌≤◌, ◌<◌, [], ◌∷◌, ◌++◌, length, vec_capacity, slice_index_or, slice_set, IfOk, replicate};
+ghost use Rattle.std.specs.Prelude.{◌≡◌, ◌+◌, ◌-◌, ◌≤◌, ◌<◌, [], ◌++◌, length, vec_capacity, slice_index_or, slice_set, IfOk, replicate};
 ghost use Rattle.lvm_num.specs.Buffer.{zero_sector, IsSector};
 
 use lvm_num::Memory;

@@ -1,5 +1,5 @@
 //! What transfers put on a row of disks in memory.
-ghost use Rattle.std.specs.Prelude.{◌≡◌, ◌+◌, ◌≤◌, [], ℕ, true, false, length};
+ghost use Rattle.std.specs.Prelude.{◌≡◌, ◌≤◌, ℕ, true, false};
 ghost use Rattle.lvm_disk.specs.Device.{AreSectors};
 ghost use Rattle.lvm_disk.specs.Steps.{Puts, ChangedAtMost, Reads};
 ghost use Rattle.lvm_media.specs.Media.{KeepsDisks, media_of, sizes_of, written_by};

@@ -8,7 +8,7 @@ use Rattle.lvm_memory.specs.Bench.{Bench, Begins, DarkensBy, StartsAsPlanned, Re
 use Rattle.lvm_flights.specs.Flights.{passed, flights_of, delays_of}
 use Rattle.lvm_flights.specs.declared.flying.Flying.{Flying}
 use Rattle.lvm_faults.specs.declared.injector.Act.{Act}
-use Rattle.lvm_faults.specs.declared.injector.Act.TheVariants.{Fail, Heal, Cut, Pick, Delay}
+use Rattle.lvm_faults.specs.declared.injector.Act.TheVariants.{Fail, Delay}
 use Rattle.lvm_faults.specs.declared.injector.Planned.{Planned}
 use Rattle.lvm_disk.specs.declared.shelf.Started.{Started}
 use Rattle.lvm_disk.specs.declared.shelf.Started.TheVariants as started
@@ -29,11 +29,8 @@ prompt_due call [] all = tt
 prompt_due call (p ∷ plan) all = kept (p.call == call) p (filter (λ p. p.call == call) plan) all.0 (prompt_due call plan all.1)
 
 prompt_act : (act : Act) (i : Injection) → IsPromptAct act → i.delay ≡ 0 → (after_act act i).delay ≡ 0
-prompt_act (Fail disk) i prompt none = none
-prompt_act (Heal disk) i prompt none = none
-prompt_act (Cut word) i prompt none = none
-prompt_act (Pick word) i prompt none = none
 prompt_act (Delay reaps) i prompt none = prompt
+prompt_act _ i prompt none = none
 
 prompt_acts : (acts : List Act) (i : Injection) → PromptActs acts → i.delay ≡ 0 → (after_acts acts i).delay ≡ 0
 prompt_acts [] i all none = none
@@ -41,10 +38,7 @@ prompt_acts (act ∷ acts) i all none = prompt_acts acts (after_act act i) all.1
 
 same_plan : (act : Act) (i : Injection) → (after_act act i).plan ≡ i.plan
 same_plan (Fail disk) i = refl
-same_plan (Heal disk) i = refl
-same_plan (Cut word) i = refl
-same_plan (Pick word) i = refl
-same_plan (Delay reaps) i = refl
+same_plan _ i = refl
 
 same_plans : (acts : List Act) (i : Injection) → (after_acts acts i).plan ≡ i.plan
 same_plans [] i = refl

@@ -11,7 +11,7 @@ use Rattle.lvm_flights.specs.Tickets.{IsLeastFree}
 use Rattle.lvm_flights.specs.Log.{logged}
 use Rattle.lvm_faults.specs.Injection.{Injection, begun, cut_planned, fails}
 use Rattle.lvm_faults.specs.declared.injector.Act.{Act}
-use Rattle.lvm_faults.specs.declared.injector.Act.TheVariants.{Fail, Heal, Cut, Pick, Delay}
+use Rattle.lvm_faults.specs.declared.injector.Act.TheVariants.{Delay}
 use Rattle.lvm_faults.specs.declared.injector.Planned.{Planned}
 use Rattle.lvm_disk.specs.declared.shelf.Arrange.{Arrange}
 use Rattle.lvm_disk.specs.declared.shelf.Arrange.TheVariants as arrange
@@ -142,11 +142,8 @@ ArrangesAsTold old new (arrange.Cut word) =
 
 -- the act delays nothing
 abbrev pub IsPromptAct : Act → Type 0
-IsPromptAct (Fail disk) = Unit {0}
-IsPromptAct (Heal disk) = Unit {0}
-IsPromptAct (Cut word) = Unit {0}
-IsPromptAct (Pick word) = Unit {0}
 IsPromptAct (Delay reaps) = reaps ≡ 0
+IsPromptAct _ = Unit {0}
 
 -- no flight is passed over, and the plan delays none
 pub record IsPrompt (bench : Bench) : Type 0 where

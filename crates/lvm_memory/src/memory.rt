@@ -1,5 +1,5 @@
 //! A shelf of disks in memory, with faults by plan.
-ghost use Rattle.std.specs.Prelude.{◌≡◌, ◌≤◌, ◌++◌, [], ◌∷◌, length, map, replicate, vec_capacity, Some, IfOk, OnOk};
+ghost use Rattle.std.specs.Prelude.{◌≡◌, ◌≤◌, ◌++◌, [], ◌∷◌, length, map, vec_capacity, Some, IfOk, OnOk};
 ghost use Rattle.lvm_disk.specs.Device.{AreSectors};
 ghost use Rattle.lvm_media.specs.Media.{AllSectors, media_of, sizes_of, blank_disks_of, sectors_in};
 ghost use Rattle.lvm_flights.specs.Flights.{flights_of};
@@ -32,7 +32,7 @@ pub struct MemShelf {
 }
 
 impl MemShelf {
-    ghost use Rattle.std.specs.Prelude.{◌≡◌, ◌⊎◌, ◌<◌, ◌≤◌, ◌%◌, ◌==◌, true, false, [], length, map, replicate, slice_index_or, Some, None, IfOk};
+    ghost use Rattle.std.specs.Prelude.{◌≡◌, ◌⊎◌, ◌<◌, ◌≤◌, ◌%◌, ◌==◌, true, false, [], length, map, slice_index_or, Some, None, IfOk};
     ghost use Rattle.std.specs.List.{All, flat_map, position};
     ghost use Rattle.lvm_disk.specs.Device.{AreSectors};
     ghost use Rattle.lvm_media.specs.Media.{media_of, sizes_of, blank_disks_of, sectors_in};

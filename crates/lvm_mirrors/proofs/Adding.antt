@@ -12,6 +12,7 @@ use Rattle.lvm_num.specs.declared.status.Status.{Status}
 use Rattle.lvm_num.specs.Descriptor.{copies_of, is_member, volume_of}
 use Rattle.lvm_num.specs.Status.{calls_stale}
 use Rattle.lvm_num.specs.Votes.{CanWrite}
+use Rattle.lvm_num.proofs.ListLemmas.{any_one}
 use Rattle.lvm_vol.specs.Facts.{Fact}
 use Rattle.lvm_vol.specs.Log.{Log}
 use Rattle.lvm_kept.specs.Contents.{contents_of}
@@ -37,7 +38,7 @@ use Rattle.lvm_volumes.specs.Endings.{StillHeld, KeepsFresh}
 use Rattle.lvm_volumes.specs.Stages.{IfGoesOn, CommandBroke}
 use Rattle.lvm_volumes.proofs.Breaking.{broken, broken_since, stopped}
 use Rattle.lvm_volumes.proofs.Entering.{many_bound, commit_still}
-use Rattle.lvm_volumes.proofs.Fresh.{any_one, not_stale, keeps_all, keeps_then}
+use Rattle.lvm_volumes.proofs.Fresh.{not_stale, keeps_all, keeps_then}
 use Rattle.lvm_volumes.proofs.Holding.{still_by, still_then}
 use Rattle.lvm_volumes.proofs.Leaving.{leaves_wider, leaves_joined}
 use Rattle.lvm_volumes.proofs.Left.{itself, is_used}

@@ -8,12 +8,13 @@ use Rattle.lvm_num.specs.declared.descriptor.LvRow.{LvRow}
 use Rattle.lvm_num.specs.declared.descriptor.Descriptor.{Descriptor}
 use Rattle.lvm_num.specs.Descriptor.{IsValid, copies_of, volume_of}
 use Rattle.lvm_num.specs.Status.{calls_stale}
+use Rattle.lvm_num.proofs.ListLemmas.{any_one}
 use Rattle.lvm_kept.specs.Group.{IsOneOf}
-use Rattle.lvm_left.specs.Marking.{IsLeftBelow}
+use Rattle.lvm_stale.specs.Marking.{IsLeftBelow}
 use Rattle.lvm_status.specs.Update.{Stored}
 use Rattle.lvm_steps.proofs.Booleans.{either, split}
 use Rattle.lvm_commit.specs.Settling.{there, NoneIsLeft}
-use Rattle.lvm_volumes.proofs.Fresh.{any_one, one_any}
+use Rattle.lvm_volumes.proofs.Fresh.{one_any}
 use Rattle.lvm_copy_plan.specs.Copies.{with_map, with_copies}
 use Rattle.lvm_copy_plan.proofs.Rows.{one_found, one_other, own_row}
 

@@ -8,6 +8,7 @@ use Rattle.lvm_num.specs.declared.status.Status.{Status}
 use Rattle.lvm_num.specs.Descriptor.{copies_of, is_member, volume_of}
 use Rattle.lvm_num.specs.Status.{calls_stale}
 use Rattle.lvm_num.specs.Votes.{all_disks}
+use Rattle.lvm_num.proofs.ListLemmas.{any_one}
 use Rattle.lvm_disk.specs.Device.{Media, image_of}
 use Rattle.lvm_kept.specs.Contents.{contents_of}
 use Rattle.lvm_kept.specs.Group.{members_in, IsOneOf}
@@ -23,7 +24,7 @@ use Rattle.lvm_core.specs.Committing.{LetsCommit, HasCommitted}
 use Rattle.lvm_core.specs.Leaves.{IsHeldSince, Leaves, committing}
 use Rattle.lvm_volumes.specs.Endings.{StillHeld, KeepsFresh}
 use Rattle.lvm_volumes.proofs.Entering.{commit_still}
-use Rattle.lvm_volumes.proofs.Fresh.{any_one, not_stale}
+use Rattle.lvm_volumes.proofs.Fresh.{not_stale}
 use Rattle.lvm_volumes.proofs.Leaving.{leaves_wider}
 use Rattle.lvm_copy_plan.specs.Copies.{first_copies}
 use Rattle.lvm_copy_plan.specs.PlannedCopies.{IsWithFewer}

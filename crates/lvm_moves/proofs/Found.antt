@@ -13,7 +13,7 @@ use Rattle.lvm_session.specs.State.{Core, State}
 use Rattle.lvm_session.specs.Judging.{mode_of, next_for, policy_of}
 use Rattle.lvm_session.specs.Enabled.{admission, admission_at, first_from, first_of, is_admit, landing, landing_at, or_next, outcome_next, parts_to_settle, pinning}
 use Rattle.lvm_session.specs.Events.{Admits, Lands, admitted_as, landed_as}
-use Rattle.lvm_pins.specs.Pinning.{PinGives}
+use Rattle.lvm_moves.specs.Pinning.{PinGives}
 use Rattle.lvm_moves.specs.Moving.{FirstGives}
 
 -- of some request it is made

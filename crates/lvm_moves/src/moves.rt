@@ -11,12 +11,12 @@ ghost use Rattle.lvm_due.specs.Due.{IsDue};
 ghost use Rattle.lvm_admit.specs.Choosing.{MayChoose};
 ghost use Rattle.lvm_moves.specs.Moving.{FirstGives};
 
+use crate::pins::pin_first;
 use lvm_admit::admit_at;
 use lvm_disk::Shelf;
-use lvm_due::{Due, is_quiet};
+use lvm_due::{Due, holds_pin, is_quiet};
 use lvm_firsts::{first_admission, first_landing};
 use lvm_land::land_at;
-use lvm_pins::pin_first;
 use lvm_session::{Event, Session};
 use lvm_vol::Outcome;
 
@@ -55,8 +55,9 @@ pub fn land_first(session: &mut Session, due: &mut Due) -> bool
     match landing_of(first_landing(session, &mut due.landing)) {
         None => false,
         Some((place, outcome)) => {
+            let pinned = holds_pin(session, place);
             land_at(session, place, outcome);
-            due.landed(session, place);
+            due.landed(session, place, pinned);
             true
         }
     }
@@ -73,8 +74,9 @@ fn admit_first<S: Shelf>(session: &mut Session, shelf: &S, due: &mut Due) -> boo
         None => false,
         Some(place) => {
             let quiet = is_quiet(session, place);
+            let pinned = holds_pin(session, place);
             admit_at(session, shelf, place);
-            due.admitted(session, place, quiet);
+            due.admitted(session, place, quiet, pinned);
             true
         }
     }

@@ -1,9 +1,10 @@
 -- The notes of a disk among those of all.
-use Rattle.std.proofs.Common.{◌≡◌, ◌<◌, ◌≤◌, ◌+◌, ◌++◌, ◌&&◌, ◌==◌, ℕ, List, [], ◌∷◌, Some, None, Option, Bool, true, false, cond, nat_lt, length, get_or, set, take, refl, sym, ◌∙◌, ap, arith, inl, inr, IsTrue}
-use Rattle.std.specs.List.{find, position}
+use Rattle.std.proofs.Common.{◌≡◌, ◌<◌, ◌≤◌, ◌+◌, ◌++◌, ◌&&◌, ◌==◌, ℕ, suc, List, [], ◌∷◌, Some, None, Option, Bool, true, false, cond, not, nat_lt, length, get_or, set, take, refl, sym, ◌∙◌, ap, arith, inl, inr, IsTrue}
+use Rattle.std.specs.List.{find, position, position_or_len}
 use Rattle.std.specs.Option.{option_map_or, option_or}
 use Rattle.std.proofs.lemmas.Bool.{cases_order, lt-ltb, le-ltb, eq-eqb, ne_eqb, and_right}
 use Rattle.std.proofs.lemmas.List.Folds.{find-append}
+use Rattle.std.proofs.Math.Seq.{map-set_same}
 use Rattle.lvm_num.specs.declared.record.NoteEntry.{NoteEntry}
 use Rattle.lvm_num.specs.Disks.{has}
 use Rattle.arrayvec.specs.ArrayVec.{ArrayVec}
@@ -13,8 +14,8 @@ use Rattle.lvm_mwc.specs.Firsts.{with_first}
 use Rattle.lvm_mwc.specs.Entries.{note_of}
 use Rattle.std.proofs.lemmas.List.{length-take}
 use Rattle.std.proofs.lemmas.List.Sums.{length-filter, count_by-le-length}
-use Rattle.lvm_mwc.specs.Notes.{is_on, both_name, names_group, common}
-use Rattle.lvm_mwc.specs.Cache.{Cached, is_named, after_start, after_end, started, ended, no_notes, IsNew}
+use Rattle.lvm_mwc.specs.Notes.{is_on, both_name, names_group, common, disks_of}
+use Rattle.lvm_mwc.specs.Cache.{Cached, is_named, after_start, after_end, started, ended, ended_as, no_notes, IsNew}
 use Rattle.lvm_mwc.proofs.FirstsLemmas.{first_at, none_at}
 
 abbrev pub cached : List CacheEntry → List DiskNotes → Cached
@@ -22,6 +23,24 @@ cached entries notes = record { entries = entries; notes = notes }
 
 abbrev pub notes_of : ℕ → ArrayVec NoteEntry → Option (ArrayVec NoteEntry) → DiskNotes
 notes_of disk written flight = record { disk = disk; written = written; flight = flight }
+
+-- ---- where the notes of a disk stand
+
+first_on : (disk : ℕ) (notes : List DiskNotes) → position_or_len (λ (d : ℕ). d == disk) (disks_of notes) ≡ position_or_len (is_on disk) notes
+first_on disk [] = refl
+first_on disk (n ∷ notes) = ap (λ (k : ℕ). cond (not (n.disk == disk)) (1 + k) 0) (first_on disk notes)
+
+as_many : (notes : List DiskNotes) → length (disks_of notes) ≡ length notes
+as_many [] = refl
+as_many (n ∷ notes) = ap suc (as_many notes)
+
+place_on : (disk : ℕ) (notes : List DiskNotes) → position (λ (d : ℕ). d == disk) (disks_of notes) ≡ position (is_on disk) notes
+place_on disk notes = let first = first_on disk notes in let long = as_many notes in rw (first, long) refl
+
+-- the place of a disk among the disks is that of its notes
+pub looked_up : (disk : ℕ) (notes : List DiskNotes) (disks now : List ℕ) (place : Option ℕ) → disks ≡ disks_of notes → now ≡ disks → place ≡ position (λ (d : ℕ). d == disk) now → position (is_on disk) notes ≡ place
+looked_up disk notes disks now place are is answer =
+    sym (place_on disk notes) ∙ ap (position (λ (d : ℕ). d == disk)) (sym (is ∙ are)) ∙ sym answer
 
 -- ---- what is named
 
@@ -48,6 +67,20 @@ not_started s disk at = ap (cached s.entries) (sym ((none_at (is_on disk) s.note
 
 pub not_ended : (s : Cached) (disk : ℕ) (ok : Bool) → position (is_on disk) s.notes ≡ None → s ≡ after_end s disk ok
 not_ended s disk ok at = ap (cached s.entries) (sym ((none_at (is_on disk) s.notes at).changed (ended ok)))
+
+-- its disk stays
+ended_on : (ok : Bool) (n : DiskNotes) → (ended ok n).disk ≡ n.disk
+ended_on ok n = by n.flight
+  where
+    by : (flight : Option (ArrayVec NoteEntry)) → (option_map_or (λ (f : ArrayVec NoteEntry). record n { written = record { items = ended_as ok n.written.items f.items }; flight = None }) flight n).disk ≡ n.disk
+    by None = refl
+    by (Some f) = refl
+
+pub disks_same : (notes : List DiskNotes) (disks : List ℕ) (k : ℕ) (row d : DiskNotes) → disks ≡ disks_of notes → row.disk ≡ (get_or notes k d).disk → disks ≡ disks_of (set notes k row)
+disks_same notes disks k row d are same = are ∙ sym (map-set_same (λ (n : DiskNotes). n.disk) notes k row d same)
+
+pub disks_ended : (ok : Bool) (notes : List DiskNotes) (disks : List ℕ) (k : ℕ) (row d : DiskNotes) → disks ≡ disks_of notes → row ≡ ended ok (get_or notes k d) → disks ≡ disks_of (set notes k row)
+disks_ended ok notes disks k row d are is = disks_same notes disks k row d are (ap (λ (n : DiskNotes). n.disk) is ∙ ended_on ok (get_or notes k d))
 
 -- ---- the disks of a new cache
 

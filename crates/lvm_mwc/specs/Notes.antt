@@ -1,5 +1,5 @@
 -- The consistency records of the disks.
-use Rattle.std.specs.Prelude.{◌≡◌, ◌==◌, ◌&&◌, ℕ, Bool, true, false, List, filter}
+use Rattle.std.specs.Prelude.{◌≡◌, ◌==◌, ◌&&◌, ℕ, Bool, true, false, List, filter, map}
 use Rattle.std.specs.List.{list_any}
 use Rattle.std.specs.Option.{option_map_or}
 use Rattle.lvm_num.specs.declared.record.NoteEntry.{NoteEntry}
@@ -9,6 +9,10 @@ use Rattle.lvm_mwc.specs.declared.notes.DiskNotes.{DiskNotes}
 -- whether these are the notes of the disk
 abbrev pub is_on : ℕ → DiskNotes → Bool
 is_on disk n = n.disk == disk
+
+-- the disks, in the order of their notes
+abbrev pub disks_of : List DiskNotes → List ℕ
+disks_of notes = map (λ (n : DiskNotes). n.disk) notes
 
 -- whether a note names a track group
 abbrev pub names_group : List NoteEntry → ℕ → ℕ → Bool

@@ -1,10 +1,11 @@
 //! The cache of track groups.
-ghost use Rattle.std.specs.Prelude.{◌≡◌, ◌≢◌, ◌+◌, ◌<◌, ◌^◌, false, if◌then◌else◌, position, IsTrue, IfOk, IsSome, IsNone, is_some, All, replicate};
+ghost use Rattle.std.specs.Prelude.{◌≡◌, ◌≢◌, ◌+◌, ◌<◌, ◌^◌, false, position, IsTrue, IfOk, IsSome, IsNone, is_some, All, replicate};
 ghost use Rattle.lvm_num.specs.Note.{IsEntry};
 
 use crate::entries::{CacheEntry, entry_of, make_room, note_of, place_of};
 use crate::notes::{
-    self, DiskNotes, FILTER, both_name, end_flight, filter_of, is_in_flight, passes, row_of,
+    DiskNotes, FILTER, both_name, disks_of, end_flight, filter_of, is_in_flight, passes,
+    place_of_disk, row_of,
 };
 use arrayvec::ArrayVec;
 use lvm_num::{DiskSet, Memory, NoteEntry};
@@ -25,21 +26,26 @@ pub enum Pin {
 #[derive(Drop)]
 pub struct Cache {
     entries: ArrayVec<CacheEntry, 62>,
+    // the disks of the set; one is looked up here, since notes are long
+    disks: Vec<u16>,
+    // for each of these its notes
     notes: Vec<DiskNotes>,
-    // for each of these what the note may name that was written there
+    // and what the note may name that was written there
     filters: Vec<[bool; FILTER]>,
 }
 
 impl Model for Cache {
+    ghost use Rattle.std.specs.Prelude.{◌≡◌};
     ghost use Rattle.lvm_mwc.specs.Cache.{Cached};
     ghost use Rattle.lvm_mwc.specs.Entries.{AreEntries};
     ghost use Rattle.lvm_mwc.specs.Filters.{AreFilters};
+    ghost use Rattle.lvm_mwc.specs.Notes.{disks_of};
 
     ghost Value = { Cached };
 
     ghost view = { λ c. record { entries = c.entries.items; notes = c.notes.items } };
 
-    ghost invariant = { λ c. AreEntries c.entries.items × AreFilters c.notes.items c.filters.items };
+    ghost invariant = { λ c. AreEntries c.entries.items × AreFilters c.notes.items c.filters.items × (c.disks.items ≡ disks_of c.notes.items) };
 }
 
 // So many filters that pass nothing.
@@ -73,6 +79,7 @@ impl Cache {
         let filters = closed_filters(alloc, notes.len())?;
         Ok(Cache {
             entries: ArrayVec::new(),
+            disks: disks_of(alloc, &notes)?,
             notes,
             filters,
         })
@@ -155,7 +162,7 @@ impl Cache {
         ensures counting { All IsEntry result.items }
         ensures cache { self.new ≡ after_start self.old disk }
     {
-        if let Some(place) = notes::place_of(&self.notes, disk) {
+        if let Some(place) = place_of_disk(&self.disks, disk) {
             self.notes[place].flight = Some(note_of(&self.entries));
         }
         note_of(&self.entries)
@@ -167,7 +174,7 @@ impl Cache {
         requires { IsSome (flight_on self.old disk) }
         ensures { self.new ≡ after_end self.old disk ok }
     {
-        if let Some(place) = notes::place_of(&self.notes, disk) {
+        if let Some(place) = place_of_disk(&self.disks, disk) {
             end_flight(&mut self.notes[place], ok);
             self.filters[place] = filter_of(&self.notes[place].written);
         }
@@ -178,7 +185,7 @@ impl Cache {
     pub fn is_named(&self, disk: u16, lv: u16, group: u32) -> bool
         ensures { result ≡ is_named self.now disk lv group }
     {
-        match notes::place_of(&self.notes, disk) {
+        match place_of_disk(&self.disks, disk) {
             None => false,
             Some(place) => {
                 passes(&self.filters[place], group) && both_name(&self.notes[place], lv, group)

@@ -1,12 +1,13 @@
 //! The consistency records of the disks, as they are written.
-ghost use Rattle.std.specs.Prelude.{◌≡◌, find, position};
+ghost use Rattle.std.specs.Prelude.{◌≡◌, ◌==◌, find, position, IfOk};
 ghost use Rattle.std.specs.Option.{option_copied};
 ghost use Rattle.lvm_mwc.specs.Cache.{ended};
 ghost use Rattle.lvm_mwc.specs.Filters.{PassesAll, passes};
-ghost use Rattle.lvm_mwc.specs.Notes.{is_on, names_group, both_name, is_in_flight, common};
+ghost use Rattle.lvm_mwc.specs.Notes.{is_on, names_group, both_name, is_in_flight, common, disks_of};
 
 use arrayvec::ArrayVec;
-use lvm_num::NoteEntry;
+use lvm_num::{Memory, NoteEntry};
+use std::alloc::Global;
 
 /// The consistency record of one disk.
 #[derive(Drop)]
@@ -19,11 +20,22 @@ pub struct DiskNotes {
     pub flight: Option<ArrayVec<NoteEntry, 62>>,
 }
 
-// The place of a disk.
-pub fn place_of(notes: &[DiskNotes], disk: u16) -> Option<usize>
-    ensures { result ≡ position (is_on disk) notes.now }
+// The disks, in the order of their notes.
+pub fn disks_of(alloc: Global, notes: &[DiskNotes]) -> Result<Vec<u16>, Memory>
+    ensures { IfOk result (λ disks. disks.items ≡ disks_of notes.now) }
 {
-    notes.iter().position(|row| row.disk == disk)
+    let mut disks = Vec::new(alloc);
+    for row in notes {
+        disks.push(row.disk)?;
+    }
+    Ok(disks)
+}
+
+// The place of a disk.
+pub fn place_of_disk(disks: &[u16], disk: u16) -> Option<usize>
+    ensures { result ≡ position (λ d. d == disk) disks.now }
+{
+    disks.iter().position(|d| *d == disk)
 }
 
 // The notes of a disk.

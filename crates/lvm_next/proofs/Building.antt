@@ -18,13 +18,14 @@ use Rattle.lvm_num.specs.Disks.{Disks}
 use Rattle.lvm_num.specs.Descriptor.{IsValid, IsMember, IsPartitionOf, is_member, copies_of, partitions_in, most_members}
 use Rattle.lvm_num.specs.Record.{Stamped}
 use Rattle.lvm_num.specs.Status.{IsValidStatus, AreDirty, IsVolumeNumber, calls_stale, calls_dirty}
+use Rattle.lvm_num.proofs.ListLemmas.{one_of_left, one_of_right}
 use Rattle.lvm_kept.specs.Group.{IsOneOf, IsSome}
 use Rattle.lvm_stale.specs.Table.{has_row}
 use Rattle.lvm_next.specs.Next.{IsNextStatus, IsLeftBehind, is_passive, has_passive}
 use Rattle.lvm_next.specs.Rows.{AreMemberRows}
-use Rattle.lvm_left.specs.Marking.{is_served, IsLeftIn, Marks, IsMarkable}
+use Rattle.lvm_stale.specs.Marking.{is_served, IsLeftIn, Marks, IsMarkable}
 use Rattle.lvm_next.proofs.RowLemmas.{found_one}
-use Rattle.lvm_left.proofs.MarkLemmas.{has_row-same, append_left, append_right}
+use Rattle.lvm_stale.proofs.MarkLemmas.{has_row-same}
 
 -- ---- elements
 
@@ -51,8 +52,8 @@ copy_in_map row lp p is = one_of_drop (lp * row.copies) row.map p (one_of_take r
 
 pub in_partitions : (rows : List LvRow) (row : LvRow) (p : Pp) → IsOneOf rows row → IsOneOf row.map p → IsOneOf (partitions_in rows) p
 in_partitions [] row p is at = absurd is
-in_partitions (r ∷ rs) row p (inl e) at = append_left r.map (partitions_in rs) p (subst (λ (x : LvRow). IsOneOf x.map p) e at)
-in_partitions (r ∷ rs) row p (inr there) at = append_right r.map (partitions_in rs) p (in_partitions rs row p there at)
+in_partitions (r ∷ rs) row p (inl e) at = one_of_left r.map (partitions_in rs) p (subst (λ (x : LvRow). IsOneOf x.map p) e at)
+in_partitions (r ∷ rs) row p (inr there) at = one_of_right r.map (partitions_in rs) p (in_partitions rs row p there at)
 
 -- tests that agree on the elements
 any_same : {X : Type 0} (p q : X → Bool) (xs : List X) → ((x : X) → IsOneOf xs x → p x ≡ q x) → list_any p xs ≡ list_any q xs

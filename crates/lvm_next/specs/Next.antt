@@ -2,7 +2,7 @@
 use Rattle.std.specs.Prelude.{◌≡◌, ◌⊎◌, ◌↔◌, ℕ, ◌<◌, ◌&&◌, ◌==◌, Bool, true, false, not, Some, IsTrue, IsFalse}
 use Rattle.std.specs.List.{list_any}
 use Rattle.lvm_num.specs.declared.descriptor.Mode.{Mode}
-use Rattle.lvm_num.specs.declared.descriptor.Mode.TheVariants.{Active, Passive, Off}
+use Rattle.lvm_num.specs.declared.descriptor.Mode.TheVariants.{Active, Passive}
 use Rattle.lvm_num.specs.declared.place.Pp.{Pp}
 use Rattle.lvm_num.specs.declared.descriptor.LvRow.{LvRow}
 use Rattle.lvm_num.specs.declared.descriptor.Descriptor.{Descriptor}
@@ -16,13 +16,11 @@ use Rattle.lvm_stale.specs.Table.{has_row}
 
 abbrev pub is_passive : Mode → Bool
 is_passive Passive = true
-is_passive Active = false
-is_passive Off = false
+is_passive _ = false
 
 abbrev pub is_active : Mode → Bool
 is_active Active = true
-is_active Passive = false
-is_active Off = false
+is_active _ = false
 
 -- the group has a volume of this number in mode passive
 abbrev pub has_passive : Descriptor → ℕ → Bool

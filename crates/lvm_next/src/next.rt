@@ -11,12 +11,11 @@ ghost use Rattle.lvm_num.specs.Status.{IsValidStatus, calls_stale};
 ghost use Rattle.lvm_next.specs.Next.{IsNextStatus, is_passive};
 ghost use Rattle.lvm_next.specs.Rows.{AreMemberRows};
 
-use lvm_left::mark_volumes;
 use lvm_num::{
     DISKS, Descriptor, DiskSet, LvRow, Memory, Mode, Rows, Status, StatusRow, VolumeNumbers,
     has_member,
 };
-use lvm_stale::StaleTable;
+use lvm_stale::{StaleTable, mark_volumes};
 use std::alloc::Global;
 
 /// The status with which a group comes on: a row for each member, missing those that don't answer, stale

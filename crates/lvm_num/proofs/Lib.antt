@@ -1,7 +1,9 @@
 pub mod BitsLemmas
+pub mod Bounds
 pub mod DisksLemmas
 pub mod Fresh
 pub mod Fronts
+pub mod ListLemmas
 pub mod MapsLemmas
 pub mod MarksLemmas
 pub mod MembersLemmas

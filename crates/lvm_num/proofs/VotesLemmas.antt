@@ -9,7 +9,6 @@ use Rattle.std.proofs.lemmas.List.Folds.{list_any_at}
 use Rattle.std.proofs.lemmas.List.Sums.{sum_by-cons, sum_by_more}
 use Rattle.lvm_num.specs.declared.descriptor.PvRow.{PvRow}
 use Rattle.lvm_num.specs.declared.descriptor.Descriptor.{Descriptor}
-use Rattle.lvm_num.specs.Descriptor.{most_members}
 use Rattle.lvm_num.specs.Disks.{Disks}
 use Rattle.lvm_num.specs.Votes.{votes_by, votes_of, votes_in, all_disks, total_votes, ShareMember, ReadMeetsWrite, ReadMeetsRead, WriteMeetsWrite, ReadIsWrite, MoreHaveMore, MoreIsEnough}
 
@@ -121,32 +120,18 @@ votes_by-other even (a ∷ b ∷ []) e disk is (inr (inr both)) = by_tests even 
     by_tests v false false even-is h = absurd (false≢true h)
 votes_by-other even (a ∷ b ∷ c ∷ rows) e disk is other = picks (list_any (λ (row : PvRow). row.disk == disk) (a ∷ b ∷ c ∷ rows)) 1 0 is
 
+at_most : (b : Bool) (m n : ℕ) → m ≤ 2 → n ≤ 2 → (if b then m else n) ≤ 2
+at_most true m n p q = p
+at_most false m n p q = q
+
 -- no disk has more than two
 pub votes_by-most : (even : Bool) (rows : List PvRow) (disk : ℕ) → votes_by even rows disk ≤ 2
 unfolding votes_by
 votes_by-most even [] disk = omega arith
 votes_by-most even (only ∷ []) disk = at_most (only.disk == disk) 2 0 (omega arith) (omega arith)
-  where
-    at_most : (b : Bool) (m n : ℕ) → m ≤ 2 → n ≤ 2 → (if b then m else n) ≤ 2
-    at_most true m n p q = p
-    at_most false m n p q = q
-votes_by-most true (first ∷ second ∷ []) disk = by_tests (first.disk == disk) (second.disk == disk)
-  where
-    by_tests : (p q : Bool) → (if p then 1 else (if q then 1 else 0)) ≤ 2
-    by_tests true q = omega arith
-    by_tests false true = omega arith
-    by_tests false false = omega arith
-votes_by-most false (first ∷ second ∷ []) disk = by_tests (first.disk == disk) (second.disk == disk)
-  where
-    by_tests : (p q : Bool) → (if p then 2 else (if q then 1 else 0)) ≤ 2
-    by_tests true q = omega arith
-    by_tests false true = omega arith
-    by_tests false false = omega arith
-votes_by-most even (first ∷ second ∷ third ∷ rows) disk = by_test (list_any (λ (row : PvRow). row.disk == disk) (first ∷ second ∷ third ∷ rows))
-  where
-    by_test : (p : Bool) → (if p then 1 else 0) ≤ 2
-    by_test true = omega arith
-    by_test false = omega arith
+votes_by-most true (first ∷ second ∷ []) disk = at_most (first.disk == disk) 1 _ (omega arith) (at_most (second.disk == disk) 1 0 (omega arith) (omega arith))
+votes_by-most false (first ∷ second ∷ []) disk = at_most (first.disk == disk) 2 _ (omega arith) (at_most (second.disk == disk) 1 0 (omega arith) (omega arith))
+votes_by-most even (first ∷ second ∷ third ∷ rows) disk = at_most (list_any (λ (row : PvRow). row.disk == disk) (first ∷ second ∷ third ∷ rows)) 1 0 (omega arith) (omega arith)
 
 -- one of three or more members has one
 pub votes_by-many : (even : Bool) (rows : List PvRow) (disk : ℕ) → 3 ≤ length rows → list_any (λ (row : PvRow). row.disk == disk) rows ≡ true → votes_by even rows disk ≡ 1
@@ -274,10 +259,6 @@ pub more_have_more : MoreHaveMore
 more_have_more d a b inside = more_among (votes_of d) d.pvs a b (λ k row lt h.
     let disk = (get_or d.pvs k row).disk in
     inside disk (list_any_at (λ (r : PvRow). r.disk == disk) d.pvs k row lt (eq-eqb disk disk refl)) h)
-
-pub few_members : (big : Bool) → most_members big ≤ 128
-few_members true = omega arith
-few_members false = omega arith
 
 -- all votes of few members, and of two that are even or of many
 pub total-few : (d : Descriptor) → 1 ≤ length d.pvs → length d.pvs < 3 → d.even ≡ false → AllPairs (λ (a b : PvRow). a.disk ≢ b.disk) d.pvs → total_votes d ≡ length d.pvs + 1

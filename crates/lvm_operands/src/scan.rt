@@ -1,6 +1,6 @@
 //! The words of a line, from the left.
 ghost use Rattle.std.specs.Prelude.{◌≡◌, ◌≢◌, ◌+◌, ◌<◌, ◌≤◌, [], length, slice_index, take, drop, MatchOption, not, position, IfSome, IfNone};
-ghost use Rattle.lvm_operands.specs.Line.{words_from, unreadable_at, is_plain, is_remark};
+ghost use Rattle.lvm_operands.specs.Line.{unreadable_at, is_plain, is_remark};
 ghost use Rattle.lvm_operands.specs.Rests.{left, word_at, with_word};
 
 use crate::rest::{Rest, Word};

@@ -1,5 +1,5 @@
 //! Options in any order, each at most once.
-ghost use Rattle.std.specs.Prelude.{◌≡◌, ◌<◌, length, MatchResult, MatchOption, Ok, Err};
+ghost use Rattle.std.specs.Prelude.{◌≡◌, ◌<◌, Ok, Err};
 ghost use Rattle.lvm_operands.specs.Reading.{is_new, options};
 ghost use Rattle.lvm_options.specs.Options.{mkvg_choice, no_mkvg_options, mklv_choice, no_mklv_options};
 ghost use Rattle.lvm_operands.specs.Rests.{left, Reads, ReadsOption};

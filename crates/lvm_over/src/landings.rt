@@ -1,6 +1,5 @@
 //! All open requests land.
 ghost use Rattle.std.specs.Prelude.{◌≡◌, map};
-ghost use Rattle.lvm_pbuf.specs.Out.{IsOut};
 ghost use Rattle.lvm_session.specs.Bringing.{with_back};
 ghost use Rattle.lvm_session.specs.Judging.{is_waiting};
 ghost use Rattle.lvm_session.specs.Dark.{AreTold, ended_as, with_hands, with_landings};

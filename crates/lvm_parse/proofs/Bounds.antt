@@ -258,12 +258,13 @@ mklv_in high l b = options_then high mklv_choice no_mklv_options l b _ (λ o b. 
 rmlv_in : (high : ℕ) (l : Left) → LeftIn high l → In high (rmlv l)
 rmlv_in high l b = last_then high name_in (option (codes "-f") l).1 (option_is_in high (codes "-f") l b) command.Rmlv
 
+-- an option that has to stand there, and a name
+only_with : (high : ℕ) (f : List ℕ → Command) (found : Bool × Left) → LeftIn high found.1 → In high (cond found.0 (then_ (last name_in found.1) (λ name. Ok (f name))) (misfit (next_column found.1)))
+only_with high f (true, k) b = last_then high name_in k b f
+only_with high f (false, k) b = next_is_in high k.words k.end b.0 b.1
+
 sync_group_in : (high : ℕ) (l : Left) → LeftIn high l → In high (sync_group l)
-sync_group_in high l b = at (option (codes "-v") l) (option_is_in high (codes "-v") l b)
-  where
-    at : (group : Bool × Left) → LeftIn high group.1 → In high (cond group.0 (then_ (last name_in group.1) (λ name. Ok (command.SyncGroup name))) (misfit (next_column group.1)))
-    at (true, k) b = last_then high name_in k b command.SyncGroup
-    at (false, k) b = next_is_in high k.words k.end b.0 b.1
+sync_group_in high l b = only_with high command.SyncGroup (option (codes "-v") l) (option_is_in high (codes "-v") l b)
 
 syncvg_in : (high : ℕ) (l : Left) → LeftIn high l → In high (syncvg l)
 syncvg_in high l b = at (option (codes "-l") l) (option_is_in high (codes "-l") l b)
@@ -273,11 +274,7 @@ syncvg_in high l b = at (option (codes "-l") l) (option_is_in high (codes "-l") 
     at (false, k) b = sync_group_in high k b
 
 lslv_in : (high : ℕ) (l : Left) → LeftIn high l → In high (lslv l)
-lslv_in high l b = at (option (codes "-m") l) (option_is_in high (codes "-m") l b)
-  where
-    at : (map : Bool × Left) → LeftIn high map.1 → In high (cond map.0 (then_ (last name_in map.1) (λ name. Ok (command.Lslv name))) (misfit (next_column map.1)))
-    at (true, k) b = last_then high name_in k b command.Lslv
-    at (false, k) b = next_is_in high k.words k.end b.0 b.1
+lslv_in high l b = only_with high command.Lslv (option (codes "-m") l) (option_is_in high (codes "-m") l b)
 
 -- each of these rows names columns of the line
 abbrev RowsAreIn : List Row → Type 0

@@ -12,14 +12,14 @@ use lvm_sched::TargetState;
 /// A copy to which a write goes, or which a read may try.
 #[derive(Clone, Copy, Debug, PartialEq, Eq)]
 pub struct Target {
-    /// The physical partition that is the copy.
-    pub pp: Pp,
     /// The sector of its disk at which the request's first block stands.
     pub sector: u64,
-    /// Whether the copy was usable when it was chosen, and not only being brought up.
-    pub usable: bool,
     /// How many transfers of its disk had failed when it was chosen.
     pub faults: u64,
+    /// The physical partition that is the copy.
+    pub pp: Pp,
+    /// Whether the copy was usable when it was chosen, and not only being brought up.
+    pub usable: bool,
     /// How far the transfer to it, or from it, is.
     pub state: TargetState,
 }
@@ -27,10 +27,10 @@ pub struct Target {
 impl Default for Target {
     fn default() -> Target {
         Target {
-            pp: Pp { disk: 0, pp: 0 },
             sector: 0,
-            usable: false,
             faults: 0,
+            pp: Pp { disk: 0, pp: 0 },
+            usable: false,
             state: TargetState::Waiting,
         }
     }

@@ -9,8 +9,11 @@ use Rattle.lvm_disk.specs.Steps.{CountsFailure, IsRecordRead}
 use Rattle.lvm_disk.specs.Images.{LeavesNoMore}
 use Rattle.lvm_disk.specs.Paths.{DeviceStep, Path}
 use Rattle.lvm_disk.proofs.Paths.{last-path}
+use Rattle.lvm_vol.specs.Facts.{Fact}
+use Rattle.lvm_kept.specs.Moments.{StaysCalm}
 use Rattle.lvm_kept.specs.Raw.{OnlyAdds}
-use Rattle.lvm_steps.specs.Requests.{IsInNoGroup, IsOfData}
+use Rattle.lvm_steps.specs.Moments.{Keeps}
+use Rattle.lvm_steps.specs.Requests.{IsInNoGroup, IsOfData, at as moment_of}
 use Rattle.lvm_steps.proofs.Writing.{stays_in_no_group}
 use Rattle.lvm_stamps.proofs.Shelves.{transfer_stays_behind, no_more_stays_behind}
 use Rattle.lvm_stamps.specs.Behind.{IsBehind}
@@ -18,7 +21,7 @@ use Rattle.lvm_transfer.specs.Transfer.{IsOut, TransferGives, Rests, flight_of}
 use Rattle.lvm_transfer.specs.declared.moves.Moved.{Moved}
 use Rattle.lvm_transfer.specs.declared.moves.Moved.TheVariants as moved
 use Rattle.lvm_transfer.proofs.Ending.{one_left}
-use Rattle.lvm_piece.specs.Keeping.{KeepsArrangements, KeepsOlder, MoveRose}
+use Rattle.lvm_piece.specs.Keeping.{HaveAllLanded, KeepsArrangements, KeepsOlder, NoneComesOn, MoveRose, PieceKeeps}
 use Rattle.lvm_piece.specs.Requests.{RelightsAfter, IsHeard}
 
 -- ---- the power on again
@@ -31,7 +34,7 @@ left_alone device (moved.Dark started) other = absurd (other started refl)
 left_alone device moved.Stuck other = refl
 
 -- one that was left at rest, or put on again, is ready
-pub ready_after : (mid new : Device) (how : Moved) → Rests mid how → RelightsAfter mid new how → IsHeard how → IsReady new
+ready_after : (mid new : Device) (how : Moved) → Rests mid how → RelightsAfter mid new how → IsHeard how → IsReady new
 ready_after mid new (moved.Done back) rests lit heard = subst IsReady (sym lit) rests
 ready_after mid new (moved.Failed back) rests lit heard = subst IsReady (sym lit) rests
 ready_after mid new (moved.Dark started) rests lit heard = record {
@@ -42,7 +45,7 @@ ready_after mid new (moved.Dark started) rests lit heard = record {
 ready_after mid new moved.Stuck rests lit heard = absurd heard
 
 -- after a transfer that was begun on a shelf whose power is on, it is on again
-pub power_after : (write : Bool) (disk from count : ℕ) (buf : Buffer) (ticket patience : ℕ) (old mid new : Device) (how : Moved) → IsReady old → TransferGives patience old mid (flight_of ticket write disk from count buf) how → Rests mid how → RelightsAfter mid new how → new.power ≡ true
+power_after : (write : Bool) (disk from count : ℕ) (buf : Buffer) (ticket patience : ℕ) (old mid new : Device) (how : Moved) → IsReady old → TransferGives patience old mid (flight_of ticket write disk from count buf) how → Rests mid how → RelightsAfter mid new how → new.power ≡ true
 power_after write disk from count buf ticket patience old mid new (moved.Done back) ready gives rests lit = ap (λ (d : Device). d.power) lit ∙ rests.power
 power_after write disk from count buf ticket patience old mid new (moved.Failed back) ready gives rests lit = ap (λ (d : Device). d.power) lit ∙ rests.power
 power_after write disk from count buf ticket patience old mid new (moved.Dark started) ready gives rests lit = ap (λ (d : Device). d.power) lit
@@ -51,9 +54,7 @@ power_after write disk from count buf ticket patience old mid new moved.Stuck re
 
 lit_counts : (mid new : Device) (how : Moved) → RelightsAfter mid new how → new.counts ≡ mid.counts
 lit_counts mid new (moved.Done back) lit = ap (λ (d : Device). d.counts) lit
-lit_counts mid new (moved.Failed back) lit = ap (λ (d : Device). d.counts) lit
-lit_counts mid new (moved.Dark started) lit = ap (λ (d : Device). d.counts) lit
-lit_counts mid new moved.Stuck lit = ap (λ (d : Device). d.counts) lit
+lit_counts mid new _ lit = ap (λ (d : Device). d.counts) lit
 
 lit_behind : (mid new : Device) (how : Moved) → Rests mid how → RelightsAfter mid new how → LeavesNoMore mid new → KeepsOlder mid new
 lit_behind mid new (moved.Done back) rests lit fewer m behind = subst (IsBehind m) (sym lit) behind
@@ -85,9 +86,7 @@ module _ (patience : ℕ) (f : Flight) (old mid : Device) where
 
 lit_fixed : (mid new : Device) (how : Moved) → RelightsAfter mid new how → fixed new ≡ fixed mid
 lit_fixed mid new (moved.Done back) lit = ap fixed lit
-lit_fixed mid new (moved.Failed back) lit = ap fixed lit
-lit_fixed mid new (moved.Dark started) lit = ap fixed lit
-lit_fixed mid new moved.Stuck lit = ap fixed lit
+lit_fixed mid new _ lit = ap fixed lit
 
 -- a failure that isn't one of a read of records is counted as a fault
 fault_of : (f : Flight) (old new : Counts) → (IsRecordRead f → ⊥) → CountsFailure f old new → RoseAt f.disk old.faults new.faults
@@ -110,14 +109,14 @@ module _ (write : Bool) (disk from count : ℕ) (buf : Buffer) (old mid new : De
   abbrev f : Flight
   f = flight_of 0 write disk from count buf
 
-  pub none_after : IsInNoGroup old disk → IsInNoGroup new disk
+  none_after : IsInNoGroup old disk → IsInNoGroup new disk
   none_after none image may = stays_in_no_group f old mid disk (brings_data f low) (last-path path) none image (last-path fewer image may)
 
-  pub behind_after : KeepsOlder old new
+  behind_after : KeepsOlder old new
   behind_after m behind = lit_behind mid new how rests lit (last-path fewer) m (transfer_stays_behind m f old mid ready.flights (brings_data f low) (last-path path) behind)
 
   module _ (ticket patience after : ℕ) (gives : TransferGives patience old mid (flight_of ticket write disk from count buf) how) where
-    pub shelf_after : after ≤ patience → RoseBy (patience - after) old.counts.waits mid.counts.waits → KeepsArrangements patience after old new
+    shelf_after : after ≤ patience → RoseBy (patience - after) old.counts.waits mid.counts.waits → KeepsArrangements patience after old new
     shelf_after falls waited =
         let same = lit_fixed mid new how lit ∙ moved_fixed patience (flight_of ticket write disk from count buf) old mid how gives in
         record {
@@ -144,7 +143,27 @@ cause_at_once write disk from count buf ticket patience old mid (moved.Dark true
 cause_at_once write disk from count buf ticket patience old mid (moved.Dark false) ready low cuts = cuts.cuts
 cause_at_once write disk from count buf ticket patience old mid moved.Stuck ready low (out, rose) = rose
 
-pub cause_after : (write : Bool) (disk from count : ℕ) (buf : Buffer) (ticket patience : ℕ) (old mid new : Device) (how : Moved) → IsReady old → data_start ≤ from → RelightsAfter mid new how
+cause_after : (write : Bool) (disk from count : ℕ) (buf : Buffer) (ticket patience : ℕ) (old mid new : Device) (how : Moved) → IsReady old → data_start ≤ from → RelightsAfter mid new how
     → TransferGives patience old mid (flight_of ticket write disk from count buf) how → MoveRose disk patience old.counts new.counts how
 cause_after write disk from count buf ticket patience old mid new how ready low lit gives =
     subst (λ (c : Counts). MoveRose disk patience old.counts c how) (sym (lit_counts mid new how lit)) (cause_at_once write disk from count buf ticket patience old mid how ready low gives)
+
+-- what a piece keeps, by what its history keeps
+pub piece_keeps :
+    (write : Bool) (run disk from count : ℕ) (buf : Buffer) (ticket patience after : ℕ) (old mid new : Device) (was is : List Fact) (how : Moved) → Keeps run (moment_of old was) (moment_of new is)
+    → (IsHeard how → StaysCalm (moment_of old was) (moment_of new is)) → (IsHeard how → HaveAllLanded was → HaveAllLanded is) → NoneComesOn was is
+    → IsReady old → data_start ≤ from → IsInNoGroup old disk → TransferGives patience old mid (flight_of ticket write disk from count buf) how → Rests mid how → RelightsAfter mid new how
+    → Path DeviceStep (OnlyAdds (flight_of 0 write disk from count buf) old) old mid → Path DeviceStep (LeavesNoMore mid) mid new → after ≤ patience → RoseBy (patience - after) old.counts.waits mid.counts.waits
+    → PieceKeeps run disk patience after (moment_of old was) (moment_of new is) how
+piece_keeps write run disk from count buf ticket patience after old mid new was is how keeps calm landed later ready low none gives rests lit path fewer falls waited = record {
+  keeps = keeps;
+  calm = calm;
+  none = none_after write disk from count buf old mid new how ready low rests lit path fewer none;
+  behind = behind_after write disk from count buf old mid new how ready low rests lit path fewer;
+  shelf = shelf_after write disk from count buf old mid new how ready low rests lit path fewer ticket patience after gives falls waited;
+  power = power_after write disk from count buf ticket patience old mid new how ready gives rests lit;
+  ready = ready_after mid new how rests lit;
+  landed = landed;
+  later = later;
+  cause = cause_after write disk from count buf ticket patience old mid new how ready low lit gives;
+}

@@ -2,6 +2,7 @@
 use Rattle.std.proofs.Common.{◌≡◌, ℕ, Bool, false, Option, Some, None, refl, sym, ap, subst, ◌∙◌}
 use Rattle.std.specs.Prelude.{IfSome, slice_get, option_and_then, is_some, if◌then◌else◌}
 use Rattle.lvm_num.specs.declared.descriptor.Descriptor.{Descriptor}
+use Rattle.lvm_num.specs.declared.record.Stamp.{Stamp}
 use Rattle.lvm_num.specs.Descriptor.{IsValid}
 use Rattle.lvm_num.specs.Disks.{Disks}
 use Rattle.lvm_num.specs.Record.{Stamped, newest_below}
@@ -18,18 +19,21 @@ use Rattle.lvm_quorum.proofs.Epochs.{found_on}
 
 -- ---- a group
 
+-- what a row shows under a stamp is valid where all that rows show is
+pub row_valid : {X : Type 0} (P : X → Type 0) (value : SurveyRow → Option X) (stamp : SurveyRow → Stamp) (r : Stamped X) (o : Option SurveyRow)
+    → option_and_then (λ (row : SurveyRow). under (value row) (stamp row)) o ≡ Some r → ((row : SurveyRow) → o ≡ Some row → IfSome (value row) P) → P r.value
+row_valid {X} P value stamp r None at valid = absurd cc
+row_valid {X} P value stamp r (Some row) at valid = shown_valid (value row) at (valid row refl)
+  where
+    shown_valid : (o : Option X) → under o (stamp row) ≡ Some r → IfSome o P → P r.value
+    shown_valid None e v = absurd cc
+    shown_valid (Some g) e v = let same : g ≡ r.value = cc in subst P same v
+
 -- what is found is valid
 pub found_valid : (s : Survey) (id : ℕ) (r : Stamped Descriptor) → IsSurveyValid s → descriptor_among (surveyed s) all_disks id ≡ Some r → IsValid r.value
 found_valid s id r valid found =
-    let on = found_on (surveyed s) id r found in on_row on.0 (slice_get s.rows on.0) refl on.1
-  where
-    shown_valid : (o : Option Descriptor) (stamp : _) → under o stamp ≡ Some r → IfSome o IsValid → IsValid r.value
-    shown_valid None stamp e v = absurd cc
-    shown_valid (Some g) stamp e v = let same : g ≡ r.value = cc in subst IsValid same v
-
-    on_row : (d : ℕ) (o : Option SurveyRow) → slice_get s.rows d ≡ o → option_and_then (λ (row : SurveyRow). under row.descriptor row.descriptor_stamp) o ≡ Some r → IsValid r.value
-    on_row d None at e = absurd cc
-    on_row d (Some row) at e = shown_valid row.descriptor row.descriptor_stamp e (valid d row at).descriptor
+    let on = found_on (surveyed s) id r found in
+    row_valid IsValid (λ row. row.descriptor) (λ row. row.descriptor_stamp) r (slice_get s.rows on.0) on.1 (λ row at. (valid on.0 row at).descriptor)
 
 -- without a descriptor there is no status
 pub no_status : (c : Contents) (id : ℕ) → descriptor_among c all_disks id ≡ None → status_among c all_disks id ≡ None

@@ -5,10 +5,9 @@ ghost use Rattle.lvm_quorum.specs.Choosing.{ChooseGives};
 ghost use Rattle.lvm_quorum.specs.Groups.{GroupGives};
 ghost use Rattle.lvm_survey.specs.Rows.{AreRows};
 
-use crate::copies::{copy_of_descriptor, copy_of_status};
 use crate::groups::{greatest_epoch, group_of};
 use crate::names::{first_named, has_record, other_named};
-use lvm_num::{Descriptor, DiskSet, Memory, Name, Status};
+use lvm_num::{Descriptor, DiskSet, Memory, Name, Status, copy_of_descriptor, copy_of_status};
 use lvm_survey::Survey;
 use std::alloc::Global;
 

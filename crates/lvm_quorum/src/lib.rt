@@ -2,7 +2,6 @@
 #![tactic(auto)]
 
 mod choice;
-mod copies;
 mod groups;
 mod names;
 mod shown;

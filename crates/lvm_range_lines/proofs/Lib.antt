@@ -15,3 +15,4 @@ pub mod Behind
 pub mod Landed
 pub mod Waits
 pub mod Resting
+pub mod Causing

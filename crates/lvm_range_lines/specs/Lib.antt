@@ -4,5 +4,6 @@ pub mod Answers
 pub mod Leaving
 pub mod Requests
 pub mod Waiting
+pub mod Causes
 pub mod Taking
 pub mod Stepping

@@ -3,11 +3,13 @@
 
 mod answers;
 pub mod below;
+mod laws;
 mod refusal;
 mod requests;
 mod stepping;
 mod waiting;
 
+pub use laws::posts_have_causes;
 pub use requests::{do_post, do_rd, do_wr};
 pub use stepping::do_step;
 pub use waiting::do_wait;

@@ -26,15 +26,15 @@ use Rattle.lvm_session.specs.declared.open.Open.{Open}
 use Rattle.lvm_session.specs.declared.open.Power.TheVariants as power
 use Rattle.lvm_session.specs.Calls.{TakeAt, TakeGives, TakesLanded, is_asked}
 use Rattle.lvm_session.specs.declared.origin.Origin.{Origin}
-use Rattle.lvm_session.specs.Causes.{AnyFailedSince, HasFailed, IsLandedFor, was_usable}
+use Rattle.lvm_session.specs.Causes.{AnyFailedSince, AreCounted, HasFailed, IsCounted, IsLandedFor, faults_at_first, is_over, was_usable}
 use Rattle.lvm_session.specs.Enabled.{is_lost}
 use Rattle.lvm_session.specs.Judging.{copies_for, copies_in}
 use Rattle.lvm_session.specs.Sound.{IsAsked, IsSound, IsTold}
 use Rattle.lvm_session.specs.State.{Core, State, state, votes_there}
-use Rattle.lvm_keeps.proofs.Lists.{all_on, all_push}
+use Rattle.lvm_keeps.proofs.Lists.{all_on, all_push, all_removed}
 use Rattle.lvm_keeps.proofs.Losing.{loss_is_caused}
 use Rattle.lvm_keeps.proofs.Small.{both, is_false, not_so}
-use Rattle.lvm_turn_answers.proofs.Stepping.{turn_counts}
+use Rattle.lvm_keeps_turn.proofs.Stepping.{turn_counts}
 use Rattle.lvm_turn_losses.specs.Losing.{LosesVotesByFaults, LostForFaults}
 use Rattle.lvm_running.proofs.Shapes.{Given, turn_goes}
 use Rattle.lvm_driver.specs.Drains.{IsAny}
@@ -47,7 +47,7 @@ use Rattle.lvm_raw.specs.Pieces.{piece_end}
 use Rattle.lvm_ranges.specs.declared.refusal.AskRangeFault.{AskRangeFault}
 use Rattle.lvm_ranges.specs.Asking.{AskRangeGives, Asks, range_fault}
 use Rattle.lvm_ranges.specs.Choosing.{AreAllSince, AreSince}
-use Rattle.lvm_ranges.specs.Finishing.{AnyFailed, FinishGives, Finished, HasLandedSo, LacksSource, RangeCause, TakesRange, WasStuck}
+use Rattle.lvm_ranges.specs.Finishing.{AnyFailed, FinishGives, Finished, GoingCause, HasLandedSo, LacksSource, RangeCause, TakesRange, WasStuck}
 use Rattle.lvm_ranges.specs.Landing.{TurnsFor}
 use Rattle.lvm_ranges.specs.Pieces.{NoPiece, OnePiece, Submits, piece_ask}
 use Rattle.lvm_ranges.specs.Taking.{NoTake, OneTake, Takes}
@@ -151,12 +151,13 @@ turned asked first now (Then {m} {n} before step any) =
 -- ---- a piece that has landed so
 
 -- a target that could be used has failed
-some_failed : (first last : Device) (ts : List Target) → list_any (λ (t : Target). t.usable) ts ≡ true → AllByRecursion (λ (t : Target). t.usable ≡ true → HasFailed last t) ts
-    → AllByRecursion (λ (t : Target). first.counts.faults t.pp.disk ≤ t.faults) ts → AnyFailed first last
-some_failed first last [] some failed since = not_so some
-some_failed first last (t ∷ ts) some failed since = by t.usable refl (λ rest. some_failed first last ts rest failed.1 since.1) some
+some_failed : (faults : ℕ → ℕ) (last : Device) (ts : List Target) → list_any (λ (t : Target). t.usable) ts ≡ true → AllByRecursion (λ (t : Target). t.usable ≡ true → HasFailed last t) ts
+    → AllByRecursion (λ (t : Target). faults t.pp.disk ≤ t.faults) ts → (disk : ℕ) × Rose (faults disk) (last.counts.faults disk)
+some_failed faults last [] some failed since = not_so some
+some_failed faults last (t ∷ ts) some failed since = by t.usable refl (λ rest. some_failed faults last ts rest failed.1 since.1) some
   where
-    by : (b : Bool) → t.usable ≡ b → (list_any (λ (t : Target). t.usable) ts ≡ true → AnyFailed first last) → b || list_any (λ (t : Target). t.usable) ts ≡ true → AnyFailed first last
+    by : (b : Bool) → t.usable ≡ b → (list_any (λ (t : Target). t.usable) ts ≡ true → (disk : ℕ) × Rose (faults disk) (last.counts.faults disk)) → b || list_any (λ (t : Target). t.usable) ts ≡ true
+        → (disk : ℕ) × Rose (faults disk) (last.counts.faults disk)
     by true is others e = (t.pp.disk, rose_before since.0 (failed.0 is))
     by false is others e = others e
 
@@ -188,6 +189,17 @@ still_lost : {id : ℕ} {first : Core} {n : ℕ} {new : Core} → Takes id first
 still_lost NoTake = refl
 still_lost (OneTake {n = n} {core = core} {new = new} before answer gives landed) = lost_still core new 1 _ answer gives ∙ still_lost before
 
+module _ (asked : Asked) (s : State) (k : ℕ) (how : Outcome) (it : HasLandedSo s (asked.first + k) how) where
+  row_id : it.request.request.id ≡ asked.first + k
+  row_id = eqb-true it.request.request.id (asked.first + k) (both (it.request.request.client == 1) (it.request.request.id == asked.first + k) (find-Some (is_asked 1 (asked.first + k)) s.core.requests it.request it.found).0).1
+
+  -- what holds of each request holds of the one that is found
+  row_holds : (Holds : Open → Type 0) → AllByRecursion Holds s.core.requests → Holds it.request
+  row_holds Holds all = subst (λ (m : Option Open). IfSome m Holds) it.found (found_holds Holds (is_asked 1 (asked.first + k)) s.core.requests all)
+
+row_since : (faults : ℕ → ℕ) (asked : Asked) (s : State) (k : ℕ) (how : Outcome) (it : HasLandedSo s (asked.first + k) how) → AreAllSince faults asked.first s.core → AreSince faults it.request
+row_since faults asked s k how it all = row_holds asked s k how it (λ (o : Open). asked.first ≤ o.request.id → AreSince faults o) all (let is = row_id asked s k how it in omega (arith, is))
+
 -- what has become of its requests, of the votes and of the group since it was asked for
 record AskedSince (lv : ℕ) (asked : Asked) (first now : State) : Type 0 where
   pub since : AreAllSince first.device.counts.faults asked.first now.core
@@ -198,18 +210,11 @@ record AskedSince (lv : ℕ) (asked : Asked) (first now : State) : Type 0 where
   pub origin : now.core.origin ≡ first.core.origin
 
 module _ (lv : ℕ) (first mid end : State) (asked : Asked) (left : ℕ) (answer : Result (Unit {0}) RangeFault) (takes : TakesRange asked mid end answer) (sound : IsSound end) (so_far : AskedSince lv asked first mid) where
-  own_id : (k : ℕ) (how : Outcome) (it : HasLandedSo mid (asked.first + k) how) → it.request.request.id ≡ asked.first + k
-  own_id k how it = eqb-true it.request.request.id (asked.first + k) (both (it.request.request.client == 1) (it.request.request.id == asked.first + k) (find-Some (is_asked 1 (asked.first + k)) mid.core.requests it.request it.found).0).1
-
-  -- what holds of each request holds of the one that is found
-  its : (Holds : Open → Type 0) (k : ℕ) (how : Outcome) (it : HasLandedSo mid (asked.first + k) how) → AllByRecursion Holds mid.core.requests → Holds it.request
-  its Holds k how it all = subst (λ (m : Option Open). IfSome m Holds) it.found (found_holds Holds (is_asked 1 (asked.first + k)) mid.core.requests all)
-
   own_since : (k : ℕ) (how : Outcome) (it : HasLandedSo mid (asked.first + k) how) → AreSince first.device.counts.faults it.request
-  own_since k how it = its (λ (o : Open). asked.first ≤ o.request.id → AreSince first.device.counts.faults o) k how it so_far.since (let is = own_id k how it in omega (arith, is))
+  own_since k how it = row_since first.device.counts.faults asked mid k how it so_far.since
 
   own_piece : (k : ℕ) (how : Outcome) (it : HasLandedSo mid (asked.first + k) how) → (lv_of it.request.request.ask ≡ lv) × (at_of it.request.request.ask ≡ piece_start asked.at k)
-  own_piece k how it = its (λ (o : Open). IsPiece lv asked.at asked.first o.request.id o.request.ask) k how it so_far.pieces k (own_id k how it)
+  own_piece k how it = row_holds asked mid k how it (λ (o : Open). IsPiece lv asked.at asked.first o.request.id o.request.ask) so_far.pieces k (row_id asked mid k how it)
 
   failed_at_end : AnyFailed first.device mid.device → AnyFailed first.device end.device
   failed_at_end = subst (λ (d : Device). AnyFailed first.device d) (sym takes.shelf)
@@ -252,10 +257,10 @@ module _ (lv : ℕ) (first mid end : State) (asked : Asked) (left : ℕ) (answer
   piece_cause k outcome.Got why is it = absurd (cc is)
   piece_cause k outcome.Lost why is it =
       let same : fault.Lost ≡ why = cc is in
-      subst (RangeCause lv left first end) same (failed_at_end (some_failed first.device mid.device it.request.request.targets.items it.cause.0 it.cause.1 (own_since k outcome.Lost it)))
+      subst (RangeCause lv left first end) same (failed_at_end (some_failed first.device.counts.faults mid.device it.request.request.targets.items it.cause.0 it.cause.1 (own_since k outcome.Lost it)))
   piece_cause k outcome.ReadFailed why is it =
       let same : fault.ReadFailed ≡ why = cc is in
-      subst (RangeCause lv left first end) same (failed_at_end (some_failed first.device mid.device it.request.request.targets.items it.cause.0
+      subst (RangeCause lv left first end) same (failed_at_end (some_failed first.device.counts.faults mid.device it.request.request.targets.items it.cause.0
       (all_on (λ (t : Target). (is_failed t.state ≡ true) × HasFailed mid.device t) (λ (t : Target). t.usable ≡ true → HasFailed mid.device t) (λ t its usable. its.1) it.request.request.targets.items it.cause.1)
       (own_since k outcome.ReadFailed it)))
   piece_cause k outcome.NoFresh why is it = let same : fault.NoFresh (piece_lp asked k) ≡ why = cc is in subst (RangeCause lv left first end) same (lacks k it)
@@ -263,6 +268,57 @@ module _ (lv : ℕ) (first mid end : State) (asked : Asked) (left : ℕ) (answer
       let same : fault.WentOff (votes_there mid.core) (total_votes mid.core.descriptor) ≡ why = cc is in
       subst (RangeCause lv left first end) same (off_at_end it.cause.1)
   piece_cause k outcome.Dark why is it = let same : fault.Dark ≡ why = cc is in subst (RangeCause lv left first end) same (takes.power_is ∙ it.cause)
+
+-- ---- while the session goes on
+
+-- since it began the targets of its requests were chosen
+pub counted_since : (s : State) → IsSound s → AllByRecursion (AreSince (faults_at_first s.core)) s.core.requests
+counted_since s sound = all_on (AreCounted s) (AreSince (faults_at_first s.core))
+    (λ o its. all_on (IsCounted s) (λ (t : Target). faults_at_first s.core t.pp.disk ≤ t.faults) (λ t is. is.began) o.request.targets.items its) s.core.requests sound.counted
+
+module _ (faults : ℕ → ℕ) (asked : Asked) (old new : State) (why : RangeFault) (on : old.core.power ≡ power.On) (since : AreAllSince faults asked.first old.core) (takes : TakesRange asked old new (Err why)) where
+  rose_at_end : (disk : ℕ) × Rose (faults disk) (old.device.counts.faults disk) → (disk : ℕ) × Rose (faults disk) (new.device.counts.faults disk)
+  rose_at_end rose = (rose.0, subst (λ (d : Device). Rose (faults rose.0) (d.counts.faults rose.0)) (sym takes.shelf) rose.1)
+
+  piece_going : (k : ℕ) (how : Outcome) (w : RangeFault) → fault_by (piece_lp asked k) (votes_there old.core) (total_votes old.core.descriptor) how ≡ Some w → HasLandedSo old (asked.first + k) how → GoingCause faults new.device w
+  piece_going k outcome.Done w is it = absurd (cc is)
+  piece_going k outcome.Got w is it = absurd (cc is)
+  piece_going k outcome.Lost w is it =
+      let same : fault.Lost ≡ w = cc is in
+      subst (GoingCause faults new.device) same (rose_at_end (some_failed faults old.device it.request.request.targets.items it.cause.0 it.cause.1 (row_since faults asked old k outcome.Lost it since)))
+  piece_going k outcome.ReadFailed w is it =
+      let same : fault.ReadFailed ≡ w = cc is in
+      subst (GoingCause faults new.device) same (rose_at_end (some_failed faults old.device it.request.request.targets.items it.cause.0
+      (all_on (λ (t : Target). (is_failed t.state ≡ true) × HasFailed old.device t) (λ (t : Target). t.usable ≡ true → HasFailed old.device t) (λ t its usable. its.1) it.request.request.targets.items it.cause.1)
+      (row_since faults asked old k outcome.ReadFailed it since)))
+  piece_going k outcome.NoFresh w is it = let same : fault.NoFresh (piece_lp asked k) ≡ w = cc is in subst (GoingCause faults new.device) same tt
+  piece_going k outcome.Off w is it = not_so (sym (ap is_over on) ∙ it.cause.0)
+  piece_going k outcome.Dark w is it = absurd (let e : power.On ≡ power.Dark = sym on ∙ it.cause in cc e)
+
+  pub going_cause : GoingCause faults new.device why
+  going_cause = by takes.ends
+    where
+      by : RangeEnds new.core.history.facts asked (votes_there old.core) (total_votes old.core.descriptor) (Err why) → GoingCause faults new.device why
+      by (AllWell well is) = absurd (cc is)
+      by (FirstFails k failed less before fails is) =
+          let same : failed ≡ why = cc is in
+          subst (GoingCause faults new.device) same (piece_going k fails.how failed fails.fault (takes.caused k fails.how less fails.landed))
+
+-- the other requests stay what they are
+rows_left : (Holds : Open → Type 0) (core new : Core) (client id : ℕ) (answer : Taken) → TakeGives core new client id answer → AllByRecursion Holds core.requests → AllByRecursion Holds new.requests
+rows_left Holds core new client id answer gives all = by (position (is_asked client id) core.requests) gives
+  where
+    by : (m : Option ℕ) → MatchOption m ((answer ≡ answered.Unknown) × (new ≡ core)) (λ (place : ℕ). TakeAt core new place answer) → AllByRecursion Holds new.requests
+    by None at_once = subst (λ (c : Core). AllByRecursion Holds c.requests) (sym at_once.1) all
+    by (Some place) took = of took.0.landed took.2
+      where
+        of : (m : Option Outcome) → TakesLanded core new place took.0 answer m → AllByRecursion Holds new.requests
+        of None takes = subst (λ (c : Core). AllByRecursion Holds c.requests) (sym takes.1) all
+        of (Some how) takes = subst (λ (c : Core). AllByRecursion Holds c.requests) (sym takes.1) (all_removed Holds core.requests place all)
+
+pub rows_stay : (Holds : Open → Type 0) {id : ℕ} {first : Core} {n : ℕ} {new : Core} → Takes id first n new → AllByRecursion Holds first.requests → AllByRecursion Holds new.requests
+rows_stay Holds NoTake all = all
+rows_stay Holds (OneTake {n = n} {core = core} {new = new} before answer gives landed) all = rows_left Holds core new 1 _ answer gives (rows_stay Holds before all)
 
 -- ---- the range
 

@@ -72,3 +72,11 @@ RangeCause lv left first end (fault.WentOff have total) = (2 * have ≤ total) �
 RangeCause lv left first end fault.Lost = AnyFailed first.device end.device
 RangeCause lv left first end fault.ReadFailed = AnyFailed first.device end.device
 RangeCause lv left first end (fault.NoFresh lp) = LacksSource first.core end.device lv lp
+
+-- What a range of a session that goes on ended for, whose targets were chosen once their disks had at least these faults: a transfer has failed since, or a source was
+-- lacking.
+abbrev pub GoingCause : (ℕ → ℕ) → Device → RangeFault → Type 0
+GoingCause faults end fault.Lost = (disk : ℕ) × Rose (faults disk) (end.counts.faults disk)
+GoingCause faults end fault.ReadFailed = (disk : ℕ) × Rose (faults disk) (end.counts.faults disk)
+GoingCause faults end (fault.NoFresh lp) = Unit {0}
+GoingCause faults end other = ⊥

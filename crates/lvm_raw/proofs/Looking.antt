@@ -137,14 +137,7 @@ none_before patience disk old new ready finds =
 pub unserved : (X : Type 0) (patience disk : ℕ) (old new : Device) (why : RawFault) → LookFails patience disk old new why → WasServed {X = X} (Err why) → ⊥
 unserved X patience disk old new fault.Lost fails served = fails
 unserved X patience disk old new fault.ReadFailed fails served = fails
-unserved X patience disk old new (fault.NoDisk d) fails served = served
-unserved X patience disk old new (fault.OutOfRange size) fails served = served
-unserved X patience disk old new fault.HistoryFull fails served = served
-unserved X patience disk old new fault.Dark fails served = served
-unserved X patience disk old new fault.Stuck fails served = served
-unserved X patience disk old new (fault.DiskFailed d) fails served = served
-unserved X patience disk old new (fault.InGroup d) fails served = served
-unserved X patience disk old new fault.Memory fails served = served
+unserved X patience disk old new _ fails served = served
 
 -- the history's run and rooms are as before
 pub look_rooms : (h new : Log) (why : RawFault) → new ≡ look_ends h why → new ≡ record h { facts = new.facts }
@@ -156,12 +149,4 @@ look_rooms h new why is = is ∙ go why ∙ ap (λ (l : Log). record h { facts =
 
     go : (why : RawFault) → look_ends h why ≡ record h { facts = (look_ends h why).facts }
     go fault.Dark = cut (is_uncut h.facts)
-    go (fault.NoDisk d) = refl
-    go (fault.OutOfRange size) = refl
-    go fault.HistoryFull = refl
-    go fault.Stuck = refl
-    go (fault.DiskFailed d) = refl
-    go (fault.InGroup d) = refl
-    go fault.Lost = refl
-    go fault.ReadFailed = refl
-    go fault.Memory = refl
+    go _ = refl

@@ -41,13 +41,7 @@ module _ (device : Device) (log : Log) (disk at count : ℕ) where
   may_ask (fault.NoDisk d) may is = not_there may.inside.size may.inside.is is.1
   may_ask (fault.OutOfRange size) may is = not_outside size may.inside is
   may_ask fault.HistoryFull may is = not_full may.room is.1
-  may_ask fault.Dark may is = is
-  may_ask fault.Stuck may is = is
-  may_ask (fault.DiskFailed d) may is = is
-  may_ask (fault.InGroup d) may is = is
-  may_ask fault.Lost may is = is
-  may_ask fault.ReadFailed may is = is
-  may_ask fault.Memory may is = is
+  may_ask _ may is = is
 
   pub one_cause : (a b : RawFault) → IsRejected device log disk at count a → IsRejected device log disk at count b → a ≡ b
   one_cause (fault.NoDisk d) (fault.NoDisk e) p q = ap fault.NoDisk (p.0 ∙ sym q.0)
@@ -76,14 +70,7 @@ IsOfPieces failed (Err other) = other ≡ failed
 of_failed : (X : Type 0) (failed : RawFault) → IsOfPieces {X = X} failed (Err failed)
 of_failed X fault.Dark = tt
 of_failed X fault.Stuck = tt
-of_failed X (fault.NoDisk d) = refl
-of_failed X (fault.OutOfRange size) = refl
-of_failed X fault.HistoryFull = refl
-of_failed X (fault.DiskFailed d) = refl
-of_failed X (fault.InGroup d) = refl
-of_failed X fault.Lost = refl
-of_failed X fault.ReadFailed = refl
-of_failed X fault.Memory = refl
+of_failed X _ = refl
 
 after_of : {X : Type 0} (failed : RawFault) (more : Buffer → X → X) (how : Moved) (given : Result X RawFault) → IsOfPieces failed given → IsOfPieces failed (answer_after failed more how given)
 after_of failed more moved.Stuck given is = tt
@@ -128,46 +115,24 @@ IsBefore (fault.DiskFailed d) = Unit {0}
 IsBefore (fault.InGroup d) = Unit {0}
 IsBefore other = ⊥
 
-pub not_lost : (X : Type 0) (why : RawFault) → IsBefore why → IsOfPieces {X = X} fault.Lost (Err why) → ⊥
-not_lost X (fault.NoDisk d) before is = cc (is)
-not_lost X (fault.OutOfRange size) before is = cc (is)
-not_lost X fault.HistoryFull before is = cc (is)
-not_lost X (fault.DiskFailed d) before is = cc (is)
-not_lost X (fault.InGroup d) before is = cc (is)
-not_lost X _ before is = before
-
-pub not_read_failed : (X : Type 0) (why : RawFault) → IsBefore why → IsOfPieces {X = X} fault.ReadFailed (Err why) → ⊥
-not_read_failed X (fault.NoDisk d) before is = cc (is)
-not_read_failed X (fault.OutOfRange size) before is = cc (is)
-not_read_failed X fault.HistoryFull before is = cc (is)
-not_read_failed X (fault.DiskFailed d) before is = cc (is)
-not_read_failed X (fault.InGroup d) before is = cc (is)
-not_read_failed X _ before is = before
+-- a fault of the pieces comes before none of them
+pub not_of_pieces : (X : Type 0) (failed : RawFault) → (IsBefore failed → ⊥) → (why : RawFault) → IsBefore why → IsOfPieces {X = X} failed (Err why) → ⊥
+not_of_pieces X failed later fault.Dark before is = before
+not_of_pieces X failed later fault.Stuck before is = before
+not_of_pieces X failed later why before is = later (subst IsBefore is before)
 
 -- what was rejected has raised no count, and wasn't served
 pub rejected_rose : (X : Type 0) (device : Device) (log : Log) (disk at count patience : ℕ) (old new : Counts) (why : RawFault) → IsRejected device log disk at count why → AnswerHasCause {X = X} disk patience old new (Err why)
 rejected_rose X device log disk at count patience old new (fault.NoDisk d) is = tt
 rejected_rose X device log disk at count patience old new (fault.OutOfRange size) is = tt
 rejected_rose X device log disk at count patience old new fault.HistoryFull is = tt
-rejected_rose X device log disk at count patience old new fault.Dark is = absurd is
-rejected_rose X device log disk at count patience old new fault.Stuck is = absurd is
-rejected_rose X device log disk at count patience old new (fault.DiskFailed d) is = absurd is
-rejected_rose X device log disk at count patience old new (fault.InGroup d) is = absurd is
-rejected_rose X device log disk at count patience old new fault.Lost is = absurd is
-rejected_rose X device log disk at count patience old new fault.ReadFailed is = absurd is
-rejected_rose X device log disk at count patience old new fault.Memory is = absurd is
+rejected_rose X device log disk at count patience old new _ is = absurd is
 
 pub rejected_unserved : (X : Type 0) (device : Device) (log : Log) (disk at count : ℕ) (why : RawFault) → IsRejected device log disk at count why → WasServed {X = X} (Err why) → ⊥
 rejected_unserved X device log disk at count (fault.NoDisk d) is served = served
 rejected_unserved X device log disk at count (fault.OutOfRange size) is served = served
 rejected_unserved X device log disk at count fault.HistoryFull is served = served
-rejected_unserved X device log disk at count fault.Dark is served = is
-rejected_unserved X device log disk at count fault.Stuck is served = is
-rejected_unserved X device log disk at count (fault.DiskFailed d) is served = is
-rejected_unserved X device log disk at count (fault.InGroup d) is served = is
-rejected_unserved X device log disk at count fault.Lost is served = is
-rejected_unserved X device log disk at count fault.ReadFailed is served = is
-rejected_unserved X device log disk at count fault.Memory is served = is
+rejected_unserved X device log disk at count _ is served = is
 
 module _ {X : Type 0} (failed : RawFault) (Goes : Moment → Moment → Result X RawFault → Type 0) (log : Log) (disk at count patience : ℕ) (old new : Moment) where
   abbrev Refused : RawFault → Type 0

@@ -1,1 +1,2 @@
 pub mod Reaping
+pub mod Learning

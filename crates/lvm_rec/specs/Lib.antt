@@ -1,3 +1,4 @@
 pub mod Frames
 pub mod Note
 pub mod Slots
+pub mod Homes

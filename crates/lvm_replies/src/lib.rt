@@ -2,11 +2,9 @@
 #![tactic(auto)]
 
 mod block;
+mod counted;
 mod refusal;
-mod stepped;
-mod synced;
 
 pub use block::show_block;
+pub use counted::{show_stepped, show_synced};
 pub use refusal::{Carried, Refusal, push_refusal, show_refusal};
-pub use stepped::show_stepped;
-pub use synced::show_synced;

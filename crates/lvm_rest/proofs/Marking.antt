@@ -9,7 +9,7 @@ use Rattle.lvm_num.specs.Descriptor.{copies_of}
 use Rattle.lvm_num.specs.Status.{calls_stale}
 use Rattle.lvm_kept.specs.Group.{IsOneOf}
 use Rattle.lvm_crash.proofs.Lists.{left_of, right_of, both_of, not_so, so_not}
-use Rattle.lvm_left.specs.Marking.{IsLeftIn}
+use Rattle.lvm_stale.specs.Marking.{IsLeftIn}
 use Rattle.lvm_commit.specs.Settling.{there as not_missing}
 use Rattle.lvm_commit.proofs.Copies.{one_place}
 use Rattle.lvm_rest.proofs.Rows.{clash, none_passing}

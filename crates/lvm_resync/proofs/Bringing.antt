@@ -18,7 +18,7 @@ use Rattle.lvm_driver.specs.Answers.{IsCopyCaused}
 use Rattle.lvm_session.specs.declared.answers.Turned.TheVariants as told
 use Rattle.lvm_driver.specs.Drains.{NoTurn}
 use Rattle.lvm_resync.specs.declared.fault.SyncFault.{SyncFault}
-use Rattle.lvm_turn_marks.specs.Marks.{is_marked}
+use Rattle.lvm_turn_losses.specs.Marks.{is_marked}
 use Rattle.lvm_running.specs.Running.{RunsOn}
 use Rattle.lvm_ranges.specs.Keeping.{KeepsTable}
 use Rattle.lvm_resync.specs.Passing.{HasEnded, IsEnded, IsJustOpened, IsSameCopy, Runs, EndsTurning, EachTurnWhile}

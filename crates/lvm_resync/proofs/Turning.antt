@@ -11,8 +11,8 @@ use Rattle.lvm_session.specs.State.{Core, State}
 use Rattle.lvm_session.specs.Turns.{Finds, FindsNothing, TurnMakes}
 use Rattle.lvm_running.specs.Running.{RunsOn}
 use Rattle.lvm_running.proofs.Running.{leaves_both, leaves_none, stays_unstuck}
-use Rattle.lvm_turn_answers.specs.Telling.{TurnTells}
-use Rattle.lvm_turn_answers.proofs.Stepping.{turn_counts}
+use Rattle.lvm_keeps_turn.specs.Telling.{TurnTells}
+use Rattle.lvm_keeps_turn.proofs.Stepping.{turn_counts}
 use Rattle.lvm_turn_losses.proofs.Losing.{loses_both, loses_none, turn_loses}
 use Rattle.lvm_ranges.proofs.Tables.{table_same, table_then, turn_table}
 use Rattle.lvm_driver.specs.Drains.{IsAny, IsTurn, LastTurn, NoTurn, ThenMoves, ThenWaits}

@@ -13,8 +13,8 @@ use Rattle.lvm_session.specs.declared.open.Power.TheVariants as power
 use Rattle.lvm_session.specs.Calls.{Opens, closed, copy_at, copy_fault, copy_state, has_numbers}
 use Rattle.lvm_session.specs.Judging.{copies_in, is_stale}
 use Rattle.lvm_session.specs.State.{Core, State, state}
-use Rattle.lvm_copy_open.specs.Opening.{counts_seen}
-use Rattle.lvm_turn_marks.specs.Marks.{is_marked}
+use Rattle.lvm_calls.specs.Opening.{counts_seen}
+use Rattle.lvm_turn_losses.specs.Marks.{is_marked}
 use Rattle.lvm_driver.specs.Answers.{IsCopyCaused}
 use Rattle.lvm_driver.specs.Drains.{LastTurn, TurnsWhile}
 use Rattle.lvm_resync.specs.declared.fault.SyncFault.{SyncFault}

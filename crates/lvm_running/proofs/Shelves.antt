@@ -22,7 +22,7 @@ use Rattle.lvm_kept.proofs.Records.{newest_stays}
 use Rattle.lvm_commit.specs.LawsOfFinding.{FindsNothingNew}
 use Rattle.lvm_commit.proofs.NoMore.{rest_finds_nothing_new}
 use Rattle.lvm_commit.proofs.Sizes.{status_fits}
-use Rattle.lvm_homes.specs.Homes.{next_slot, second_slots}
+use Rattle.lvm_rec.specs.Homes.{next_slot, second_slots}
 use Rattle.lvm_path.specs.declared.target.Target.{Target}
 use Rattle.lvm_path.specs.Asks.{at_of}
 use Rattle.lvm_session.specs.declared.answers.Turned.{Turned}

@@ -9,8 +9,8 @@ use Rattle.lvm_session.specs.declared.open.Power.TheVariants as power
 use Rattle.lvm_session.specs.State.{State}
 use Rattle.lvm_session.specs.Turns.{TurnMakes, WasDark, WasOff, WasOn}
 use Rattle.lvm_session.specs.Sound.{IsSound}
-use Rattle.lvm_turn_answers.proofs.Frames.{turn_room}
-use Rattle.lvm_turn_answers.proofs.Stepping.{turn_counts}
+use Rattle.lvm_keeps_turn.proofs.Frames.{turn_room}
+use Rattle.lvm_keeps_turn.proofs.Stepping.{turn_counts}
 use Rattle.lvm_tie.specs.Stamps.{AreValid}
 use Rattle.lvm_tie.proofs.LandingsCauses.{turn_keeps_causes}
 use Rattle.lvm_tie.proofs.Spares.{turn_spares_descriptors}

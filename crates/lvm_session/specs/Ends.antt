@@ -12,8 +12,8 @@ use Rattle.lvm_mwc.specs.Cache.{after_end as after_note_end}
 use Rattle.lvm_status.specs.declared.change.Change.TheVariants as change
 use Rattle.lvm_status.specs.Update.{Stored, seen}
 use Rattle.lvm_status.specs.Calls.{BecomesMissing, WantsAtEnd, with_wanted, after_end}
-use Rattle.lvm_homes.specs.declared.homes.Homes.{Homes}
-use Rattle.lvm_homes.specs.Homes.{Flips}
+use Rattle.lvm_rec.specs.declared.homes.Homes.{Homes}
+use Rattle.lvm_rec.specs.Homes.{Flips}
 use Rattle.lvm_path.specs.declared.target.Target.{Target}
 use Rattle.lvm_path.specs.Asks.{is_write}
 use Rattle.lvm_path.specs.Next.{with_end as with_target_end}

@@ -27,7 +27,7 @@ use Rattle.lvm_mwc.specs.Cache.{Cached, after_pin, after_unpin, after_start}
 use Rattle.lvm_status.specs.Update.{Stored, seen, MayStart}
 use Rattle.lvm_status.specs.Calls.{with_update, with_start as with_write_start}
 use Rattle.lvm_kept.specs.Contents.{note_sector}
-use Rattle.lvm_homes.specs.Homes.{next_slot}
+use Rattle.lvm_rec.specs.Homes.{next_slot}
 use Rattle.lvm_path.specs.declared.facts.Next.TheVariants as next
 use Rattle.lvm_path.specs.declared.ask.Ask.{Ask}
 use Rattle.lvm_path.specs.declared.request.Request.{Request}

@@ -9,7 +9,7 @@ use Rattle.lvm_kept.specs.Moments.{Moment}
 use Rattle.lvm_hold.specs.Waiting.{Waiting}
 use Rattle.lvm_mwc.specs.Cache.{Cached}
 use Rattle.lvm_status.specs.Update.{Stored, members_there}
-use Rattle.lvm_homes.specs.declared.homes.Homes.{Homes}
+use Rattle.lvm_rec.specs.declared.homes.Homes.{Homes}
 use Rattle.lvm_session.specs.declared.open.Open.{Open}
 use Rattle.lvm_session.specs.declared.open.Power.{Power}
 use Rattle.lvm_session.specs.declared.bringing.OpenCopy.{OpenCopy}

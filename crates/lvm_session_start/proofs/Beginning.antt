@@ -20,7 +20,7 @@ use Rattle.lvm_status.specs.Calls.{first_updates}
 use Rattle.lvm_status.specs.Runs.{SetStamp, IsSoundStatus}
 use Rattle.lvm_status.specs.Update.{Updates, seen}
 use Rattle.lvm_status.proofs.Sound.{first_is_sound, steps_stay_sound}
-use Rattle.lvm_homes.specs.declared.homes.Homes.{Homes}
+use Rattle.lvm_rec.specs.declared.homes.Homes.{Homes}
 use Rattle.lvm_session.specs.declared.open.Open.{Open}
 use Rattle.lvm_session.specs.State.{Core, state}
 use Rattle.lvm_session.specs.Causes.{faults_at_first}

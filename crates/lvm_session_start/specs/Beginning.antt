@@ -9,7 +9,7 @@ use Rattle.lvm_vol.specs.Facts.{On}
 use Rattle.lvm_vol.specs.Log.{Log, is_open, with_fact}
 use Rattle.lvm_vol.specs.Order.{Ordered}
 use Rattle.lvm_status.specs.Update.{members_there}
-use Rattle.lvm_homes.specs.declared.homes.Homes.{Homes}
+use Rattle.lvm_rec.specs.declared.homes.Homes.{Homes}
 use Rattle.lvm_session.specs.declared.open.Power.TheVariants as power
 use Rattle.lvm_session.specs.State.{Core}
 use Rattle.lvm_session.specs.Marks.{is_entailed}

@@ -11,8 +11,8 @@ ghost use Rattle.lvm_session_start.specs.Parts.{IsReserved};
 use crate::parts::Parts;
 use lvm_disk::Shelf;
 use lvm_history::History;
-use lvm_homes::Homes;
 use lvm_num::Stamp;
+use lvm_rec::Homes;
 use lvm_session::{Origin, Power, Session};
 use lvm_vol::Entry;
 

@@ -1,1 +1,3 @@
 mod Turning
+mod Finishing
+pub mod Cutting

@@ -8,10 +8,10 @@ ghost use Rattle.lvm_session.specs.Turns.{OnMakes, TurnMakes};
 ghost use Rattle.lvm_session.specs.Sound.{IsSound};
 ghost use Rattle.lvm_due.specs.Due.{IsDue};
 
+use crate::ending::finish;
 use crate::first::make_first;
 use lvm_disk::Shelf;
 use lvm_due::Due;
-use lvm_finish::finish;
 use lvm_session::{Power, Session, Turned};
 
 // Of a session that goes on.

@@ -2,3 +2,5 @@ pub mod Names
 pub mod Digits
 pub mod Appending
 pub mod Found
+mod FreeCount
+mod Counting

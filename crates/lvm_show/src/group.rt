@@ -4,10 +4,10 @@ ghost use Rattle.std.specs.String.{string_bytes};
 ghost use Rattle.lvm_num.specs.Descriptor.{IsValid};
 ghost use Rattle.lvm_show.specs.Listings.{group_text, name_line, sizes_text, partitions_text, votes_text, volumes_text, volume_line};
 
-use crate::words::{push_counted, text_of};
-use lvm_counts::{
+use crate::counts::{
     all_free, all_partitions, all_stale, carriers, missing_members, quorum_votes, stale_in,
 };
+use crate::words::{push_counted, text_of};
 use lvm_num::{Descriptor, LvRow, Memory, Text};
 use lvm_stale::StaleTable;
 use std::alloc::{AllocError, Global};

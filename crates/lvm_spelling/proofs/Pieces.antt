@@ -1,10 +1,8 @@
 -- Bytes that are written one piece after the other.
-use Rattle.std.proofs.Common.{◌≡◌, ℕ, ◌+◌, ◌<◌, ◌≤◌, true, false, Bool, List, [], ◌∷◌, ◌++◌, append-nil, append_assoc, length, get_or, take, sym, ap, ◌∙◌, arith}
+use Rattle.std.proofs.Common.{◌≡◌, ℕ, ◌+◌, ◌<◌, List, [], ◌∷◌, ◌++◌, append-nil, append_assoc, length, get_or, take, sym, ap, ◌∙◌, arith}
 use Rattle.std.specs.Prelude.{flat_map}
 use Rattle.std.proofs.lemmas.List.{take_more}
 use Rattle.std.proofs.lemmas.List.Concat.{flat_map-append}
-use Rattle.lvm_num.specs.declared.descriptor.Descriptor.{Descriptor}
-use Rattle.lvm_num.specs.Descriptor.{IsHead, most_members, most_volumes}
 
 -- one more piece of a list of pieces
 pub pieces-more : {X : Type 0} (f : X → List ℕ) (xs : List X) (k : ℕ) (d : X) → k < length xs → flat_map f (take (k + 1) xs) ≡ flat_map f (take k xs) ++ f (get_or xs k d)
@@ -19,17 +17,3 @@ written-more f xs k x front out new last lt before here is item =
     let assoc : new ≡ front ++ (flat_map f (take k xs) ++ last) = old ∙ append_assoc front (flat_map f (take k xs)) last in
     let more : flat_map f (take k xs) ++ last ≡ flat_map f (take (k + 1) xs) = ap (λ (l : List ℕ). flat_map f (take k xs) ++ l) piece ∙ sym (pieces-more f xs k x lt) in
     assoc ∙ ap (λ (l : List ℕ). front ++ l) more
-
-pub few_members : (d : Descriptor) → IsHead d → length d.pvs ≤ 128
-few_members d head = by_size d.big head.members
-  where
-    by_size : (big : Bool) → length d.pvs ≤ most_members big → length d.pvs ≤ 128
-    by_size true le = le
-    by_size false le = omega (arith, le)
-
-pub few_volumes : (d : Descriptor) → IsHead d → length d.lvs ≤ 511
-few_volumes d head = by_size d.big head.volumes
-  where
-    by_size : (big : Bool) → length d.lvs ≤ most_volumes big → length d.lvs ≤ 511
-    by_size true le = le
-    by_size false le = omega (arith, le)

@@ -2,7 +2,6 @@
 ghost use Rattle.std.specs.Prelude.{◌≡◌, ◌≤◌, ◌++◌, ◌∷◌, [], length, replicate, flat_map, IfOk, OnOk};
 ghost use Rattle.std.specs.Int.{w16, w64, to_be_bytes};
 ghost use Rattle.lvm_num.specs.declared.descriptor.LvRow.{LvRow};
-ghost use Rattle.lvm_num.specs.Name.{padded};
 ghost use Rattle.lvm_num.specs.Descriptor.{IsValid};
 ghost use Rattle.lvm_num.specs.DescriptorBytes.{flag, mode_code, policy_code, descriptor_magic, member_bytes, volume_bytes, partition_bytes, descriptor_bytes};
 ghost use Rattle.lvm_spelling.specs.Parts.{head_bytes, row_bytes};

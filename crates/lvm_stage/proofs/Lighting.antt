@@ -41,17 +41,7 @@ StaysOrRests old left = (left ≡ old) ⊎ IsReady left
 abbrev pub Rests : Cause → Device → Device → Type 0
 Rests cause.Dark old left = left.flights ≡ []
 Rests cause.Stuck old left = left.power ≡ true
-Rests (cause.NoDisk disk) old left = StaysOrRests old left
-Rests (cause.TooMany limit) old left = StaysOrRests old left
-Rests (cause.TooSmall disk) old left = StaysOrRests old left
-Rests cause.GroupExists old left = StaysOrRests old left
-Rests cause.NoRecord old left = StaysOrRests old left
-Rests cause.Ambiguous old left = StaysOrRests old left
-Rests (cause.NoQuorum have total) old left = StaysOrRests old left
-Rests (cause.ClockBack seen) old left = StaysOrRests old left
-Rests (cause.DiskFailed disk) old left = StaysOrRests old left
-Rests cause.HistoryFull old left = StaysOrRests old left
-Rests cause.Memory old left = StaysOrRests old left
+Rests _ old left = StaysOrRests old left
 
 -- what a refusal leaves, before the power is put on again
 pub record Leaves (why : Cause) (old left : Device) : Type 0 where
@@ -141,15 +131,4 @@ lit_up cause.Memory old left new was rests same = rested (reply.Refused refusal.
 -- a shelf whose power wasn't cut is left alone
 pub left_alone : (device : Device) (why : Cause) → (why ≡ cause.Dark → ⊥) → IsRelit why device device
 left_alone device cause.Dark other = absurd (other refl)
-left_alone device cause.Stuck other = refl
-left_alone device (cause.NoDisk disk) other = refl
-left_alone device (cause.TooMany limit) other = refl
-left_alone device (cause.TooSmall disk) other = refl
-left_alone device cause.GroupExists other = refl
-left_alone device cause.NoRecord other = refl
-left_alone device cause.Ambiguous other = refl
-left_alone device (cause.NoQuorum have total) other = refl
-left_alone device (cause.ClockBack seen) other = refl
-left_alone device (cause.DiskFailed disk) other = refl
-left_alone device cause.HistoryFull other = refl
-left_alone device cause.Memory other = refl
+left_alone device _ other = refl

@@ -205,13 +205,7 @@ begun_need (f ∷ facts) = let all = sum_by-cons need f facts in let here = by f
     by (Begun r) = omega arith
     by (Landed r how started got) = more 0
     by (Taken r) = more 0
-    by (Making lv blocks m) = more 1
-    by (Made lv) = more 1
-    by (Split from lv) = more 1
-    by (Removing vol) = more 1
-    by (Removed vol) = more 1
-    by Cut = more 1
-    by (On moment) = more 1
+    by _ = more 1
 
 -- so the entries that are needed have room for as many posts
 pub posts_need : (run : ℕ) (facts : List Fact) (on : Option Core) (posts : List Post) → Ordered run [] facts → IsToldOf facts on → ArePosted facts on posts → 3 * length posts ≤ needed facts

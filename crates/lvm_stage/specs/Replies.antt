@@ -22,14 +22,9 @@ reply_text (reply.Refused why) = refusal_text (shown why)
 
 -- how many refusals it answers: that of each post of a `wait`, and one else
 abbrev pub refusals_of : Reply → ℕ
-refusals_of reply.Silent = 0
-refusals_of reply.Ok = 0
-refusals_of reply.Posted = 0
-refusals_of (reply.Stepped turns) = 0
-refusals_of (reply.Synced made) = 0
-refusals_of (reply.Lines text) = 0
 refusals_of (reply.Answers text refused) = refused
 refusals_of (reply.Refused why) = 1
+refusals_of _ = 0
 
 -- how many it may answer, since the line of turns, or of copies, may find no memory
 abbrev pub most_refusals : Reply → ℕ

@@ -8,10 +8,10 @@ pub mod Mirrors
 pub mod Quiesce
 pub mod QuiescedVariants
 pub mod Ranges
+pub mod Recover
 pub mod Running
 pub mod Tie
 pub mod TieCommands
 pub mod TieCopies
-pub mod Recover
 pub mod Varyon
 pub mod Volumes

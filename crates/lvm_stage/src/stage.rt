@@ -8,6 +8,7 @@ use crate::holder::Holder;
 use crate::reply::{Refusal, Reply};
 use lvm_core::Closed;
 use lvm_disk::Shelf;
+use lvm_history::History;
 use lvm_num::{Memory, Name};
 use lvm_posts::{Post, end_posts};
 use lvm_session::Power;
@@ -112,6 +113,17 @@ fn serving_left<S: Shelf>(
 }
 
 impl<S: Shelf> Stage<S> {
+    /// The stage at which no group is on.
+    pub fn off(shelf: S, history: History, posts: Vec<Post>, bytes: Vec<u8>) -> Stage<S>
+        ensures { result ≡ record { holder = Holder.Off shelf history; posts = posts; bytes = bytes } }
+    {
+        Stage {
+            holder: Holder::Off { shelf, history },
+            posts,
+            bytes,
+        }
+    }
+
     /// Leaves it so, with this answer.
     pub fn answered(self, reply: Reply) -> Answered<S>
         ensures stage { result.stage ≡ self }

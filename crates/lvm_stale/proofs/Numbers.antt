@@ -1,5 +1,5 @@
 -- Numbers of volumes that rise, with one more and with one less.
-use Rattle.std.proofs.Common.{◌≡◌, ◌≢◌, inl, inr, ℕ, zero, suc, ◌+◌, ◌-◌, ◌<◌, ◌≤◌, Bool, true, false, ◌||◌, List, ◌∷◌, length, get_or, take, drop, refl, sym, ap, subst, ◌∙◌, arith, drop-cons, Ok, Err}
+use Rattle.std.proofs.Common.{◌≡◌, ◌≢◌, inl, inr, ℕ, suc, ◌+◌, ◌-◌, ◌<◌, ◌≤◌, Bool, true, false, ◌||◌, List, ◌∷◌, length, get_or, take, drop, refl, sym, ap, subst, ◌∙◌, arith, drop-cons, Ok, Err}
 use Rattle.std.specs.Prelude.{◌==◌, if◌then◌else◌, insert, remove}
 use Rattle.std.specs.List.{list_any}
 use Rattle.std.specs.Ordering.{nat_cmp}
@@ -13,6 +13,7 @@ use Rattle.std.proofs.lemmas.List.Elements.{All-append, All-cons, All-take, All-
 use Rattle.std.proofs.lemmas.List.Folds.{list_any_none, list_any-append, list_any_at}
 use Rattle.std.proofs.lemmas.List.Quantifiers.{all_pairs_remove}
 use Rattle.lvm_num.specs.Status.{IsVolumeNumber, AreDirty}
+use Rattle.lvm_num.proofs.Bounds.{few_dirty}
 use Rattle.lvm_stale.specs.Rows.{SetsAmong}
 
 -- the number stands at this place
@@ -42,18 +43,6 @@ pub missed : (xs ys : List ℕ) (x place : ℕ) → ys ≡ xs → AreDirty xs �
 missed xs ys x place same all at =
     let here = searched xs x (Err place) (subst (λ (zs : List ℕ). IsBinarySearchResult (λ y. nat_cmp y x) zs (Err place)) same at) (never_falls xs all) in
     record { within = here.0; below = here.1; above = here.2 }
-
--- each number is above its place, so there are at most 511
-above_place : (xs : List ℕ) → AreDirty xs → (k : ℕ) → k < length xs → k < get_or xs k 0
-above_place xs all zero lt = omega (arith, (all.each 0 0 lt).least)
-above_place xs all (suc k) lt =
-    omega (arith, above_place xs all k (omega (arith, lt)), all.numbers_rise k (suc k) 0 (omega arith) lt)
-
-pub fits : (xs : List ℕ) → AreDirty xs → length xs ≤ 511
-fits xs all = elim (cases_lt 511 (length xs)) [
-  | inl many ↦ absurd (omega (arith, above_place xs all 511 many, (all.each 511 0 many).most))
-  | inr few ↦ few
-]
 
 -- ---- one more
 
@@ -103,7 +92,7 @@ dirty-insert xs x i all here at = record {
 
 -- there is room for one that isn't there
 pub room : (xs : List ℕ) (x i : ℕ) → AreDirty xs → IsVolumeNumber x → BelongsAt xs x i → length xs < 511
-room xs x i all here at = omega (arith, fits (insert xs i x) (dirty-insert xs x i all here at), length-insert xs i x at.within)
+room xs x i all here at = omega (arith, few_dirty (insert xs i x) (dirty-insert xs x i all here at), length-insert xs i x at.within)
 
 -- ---- one less
 

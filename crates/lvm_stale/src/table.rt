@@ -10,8 +10,8 @@ ghost use Rattle.lvm_stale.specs.Rows.{IsRowAt, SetsAmong};
 ghost use Rattle.lvm_stale.specs.Table.{has_row, is_pp, SameMembers, SameStale, SameMissing, stale_count};
 
 use lvm_num::{
-    Descriptor, Memory, Pp, Rows, Status, StatusRow, VolumeNumbers, clear_bit, has_bit, set_bit,
-    volume_of,
+    Descriptor, Memory, Pp, Status, StatusRow, VolumeNumbers, clear_bit, copy_of_status, has_bit,
+    set_bit, volume_of,
 };
 use std::alloc::Global;
 use std::marker::Model;
@@ -41,7 +41,7 @@ impl StaleTable {
         requires { IsValidStatus s.now }
         ensures { IfOk result (λ table. table ≡ s.now) }
     {
-        let status = copy_of(alloc, s)?;
+        let status = copy_of_status(alloc, s)?;
         Ok(StaleTable { status })
     }
 
@@ -50,7 +50,7 @@ impl StaleTable {
         ensures same { IfOk result (λ status. status ≡ self.now) }
         ensures valid { IfOk result IsValidStatus }
     {
-        copy_of(alloc, &self.status)
+        copy_of_status(alloc, &self.status)
     }
 
     /// The status that it is, without memory.
@@ -188,22 +188,6 @@ impl StaleTable {
         ensures { result ≡ count_by (calls_stale self.now) map.now }
     {
         map.iter().filter(|pp| self.is_stale(**pp)).count() as u32
-    }
-}
-
-// A status that says the same, with all its room.
-fn copy_of(alloc: Global, s: &Status) -> Result<Status, Memory>
-    ensures { IfOk result (λ copy. copy ≡ s.now) }
-{
-    let dirty = VolumeNumbers::new(alloc, s.dirty.as_slice())?;
-    match Vec::from_slice(alloc, s.rows.as_slice()) {
-        Ok(rows) => Ok(Status {
-            id: s.id,
-            big: s.big,
-            dirty,
-            rows: Rows::new(rows),
-        }),
-        Err(_) => Err(Memory),
     }
 }
 

@@ -1,2 +1,5 @@
 pub mod Firsts
 mod Within
+mod Writes
+mod Buffers
+pub mod Ready

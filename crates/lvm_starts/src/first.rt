@@ -5,10 +5,10 @@ ghost use Rattle.lvm_session.specs.State.{state};
 ghost use Rattle.lvm_launch.specs.Launching.{StartGives};
 ghost use Rattle.lvm_starts.specs.Starts.{CanStart};
 
+use crate::start::start_status;
 use lvm_disk::Shelf;
 use lvm_launch::{read_copy, start_data, start_note, write_copy};
 use lvm_session::{Event, Session, Turned};
-use lvm_update::start_status;
 
 /// The transfer of an event that starts one is started. Answers `Moved`, or `Dark` where the power is found off.
 pub fn make_start<S: Shelf>(session: &mut Session, shelf: &mut S, event: Event) -> Turned

@@ -7,7 +7,7 @@ use Rattle.lvm_num.specs.declared.status.StatusRow.{StatusRow}
 use Rattle.lvm_num.specs.declared.status.Status.{Status}
 use Rattle.lvm_num.specs.Disks.{has}
 use Rattle.lvm_stale.specs.Table.{SameMembers}
-use Rattle.lvm_left.proofs.MarkLemmas.{has_row-same}
+use Rattle.lvm_stale.proofs.MarkLemmas.{has_row-same}
 use Rattle.lvm_status.specs.declared.writes.Writes.{Writes}
 use Rattle.lvm_status.specs.Members.{IsFit}
 

@@ -91,11 +91,8 @@ closed u = if is_held u && not (is_owed u) then record u { in_flight = None; uns
 
 -- a write that isn't started isn't made once its disk is missing
 abbrev pub given_up : Change → Disks → Disks
-given_up (change.Stale pp) unstarted = unstarted
-given_up (change.Fresh pp) unstarted = unstarted
 given_up (change.Missing disk) unstarted = without_disk unstarted disk
-given_up (change.Dirty lv) unstarted = unstarted
-given_up (change.Clean lv) unstarted = unstarted
+given_up _ unstarted = unstarted
 
 -- something is wanted
 abbrev pub with_wanted : Updates → Change → Status → Updates

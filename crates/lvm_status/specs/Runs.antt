@@ -95,11 +95,8 @@ WrittenHasEnded = (call : Call) (old new : Updates) → Step call old new → (d
 
 -- a stamp that is set isn't before the last one
 abbrev pub SetsForward : Call → Updates → Type 0
-SetsForward (Want change) u = Unit {0}
-SetsForward Start u = Unit {0}
-SetsForward (NextWrite disk) u = Unit {0}
-SetsForward (Ended disk ok) u = Unit {0}
 SetsForward (SetStamp stamp) u = stamp_lt stamp u.stamp ≡ false
+SetsForward _ u = Unit {0}
 
 abbrev pub RunsForward : List Call → Updates → Updates → Type 0
 RunsForward [] old new = new ≡ old

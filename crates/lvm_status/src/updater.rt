@@ -6,14 +6,15 @@ ghost use Rattle.lvm_num.specs.declared.descriptor.PvRow.{PvRow};
 ghost use Rattle.lvm_num.specs.Descriptor.{IsValid, IsLaidOut, partitions_in};
 ghost use Rattle.lvm_num.specs.Votes.{total_votes};
 ghost use Rattle.lvm_num.specs.Disks.{has, IsLowest};
-ghost use Rattle.lvm_left.specs.Marking.{IsLeftIn, Marks, IsMarkable};
+ghost use Rattle.lvm_stale.specs.Marking.{IsLeftIn, Marks, IsMarkable};
 ghost use Rattle.lvm_status.specs.Members.{HasItsRows, all_rows, all_members};
 ghost use Rattle.lvm_status.specs.Update.{members_there};
 
 use crate::{Change, Progress, Writes};
-use lvm_left::mark_volumes;
-use lvm_num::{Descriptor, DiskSet, LvRow, Memory, Pp, Rows, Stamp, Status, has_member};
-use lvm_stale::StaleTable;
+use lvm_num::{
+    Descriptor, DiskSet, LvRow, Memory, Pp, Rows, Stamp, Status, has_member, with_volumes,
+};
+use lvm_stale::{StaleTable, mark_volumes};
 use std::alloc::Global;
 use std::marker::Model;
 
@@ -377,19 +378,7 @@ fn two_of(alloc: Global, table: &StaleTable) -> Result<(StaleTable, StaleTable),
 fn without_volumes(alloc: Global, d: &Descriptor) -> Result<Descriptor, Memory>
     ensures { IfOk result (λ group. group ≡ record d.now { lvs = [] }) }
 {
-    match Vec::from_slice(alloc, d.pvs.as_slice()) {
-        Ok(pvs) => Ok(Descriptor {
-            id: d.id,
-            name: d.name,
-            mib: d.mib,
-            quorum: d.quorum,
-            even: d.even,
-            big: d.big,
-            pvs: Rows::new(pvs),
-            lvs: Rows::empty(alloc),
-        }),
-        Err(_) => Err(Memory),
-    }
+    with_volumes(alloc, d, Rows::empty(alloc))
 }
 
 /// The members that a table doesn't call missing.

@@ -2,10 +2,7 @@
 use Rattle.std.proofs.Common.{◌≡◌, ◌⊎◌, inl, inr, ⊎_elim, ℕ, ◌<◌, true, false, ◌&&◌, List, [], ◌∷◌, ◌++◌, Option, Some, None, refl, sym, ap, subst, ◌∙◌, eq-eqb}
 use Rattle.std.specs.Prelude.{IsTrue, ◌==◌, is_some}
 use Rattle.std.proofs.lemmas.Bool.{eqb-true}
-use Rattle.lvm_num.specs.declared.place.Pp.{Pp}
 use Rattle.lvm_num.specs.declared.record.Stamp.{Stamp}
-use Rattle.lvm_num.specs.declared.descriptor.Mode.{Mode}
-use Rattle.lvm_num.specs.declared.descriptor.Mode.TheVariants.{Active, Passive, Off}
 use Rattle.lvm_num.specs.declared.descriptor.PvRow.{PvRow}
 use Rattle.lvm_num.specs.declared.descriptor.LvRow.{LvRow}
 use Rattle.lvm_num.specs.declared.descriptor.Descriptor.{Descriptor}
@@ -21,11 +18,12 @@ use Rattle.lvm_vol.specs.Standing.{volumes_in}
 use Rattle.lvm_kept.specs.Contents.{Contents}
 use Rattle.lvm_kept.specs.Group.{passes, is_of, has_room, is_voter, status_among, Finds, IsFound, members_in, status_by, Reads, ReadsBy, fresh_on, IsBlockOf, IsOneOf, IsSome}
 use Rattle.lvm_kept.specs.Committed.{IsWithinDisks}
-use Rattle.lvm_kept.specs.Kept.{StandsAs, HasStatus, MayDiffer, IsBlockKept, BlocksKept, IsSettledIn, IsAvailable, Kept}
+use Rattle.lvm_kept.specs.Kept.{StandsAs, HasStatus, IsBlockKept, BlocksKept, IsSettledIn, IsAvailable, Kept}
 use Rattle.lvm_kept.proofs.Finding.{some_same, finding_reads}
 use Rattle.lvm_kept.proofs.Alike.{like_found, alike_stays}
 use Rattle.lvm_kept.proofs.Restamping.{fewer_blocks}
 use Rattle.lvm_kept.proofs.Entries.{volume_is_row}
+use Rattle.lvm_kept.proofs.SameBlocks.{same_block}
 use Rattle.lvm_steps.specs.Committing.{IsServed, CommitKeeps}
 use Rattle.lvm_steps.proofs.Revaluing.{new, h, mid, mid_kept, mid_reads, mid_status, mid_members, Behind, behind, members_same, status_same, reads_behind, still_found}
 use Rattle.lvm_steps.proofs.Booleans.{either, clash, split, join, not-itself}
@@ -140,39 +138,16 @@ module _ (old : Contents) (shown : ℕ → Option (Stamped Descriptor)) (g : Des
     mib_was : k.mib ≡ k_was.was.mib
     mib_was = ap (λ (y : Descriptor). y.mib) k_was.alike
 
-    -- the data and the notes are the same
-    from_old : (mib : ℕ) (s : Option (Stamped Status)) (row : LvRow) (copies : List Pp) (k : Known) (m : ℕ) → IsBlockKept old mib s row copies k m → IsBlockKept now mib s row copies k m
-    from_old mib s row copies k m block = record {
-      allowed = block.allowed;
-      equal = ⊎_elim (λ held. inl held) (λ (differ : MayDiffer old s row.number row.mode copies k m). inr (differ_now row.mode differ)) block.equal;
-    }
-      where
-        differ_now : (mode : Mode) → MayDiffer old s row.number mode copies k m → MayDiffer now s row.number mode copies k m
-        differ_now Active differ = differ
-        differ_now Passive differ = differ
-        differ_now Off differ = differ
-
-    from_between : (mib : ℕ) (s : Option (Stamped Status)) (row : LvRow) (copies : List Pp) (k : Known) (m : ℕ) → IsBlockKept between mib s row copies k m → IsBlockKept now mib s row copies k m
-    from_between mib s row copies k m block = record {
-      allowed = block.allowed;
-      equal = ⊎_elim (λ held. inl held) (λ (differ : MayDiffer between s row.number row.mode copies k m). inr (differ_now row.mode differ)) block.equal;
-    }
-      where
-        differ_now : (mode : Mode) → MayDiffer between s row.number mode copies k m → MayDiffer now s row.number mode copies k m
-        differ_now Active differ = differ
-        differ_now Passive differ = differ
-        differ_now Off differ = differ
-
     across : BlocksKept now facts k (members_in now all_disks id k) (status_by now b id x)
     across row lp m one inside =
         let k_now : Known = known (facts ++ Cut ∷ []) (Lv row.number) m in
         let inside_was : IsBlockOf k_was.was.mib row lp m = subst (λ (mib : ℕ). IsBlockOf mib row lp m) mib_was inside in
         subst (λ (mib : ℕ). IsBlockKept now mib (status_by now b id x) row (fresh_on (members_in now all_disks id k) (status_by now b id x) row lp) k_now m) (sym mib_was)
         (by_row (λ v s. IsBlockKept now k_was.was.mib s row (fresh_on v s row lp) k_now m) row one
-        (λ stood. from_between k_was.was.mib _ row _ k_now m (kept_between.lasting.across b id x_was.was k_was.was r_was f_was row lp m stood inside_was))
+        (λ stood. same_block between shown old.status k_was.was.mib _ row _ k_now m (kept_between.lasting.across b id x_was.was k_was.was r_was f_was row lp m stood inside_was))
         (λ y reads_old is_g serves.
         subst (λ (z : Descriptor). IsBlockKept now z.mib (status_by old b g.id y) row (fresh_on (members_in old all_disks g.id g) (status_by old b g.id y) row lp) k_now m) (sym is_g)
-        (from_old g.mib _ row _ k_now m (serves.blocks b y reads_old lp m (subst (λ (z : Descriptor). IsBlockOf z.mib row lp m) is_g inside_was)))))
+        (same_block old shown old.status g.mib _ row _ k_now m (serves.blocks b y reads_old lp m (subst (λ (z : Descriptor). IsBlockOf z.mib row lp m) is_g inside_was)))))
 
   -- ---- by the set that finds it
 
@@ -261,10 +236,7 @@ module _ (old : Contents) (shown : ℕ → Option (Stamped Descriptor)) (g : Des
 
   still_none : (d : ℕ) → shown d ≡ None → old.descriptor d ≡ None
   still_none d none = ⊎_elim (λ (same : shown d ≡ old.descriptor d). sym same ∙ none)
-      (λ (put : (shown d ≡ Some (record { stamp = n; value = next })) × IsTrue (passes (is_of g.id) (old.descriptor d))). absurd (no_some (sym put.0 ∙ none))) (own d)
-    where
-      no_some : Some written ≡ None → ⊥
-      no_some e = absurd cc
+      (λ (put : (shown d ≡ Some (record { stamp = n; value = next })) × IsTrue (passes (is_of g.id) (old.descriptor d))). absurd (let e : Some written ≡ None = sym put.0 ∙ none in cc (e))) (own d)
 
   pub committed : Kept now facts
   committed = record {

@@ -9,7 +9,7 @@ use Rattle.lvm_num.specs.Disks.{Disks}
 use Rattle.lvm_num.specs.Record.{Stamped}
 use Rattle.lvm_vol.specs.declared.entry.Vol.{Vol}
 use Rattle.lvm_vol.specs.declared.entry.Vol.TheVariants.{Disk, Lv}
-use Rattle.lvm_vol.specs.Facts.{Request, Fact, Making, Made, Split, Removing, Removed, Begun, Landed, Taken, Cut, On, Stands, same_vol, is_over}
+use Rattle.lvm_vol.specs.Facts.{Request, Fact, Removing, Removed, Begun, Landed, Taken, Cut, On, Stands, same_vol, is_over}
 use Rattle.lvm_vol.specs.May.{Known, known, change, source, May, IsValue, cut, also, is_off}
 use Rattle.lvm_vol.specs.Laws.{is_about}
 use Rattle.lvm_vol.specs.Standing.{Standing, Settled, Absent, Open, Volume, no_volumes, volumes_after, volumes_after_fact, volumes_in, put}
@@ -40,9 +40,7 @@ after_disks (Removed vol) volumes lv is = put_disk vol Absent volumes lv is
 after_disks (Taken r) volumes lv is = refl
 after_disks (On moment) volumes lv is = refl
 after_disks Cut volumes lv is = refl
-after_disks (Making n blocks mode) volumes lv is = absurd is
-after_disks (Made n) volumes lv is = absurd is
-after_disks (Split from n) volumes lv is = absurd is
+after_disks _ volumes lv is = absurd is
 
 pub volumes_same : (facts : List Fact) (f : Fact) (lv : ℕ) → IsOfDisks f → volumes_in (facts ++ f ∷ []) lv ≡ volumes_in facts lv
 volumes_same facts f lv is = ap (λ (v : ℕ → Volume). v lv) (volumes-append no_volumes facts (f ∷ [])) ∙ after_disks f (volumes_in facts) lv is
@@ -67,10 +65,7 @@ not_about (Removing vol) lv b is = refl
 not_about (Removed vol) lv b is = apart vol lv is
 not_about (Taken r) lv b is = refl
 not_about (On moment) lv b is = refl
-not_about Cut lv b is = absurd is
-not_about (Making n blocks mode) lv b is = absurd is
-not_about (Made n) lv b is = absurd is
-not_about (Split from n) lv b is = absurd is
+not_about _ lv b is = absurd is
 
 known_same : (facts : List Fact) (f : Fact) (lv b : ℕ) → IsOfDisks f → known ((facts ++ f ∷ []) ++ Cut ∷ []) (Lv lv) b ≡ known (facts ++ Cut ∷ []) (Lv lv) b
 known_same facts f lv b is =
@@ -146,7 +141,4 @@ quiet_entry_keeps c facts (Removed vol) is kept = of_disks c facts (Removed vol)
 quiet_entry_keeps c facts (Taken r) is kept = of_disks c facts (Taken r) is (raw_more c facts (Taken r) (λ k d b x may. may) (λ d. refl) kept.agrees.raw) kept
 quiet_entry_keeps c facts (On moment) is kept = of_disks c facts (On moment) is (raw_more c facts (On moment) (λ k d b x may. may) (λ d. refl) kept.agrees.raw) kept
 quiet_entry_keeps c facts Cut is kept = cut_keeps c facts kept
-quiet_entry_keeps c facts (Landed r how started got) is kept = absurd is
-quiet_entry_keeps c facts (Making lv blocks mode) is kept = absurd is
-quiet_entry_keeps c facts (Made lv) is kept = absurd is
-quiet_entry_keeps c facts (Split from lv) is kept = absurd is
+quiet_entry_keeps c facts _ is kept = absurd is

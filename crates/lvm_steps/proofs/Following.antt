@@ -27,7 +27,7 @@ use Rattle.lvm_steps.proofs.VaryingOn.{restamp_keeps, restate_keeps, forgetting_
 use Rattle.lvm_steps.proofs.Making.{stays_by, media_may}
 use Rattle.lvm_steps.proofs.Spans.{steps_go_on, group_goes_on}
 use Rattle.lvm_steps.proofs.Booleans.{clash, first}
-use Rattle.lvm_steps.proofs.FindsLemmas.{still_finds}
+use Rattle.lvm_kept.proofs.FindsLemmas.{still_finds}
 
 -- ---- the newest
 

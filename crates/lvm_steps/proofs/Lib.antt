@@ -11,7 +11,6 @@ pub mod WorkedMaking
 pub mod Writable
 pub mod Members
 pub mod PassingLemmas
-pub mod FindsLemmas
 pub mod ServesLemmas
 pub mod VaryingOn
 pub mod Revaluing

@@ -15,7 +15,7 @@ use Rattle.lvm_num.proofs.Newest.{is_one}
 use Rattle.lvm_vol.specs.declared.entry.Vol.TheVariants.{Disk}
 use Rattle.lvm_vol.specs.Facts.{Fact, Cut}
 use Rattle.lvm_vol.specs.May.{known, May}
-use Rattle.lvm_vol.specs.Standing.{Standing, Absent, Open, Settled, Shape, volumes_in}
+use Rattle.lvm_vol.specs.Standing.{Standing, Settled, Shape, volumes_in}
 use Rattle.lvm_kept.specs.Contents.{Contents}
 use Rattle.lvm_kept.specs.Group.{if_passes, passes, is_of, has_room, descriptor_among, is_voter, has_quorum, Finds, IsFound, members_in, Reads, AreAlike, IsOneOf}
 use Rattle.lvm_kept.specs.Kept.{StandsAs, HasStatus, RawAgrees, IsSettledIn, IsAvailable, Kept}
@@ -24,6 +24,7 @@ use Rattle.lvm_kept.proofs.Finding.{some_same, offered, is_offered}
 use Rattle.lvm_kept.proofs.Alike.{alike_stays}
 use Rattle.lvm_kept.proofs.Changing.{notes_keep}
 use Rattle.lvm_kept.proofs.Restating.{statuses_keep}
+use Rattle.lvm_kept.proofs.Entries.{stands_unfound}
 use Rattle.lvm_steps.specs.Making.{NamesNoVolume, MayMake, NotesMayChange, StatusesMayChange, DescriptorsMayChange}
 
 -- ---- lists without volumes
@@ -38,14 +39,6 @@ no_need (r ∷ rows) s empty = absurd cc
 
 no_volume : (g : Descriptor) (lv : ℕ) → g.lvs ≡ [] → volume_of g lv ≡ None
 no_volume g lv empty = ap (λ (rows : List LvRow). find (λ (row : LvRow). row.number == lv) rows) empty
-
--- a volume that isn't there may stand in any way but settled
-stands_none : (mib : ℕ) (standing : Standing) (shape : Option Shape) (o : Option LvRow) → o ≡ None → (standing ≡ Settled → ⊥) → StandsAs mib standing shape o
-stands_none mib Settled shape o none not = absurd (not refl)
-stands_none mib Open shape None none not = tt
-stands_none mib Open shape (Some row) none not = absurd cc
-stands_none mib Absent shape None none not = tt
-stands_none mib Absent shape (Some row) none not = absurd cc
 
 settled_is_there : (mib : ℕ) (shape : Option Shape) (o : Option LvRow) → o ≡ None → StandsAs mib Settled shape o → ⊥
 settled_is_there mib shape None none stands = stands
@@ -86,7 +79,7 @@ pub record Remains (c : Contents) (facts : List Fact) : Type 0 where
 pub empty_kept : (c : Contents) (facts : List Fact) → NamesNoVolume c → Remains c facts → Kept c facts
 empty_kept c facts empty rest = record {
   agrees = record {
-    volumes = λ disks id g f lv. stands_none g.mib (volumes_in facts lv).standing (volumes_in facts lv).shape (volume_of g lv) (no_volume g lv (found_empty c empty disks id g f)) (rest.unsettled lv);
+    volumes = λ disks id g f lv. stands_unfound g.mib (volumes_in facts lv).standing (volumes_in facts lv).shape (volume_of g lv) (no_volume g lv (found_empty c empty disks id g f)) (rest.unsettled lv);
     status = λ disks id g f. no_need g.lvs _ (found_empty c empty disks id g f);
     copies = λ disks id g f row lp b one inside. absurd (no_row g.lvs row (found_empty c empty disks id g f) one);
     raw = rest.raw;
@@ -127,10 +120,6 @@ statuses_may_change group targets next old new facts may unused change kept = st
 and_true : (b : Bool) → b && true ≡ b
 and_true true = refl
 and_true false = refl
-
-and_false : (b : Bool) → b && false ≡ false
-and_false true = refl
-and_false false = refl
 
 module _ (old new : Contents) (group : Descriptor) (targets : Disks) (next : Stamped Descriptor) (may : MayMake old group) (is : next.value ≡ group) (change : DescriptorsChange targets next old new) where
   abbrev v : ℕ

@@ -26,8 +26,7 @@ use Rattle.lvm_kept.proofs.Spans.{at_moment, from_before}
 use Rattle.lvm_steps.specs.Moments.{Begins, Keeps}
 use Rattle.lvm_steps.specs.Requests.{IsInNoGroup, answered, darkened, read_flight, ReadGotKeeps, ReadFailedKeeps, ReadDarkKeeps, ReadStuckKeeps}
 use Rattle.lvm_steps.proofs.Masks.{masked, to_masked, of_masked, descriptors_same, data_by}
-use Rattle.lvm_steps.proofs.Spans.{keeps_steps}
-use Rattle.lvm_steps.proofs.Writing.{IsUnderWay, begins_moment, goes_on, cut_moment, lands_moment, takes_moment}
+use Rattle.lvm_steps.proofs.Writing.{IsUnderWay, begins_moment, goes_on, lands_moment, takes_moment, dark_moment}
 
 module _ (run id disk at count ticket : ℕ) (sent : Buffer) (old : Device) (facts : List Fact) (next : id ≡ count_by (begins_in run) facts + 1) where
   abbrev it : Request
@@ -75,11 +74,8 @@ module _ (run id disk at count ticket : ℕ) (sent : Buffer) (old : Device) (fac
   -- the power was cut, and is put on again
   pub read_dark : (dark new : Device) (started : Bool) → Path DeviceStep (OnlyAdds f old) old dark → Path DeviceStep (LeavesNoMore dark) dark new → Keeps run first (at_moment new (darkened facts it started))
   read_dark dark new started path lit =
-      let cut_facts = (facts ++ Begun it ∷ []) ++ Cut ∷ [] in
-      keeps_steps run first dark new ((cut_facts ++ Landed it outcome.Dark started [] ∷ []) ++ Taken it ∷ [])
-      (takes_moment run first it dark (cut_facts ++ Landed it outcome.Dark started [] ∷ [])
-      (lands_moment run first it dark cut_facts outcome.Dark started [] (cut_moment run first it dark (facts ++ Begun it ∷ []) (read_goes dark path)) tt tt (λ past begins holds. tt)
-      (λ past begins holds image may. landed_still (past ++ cut_facts) image outcome.Dark started (λ k d b. either_way (is_over it (Disk d) b) k) (holds.kept image may).agrees.raw)))
+      dark_moment run first it dark new (facts ++ Begun it ∷ []) started (read_goes dark path) tt tt (λ past begins holds. tt)
+      (λ past begins holds image may. landed_still (past ++ ((facts ++ Begun it ∷ []) ++ Cut ∷ [])) image outcome.Dark started (λ k d b. either_way (is_over it (Disk d) b) k) (holds.kept image may).agrees.raw)
       lit
 
   -- ---- it got its blocks

@@ -6,7 +6,7 @@ use Rattle.lvm_disk.specs.Images.{LeavesNoMore}
 use Rattle.lvm_disk.specs.Paths.{DeviceStep, Path, Here, Then}
 use Rattle.lvm_disk.proofs.Paths.{append-path, lift-path, last-path, map-path}
 use Rattle.lvm_vol.specs.declared.entry.Vol.TheVariants.{Disk}
-use Rattle.lvm_vol.specs.Facts.{Fact, Making, Made, Split, Removing, Removed, Begun, Landed, Taken, Cut, On}
+use Rattle.lvm_vol.specs.Facts.{Fact, Removed, Cut, On}
 use Rattle.lvm_vol.specs.Legal.{begins_in, Legal, IsLater}
 use Rattle.lvm_kept.specs.Contents.{contents_of}
 use Rattle.lvm_kept.specs.Kept.{Kept}
@@ -68,29 +68,13 @@ append_none (f ∷ l) = ap (λ (m : List Fact). f ∷ m) (append_none l)
 pub later_append : (xs ys : List Fact) (m : ℕ) → IsLater xs m → IsLater ys m → IsLater (xs ++ ys) m
 later_append [] ys m later more = more
 later_append (On e ∷ xs) ys m later more = (later.0, later_append xs ys m later.1 more)
-later_append (Making lv blocks mode ∷ xs) ys m later more = later_append xs ys m later more
-later_append (Made lv ∷ xs) ys m later more = later_append xs ys m later more
-later_append (Split from lv ∷ xs) ys m later more = later_append xs ys m later more
-later_append (Removing vol ∷ xs) ys m later more = later_append xs ys m later more
-later_append (Removed vol ∷ xs) ys m later more = later_append xs ys m later more
-later_append (Begun r ∷ xs) ys m later more = later_append xs ys m later more
-later_append (Landed r how started got ∷ xs) ys m later more = later_append xs ys m later more
-later_append (Taken r ∷ xs) ys m later more = later_append xs ys m later more
-later_append (Cut ∷ xs) ys m later more = later_append xs ys m later more
+later_append (_ ∷ xs) ys m later more = later_append xs ys m later more
 
 -- and a later moment is too
 later_still : (xs : List Fact) (m n : ℕ) → m ≤ n → IsLater xs m → IsLater xs n
 later_still [] m n le later = tt
 later_still (On e ∷ xs) m n le later = (let lt = later.0 in omega (arith, lt, le), later_still xs m n le later.1)
-later_still (Making lv blocks mode ∷ xs) m n le later = later_still xs m n le later
-later_still (Made lv ∷ xs) m n le later = later_still xs m n le later
-later_still (Split from lv ∷ xs) m n le later = later_still xs m n le later
-later_still (Removing vol ∷ xs) m n le later = later_still xs m n le later
-later_still (Removed vol ∷ xs) m n le later = later_still xs m n le later
-later_still (Begun r ∷ xs) m n le later = later_still xs m n le later
-later_still (Landed r how started got ∷ xs) m n le later = later_still xs m n le later
-later_still (Taken r ∷ xs) m n le later = later_still xs m n le later
-later_still (Cut ∷ xs) m n le later = later_still xs m n le later
+later_still (_ ∷ xs) m n le later = later_still xs m n le later
 
 -- a group was varied on
 pub group_goes_on : GroupGoesOn
@@ -107,7 +91,7 @@ disks_go_out run first device facts (d ∷ disks) span =
     (entry_goes_on run first device facts (Removed (Disk d)) span (λ past begins holds. tt) (λ past begins holds image may. quiet_entry_keeps (contents_of image) (past ++ facts) (Removed (Disk d)) tt (holds.kept image may))))
 
 -- the earlier history, as a run finds it
-begins_run : (run : ℕ) (device : Device) (past : List Fact) → IsEarlier run device past → Begins run (past ++ Cut ∷ []) (at_moment device [])
+pub begins_run : (run : ℕ) (device : Device) (past : List Fact) → IsEarlier run device past → Begins run (past ++ Cut ∷ []) (at_moment device [])
 begins_run run device past earlier =
     let all : (past ++ Cut ∷ []) ++ [] ≡ past ++ Cut ∷ [] = append_none (past ++ Cut ∷ []) in
     record {

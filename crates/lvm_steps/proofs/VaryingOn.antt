@@ -2,7 +2,7 @@
 use Rattle.std.proofs.Common.{◌≡◌, inl, inr, ⊎_elim, ℕ, ◌<◌, Bool, true, false, ◌&&◌, List, [], ◌∷◌, ◌++◌, Option, Some, refl, sym, ap, subst, ◌∙◌, eq-eqb}
 use Rattle.std.specs.Prelude.{IsTrue, IsFalse, not, if◌then◌else◌, filter}
 use Rattle.std.specs.List.{AllByRecursion}
-use Rattle.std.proofs.lemmas.Bool.{eqb-true}
+use Rattle.std.proofs.lemmas.Bool.{eqb-true, not-true, not_from_false}
 use Rattle.lvm_num.specs.declared.place.Pp.{Pp}
 use Rattle.lvm_num.specs.declared.descriptor.Mode.{Mode}
 use Rattle.lvm_num.specs.declared.descriptor.Mode.TheVariants.{Active, Passive, Off}
@@ -97,14 +97,6 @@ one_of_some : {X : Type 0} (xs : List X) → IsSome xs → (x : X) × IsOneOf xs
 one_of_some [] some = absurd some
 one_of_some (x ∷ xs) some = (x, inl refl)
 
-not_true : (b : Bool) → not b ≡ true → b ≡ false
-not_true true e = absurd cc
-not_true false e = refl
-
-true_not : (b : Bool) → b ≡ false → not b ≡ true
-true_not true e = absurd cc
-true_not false e = refl
-
 -- a status that calls more copies of the group stale, and as many of its volumes in mode passive dirty
 module _ (c : Contents) (group : Descriptor) (was next : Stamped Status)
     (stale : (row : LvRow) (lp : ℕ) (p : Pp) → IsOneOf group.lvs row → IsOneOf (copies_of row lp) p → IsTrue (calls_stale was.value p) → IsTrue (calls_stale next.value p))
@@ -114,7 +106,7 @@ module _ (c : Contents) (group : Descriptor) (was next : Stamped Status)
     staler p one e = by_test (calls_stale was.value p) refl
       where
         by_test : (t : Bool) → calls_stale was.value p ≡ t → not t ≡ true
-        by_test true is = absurd (clash (calls_stale next.value p) (stale row lp p volume one is) (not_true (calls_stale next.value p) e))
+        by_test true is = absurd (clash (calls_stale next.value p) (stale row lp p volume one is) (not-true (calls_stale next.value p) e))
         by_test false is = refl
 
     fewer : (P : Pp → Type 0) (set : Disks) → AllByRecursion P (fresh_on set (Some was) row lp) → AllByRecursion P (fresh_on set (Some next) row lp)
@@ -161,9 +153,9 @@ module _ (c : Contents) (group : Descriptor) (disks targets : Disks) (newest : S
   voter_stays : (row : LvRow) (lp : ℕ) (p : Pp) → IsOneOf group.lvs row → IsOneOf (copies_of row lp) p → tests (members_in c disks id group) was p ≡ true → tests (members_in c all_disks id group) next p ≡ true
   voter_stays row lp p volume one passed =
       let parts = split (members_in c disks id group p.disk) (not (is_stale_by (Some was) p)) passed in
-      join (members_in c all_disks id group p.disk) (not (is_stale_by (Some next) p)) (among_all c disks id group p.disk parts.0) (true_not (calls_stale next.value p) (⊎_elim
+      join (members_in c all_disks id group p.disk) (not (is_stale_by (Some next) p)) (among_all c disks id group p.disk parts.0) (not_from_false (calls_stale next.value p) (⊎_elim
       (λ (called : calls_stale next.value p ≡ true). absurd (⊎_elim
-      (λ (before : IsTrue (calls_stale was.value p)). clash (calls_stale was.value p) before (not_true (calls_stale was.value p) parts.1))
+      (λ (before : IsTrue (calls_stale was.value p)). clash (calls_stale was.value p) before (not-true (calls_stale was.value p) parts.1))
       (λ (left : IsFalse (is_voter c disks id p.disk) × IsSome (fresh c disks id row lp)). clash (is_voter c disks id p.disk) (ap (λ (v : Disks). v p.disk) by_found.voters ∙ parts.0) left.0)
       (may.marks.only row lp p volume one called)))
       (λ (free : calls_stale next.value p ≡ false). free)
@@ -175,11 +167,11 @@ module _ (c : Contents) (group : Descriptor) (disks targets : Disks) (newest : S
       let parts = split (members_in c all_disks id group p.disk) (not (is_stale_by (Some was) p)) is.1 in
       ⊎_elim
       (λ (called : calls_stale next.value p ≡ true). ⊎_elim
-      (λ (before : IsTrue (calls_stale was.value p)). absurd (clash (calls_stale was.value p) before (not_true (calls_stale was.value p) parts.1)))
+      (λ (before : IsTrue (calls_stale was.value p)). absurd (clash (calls_stale was.value p) before (not-true (calls_stale was.value p) parts.1)))
       (λ (left : IsFalse (is_voter c disks id p.disk) × IsSome (fresh c disks id row lp)). from_voter left.1)
       (may.marks.only row lp p volume is.0 called))
       (λ (free : calls_stale next.value p ≡ false). goes_in (tests (members_in c all_disks id group) next) (copies_of row lp) p is.0
-      (join (members_in c all_disks id group p.disk) (not (is_stale_by (Some next) p)) parts.0 (true_not (calls_stale next.value p) free)))
+      (join (members_in c all_disks id group p.disk) (not (is_stale_by (Some next) p)) parts.0 (not_from_false (calls_stale next.value p) free)))
       (either (calls_stale next.value p))
     where
       from_voter : IsSome (fresh c disks id row lp) → IsSome (fresh_on (members_in c all_disks id group) (Some next) row lp)

@@ -106,6 +106,18 @@ takes_moment run first r device facts has = entry_goes_on run first device facts
     (λ past begins holds. record { began = has.began past; answered = has.answered past; first = has.untaken past begins })
     (λ past begins holds image may. quiet_entry_keeps (contents_of image) (past ++ facts) (Taken r) tt (holds.kept image may))
 
+-- The power is cut while it is under way: it lands so, its answer is taken, and the power is put on again.
+pub dark_moment :
+    (run : ℕ) (first : Moment) (r : Request) (dark new : Device) (facts : List Fact) (started : Bool) → IsUnderWay run first r dark facts → IsDisk r.vol → IsOutcomeOf outcome.Dark r started
+    → ((past : List Fact) → Begins run past first → Holds past (at_moment dark (facts ++ Cut ∷ [])) → GotMay (past ++ (facts ++ Cut ∷ [])) r outcome.Dark [])
+    → ((past : List Fact) → Begins run past first → Holds past (at_moment dark (facts ++ Cut ∷ [])) → (image : Image) → MayLeave dark image → RawAgrees (contents_of image) ((past ++ (facts ++ Cut ∷ [])) ++ Landed r outcome.Dark started [] ∷ []))
+    → Path DeviceStep (LeavesNoMore dark) dark new → Keeps run first (at_moment new (((facts ++ Cut ∷ []) ++ Landed r outcome.Dark started [] ∷ []) ++ Taken r ∷ []))
+dark_moment run first r dark new facts started way disk kind reads raw lit =
+    keeps_steps run first dark new (((facts ++ Cut ∷ []) ++ Landed r outcome.Dark started [] ∷ []) ++ Taken r ∷ [])
+    (takes_moment run first r dark ((facts ++ Cut ∷ []) ++ Landed r outcome.Dark started [] ∷ [])
+    (lands_moment run first r dark (facts ++ Cut ∷ []) outcome.Dark started [] (cut_moment run first r dark facts way) disk kind reads raw))
+    lit
+
 -- ---- writes
 
 module _ (run id disk at count : ℕ) (blocks : List Sector) (f : Flight) (carries : Carries (raw_request run id disk at count true blocks) f) (old : Device) (facts : List Fact) (next : id ≡ count_by (begins_in run) facts + 1)
@@ -181,12 +193,10 @@ module _ (run id disk at count : ℕ) (blocks : List Sector) (f : Flight) (carri
   pub write_dark : (dark new : Device) (started : Bool) → Path DeviceStep (OnlyAdds f old) old dark → Path DeviceStep (LeavesNoMore dark) dark new → Keeps run first (at_moment new (darkened facts it started))
   write_dark dark new started path lit =
       let cut_facts = (facts ++ Begun it ∷ []) ++ Cut ∷ [] in
-      keeps_steps run first dark new ((cut_facts ++ Landed it outcome.Dark started [] ∷ []) ++ Taken it ∷ [])
-      (takes_moment run first it dark (cut_facts ++ Landed it outcome.Dark started [] ∷ [])
-      (lands_moment run first it dark cut_facts outcome.Dark started [] (cut_moment run first it dark (facts ++ Begun it ∷ []) (write_goes dark path)) tt tt (λ past begins holds. tt)
+      dark_moment run first it dark new (facts ++ Begun it ∷ []) started (write_goes dark path) tt tt (λ past begins holds. tt)
       (λ past begins holds image may. of_masked image ((past ++ cut_facts) ++ Landed it outcome.Dark started [] ∷ [])
       (kept_closed (masked image) (past ++ cut_facts) it outcome.Dark started refl (regroup Calm past (facts ++ Begun it ∷ []) Cut (cut_calm (past ++ (facts ++ Begun it ∷ []))))
-      (to_masked image (past ++ cut_facts) (holds.kept image may).agrees.raw)))))
+      (to_masked image (past ++ cut_facts) (holds.kept image may).agrees.raw)))
       lit
 
 -- ---- the laws

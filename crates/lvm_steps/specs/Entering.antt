@@ -7,7 +7,7 @@ use Rattle.lvm_num.specs.Buffer.{Sector}
 use Rattle.lvm_num.specs.DescriptorBytes.{descriptor_of}
 use Rattle.lvm_vol.specs.declared.entry.Vol.TheVariants.{Lv}
 use Rattle.lvm_vol.specs.declared.entry.Outcome.{Outcome}
-use Rattle.lvm_vol.specs.Facts.{Request, Fact, Making, Made, Split, Removing, Removed, Begun, Landed, Taken, Cut, On}
+use Rattle.lvm_vol.specs.Facts.{Request, Fact, Making, Made, Removing, Removed, Begun}
 use Rattle.lvm_vol.specs.Legal.{Fits}
 use Rattle.lvm_vol.specs.Standing.{Open, volumes_in}
 use Rattle.lvm_disk.specs.Device.{Image, Device, image_of, MayLeave}
@@ -28,16 +28,8 @@ QuietGoesOn = (run : ℕ) (first : Moment) (device : Device) (facts : List Fact)
 
 -- the entry opens no write: only the beginning of one does
 abbrev pub OpensNone : Fact → Type 0
-OpensNone (Removing vol) = Unit {0}
-OpensNone (Removed vol) = Unit {0}
-OpensNone (Taken r) = Unit {0}
-OpensNone (On moment) = Unit {0}
-OpensNone Cut = Unit {0}
-OpensNone (Making lv blocks mode) = Unit {0}
-OpensNone (Made lv) = Unit {0}
-OpensNone (Split from lv) = Unit {0}
 OpensNone (Begun r) = IsFalse r.write
-OpensNone (Landed r how started got) = Unit {0}
+OpensNone _ = Unit {0}
 
 -- After such an entry no write is open where none was.
 abbrev pub CalmGoesOn : Type 0

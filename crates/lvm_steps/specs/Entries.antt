@@ -2,7 +2,7 @@
 use Rattle.std.specs.Prelude.{List, [], ◌∷◌, ◌++◌}
 use Rattle.lvm_vol.specs.declared.entry.Vol.{Vol}
 use Rattle.lvm_vol.specs.declared.entry.Vol.TheVariants.{Disk, Lv}
-use Rattle.lvm_vol.specs.Facts.{Fact, Making, Made, Split, Removing, Removed, Begun, Landed, Taken, Cut, On}
+use Rattle.lvm_vol.specs.Facts.{Fact, Removing, Removed, Begun, Landed, Taken, Cut, On}
 use Rattle.lvm_kept.specs.Contents.{Contents}
 use Rattle.lvm_kept.specs.Kept.{RawAgrees, Kept}
 
@@ -19,10 +19,7 @@ IsOfDisks (Removing vol) = IsDisk vol
 IsOfDisks (Removed vol) = IsDisk vol
 IsOfDisks (Taken r) = Unit {0}
 IsOfDisks (On moment) = Unit {0}
-IsOfDisks Cut = ⊥
-IsOfDisks (Making lv blocks mode) = ⊥
-IsOfDisks (Made lv) = ⊥
-IsOfDisks (Split from lv) = ⊥
+IsOfDisks _ = ⊥
 
 -- Such an entry keeps the history where, with it, the disks in no group still hold what they may.
 abbrev pub DiskEntryKeeps : Type 0
@@ -37,10 +34,7 @@ IsQuiet (Removed vol) = IsDisk vol
 IsQuiet (Taken r) = Unit {0}
 IsQuiet (On moment) = Unit {0}
 IsQuiet Cut = Unit {0}
-IsQuiet (Landed r how started got) = ⊥
-IsQuiet (Making lv blocks mode) = ⊥
-IsQuiet (Made lv) = ⊥
-IsQuiet (Split from lv) = ⊥
+IsQuiet _ = ⊥
 
 -- It keeps the history, whatever the disks show.
 abbrev pub QuietEntryKeeps : Type 0

@@ -2,6 +2,4 @@
 #![tactic(auto)]
 
 #[cfg(test)]
-mod commit;
-#[cfg(test)]
-mod fixtures;
+mod tests;

@@ -2,14 +2,4 @@
 #![tactic(auto)]
 
 #[cfg(test)]
-mod disk;
-#[cfg(test)]
-mod fixtures;
-#[cfg(test)]
-mod image;
-#[cfg(test)]
-mod lane;
-#[cfg(test)]
-mod raw;
-#[cfg(test)]
-mod trial;
+mod tests;

@@ -2,10 +2,4 @@
 #![tactic(auto)]
 
 #[cfg(test)]
-mod begin;
-#[cfg(test)]
-mod fixtures;
-#[cfg(test)]
-mod recovery;
-#[cfg(test)]
-mod varyon;
+mod tests;

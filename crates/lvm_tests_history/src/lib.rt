@@ -2,10 +2,4 @@
 #![tactic(auto)]
 
 #[cfg(test)]
-mod fixtures;
-#[cfg(test)]
-mod posts;
-#[cfg(test)]
-mod turn;
-#[cfg(test)]
-mod vol;
+mod tests;

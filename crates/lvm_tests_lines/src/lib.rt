@@ -2,14 +2,4 @@
 #![tactic(auto)]
 
 #[cfg(test)]
-mod fixtures;
-#[cfg(test)]
-mod io;
-#[cfg(test)]
-mod parse;
-#[cfg(test)]
-mod show_listing;
-#[cfg(test)]
-mod show_word;
-#[cfg(test)]
-mod words;
+mod tests;

@@ -2,18 +2,4 @@
 #![tactic(auto)]
 
 #[cfg(test)]
-mod fixtures;
-#[cfg(test)]
-mod hold;
-#[cfg(test)]
-mod mwc;
-#[cfg(test)]
-mod path;
-#[cfg(test)]
-mod pbuf;
-#[cfg(test)]
-mod sched;
-#[cfg(test)]
-mod stale;
-#[cfg(test)]
-mod status;
+mod tests;

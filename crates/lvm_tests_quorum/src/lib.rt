@@ -2,10 +2,4 @@
 #![tactic(auto)]
 
 #[cfg(test)]
-mod choice;
-#[cfg(test)]
-mod fixtures;
-#[cfg(test)]
-mod survey;
-#[cfg(test)]
-mod write;
+mod tests;

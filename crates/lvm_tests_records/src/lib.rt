@@ -2,16 +2,4 @@
 #![tactic(auto)]
 
 #[cfg(test)]
-mod fixtures;
-#[cfg(test)]
-mod map;
-#[cfg(test)]
-mod num;
-#[cfg(test)]
-mod rec;
-#[cfg(test)]
-mod vgda;
-#[cfg(test)]
-mod vgsa;
-#[cfg(test)]
-mod word;
+mod tests;

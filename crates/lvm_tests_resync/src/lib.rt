@@ -2,10 +2,4 @@
 #![tactic(auto)]
 
 #[cfg(test)]
-mod faults;
-#[cfg(test)]
-mod fixtures;
-#[cfg(test)]
-mod orders;
-#[cfg(test)]
-mod sync;
+mod tests;

@@ -3,10 +3,4 @@
 #![tactic(auto)]
 
 #[cfg(test)]
-mod drawn;
-#[cfg(test)]
-mod files;
-#[cfg(test)]
-mod given;
-#[cfg(test)]
-mod outside;
+mod tests;

@@ -24,7 +24,7 @@ use Rattle.lvm_mwc.specs.Notes.{names_group}
 use Rattle.lvm_status.specs.Update.{Stored, is_held, seen}
 use Rattle.lvm_stamps.specs.Behind.{StampsBefore}
 use Rattle.lvm_commit.specs.Committed.{next_stamp}
-use Rattle.lvm_homes.specs.declared.homes.Homes.{Homes}
+use Rattle.lvm_rec.specs.declared.homes.Homes.{Homes}
 use Rattle.lvm_session.specs.declared.bringing.OpenCopy.{OpenCopy}
 use Rattle.lvm_session.specs.declared.bringing.CopyEnd.{CopyEnd}
 use Rattle.lvm_session.specs.declared.flown.Flown.{Flown}

@@ -23,7 +23,7 @@ use Rattle.lvm_kept.proofs.Records.{newest_stays, slot-above}
 use Rattle.lvm_commit.specs.Committed.{next_stamp}
 use Rattle.lvm_rec.proofs.NextLemmas.{slot_for_same}
 use Rattle.lvm_status.specs.Update.{Stored}
-use Rattle.lvm_homes.specs.declared.homes.Homes.{Homes}
+use Rattle.lvm_rec.specs.declared.homes.Homes.{Homes}
 use Rattle.lvm_invariant.specs.State.{Groups, ModelState}
 use Rattle.lvm_invariant.specs.Found.{Votes}
 use Rattle.lvm_invariant.specs.Good.{Good}

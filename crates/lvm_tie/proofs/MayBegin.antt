@@ -29,7 +29,7 @@ use Rattle.lvm_stamps.proofs.Records.{later_may_go, shown_is_before}
 use Rattle.lvm_status.specs.Update.{Updates, no_disks, seen}
 use Rattle.lvm_status.specs.Update.{members_there}
 use Rattle.lvm_status.specs.Calls.{with_start, with_update}
-use Rattle.lvm_homes.specs.Homes.{next_slot, second_slots}
+use Rattle.lvm_rec.specs.Homes.{next_slot, second_slots}
 use Rattle.lvm_session.specs.declared.open.Power.TheVariants as power
 use Rattle.lvm_session.specs.State.{Core, State, is_there}
 use Rattle.lvm_session.specs.Events.{StartsStatus}

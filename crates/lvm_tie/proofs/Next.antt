@@ -13,7 +13,7 @@ use Rattle.lvm_stamps.specs.Laws.{IsWhole}
 use Rattle.lvm_stamps.proofs.Writes.{data_keeps_before}
 use Rattle.lvm_commit.specs.Committed.{next_stamp}
 use Rattle.lvm_status.specs.Update.{Stored}
-use Rattle.lvm_homes.specs.declared.homes.Homes.{Homes}
+use Rattle.lvm_rec.specs.declared.homes.Homes.{Homes}
 use Rattle.lvm_tie.specs.Out.{MayUpdate}
 
 slot_for_same : (old new : Sectors) → ((s : ℕ) → slot_start kind.Status 0 ≤ s → s < slot_start kind.Status 1 + slot_size kind.Status → new s ≡ old s) → slot_for status_of kind.Status new ≡ slot_for status_of kind.Status old

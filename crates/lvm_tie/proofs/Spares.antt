@@ -22,8 +22,8 @@ use Rattle.lvm_disk.specs.Steps.{BothTold, GoesDark, Starts}
 use Rattle.lvm_disk.proofs.Stepping.{arrange_step, step_leaves, step_same}
 use Rattle.lvm_mwc.specs.Cache.{after_end as after_note_end}
 use Rattle.lvm_status.specs.Update.{Stored, Updates}
-use Rattle.lvm_homes.specs.declared.homes.Homes.{Homes}
-use Rattle.lvm_homes.specs.Homes.{next_slot}
+use Rattle.lvm_rec.specs.declared.homes.Homes.{Homes}
+use Rattle.lvm_rec.specs.Homes.{next_slot}
 use Rattle.lvm_rec.proofs.NextLemmas.{slot_for_same}
 use Rattle.lvm_path.specs.declared.ask.Ask.{Ask}
 use Rattle.lvm_session.specs.declared.answers.AskFault.{AskFault}

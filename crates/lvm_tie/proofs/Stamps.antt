@@ -34,7 +34,7 @@ use Rattle.lvm_status.specs.declared.change.Change.TheVariants as change
 use Rattle.lvm_status.specs.Update.{Stored, Updates, is_held, is_owed, no_disks, seen}
 use Rattle.lvm_status.specs.Calls.{after_end, closed, comes_held, given_up, with_commit, with_end as with_write_end, with_start as with_write_start, with_update, with_wanted}
 use Rattle.lvm_commit.proofs.Sizes.{status_fits}
-use Rattle.lvm_homes.specs.Homes.{next_slot}
+use Rattle.lvm_rec.specs.Homes.{next_slot}
 use Rattle.lvm_path.specs.declared.ask.Ask.{Ask}
 use Rattle.lvm_path.specs.declared.target.Target.{Target}
 use Rattle.lvm_path.specs.Asks.{at_of}

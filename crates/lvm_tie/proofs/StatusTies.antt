@@ -24,7 +24,7 @@ use Rattle.lvm_kept.proofs.Planned.{plan_begins}
 use Rattle.lvm_stamps.specs.Laws.{IsNoLater}
 use Rattle.lvm_stamps.proofs.Stamps.{later_is_after_too}
 use Rattle.lvm_commit.specs.Committed.{next_stamp}
-use Rattle.lvm_homes.specs.declared.homes.Homes.{Homes}
+use Rattle.lvm_rec.specs.declared.homes.Homes.{Homes}
 use Rattle.lvm_status.specs.Update.{Stored, Updates, seen, is_held, MayStart}
 use Rattle.lvm_status.specs.Calls.{with_update, with_start}
 use Rattle.lvm_session.specs.declared.flown.Flown.{Flown}

@@ -27,8 +27,8 @@ use Rattle.lvm_rec.proofs.NextLemmas.{slot_for_same}
 use Rattle.lvm_begin.proofs.Slots.{other_comes_next}
 use Rattle.lvm_commit.specs.Committed.{next_stamp}
 use Rattle.lvm_status.specs.Update.{Stored, members_there}
-use Rattle.lvm_homes.specs.declared.homes.Homes.{Homes}
-use Rattle.lvm_homes.specs.Homes.{next_slot, second_slots}
+use Rattle.lvm_rec.specs.declared.homes.Homes.{Homes}
+use Rattle.lvm_rec.specs.Homes.{next_slot, second_slots}
 use Rattle.lvm_session.specs.declared.flown.Flown.{Flown}
 use Rattle.lvm_session.specs.declared.flown.Owner.TheVariants as owner
 use Rattle.lvm_session.specs.State.{Core, State}

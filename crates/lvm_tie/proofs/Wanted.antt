@@ -16,7 +16,7 @@ use Rattle.lvm_stale.specs.Table.{SameMissing}
 use Rattle.lvm_status.specs.Runs.{IsSoundStatus}
 use Rattle.lvm_status.specs.Update.{Stored, Updates, is_held, is_owed, no_disks, seen}
 use Rattle.lvm_commit.specs.Committed.{next_stamp}
-use Rattle.lvm_homes.specs.declared.homes.Homes.{Homes}
+use Rattle.lvm_rec.specs.declared.homes.Homes.{Homes}
 use Rattle.lvm_session.specs.State.{Core, is_there}
 use Rattle.lvm_session.specs.Marks.{WantsDirty}
 use Rattle.lvm_invariant.specs.State.{ModelState}

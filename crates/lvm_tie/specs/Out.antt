@@ -17,8 +17,8 @@ use Rattle.lvm_stamps.specs.Laws.{IsWhole}
 use Rattle.lvm_mwc.specs.Cache.{flight_on}
 use Rattle.lvm_status.specs.Update.{Stored, members_there}
 use Rattle.lvm_commit.specs.Committed.{next_stamp}
-use Rattle.lvm_homes.specs.declared.homes.Homes.{Homes}
-use Rattle.lvm_homes.specs.Homes.{next_slot}
+use Rattle.lvm_rec.specs.declared.homes.Homes.{Homes}
+use Rattle.lvm_rec.specs.Homes.{next_slot}
 use Rattle.lvm_session.specs.declared.bringing.OpenCopy.{OpenCopy}
 use Rattle.lvm_session.specs.declared.bringing.Step.TheVariants as step
 use Rattle.lvm_session.specs.declared.flown.Flown.{Flown}

@@ -18,7 +18,7 @@ use Rattle.lvm_steps.specs.Moments.{Begins, Upholds, Keeps}
 use Rattle.lvm_session.specs.declared.bringing.OpenCopy.{OpenCopy}
 use Rattle.lvm_session.specs.declared.bringing.Step.TheVariants as step
 use Rattle.lvm_session.specs.declared.open.Power.TheVariants as power
-use Rattle.lvm_homes.specs.declared.homes.Homes.{Homes}
+use Rattle.lvm_rec.specs.declared.homes.Homes.{Homes}
 use Rattle.lvm_session.specs.State.{Core, State}
 pub use Rattle.lvm_session.specs.State.{moment_of}
 use Rattle.lvm_session.specs.Bringing.{has_row, block_at}

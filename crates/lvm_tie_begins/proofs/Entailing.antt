@@ -12,7 +12,7 @@ use Rattle.lvm_num.specs.Status.{calls_stale}
 use Rattle.lvm_stale.specs.Table.{is_pp}
 use Rattle.lvm_status.specs.Update.{members_there}
 use Rattle.lvm_kept.specs.Group.{IsOneOf}
-use Rattle.lvm_left.specs.Marking.{IsLeftIn, is_served}
+use Rattle.lvm_stale.specs.Marking.{IsLeftIn, is_served}
 use Rattle.lvm_next.proofs.Building.{copy_is_placed, is_member_of}
 use Rattle.lvm_commit.specs.Settling.{NoneIsLeft, there}
 use Rattle.lvm_session.specs.State.{Core}

@@ -15,7 +15,7 @@ use Rattle.lvm_steps.specs.Moments.{Holds, Keeps}
 use Rattle.lvm_commit.specs.Committed.{HoldsCommitted, ShowsCommitted}
 use Rattle.lvm_commit.specs.LawsOfVolumes.{IsOneByAllOn}
 use Rattle.lvm_mwc.specs.Cache.{flight_on, is_named as is_named_by}
-use Rattle.lvm_homes.specs.declared.homes.Homes.{Homes}
+use Rattle.lvm_rec.specs.declared.homes.Homes.{Homes}
 use Rattle.lvm_session.specs.declared.open.Power.TheVariants as power
 use Rattle.lvm_session.specs.State.{Core, State, state, is_there}
 use Rattle.lvm_session.specs.Sound.{IsSound}

@@ -5,8 +5,8 @@ pub mod Earlier
 pub mod Group
 pub mod Handover
 pub mod Ranges
+pub mod Recover
 pub mod Running
 pub mod Tie
-pub mod Recover
 pub mod Varyon
 pub mod Volumes

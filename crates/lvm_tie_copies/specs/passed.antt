@@ -6,9 +6,9 @@ pub mod Group
 pub mod Handover
 pub mod Mirrors
 pub mod Ranges
+pub mod Recover
 pub mod Running
 pub mod Tie
 pub mod TieCommands
-pub mod Recover
 pub mod Varyon
 pub mod Volumes

@@ -24,7 +24,7 @@ use Rattle.lvm_status.specs.Update.{Updates, members_there, seen}
 use Rattle.lvm_status.proofs.Sound.{first_is_sound, steps_stay_sound}
 use Rattle.lvm_hold.specs.Waiting.{Waiting}
 use Rattle.lvm_session.specs.declared.open.Open.{Open}
-use Rattle.lvm_homes.specs.declared.homes.Homes.{Homes}
+use Rattle.lvm_rec.specs.declared.homes.Homes.{Homes}
 use Rattle.lvm_commit.specs.Committed.{HoldsCommitted}
 use Rattle.lvm_commit.specs.LawsOfVolumes.{IsOneByAllOn}
 use Rattle.lvm_commit.specs.Settling.{NoneIsLeft}

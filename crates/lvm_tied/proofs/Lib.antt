@@ -6,3 +6,5 @@ pub mod Waiting
 pub mod Admitted
 pub mod Writing
 pub mod Updating
+pub mod Sound
+pub mod Pairs

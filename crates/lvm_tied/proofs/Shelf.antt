@@ -21,7 +21,7 @@ use Rattle.lvm_kept.proofs.Standing.{zeros-sector}
 use Rattle.lvm_stamps.specs.Behind.{StampsBefore}
 use Rattle.lvm_stamps.specs.Laws.{IsWhole}
 use Rattle.lvm_commit.specs.Committed.{next_stamp}
-use Rattle.lvm_homes.specs.Homes.{next_slot}
+use Rattle.lvm_rec.specs.Homes.{next_slot}
 use Rattle.lvm_crash.specs.Session.{members_showing}
 use Rattle.lvm_crash.specs.Worked.{Shown, framed_group, framed_status, media_of, status_shown}
 use Rattle.lvm_crash.proofs.Worked.{base, behind}

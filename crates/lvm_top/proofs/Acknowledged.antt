@@ -174,22 +174,7 @@ module _ (log : Log) (room : Room) (old new : State) (leaves : LeavesDescriptors
         fewer_id fewer.0 copies core k fewer.2 ∙ sym (ap (λ (d : Descriptor). d.id) drains.runs.leaves.keeps.descriptor) ∙ sym (ap (λ (c : Core). c.descriptor.id) (done.leaves.is) ∙ ap (λ (c : Core). c.descriptor.id) done.gives.is);
   }
   by_command (command.Rmlvcopy name copies) acked stood (RmlvcopyFails core left mid lv why some drains its done says) = absurd (cc (says))
-  by_command (command.Rd name at count) acked stood does = absurd (cc (acked))
-  by_command (command.Wr name at count word) acked stood does = absurd (cc (acked))
-  by_command (command.Post name at count word) acked stood does = absurd (cc (acked))
-  by_command command.Wait acked stood does = absurd (cc (acked))
-  by_command (command.SyncVolume name) acked stood does = absurd (cc (acked))
-  by_command (command.SyncGroup name) acked stood does = absurd (cc (acked))
-  by_command (command.Step turns) acked stood does = absurd (cc (acked))
-  by_command (command.Varyoff name) acked stood does = absurd (cc (acked))
-  by_command (command.Lsvg volumes name) acked stood does = absurd (cc (acked))
-  by_command (command.Lslv name) acked stood does = absurd (cc (acked))
-  by_command (command.Lspv disk) acked stood does = absurd (cc (acked))
-  by_command (command.RawRd disk at count) acked stood does = absurd (cc (acked))
-  by_command (command.RawWr disk at count word) acked stood does = absurd (cc (acked))
-  by_command (command.Fail disk) acked stood does = absurd (cc (acked))
-  by_command (command.Heal disk) acked stood does = absurd (cc (acked))
-  by_command (command.Cut word) acked stood does = absurd (cc (acked))
+  by_command _ acked stood does = absurd (cc (acked))
 
   pub leaves_on : (read : Result (Option Command) Misfit) (answer : Reply) → is_acknowledged read answer ≡ true → StoodBefore log.run (role_of read) old new → LineDoes log room read old new answer → LeavesOn read old new
   leaves_on (Err misfit) answer acked stood does = absurd (cc (acked))

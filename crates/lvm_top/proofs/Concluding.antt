@@ -16,7 +16,7 @@ use Rattle.lvm_session.specs.declared.answers.Turned.{Turned}
 use Rattle.lvm_session.specs.declared.open.Power.TheVariants as power
 use Rattle.lvm_session.specs.State.{Core, State as Session, state}
 use Rattle.lvm_session.specs.Sound.{IsSound}
-use Rattle.lvm_turn_answers.specs.Telling.{power_by}
+use Rattle.lvm_keeps_turn.specs.Telling.{power_by}
 use Rattle.lvm_session.specs.declared.answers.Turned.TheVariants as turned
 use Rattle.lvm_session.specs.declared.open.Power.{Power}
 use Rattle.lvm_line.specs.passed.Tie.{LeavesDescriptors}
@@ -73,9 +73,7 @@ at_rest_still run end exit concludes rest = rests_still run end.moment exit end.
 -- the session behind turns isn't stuck
 unstuck : (answer : Turned) (p : Power) → p ≡ power_by answer → p ≡ power.Stuck → ⊥
 unstuck turned.Moved p is stuck = let e = sym is ∙ stuck in cc e
-unstuck turned.Idle p is stuck = let e = sym is ∙ stuck in cc e
-unstuck turned.Dark p is stuck = let e = sym is ∙ stuck in cc e
-unstuck turned.Off p is stuck = let e = sym is ∙ stuck in cc e
+unstuck _ p is stuck = let e = sym is ∙ stuck in cc e
 
 module _ (end : State) (exit : Moment) (between : IsBetween end.moment end.session end.posts) (core : Core) (some : end.session ≡ Some core) (vols : core.descriptor.lvs ≢ []) (facts : end.moment.facts ≡ core.history.facts) where
   abbrev behind : State
@@ -129,13 +127,7 @@ concluded run end exit (IsServed core some vols named facts (TurnsAreMade last m
 -- whether nothing was heard of a transfer
 pub how_ended : (s : ExitStatus) → (s ≡ ended.Stuck) ⊎ (s ≡ ended.Stuck → ⊥)
 how_ended ended.Stuck = inl refl
-how_ended ended.Well = inr (λ e. cc (e))
-how_ended ended.Refusals = inr (λ e. cc (e))
-how_ended ended.Usage = inr (λ e. cc (e))
-how_ended ended.SourceFault = inr (λ e. cc (e))
-how_ended ended.SinkFault = inr (λ e. cc (e))
-how_ended ended.Memory = inr (λ e. cc (e))
-how_ended ended.TooLong = inr (λ e. cc (e))
+how_ended _ = inr (λ e. cc (e))
 
 -- a state from which lines may be done, and the one behind them
 script_between : (log : Log) (room : Room) (first : State) {lines : List (List ℕ)} {replies : List Reply} {last : State} → Script log room first lines replies last → IsBetween first.moment first.session first.posts → IsBetween last.moment last.session last.posts

@@ -50,16 +50,13 @@ module _ (run : ℕ) (old new : State) (leaves : LeavesDescriptors old.moment.de
     failed_mklvcopy fault.Dark says done id k it = tried_mklvcopy (Err fault.Dark) _ (inr (subst IsBrokenOff (sym says) tt)) done id k it
     failed_mklvcopy (fault.WentOff have total) says done id k it = tried_mklvcopy (Err (fault.WentOff have total)) _ (inr (subst IsBrokenOff (sym says) tt)) done id k it
     failed_mklvcopy fault.Stuck says done id k it = tried_mklvcopy (Err fault.Stuck) _ (inr (subst IsBrokenOff (sym says) tt)) done id k it
-    failed_mklvcopy (fault.DiskFailed disk) says done id k it = absurd done.gives
     failed_mklvcopy fault.Busy says done id k it = inl (idle_nothing run old new leaves named stood core left mid done.left drains done.gives.0 done.leaves id k it)
     failed_mklvcopy fault.NoVolume says done id k it = inl (idle_nothing run old new leaves named stood core left mid done.left drains done.gives.0 done.leaves id k it)
-    failed_mklvcopy fault.VolumeExists says done id k it = absurd done.gives
     failed_mklvcopy (fault.CopyLimit now) says done id k it = inl (idle_nothing run old new leaves named stood core left mid done.left drains done.gives.0 done.leaves id k it)
-    failed_mklvcopy (fault.LastFresh lp) says done id k it = absurd done.gives
-    failed_mklvcopy (fault.TooMany limit) says done id k it = absurd done.gives
     failed_mklvcopy (fault.NoRoom free) says done id k it = inl (idle_nothing run old new leaves named stood core left mid done.left drains done.gives.0 done.leaves id k it)
     failed_mklvcopy fault.HistoryFull says done id k it = inl (idle_nothing run old new leaves named stood core left mid done.left drains done.gives.0 done.leaves id k it)
     failed_mklvcopy fault.Memory says done id k it = inl (idle_nothing run old new leaves named stood core left mid done.left drains done.gives.0 done.leaves id k it)
+    failed_mklvcopy _ says done id k it = absurd done.gives
 
   pub mklvcopy_finds : MklvcopyDoes name copies old new answer → FoundByMklvcopy
   mklvcopy_finds (NoGroupForMklvcopy none is) id k it = inl (same_nothing old.moment.device new.moment.device (ap (λ (s : State). s.moment.device) is.1) id k it)
@@ -89,16 +86,13 @@ module _ (run : ℕ) (old new : State) (leaves : LeavesDescriptors old.moment.de
     failed_rmlvcopy fault.Dark says done id k it = tried_rmlvcopy (Err fault.Dark) _ (inr (subst IsBrokenOff (sym says) tt)) done id k it
     failed_rmlvcopy (fault.WentOff have total) says done id k it = tried_rmlvcopy (Err (fault.WentOff have total)) _ (inr (subst IsBrokenOff (sym says) tt)) done id k it
     failed_rmlvcopy fault.Stuck says done id k it = tried_rmlvcopy (Err fault.Stuck) _ (inr (subst IsBrokenOff (sym says) tt)) done id k it
-    failed_rmlvcopy (fault.DiskFailed disk) says done id k it = absurd done.gives
     failed_rmlvcopy fault.Busy says done id k it = inl (idle_nothing run old new leaves named stood core left mid done.left drains done.gives.0 done.leaves id k it)
     failed_rmlvcopy fault.NoVolume says done id k it = inl (idle_nothing run old new leaves named stood core left mid done.left drains done.gives.0 done.leaves id k it)
-    failed_rmlvcopy fault.VolumeExists says done id k it = absurd done.gives
     failed_rmlvcopy (fault.CopyLimit now) says done id k it = inl (idle_nothing run old new leaves named stood core left mid done.left drains done.gives.0 done.leaves id k it)
     failed_rmlvcopy (fault.LastFresh lp) says done id k it = inl (idle_nothing run old new leaves named stood core left mid done.left drains done.gives.0 done.leaves id k it)
-    failed_rmlvcopy (fault.TooMany limit) says done id k it = absurd done.gives
-    failed_rmlvcopy (fault.NoRoom free) says done id k it = absurd done.gives
     failed_rmlvcopy fault.HistoryFull says done id k it = inl (idle_nothing run old new leaves named stood core left mid done.left drains done.gives.0 done.leaves id k it)
     failed_rmlvcopy fault.Memory says done id k it = inl (idle_nothing run old new leaves named stood core left mid done.left drains done.gives.0 done.leaves id k it)
+    failed_rmlvcopy _ says done id k it = absurd done.gives
 
   pub rmlvcopy_finds : RmlvcopyDoes name copies old new answer → FoundByRmlvcopy
   rmlvcopy_finds (NoGroupForRmlvcopy none is) id k it = inl (same_nothing old.moment.device new.moment.device (ap (λ (s : State). s.moment.device) is.1) id k it)

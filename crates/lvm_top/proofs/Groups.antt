@@ -59,6 +59,13 @@ module _ (log : Log) (old new : State) (answer : Reply) (shelf : IsShelf old.mom
   pub not_stuck : (why : Cause) → answer ≡ reply.Refused (refusal_of why) → why ≡ cause.Stuck → ⊥
   not_stuck why says stuck = heard (says ∙ ap (λ (c : Cause). reply.Refused (refusal_of c)) stuck)
 
+  -- what is found at the end of a line whose command was refused was found on the shelf that came back
+  left_found : (left : Device) (is : Log) (refused : Refused Device) (given : Result Core Cause) → outcome_of left is given ≡ Err refused → IsLeft left is old new answer given → (id : ℕ) (k : Descriptor) → MayBeFound new.moment.device id k → MayBeFound refused.shelf id k
+  left_found left is refused (Ok core) same gone id k it = absurd (cc (same))
+  left_found left is refused (Err why) same gone id k it =
+      let its : left ≡ refused.shelf = ap (λ (r : Refused Device). r.shelf) (let e : record { shelf = left; history = is; cause = why } ≡ refused = cc (same) in e) in
+      subst (λ (d : Device). MayBeFound d id k) its (lit_nothing why left new.moment.device gone.lit id k it)
+
   -- ---- `mkvg`
 
   module _ (line : List ℕ) (force : Bool) (name : List ℕ) (mib : Option ℕ) (disks : List ℕ) (read : line_of line ≡ Ok (Some (command.Mkvg force name mib disks))) where
@@ -89,21 +96,9 @@ module _ (log : Log) (old new : State) (answer : Reply) (shelf : IsShelf old.mom
     -- by what the call gives
     outcome_finds : (room : Room) (left : Device) (is : Log) (given : Result Core Cause) → Asks old new
         → MkvgOnceQuiet itself (asked_for name mib disks force new.last) room patience_of_line (log_with log old.moment.facts) old.moment.device (outcome_of left is given) → IsLeft left is old new answer given → Found new.moment.device
-    outcome_finds room left is given asks (RefusedAtOnce refused same first shelf_same history_same) gone id k it = inl (by_given given same gone)
-      where
-        by_given : (g : Result Core Cause) → outcome_of left is g ≡ Err refused → IsLeft left is old new answer g → MayBeFound old.moment.device id k
-        by_given (Ok core) same gone = absurd (cc (same))
-        by_given (Err why) same gone =
-            let its : left ≡ refused.shelf = ap (λ (r : Refused Device). r.shelf) (let e : record { shelf = left; history = is; cause = why } ≡ refused = cc (same) in e) in
-            subst (λ (d : Device). MayBeFound d id k) (its ∙ shelf_same) (lit_nothing why left new.moment.device gone.lit id k it)
-    outcome_finds room left is given asks (StayedOut refused same may out) gone id k it = inl (by_given given same gone)
-      where
-        by_given : (g : Result Core Cause) → outcome_of left is g ≡ Err refused → IsLeft left is old new answer g → MayBeFound old.moment.device id k
-        by_given (Ok core) same gone = absurd (cc (same))
-        by_given (Err why) same gone =
-            let its : left ≡ refused.shelf = ap (λ (r : Refused Device). r.shelf) (let e : record { shelf = left; history = is; cause = why } ≡ refused = cc (same) in e) in
-            stays_nothing patience_of_line old.moment.device refused.shelf (log_with log old.moment.facts) refused.history refused.cause out id k
-            (subst (λ (d : Device). MayBeFound d id k) its (lit_nothing why left new.moment.device gone.lit id k it))
+    outcome_finds room left is given asks (RefusedAtOnce refused same first shelf_same history_same) gone id k it = inl (subst (λ (d : Device). MayBeFound d id k) shelf_same (left_found left is refused given same gone id k it))
+    outcome_finds room left is given asks (StayedOut refused same may out) gone id k it = inl (stays_nothing patience_of_line old.moment.device refused.shelf (log_with log old.moment.facts) refused.history refused.cause out id k
+        (left_found left is refused given same gone id k it))
     outcome_finds room left is (Ok core) asks (WentQuiet may once) gone id k it = ⊎_elim
         (λ was. inl (quiet_nothing old.moment.device once.mid once.quiesces id k was))
         (λ its. inr (committed once.mid once.quiesces (inl gone.2.answered) id k its))
@@ -149,21 +144,10 @@ module _ (log : Log) (old new : State) (answer : Reply) (shelf : IsShelf old.mom
 
     outcome_nothing : (room : Room) (left : Device) (is : Log) (given : Result Core Cause) → Asks old new
         → VaryonOnceQuiet itself (log_with log old.moment.facts) name new.last room patience_of_line old.moment.device (outcome_of left is given) → IsLeft left is old new answer given → NothingNew old.moment.device new.moment.device
-    outcome_nothing room left is given asks (RefusedAtOnce refused same first shelf_same history_same) gone id k it = by_given given same gone
-      where
-        by_given : (g : Result Core Cause) → outcome_of left is g ≡ Err refused → IsLeft left is old new answer g → MayBeFound old.moment.device id k
-        by_given (Ok core) same gone = absurd (cc (same))
-        by_given (Err why) same gone =
-            let its : left ≡ refused.shelf = ap (λ (r : Refused Device). r.shelf) (let e : record { shelf = left; history = is; cause = why } ≡ refused = cc (same) in e) in
-            subst (λ (d : Device). MayBeFound d id k) (its ∙ shelf_same) (lit_nothing why left new.moment.device gone.lit id k it)
-    outcome_nothing room left is given asks (StayedOut refused same may out) gone id k it = by_given given same gone
-      where
-        by_given : (g : Result Core Cause) → outcome_of left is g ≡ Err refused → IsLeft left is old new answer g → MayBeFound old.moment.device id k
-        by_given (Ok core) same gone = absurd (cc (same))
-        by_given (Err why) same gone =
-            let its : left ≡ refused.shelf = ap (λ (r : Refused Device). r.shelf) (let e : record { shelf = left; history = is; cause = why } ≡ refused = cc (same) in e) in
-            stays_nothing patience_of_line old.moment.device refused.shelf (log_with log old.moment.facts) refused.history refused.cause out id k
-            (subst (λ (d : Device). MayBeFound d id k) its (lit_nothing why left new.moment.device gone.lit id k it))
+    outcome_nothing room left is given asks (RefusedAtOnce refused same first shelf_same history_same) gone id k it = subst (λ (d : Device). MayBeFound d id k) shelf_same (left_found left is refused given same gone id k it)
+    outcome_nothing room left is given asks (StayedOut refused same may out) gone id k it =
+        stays_nothing patience_of_line old.moment.device refused.shelf (log_with log old.moment.facts) refused.history refused.cause out id k
+        (left_found left is refused given same gone id k it)
     outcome_nothing room left is (Ok core) asks (WentQuiet may once) gone id k it =
         let written = once.goes.gives.written in
         quiet_nothing old.moment.device once.mid once.quiesces id k

@@ -10,7 +10,7 @@ use Rattle.lvm_num.specs.Name.{is_name}
 use Rattle.lvm_disk.specs.Device.{Media, Flight, Device, IsReady, image_of}
 use Rattle.lvm_vol.specs.Log.{Log}
 use Rattle.lvm_stamps.specs.Behind.{IsBehind}
-use Rattle.lvm_homes.specs.declared.homes.Homes.{Homes}
+use Rattle.lvm_rec.specs.declared.homes.Homes.{Homes}
 use Rattle.lvm_begin.specs.Beginning.{Part, IsOfParts}
 use Rattle.lvm_core.specs.declared.refused.Cause.{Cause}
 use Rattle.lvm_core.specs.declared.refused.Cause.TheVariants as cause
@@ -123,6 +123,4 @@ module _ (w : NewGroup) (old : Device) (asked : IsAskedFor w old) where
     refused_finds cause.Stuck rests (inl reading) id k it = absurd (none_out left.flights reading.stuck.flight (rests refl) reading.stuck.out)
     refused_finds cause.Stuck rests (inr writing) id k it = absurd (none_out left.flights writing.stuck.flight (rests refl) writing.stuck.flights)
     refused_finds cause.Memory rests refuses id k it = inl (unwritten_nothing old left refuses.unwritten refuses.rested.ready.flights id k it)
-    refused_finds cause.NoRecord rests refuses id k it = absurd refuses
-    refused_finds cause.Ambiguous rests refuses id k it = absurd refuses
-    refused_finds (cause.NoQuorum have total) rests refuses id k it = absurd refuses
+    refused_finds _ rests refuses id k it = absurd refuses

@@ -125,9 +125,7 @@ module _ (w : NewGroup) (old left : Device) (patience : ℕ) (was is : Log) wher
   refused_either cause.Stuck rests (inl reading) = absurd (rests refl)
   refused_either cause.Stuck rests (inr writing) = inr writing.breaks.clear.free.free
   refused_either cause.Memory rests refuses = inl (unwritten_nothing old left refuses.unwritten refuses.rested.ready.flights)
-  refused_either cause.NoRecord rests refuses = absurd refuses
-  refused_either cause.Ambiguous rests refuses = absurd refuses
-  refused_either (cause.NoQuorum have total) rests refuses = absurd refuses
+  refused_either _ rests refuses = absurd refuses
 
 -- where all that is found is of the new group
 its_one : (group : Descriptor) (old new : Device) → ((id : ℕ) (k : Descriptor) → MayBeFound old id k → ⊥) → ((id : ℕ) (k : Descriptor) → MayBeFound new id k → MayBeFound old id k ⊎ IsIts group id k) → FindsOneGroup new

@@ -10,6 +10,7 @@ use Rattle.lvm_io.specs.Count.{Rose}
 use Rattle.lvm_io.specs.Stream.{WhereTold}
 use Rattle.lvm_io.specs.Lines.{TakesFirst, is_feed, joined, lines_from, lines_of}
 use Rattle.lvm_io.specs.Reading.{Reading, to_come, lines_left, CountsGiven}
+use Rattle.lvm_io.proofs.Told.{told_on, told_same, told_more}
 use Rattle.lvm_io.proofs.Feeds.{first_of}
 use Rattle.lvm_vol.specs.Log.{Log}
 use Rattle.lvm_kept.specs.Moments.{Moment}
@@ -53,24 +54,6 @@ pub record RunSoFar (log : Log) (room : Room) (first now : State) (reading : Rea
 abbrev pub through : Option (List ℕ) → ℕ → Option (List ℕ) → ℕ → Passage
 through a f b g = record { before = record { content = a; faults = f }; after = record { content = b; faults = g } }
 
-pub told_then : (x y : Option (List ℕ)) (R S : List ℕ → List ℕ → Type 0) → ((a b : List ℕ) → R a b → S a b) → WhereTold x y R → WhereTold x y S
-told_then None None R S f one = tt
-told_then (Some a) (Some b) R S f one = f a b one
-told_then None (Some b) R S f one = absurd one
-told_then (Some a) None R S f one = absurd one
-
-pub told_same : (o : Option (List ℕ)) (R : List ℕ → List ℕ → Type 0) → ((a : List ℕ) → R a a) → WhereTold o o R
-told_same None R same = tt
-told_same (Some a) R same = same a
-
-told_on : (x y z : Option (List ℕ)) (R S T : List ℕ → List ℕ → Type 0) → ((a b c : List ℕ) → R a b → S b c → T a c) → WhereTold x y R → WhereTold y z S → WhereTold x z T
-told_on None None None R S T f one two = tt
-told_on (Some a) (Some b) (Some c) R S T f one two = f a b c one two
-told_on None None (Some c) R S T f one two = absurd two
-told_on None (Some b) z R S T f one two = absurd one
-told_on (Some a) None z R S T f one two = absurd one
-told_on (Some a) (Some b) None R S T f one two = absurd two
-
 pub at_start : (log : Log) (room : Room) (first : State) (input before : Option (List ℕ)) → first.posts ≡ [] → RunSoFar log room first first nothing_read input input before before 0 0
 at_start log room first input before none = record {
   lines = [];
@@ -99,24 +82,14 @@ said_few answer said (inl same) = subst (λ (r : Reply). refusals_of r ≤ most_
   where
     its : (r : Reply) → refusals_of r ≤ most_refusals r
     its reply.Silent = omega arith
-    its reply.Ok = omega arith
-    its reply.Posted = omega arith
-    its (reply.Stepped turns) = omega arith
-    its (reply.Synced made) = omega arith
-    its (reply.Lines text) = omega arith
-    its (reply.Answers text refused) = omega arith
-    its (reply.Refused why) = omega arith
+    its _ = omega arith
 said_few answer said (inr (late, is)) = subst (λ (r : Reply). refusals_of r ≤ most_refusals answer) (sym is) (one answer late)
   where
     one : (r : Reply) → IsTrue (is_made_late r) → 1 ≤ most_refusals r
     one (reply.Stepped turns) late = omega arith
     one (reply.Synced made) late = omega arith
     one (reply.Refused why) late = omega arith
-    one reply.Silent late = absurd (cc (late))
-    one reply.Ok late = absurd (cc (late))
-    one reply.Posted late = absurd (cc (late))
-    one (reply.Lines text) late = absurd (cc (late))
-    one (reply.Answers text refused) late = absurd (cc (late))
+    one _ late = absurd (cc (late))
 
 -- one line more refuses as many lines more as posts go with it, and one
 pub one_more : (refused refused' lines_done posts posts' : ℕ) (answer said : Reply) → Says answer said → refused' ≡ refused + refusals_of said → most_refusals answer + posts' ≤ posts + 1 → refused + posts ≤ lines_done → refused' + posts' ≤ lines_done + 1
@@ -276,8 +249,8 @@ module _ (log : Log) (room : Room) (first now : State) (reading : Reading) (inpu
     written_well = λ no_sink no_stuck. written_well;
     stuck = λ is. absurd (no_stuck is);
     heard = λ other. tt;
-    long = λ is. told_then input left' _ (λ a b. 16777216 + length b < length a) (λ a b e. let over = too_long.0 is in omega (arith, e, over)) (all_given reading' left' given);
-    short = λ not_long. told_then input left' _ (λ a b. length a ≤ 16777216 + length b) (λ a b e. let fits = within not_long in omega (arith, e, fits)) (all_given reading' left' given);
+    long = λ is. told_more input left' _ (λ a b. 16777216 + length b < length a) (λ a b e. let over = too_long.0 is in omega (arith, e, over)) (all_given reading' left' given);
+    short = λ not_long. told_more input left' _ (λ a b. length a ≤ 16777216 + length b) (λ a b e. let fits = within not_long in omega (arith, e, fits)) (all_given reading' left' given);
   }
     where
       within : (why ≡ Some stop.TooLong → ⊥) → reading'.given ≤ 16777216
@@ -316,7 +289,7 @@ module _ (log : Log) (room : Room) (first now : State) (reading : Reading) (inpu
     stuck = stuck;
     heard = λ other stuck. other (stuck_so stuck);
     long = λ is. absurd (not_long is);
-    short = λ not_long. told_then input left' _ (λ a b. length a ≤ 16777216 + length b) (λ a b e. omega (arith, e, within)) (all_given reading' left' given);
+    short = λ not_long. told_more input left' _ (λ a b. length a ≤ 16777216 + length b) (λ a b e. omega (arith, e, within)) (all_given reading' left' given);
   }
     where
       begins_with : (bytes : List ℕ) (y z : Option (List ℕ)) → WhereTold (Some bytes) y (λ a b. lines_of a ≡ so_far.lines ++ lines_of b) → WhereTold y z (TakesFirst line) → (rest : List (List ℕ)) × (lines_of bytes ≡ (so_far.lines ++ line ∷ []) ++ rest)

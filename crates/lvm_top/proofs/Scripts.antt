@@ -1,27 +1,19 @@
 -- What is found after the lines of a script.
-use Rattle.std.proofs.Common.{◌≡◌, ◌⊎◌, inl, inr, ⊎_elim, ℕ, ◌+◌, List, [], ◌∷◌, ◌++◌, Bool, true, false, Option, Some, None, Result, Ok, Err, count_by, cond, refl, sym, ap, subst, ◌∙◌, arith, ◌≤◌, length}
+use Rattle.std.proofs.Common.{◌≡◌, ◌⊎◌, inl, inr, ⊎_elim, ℕ, ◌+◌, List, [], ◌∷◌, ◌++◌, Bool, true, false, Option, Some, None, Result, Ok, Err, refl, sym, ap, subst, ◌∙◌, ◌≤◌, length}
 use Rattle.std.specs.Prelude.{IsSome, IsSomeAnd, IfSome}
-use Rattle.std.proofs.lemmas.List.{append-nil}
-use Rattle.std.proofs.lemmas.List.Sums.{sum_by-append}
 use Rattle.lvm_num.specs.declared.descriptor.Descriptor.{Descriptor}
 use Rattle.lvm_disk.specs.Device.{Device, Media}
 use Rattle.lvm_disk.specs.Steps.{BothTold}
 use Rattle.lvm_disk.proofs.Paths.{last-path}
 use Rattle.lvm_vol.specs.Facts.{Fact, Cut}
-use Rattle.lvm_vol.specs.Legal.{begins_in, Legal}
 use Rattle.lvm_vol.specs.Log.{Log}
 use Rattle.lvm_parse.specs.declared.command.Command.{Command}
 use Rattle.lvm_operands.specs.declared.rest.Misfit.{Misfit}
 use Rattle.lvm_parse.specs.Grammar.{line_of}
-use Rattle.lvm_kept.specs.Contents.{contents_of}
-use Rattle.lvm_kept.specs.Kept.{Kept}
-use Rattle.lvm_kept.specs.Moments.{Moment, Calm}
+use Rattle.lvm_kept.specs.Moments.{Moment}
 use Rattle.lvm_kept.proofs.Chaining.{span_told, span_sizes}
-use Rattle.lvm_kept.proofs.Keeping.{cut_calm}
-use Rattle.lvm_kept.proofs.Landing.{legal_more}
-use Rattle.lvm_steps.specs.Moments.{Begins, ImagesKept, IsEarlier, Keeps}
-use Rattle.lvm_steps.proofs.Entries.{cut_keeps}
-use Rattle.lvm_steps.proofs.Spans.{keeps_still, later_append}
+use Rattle.lvm_steps.specs.Moments.{ImagesKept, Keeps}
+use Rattle.lvm_steps.proofs.Spans.{keeps_still, begins_run}
 use Rattle.lvm_core.specs.declared.parts.Room.{Room}
 use Rattle.lvm_core.specs.declared.refused.Cause.{Cause}
 use Rattle.lvm_session.specs.declared.open.Power.TheVariants as power
@@ -153,22 +145,6 @@ varyon_finds log room past first lines replies last script begin alone line name
         by_given (Err why) gives left = absurd (let e = left.answered in cc (e))
 
 -- ---- runs
-
--- the earlier history, as a run finds it
-begins_run : (run : ℕ) (device : Device) (past : List Fact) → IsEarlier run device past → Begins run (past ++ Cut ∷ []) (record { device = device; facts = [] })
-begins_run run device past earlier =
-    let all : (past ++ Cut ∷ []) ++ [] ≡ past ++ Cut ∷ [] = append-nil (past ++ Cut ∷ []) in
-    record {
-      told = earlier.told;
-      legal = subst Legal (sym all) (legal_more [] past Cut earlier.legal tt);
-      own = sum_by-append (λ g. cond (begins_in run g) 1 0) past (Cut ∷ []) ∙ (let e = earlier.own in more e);
-      moments = later_append past (Cut ∷ []) run earlier.moments tt;
-      calm = subst Calm (sym all) (cut_calm past);
-      kept = λ image may. subst (Kept (contents_of image)) (sym all) (cut_keeps (contents_of image) past (earlier.kept image may));
-    }
-  where
-    more : count_by (begins_in run) past ≡ 0 → ◌≡◌ {A = ℕ} (count_by (begins_in run) past + 0) 0
-    more e = omega (arith, e)
 
 pub run_may_start : RunMayStart
 run_may_start run entry past few ready behind earlier = record { off = refl; few = few; leaves = none_flies entry ready.flights; timely = begins_timely run entry ready.flights behind; begins = begins_run run entry past earlier }

@@ -2,6 +2,7 @@
 use Rattle.std.proofs.Common.{◌≡◌, ◌⊎◌, inl, inr, ⊎_elim, ◌++◌, ◌≤◌, ◌+◌, ◌==◌, if◌then◌else◌, ℕ, List, [], length, Option, Some, None, Bool, true, false, refl, sym, ◌∙◌, ap, subst, arith}
 use Rattle.lvm_disk.specs.Device.{Device, IsReady}
 use Rattle.lvm_io.specs.Count.{Rose}
+use Rattle.lvm_io.proofs.Told.{told_same}
 use Rattle.lvm_vol.specs.Facts.{Fact}
 use Rattle.lvm_vol.specs.Log.{Log}
 use Rattle.lvm_stamps.specs.Behind.{IsBehind, IsAhead}
@@ -20,7 +21,7 @@ use Rattle.lvm_top.proofs.Firsts.{first_upheld}
 use Rattle.lvm_top.proofs.Concluding.{at_rest_still, concluded, entry_between, off_still, ran_ahead, run_upheld}
 use Rattle.lvm_top.proofs.Recovering.{varyon_recovers}
 use Rattle.lvm_top.proofs.Refusing.{run_causes}
-use Rattle.lvm_top.proofs.Scripting.{Ended, told_same, nothing_done, nothing_broken, nothing_heard, nothing_left, lines_ended}
+use Rattle.lvm_top.proofs.Scripting.{Ended, nothing_done, nothing_broken, nothing_heard, nothing_left, lines_ended}
 use Rattle.lvm_top.specs.Statuses.{status_of, at_end, IsAtEnd, GoesUntil}
 use Rattle.lvm_top.specs.declared.status.ExitStatus.{ExitStatus}
 use Rattle.lvm_top.specs.declared.status.ExitStatus.TheVariants as ended
@@ -35,26 +36,17 @@ by_count P well refusals false = refusals
 pub words_read : (why : Option Stop) (refused : ℕ) → status_of why refused ≡ ended.Usage → ⊥
 words_read None refused is = by_count (λ (s : ExitStatus). s ≡ ended.Usage → ⊥) (λ e. cc (e)) (λ e. cc (e)) (refused == 0) is
 words_read (Some stop.SourceFault) refused is = cc (is)
-words_read (Some stop.SinkFault) refused is = cc (is)
-words_read (Some stop.Memory) refused is = cc (is)
-words_read (Some stop.Stuck) refused is = cc (is)
-words_read (Some stop.TooLong) refused is = cc (is)
+words_read (Some _) refused is = cc (is)
 
 pub at_its_end : (why : Option Stop) (refused : ℕ) → IsAtEnd (status_of why refused) → why ≡ None
 at_its_end None refused end = refl
 at_its_end (Some stop.SourceFault) refused end = absurd end
-at_its_end (Some stop.SinkFault) refused end = absurd end
-at_its_end (Some stop.Memory) refused end = absurd end
-at_its_end (Some stop.Stuck) refused end = absurd end
-at_its_end (Some stop.TooLong) refused end = absurd end
+at_its_end (Some _) refused end = absurd end
 
 pub counted_at_end : (why : Option Stop) (refused : ℕ) → IsAtEnd (status_of why refused) → status_of why refused ≡ at_end refused
 counted_at_end None refused end = refl
 counted_at_end (Some stop.SourceFault) refused end = absurd end
-counted_at_end (Some stop.SinkFault) refused end = absurd end
-counted_at_end (Some stop.Memory) refused end = absurd end
-counted_at_end (Some stop.Stuck) refused end = absurd end
-counted_at_end (Some stop.TooLong) refused end = absurd end
+counted_at_end (Some _) refused end = absurd end
 
 -- each other status has one reason
 abbrev reason : ExitStatus → Option Stop
@@ -68,10 +60,7 @@ reason other = None
 reason_back : (why : Option Stop) (refused : ℕ) → reason (status_of why refused) ≡ why
 reason_back None refused = by_count (λ (s : ExitStatus). reason s ≡ None) refl refl (refused == 0)
 reason_back (Some stop.SourceFault) refused = refl
-reason_back (Some stop.SinkFault) refused = refl
-reason_back (Some stop.Memory) refused = refl
-reason_back (Some stop.Stuck) refused = refl
-reason_back (Some stop.TooLong) refused = refl
+reason_back (Some _) refused = refl
 
 pub why_at : (why : Option Stop) (refused : ℕ) (status : ExitStatus) → status_of why refused ≡ status → why ≡ reason status
 why_at why refused status is = sym (reason_back why refused) ∙ ap reason is

@@ -1,7 +1,7 @@
 -- What is found after the varying on of a group, whatever became of it: what was found before.
-use Rattle.std.proofs.Common.{◌≡◌, ◌≢◌, ⊎_elim, ℕ, ◌-◌, ◌^◌, ◌<◌, ◌≤◌, Bool, true, false, ◌&&◌, List, [], length, Option, Some, None, refl, sym, ap, subst, ◌∙◌, arith}
+use Rattle.std.proofs.Common.{◌≡◌, ◌≢◌, ⊎_elim, ℕ, ◌-◌, ◌^◌, ◌<◌, ◌≤◌, true, List, [], length, Option, Some, None, refl, sym, ap, subst, ◌∙◌, arith}
 use Rattle.std.specs.Prelude.{IsTrue, IsSomeAnd, nat_lt, nat_le, slice_get, slice_index_or}
-use Rattle.std.proofs.lemmas.Bool.Decides.{nat_tests}
+use Rattle.std.proofs.lemmas.Bool.{and_from, lt-ltb, le-leb}
 use Rattle.std.proofs.lemmas.Option.{slice_get_within, get_or_from_slice_get}
 use Rattle.lvm_num.specs.declared.record.Framed.{Framed}
 use Rattle.lvm_num.specs.declared.record.Kind.TheVariants as kind
@@ -43,19 +43,8 @@ use Rattle.lvm_top.proofs.Devices.{IsShelf, NothingNew, unwritten_nothing}
 -- a disk with room for records has records
 has_room_for : (sizes : List ℕ) (media : Media) (d size : ℕ) → slice_get sizes d ≡ Some size → data_start ≤ size → has_records (image_of sizes media) d ≡ true
 has_room_for sizes media d size at large =
-    both (nat_lt d (length sizes)) (nat_le data_start (slice_index_or sizes d 0)) (is_lt d (length sizes) (slice_get_within sizes d size at))
-    (ap (nat_le data_start) (get_or_from_slice_get sizes d size 0 at) ∙ is_le data_start size large)
-  where
-    both : (a b : Bool) → a ≡ true → b ≡ true → (a && b) ≡ true
-    both true true p q = refl
-    both true false p q = q
-    both false b p q = absurd cc
-
-    is_lt : (n m : ℕ) → n < m → nat_lt n m ≡ true
-    is_lt n m lt = grind (arith, nat_tests)
-
-    is_le : (n m : ℕ) → n ≤ m → nat_le n m ≡ true
-    is_le n m le = grind (arith, nat_tests)
+    and_from (nat_lt d (length sizes)) (nat_le data_start (slice_index_or sizes d 0)) (lt-ltb d (length sizes) (slice_get_within sizes d size at))
+    (ap (nat_le data_start) (get_or_from_slice_get sizes d size 0 at) ∙ le-leb data_start size large)
 
 -- a device whose crash images are told told its media before
 told_first : (old new : Device) (R : Media → Media → Type 0) → BothTold old.media new.media R → (image : Image) → MayLeave new image → (m : Media) × (old.media ≡ Some m)

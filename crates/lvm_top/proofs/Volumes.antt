@@ -137,15 +137,9 @@ module _ (run : ℕ) (old new : State) (leaves : LeavesDescriptors old.moment.de
         failed_mklv (fault.WentOff have total) says done id k it = tried_mklv (Err (fault.WentOff have total)) _ (inr (subst IsBrokenOff (sym says) tt)) done id k it
         failed_mklv fault.Stuck says done id k it = tried_mklv (Err fault.Stuck) _ (inr (subst IsBrokenOff (sym says) tt)) done id k it
         failed_mklv (fault.DiskFailed disk) says done id k it = tried_mklv (Err (fault.DiskFailed disk)) _ (inr (subst IsBrokenOff (sym says) tt)) done id k it
-        failed_mklv fault.Busy says done id k it = inl (idle_nothing core left mid done.left drains done.gives.0 done.leaves id k it)
         failed_mklv fault.NoVolume says done id k it = absurd done.gives
-        failed_mklv fault.VolumeExists says done id k it = inl (idle_nothing core left mid done.left drains done.gives.0 done.leaves id k it)
-        failed_mklv (fault.CopyLimit now) says done id k it = inl (idle_nothing core left mid done.left drains done.gives.0 done.leaves id k it)
         failed_mklv (fault.LastFresh lp) says done id k it = absurd done.gives
-        failed_mklv (fault.TooMany limit) says done id k it = inl (idle_nothing core left mid done.left drains done.gives.0 done.leaves id k it)
-        failed_mklv (fault.NoRoom free) says done id k it = inl (idle_nothing core left mid done.left drains done.gives.0 done.leaves id k it)
-        failed_mklv fault.HistoryFull says done id k it = inl (idle_nothing core left mid done.left drains done.gives.0 done.leaves id k it)
-        failed_mklv fault.Memory says done id k it = inl (idle_nothing core left mid done.left drains done.gives.0 done.leaves id k it)
+        failed_mklv _ says done id k it = inl (idle_nothing core left mid done.left drains done.gives.0 done.leaves id k it)
 
       pub mklv_finds : MklvDoes (wanted name copies mode policy lps) group old new answer → FoundByMklv
       mklv_finds (NoGroupForMklv none is) id k it = inl (same_nothing old.moment.device new.moment.device (ap (λ (s : State). s.moment.device) is.1) id k it)
@@ -176,16 +170,11 @@ module _ (run : ℕ) (old new : State) (leaves : LeavesDescriptors old.moment.de
         failed_rmlv fault.Dark says done id k it = tried_rmlv (Err fault.Dark) _ (inr (subst IsBrokenOff (sym says) tt)) done id k it
         failed_rmlv (fault.WentOff have total) says done id k it = tried_rmlv (Err (fault.WentOff have total)) _ (inr (subst IsBrokenOff (sym says) tt)) done id k it
         failed_rmlv fault.Stuck says done id k it = tried_rmlv (Err fault.Stuck) _ (inr (subst IsBrokenOff (sym says) tt)) done id k it
-        failed_rmlv (fault.DiskFailed disk) says done id k it = absurd done.gives
         failed_rmlv fault.Busy says done id k it = inl (idle_nothing core left mid done.left drains done.gives.0 done.leaves id k it)
         failed_rmlv fault.NoVolume says done id k it = inl (idle_nothing core left mid done.left drains done.gives.0 done.leaves id k it)
-        failed_rmlv fault.VolumeExists says done id k it = absurd done.gives
-        failed_rmlv (fault.CopyLimit now) says done id k it = absurd done.gives
-        failed_rmlv (fault.LastFresh lp) says done id k it = absurd done.gives
-        failed_rmlv (fault.TooMany limit) says done id k it = absurd done.gives
-        failed_rmlv (fault.NoRoom free) says done id k it = absurd done.gives
         failed_rmlv fault.HistoryFull says done id k it = inl (idle_nothing core left mid done.left drains done.gives.0 done.leaves id k it)
         failed_rmlv fault.Memory says done id k it = inl (idle_nothing core left mid done.left drains done.gives.0 done.leaves id k it)
+        failed_rmlv _ says done id k it = absurd done.gives
 
       pub rmlv_finds : RmlvDoes name old new answer → FoundByRmlv
       rmlv_finds (NoGroupForRmlv none is) id k it = inl (same_nothing old.moment.device new.moment.device (ap (λ (s : State). s.moment.device) is.1) id k it)

@@ -79,12 +79,9 @@ VaryonsRecover =
 abbrev pub IsDoneOrShort : ExitStatus → Type 0
 IsDoneOrShort ended.Well = Unit {0}
 IsDoneOrShort ended.Refusals = Unit {0}
-IsDoneOrShort ended.Usage = ⊥
-IsDoneOrShort ended.SourceFault = ⊥
-IsDoneOrShort ended.SinkFault = ⊥
 IsDoneOrShort ended.Memory = Unit {0}
-IsDoneOrShort ended.Stuck = ⊥
 IsDoneOrShort ended.TooLong = Unit {0}
+IsDoneOrShort _ = ⊥
 
 -- So each run ends whose source and sink don't fail, and whose shelf doesn't wait a million times in one line.
 abbrev pub RunsEndInTime : Type 0

@@ -19,11 +19,7 @@ abbrev pub is_made_late : Reply → Bool
 is_made_late (reply.Refused why) = true
 is_made_late (reply.Stepped turns) = true
 is_made_late (reply.Synced made) = true
-is_made_late reply.Silent = false
-is_made_late reply.Ok = false
-is_made_late reply.Posted = false
-is_made_late (reply.Lines text) = false
-is_made_late (reply.Answers text refused) = false
+is_made_late _ = false
 
 -- the reply that is written: the answer, or where the line of a refusal or of turns found no memory that it didn't
 abbrev pub Says : Reply → Reply → Type 0

@@ -66,22 +66,7 @@ is_group_command (command.Mklv name copies mode policy group lps) = true
 is_group_command (command.Rmlv name) = true
 is_group_command (command.Mklvcopy name copies) = true
 is_group_command (command.Rmlvcopy name copies) = true
-is_group_command (command.Rd name at count) = false
-is_group_command (command.Wr name at count word) = false
-is_group_command (command.Post name at count word) = false
-is_group_command command.Wait = false
-is_group_command (command.SyncVolume name) = false
-is_group_command (command.SyncGroup name) = false
-is_group_command (command.Step turns) = false
-is_group_command (command.Varyoff name) = false
-is_group_command (command.Lsvg volumes name) = false
-is_group_command (command.Lslv name) = false
-is_group_command (command.Lspv disk) = false
-is_group_command (command.RawRd disk at count) = false
-is_group_command (command.RawWr disk at count word) = false
-is_group_command (command.Fail disk) = false
-is_group_command (command.Heal disk) = false
-is_group_command (command.Cut word) = false
+is_group_command _ = false
 
 -- such a command was answered as done
 abbrev pub is_acknowledged : Result (Option Command) Misfit → Reply → Bool

@@ -16,6 +16,7 @@ ghost use Rattle.lvm_top.specs.Statuses.{status_of};
 
 use crate::script::{Stop, do_lines};
 use crate::status::ExitStatus;
+use lvm_commit::is_committed;
 use lvm_core::{Closed, Room};
 use lvm_disk::Shelf;
 use lvm_history::History;
@@ -25,7 +26,6 @@ use lvm_line::below::stage::{Holder, Stage, take_rooms};
 use lvm_memory::MemShelf;
 use lvm_posts::Post;
 use lvm_session::{Session, Turned};
-use lvm_status::Updater;
 use std::alloc::Global;
 
 /// How a run ended.
@@ -69,13 +69,6 @@ pub fn unbegun<S>(shelf: S) -> Ended<S>
         shelf,
         sim: None,
     }
-}
-
-// Whether what is wanted is committed.
-fn is_committed(updater: &Updater) -> bool
-    ensures { IsTrue result ↔ (updater.now.committed ≡ updater.now.wanted) }
-{
-    updater.committed().as_status() == updater.wanted().as_status()
 }
 
 // Whether a session has no request open, no update in flight, and nothing wanted that isn't committed.

@@ -20,6 +20,7 @@ use Rattle.lvm_turn.specs.Steps.{IsOutside, looked, tried, stowed, told, compare
 use Rattle.lvm_turn.proofs.Nested.{longer_begins, longer_whole, one_begins_longer, other_begins_longer}
 use Rattle.lvm_vol.proofs.Growing.{begins_itself, begins_further, none_fell}
 use Rattle.lvm_turn.proofs.Growing.{index_below, after_set, fits_on, still_placed}
+use Rattle.lvm_turn.proofs.Rules.{still_taken}
 
 bool_cases : (b : Bool) → (b ≡ true → ⊥) → b ≡ false
 bool_cases true never = absurd (never refl)
@@ -368,17 +369,9 @@ module _ {V : Type 0} (tells : V → Told) (past : V → Option (List (List Sect
             after_set (λ j u. u.inside ≡ true → j ≡ taken.seat) s.views id w (λ i. taken.alone id v at i) (λ j u ne e. taken.alone j u e) in
             dite (ℕ_discrete taken.seat id)
             (λ (e : taken.seat ≡ id).
-            let same : taken.view ≡ v = some-injective taken.view v (sym taken.there ∙ ap (λ k. get_elem? s.views k) e ∙ at) in
-            let h = subst (λ u. IsInside r.history r.best r.turn u) same taken.holder in
-            inr record {
-              odd = taken.odd;
-              seat = id;
-              view = w;
-              there = set_here s.views id w (index_below s.views id v at);
-              holder = record { inside = h.inside; number = h.number; front = longer_whole v.front v.also r.history h.front f.also; counts = h.counts; client = h.client };
-              alone = λ j u a i. alone j u a i ∙ e;
-              homes = taken.homes ∙ ap (λ (u : View). (if u.hand then none else some None) ∷ []) same;
-            })
+            inr (still_taken tells past always r.history r.best r.turn s taken (slice_set s.words 0 (slice_index s.words 0)) (set s.views id w) id v w e at (set_here s.views id w (index_below s.views id v at)) refl
+            (λ h. record { inside = h.inside; number = h.number; front = longer_whole v.front v.also r.history h.front f.also; counts = h.counts; client = h.client })
+            (λ j u a i. alone j u a i ∙ e)))
             (λ ne. inr record {
               odd = taken.odd;
               seat = taken.seat;

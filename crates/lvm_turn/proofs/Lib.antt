@@ -1,4 +1,5 @@
 mod Growing
+mod Rules
 pub mod Keeping
 pub mod Parting
 pub mod Nested

@@ -1,19 +1,20 @@
 -- Passes are cut in two and made one.
-use Rattle.std.proofs.Common.{◌≡◌, ◌≢◌, ℕ, zero, suc, ◌⊎◌, eqb, Bool, true, false, true≢false, cond, not, Option, None, List, [], ◌∷◌, ◌++◌, length, set, refl, sym, ap, ◌∙◌, subst, ⊎_elim, inl, inr, arith, eq-eqb, ne_eqb, length-set}
-use Rattle.std.specs.Prelude.{if◌then◌else◌, filter, ◌==◌}
-use mathlib.Core.Option.{some, none, some-ne-none, some-injective}
+use Rattle.std.proofs.Common.{◌≡◌, ◌≢◌, ℕ, zero, suc, ◌⊎◌, eqb, Bool, true, false, true≢false, cond, not, Option, List, [], ◌∷◌, ◌++◌, length, set, ◌<◌, ◌≤◌, refl, sym, ap, ◌∙◌, subst, ⊎_elim, inl, inr, arith, eq-eqb, ne_eqb, length-set}
+use Rattle.std.specs.Prelude.{filter, ◌==◌}
+use mathlib.Core.Option.{some, some-ne-none, some-injective}
 use mathlib.Core.Logic.{dite}
 use native.Mathlib.Decide.{ℕ_discrete}
 use lib.ListN.{get_elem?}
 use Rattle.atomic_table.specs.Table.{State, Splits, Joins}
 use Rattle.atomic_table.proofs.Lists.{at_set, set_here, set_else, at_longer, at_last}
-use Rattle.lvm_vol.specs.Fronts.{Told}
+use Rattle.lvm_vol.specs.Fronts.{Told, own}
 use Rattle.lvm_num.specs.Buffer.{Sector}
 use Rattle.lvm_vol.specs.Facts.{Fact}
 use Rattle.lvm_turn.specs.Views.{Fixed, Client, View, Owns, Holds, without, only, without_client, with_client_alone, met, nobody}
-use Rattle.lvm_turn.specs.Rules.{Fits, IsInside, IsFree, IsTaken, TurnRule}
+use Rattle.lvm_turn.specs.Rules.{Fits, IsFree, IsTaken, TurnRule}
 use Rattle.lvm_turn.proofs.Nested.{greater_below, greater_whole}
 use Rattle.lvm_turn.proofs.Growing.{index_below, after_set}
+use Rattle.lvm_turn.proofs.Rules.{over_views, still_taken}
 
 off : (b : Bool) → b ≡ false → b ≡ true → ⊥
 off b f t = true≢false (sym t ∙ f)
@@ -101,6 +102,12 @@ after_cut F views id left right one other rest j u e = ⊎_elim
     (λ (t : (j ≡ length (set views id left)) × (right ≡ u)). subst (λ (y : ℕ × View). F y.0 y.1) (λ i. (sym (t.0 ∙ length-set views id left) i, t.1 i)) other)
     (at_end (set views id left) right u j e)
 
+-- what a pass knows fits other seats and other clients of its own, if these have their seats there
+reseated : {history : List Fact} {root : Fixed} {best : List ℕ} {turn n : ℕ} {seat_of : ℕ → ℕ} {j : ℕ} (v : View) → Fits history root best turn n seat_of j v
+    → (so : ℕ → ℕ) (k : ℕ) (clients : List Client) → ((c : ℕ) (l : List Fact) → Owns clients c l → (k ≡ so c) × (0 < c) × (c ≤ n) × (own c history ≡ l))
+    → Fits history root best turn n so k (record v { clients = clients })
+reseated v f so k clients its = record { front = f.front; also = f.also; counts = f.counts; number = f.number; fixed = f.fixed; clients = its }
+
 module _ {V : Type 0} (tells : V → Told) (past : V → Option (List (List Sector))) (always : V → Type 0) (n : ℕ) (root : Fixed) where
   abbrev St : Type 0
   St = State (Option V) View
@@ -118,76 +125,48 @@ module _ {V : Type 0} (tells : V → Told) (past : V → Option (List (List Sect
       let new = set s.views id left ++ right ∷ [] in
       let there : (j : ℕ) (u : View) → j ≢ id → get_elem? s.views j ≡ some u → get_elem? new j ≡ some u =
       λ j u ne e. at_longer (set s.views id left) (right ∷ []) j u (set_else s.views id j left ne ∙ e) in
-      record {
-        history = r.history;
-        best = r.best;
-        turn = r.turn;
-        seat_of = so;
-        words = r.words;
-        low = r.low;
-        each = after_cut (λ j u. Fits r.history root r.best r.turn n so j u) s.views id left right
-            (record {
-              front = f.front;
-              also = f.also;
-              counts = f.counts;
-              number = f.number;
-              fixed = f.fixed;
-              clients = λ c l h. let t = without_fewer v.clients client c l h in let k = f.clients c l t.0 in (k.0 ∙ sym (moved_else r.seat_of client to c t.1), k.1, k.2, k.3);
-            })
-            (record {
-              front = f.front;
-              also = f.also;
-              counts = f.counts;
-              number = f.number;
-              fixed = f.fixed;
-              clients = λ c l h. let t = only_fewer v.clients client c l h in let k = f.clients c l t.0 in (sym (moved_here r.seat_of client to c t.1), k.1, k.2, k.3);
-            })
-            (λ j u ne e. let g = r.each j u e in record {
-              front = g.front;
-              also = g.also;
-              counts = g.counts;
-              number = g.number;
-              fixed = g.fixed;
-              clients = λ c l h.
-                  let k = g.clients c l h in
-                  let other : c ≢ client = λ same. ne (k.0 ∙ ap r.seat_of same ∙ sym (f.clients client holds.0 holds.1).0) in
-                  (k.0 ∙ sym (moved_else r.seat_of client to c other), k.1, k.2, k.3);
-            });
-        placed = λ c low high. dite (ℕ_discrete c client)
-            (λ (e : c ≡ client). (right, ap (λ k. get_elem? new k) (moved_here r.seat_of client to c e) ∙ at_last (set s.views id left) right to (length-set s.views id left), only_keeps v.clients client c (subst (Holds v.clients) (sym e) holds) e))
-            (λ (ne : c ≢ client).
-            let p = r.placed c low high in
-            dite (ℕ_discrete (r.seat_of c) id)
-            (λ (e : r.seat_of c ≡ id).
-            let is : v ≡ p.0 = some-injective v p.0 (sym at ∙ ap (λ k. get_elem? s.views k) (sym e) ∙ p.1) in (
-              left,
-              ap (λ k. get_elem? new k) (moved_else r.seat_of client to c ne ∙ e) ∙ at_longer (set s.views id left) (right ∷ []) id left (set_here s.views id left (index_below s.views id v at)),
-              without_keeps v.clients client c (subst (λ (x : View). Holds x.clients c) (sym is) p.2) ne,
-            ))
-            (λ apart. (p.0, ap (λ k. get_elem? new k) (moved_else r.seat_of client to c ne) ∙ there (r.seat_of c) p.0 apart p.1, p.2)));
-        place = ⊎_elim
-            (λ (free : IsFree tells past always r.history root r.best r.turn s). inl record {
-              even = free.even;
-              nobody_inside = after_cut (λ j u. u.inside ≡ false) s.views id left right outside outside (λ j u ne e. free.nobody_inside j u e);
-              value = free.value;
-              homes = free.homes;
-              home = free.home;
-            })
-            (λ (taken : IsTaken tells past always r.history r.best r.turn s).
-            let apart : taken.seat ≢ id = λ e. off v.inside outside
-            (ap (λ (y : View). y.inside) (some-injective v taken.view (sym at ∙ ap (λ k. get_elem? s.views k) (sym e) ∙ taken.there)) ∙ taken.holder.inside) in
-            inr record {
-              odd = taken.odd;
-              seat = taken.seat;
-              view = taken.view;
-              there = there taken.seat taken.view apart taken.there;
-              holder = taken.holder;
-              alone = after_cut (λ j u. u.inside ≡ true → j ≡ taken.seat) s.views id left right
-                  (λ i. absurd (off v.inside outside i)) (λ i. absurd (off v.inside outside i)) (λ j u ne e. taken.alone j u e);
-              homes = taken.homes;
-            })
-            r.place;
-      }
+      over_views tells past always n root s r new so
+      (after_cut (λ j u. Fits r.history root r.best r.turn n so j u) s.views id left right
+      (reseated v f so id left.clients (λ c l h. let t = without_fewer v.clients client c l h in let k = f.clients c l t.0 in (k.0 ∙ sym (moved_else r.seat_of client to c t.1), k.1, k.2, k.3)))
+      (reseated v f so to right.clients (λ c l h. let t = only_fewer v.clients client c l h in let k = f.clients c l t.0 in (sym (moved_here r.seat_of client to c t.1), k.1, k.2, k.3)))
+      (λ j u ne e. let g = r.each j u e in reseated u g so j u.clients (λ c l h.
+      let k = g.clients c l h in
+      let other : c ≢ client = λ same. ne (k.0 ∙ ap r.seat_of same ∙ sym (f.clients client holds.0 holds.1).0) in
+      (k.0 ∙ sym (moved_else r.seat_of client to c other), k.1, k.2, k.3))))
+      (λ c low high. dite (ℕ_discrete c client)
+      (λ (e : c ≡ client). (right, ap (λ k. get_elem? new k) (moved_here r.seat_of client to c e) ∙ at_last (set s.views id left) right to (length-set s.views id left), only_keeps v.clients client c (subst (Holds v.clients) (sym e) holds) e))
+      (λ (ne : c ≢ client).
+      let p = r.placed c low high in
+      dite (ℕ_discrete (r.seat_of c) id)
+      (λ (e : r.seat_of c ≡ id).
+      let is : v ≡ p.0 = some-injective v p.0 (sym at ∙ ap (λ k. get_elem? s.views k) (sym e) ∙ p.1) in (
+        left,
+        ap (λ k. get_elem? new k) (moved_else r.seat_of client to c ne ∙ e) ∙ at_longer (set s.views id left) (right ∷ []) id left (set_here s.views id left (index_below s.views id v at)),
+        without_keeps v.clients client c (subst (λ (x : View). Holds x.clients c) (sym is) p.2) ne,
+      ))
+      (λ apart. (p.0, ap (λ k. get_elem? new k) (moved_else r.seat_of client to c ne) ∙ there (r.seat_of c) p.0 apart p.1, p.2))))
+      (⊎_elim
+      (λ (free : IsFree tells past always r.history root r.best r.turn s). inl record {
+        even = free.even;
+        nobody_inside = after_cut (λ j u. u.inside ≡ false) s.views id left right outside outside (λ j u ne e. free.nobody_inside j u e);
+        value = free.value;
+        homes = free.homes;
+        home = free.home;
+      })
+      (λ (taken : IsTaken tells past always r.history r.best r.turn s).
+      let apart : taken.seat ≢ id = λ e. off v.inside outside
+      (ap (λ (y : View). y.inside) (some-injective v taken.view (sym at ∙ ap (λ k. get_elem? s.views k) (sym e) ∙ taken.there)) ∙ taken.holder.inside) in
+      inr record {
+        odd = taken.odd;
+        seat = taken.seat;
+        view = taken.view;
+        there = there taken.seat taken.view apart taken.there;
+        holder = taken.holder;
+        alone = after_cut (λ j u. u.inside ≡ true → j ≡ taken.seat) s.views id left right
+            (λ i. absurd (off v.inside outside i)) (λ i. absurd (off v.inside outside i)) (λ j u ne e. taken.alone j u e);
+        homes = taken.homes;
+      })
+      r.place)
 
   pub joins : (id : ℕ) (v : View) (other : ℕ) (u : View) → v.spent ≡ false → u.spent ≡ false → u.inside ≡ false → Joins Rule id v other u (met v u) nobody
   joins id v other u live live' outside s r at apart there' =
@@ -209,85 +188,70 @@ module _ {V : Type 0} (tells : V → Told) (past : V → Option (List (List Sect
       (λ (t : (j ≡ id) × (w ≡ x)). subst (λ (y : ℕ × View). F y.0 y.1) (λ i. (sym t.0 i, t.1 i)) one)
       (λ (t : (j ≢ id) × (get_elem? s.views j ≡ some x)). others j x t.0 ne' t.1)
       (at_set s.views id j w x e)) in
-      record {
-        history = r.history;
-        best = r.best;
-        turn = r.turn;
-        seat_of = so;
-        words = r.words;
-        low = r.low;
-        each = each_new (λ j x. Fits r.history root r.best r.turn n so j x)
-            (record {
-              front = f.front;
-              also = f'.front;
-              counts = greater_below v.counts u.counts r.best f.counts f'.counts;
-              number = let a = f.number in let b = f'.number in omega arith;
-              fixed = f.fixed;
-              clients = λ c l h. ⊎_elim
-                  (λ (mine : Owns v.clients c l). let k = f.clients c l mine in (k.0 ∙ sym (stays c (λ e. apart (sym e ∙ sym k.0))), k.1, k.2, k.3))
-                  (λ (theirs : Owns u.clients c l). let k = f'.clients c l theirs in (sym (goes c (sym k.0)), k.1, k.2, k.3))
-                  (holds_either v.clients u.clients c l h);
-            })
-            (record { front = (r.history, refl); also = (r.history, refl); counts = tt; number = omega arith; fixed = λ e. absurd (true≢false e); clients = λ c l h. absurd h })
-            (λ j x ne ne' e. let g = r.each j x e in record {
-              front = g.front;
-              also = g.also;
-              counts = g.counts;
-              number = g.number;
-              fixed = g.fixed;
-              clients = λ c l h. let k = g.clients c l h in (k.0 ∙ sym (stays c (λ same. ne' (k.0 ∙ same))), k.1, k.2, k.3);
-            });
-        placed = λ c low high.
-            let p = r.placed c low high in
-            dite (ℕ_discrete (r.seat_of c) other)
-            (λ (e : r.seat_of c ≡ other).
-            let is : u ≡ p.0 = some-injective u p.0 (sym there ∙ ap (λ k. get_elem? s.views k) (sym e) ∙ p.1) in
-            let h : Holds u.clients c = subst (λ (x : View). Holds x.clients c) (sym is) p.2 in
-            (w, ap (λ k. get_elem? new k) (goes c e) ∙ at_id, (h.0, holds_right v.clients u.clients c h.0 h.1)))
-            (λ ne'. dite (ℕ_discrete (r.seat_of c) id)
-            (λ (e : r.seat_of c ≡ id).
-            let is : v ≡ p.0 = some-injective v p.0 (sym at ∙ ap (λ k. get_elem? s.views k) (sym e) ∙ p.1) in
-            let h : Holds v.clients c = subst (λ (x : View). Holds x.clients c) (sym is) p.2 in
-            (w, ap (λ k. get_elem? new k) (stays c ne' ∙ e) ∙ at_id, (h.0, holds_left v.clients u.clients c h.0 h.1)))
-            (λ ne. (p.0, ap (λ k. get_elem? new k) (stays c ne') ∙ rest (r.seat_of c) p.0 ne ne' p.1, p.2)));
-        place = ⊎_elim
-            (λ (free : IsFree tells past always r.history root r.best r.turn s). inl record {
-              even = free.even;
-              nobody_inside = each_new (λ j x. x.inside ≡ false) (free.nobody_inside id v at) refl (λ j x ne ne' e. free.nobody_inside j x e);
-              value = free.value;
-              homes = free.homes;
-              home = free.home;
-            })
-            (λ (taken : IsTaken tells past always r.history r.best r.turn s).
-            let apart' : taken.seat ≢ other = λ e. off u.inside outside
-            (ap (λ (y : View). y.inside) (some-injective u taken.view (sym there ∙ ap (λ k. get_elem? s.views k) (sym e) ∙ taken.there)) ∙ taken.holder.inside) in
-            dite (ℕ_discrete taken.seat id)
-            (λ (e : taken.seat ≡ id).
-            let same : taken.view ≡ v = some-injective taken.view v (sym taken.there ∙ ap (λ k. get_elem? s.views k) e ∙ at) in
-            let h = subst (λ x. IsInside r.history r.best r.turn x) same taken.holder in
-            inr record {
-              odd = taken.odd;
-              seat = id;
-              view = w;
-              there = at_id;
-              holder = record {
-                inside = h.inside;
-                number = let a = h.number in let b = f'.number in omega arith;
-                front = h.front;
-                counts = greater_whole v.counts u.counts r.best h.counts f'.counts;
-                client = (h.client.0, (h.client.1.0, holds_left v.clients u.clients h.client.0 h.client.1.0 h.client.1.1));
-              };
-              alone = each_new (λ j x. x.inside ≡ true → j ≡ id) (λ _. refl) (λ i. absurd (true≢false (sym i))) (λ j x ne ne' a i. taken.alone j x a i ∙ e);
-              homes = taken.homes ∙ ap (λ (x : View). (if x.hand then none else some None) ∷ []) same;
-            })
-            (λ ne. inr record {
-              odd = taken.odd;
-              seat = taken.seat;
-              view = taken.view;
-              there = rest taken.seat taken.view ne apart' taken.there;
-              holder = taken.holder;
-              alone = each_new (λ j x. x.inside ≡ true → j ≡ taken.seat) (λ i. taken.alone id v at i) (λ i. absurd (true≢false (sym i))) (λ j x a b e i. taken.alone j x e i);
-              homes = taken.homes;
-            }))
-            r.place;
-      }
+      over_views tells past always n root s r new so
+      (each_new (λ j x. Fits r.history root r.best r.turn n so j x)
+      (record {
+        front = f.front;
+        also = f'.front;
+        counts = greater_below v.counts u.counts r.best f.counts f'.counts;
+        number = let a = f.number in let b = f'.number in omega arith;
+        fixed = f.fixed;
+        clients = λ c l h. ⊎_elim
+            (λ (mine : Owns v.clients c l). let k = f.clients c l mine in (k.0 ∙ sym (stays c (λ e. apart (sym e ∙ sym k.0))), k.1, k.2, k.3))
+            (λ (theirs : Owns u.clients c l). let k = f'.clients c l theirs in (sym (goes c (sym k.0)), k.1, k.2, k.3))
+            (holds_either v.clients u.clients c l h);
+      })
+      (record { front = (r.history, refl); also = (r.history, refl); counts = tt; number = omega arith; fixed = λ e. absurd (true≢false e); clients = λ c l h. absurd h })
+      (λ j x ne ne' e. let g = r.each j x e in record {
+        front = g.front;
+        also = g.also;
+        counts = g.counts;
+        number = g.number;
+        fixed = g.fixed;
+        clients = λ c l h. let k = g.clients c l h in (k.0 ∙ sym (stays c (λ same. ne' (k.0 ∙ same))), k.1, k.2, k.3);
+      }))
+      (λ c low high.
+      let p = r.placed c low high in
+      dite (ℕ_discrete (r.seat_of c) other)
+      (λ (e : r.seat_of c ≡ other).
+      let is : u ≡ p.0 = some-injective u p.0 (sym there ∙ ap (λ k. get_elem? s.views k) (sym e) ∙ p.1) in
+      let h : Holds u.clients c = subst (λ (x : View). Holds x.clients c) (sym is) p.2 in
+      (w, ap (λ k. get_elem? new k) (goes c e) ∙ at_id, (h.0, holds_right v.clients u.clients c h.0 h.1)))
+      (λ ne'. dite (ℕ_discrete (r.seat_of c) id)
+      (λ (e : r.seat_of c ≡ id).
+      let is : v ≡ p.0 = some-injective v p.0 (sym at ∙ ap (λ k. get_elem? s.views k) (sym e) ∙ p.1) in
+      let h : Holds v.clients c = subst (λ (x : View). Holds x.clients c) (sym is) p.2 in
+      (w, ap (λ k. get_elem? new k) (stays c ne' ∙ e) ∙ at_id, (h.0, holds_left v.clients u.clients c h.0 h.1)))
+      (λ ne. (p.0, ap (λ k. get_elem? new k) (stays c ne') ∙ rest (r.seat_of c) p.0 ne ne' p.1, p.2))))
+      (⊎_elim
+      (λ (free : IsFree tells past always r.history root r.best r.turn s). inl record {
+        even = free.even;
+        nobody_inside = each_new (λ j x. x.inside ≡ false) (free.nobody_inside id v at) refl (λ j x ne ne' e. free.nobody_inside j x e);
+        value = free.value;
+        homes = free.homes;
+        home = free.home;
+      })
+      (λ (taken : IsTaken tells past always r.history r.best r.turn s).
+      let apart' : taken.seat ≢ other = λ e. off u.inside outside
+      (ap (λ (y : View). y.inside) (some-injective u taken.view (sym there ∙ ap (λ k. get_elem? s.views k) (sym e) ∙ taken.there)) ∙ taken.holder.inside) in
+      dite (ℕ_discrete taken.seat id)
+      (λ (e : taken.seat ≡ id).
+      inr (still_taken tells past always r.history r.best r.turn s taken s.words new id v w e at at_id refl
+      (λ h. record {
+        inside = h.inside;
+        number = let a = h.number in let b = f'.number in omega arith;
+        front = h.front;
+        counts = greater_whole v.counts u.counts r.best h.counts f'.counts;
+        client = (h.client.0, (h.client.1.0, holds_left v.clients u.clients h.client.0 h.client.1.0 h.client.1.1));
+      })
+      (each_new (λ j x. x.inside ≡ true → j ≡ id) (λ _. refl) (λ i. absurd (true≢false (sym i))) (λ j x ne ne' a i. taken.alone j x a i ∙ e))))
+      (λ ne. inr record {
+        odd = taken.odd;
+        seat = taken.seat;
+        view = taken.view;
+        there = rest taken.seat taken.view ne apart' taken.there;
+        holder = taken.holder;
+        alone = each_new (λ j x. x.inside ≡ true → j ≡ taken.seat) (λ i. taken.alone id v at i) (λ i. absurd (true≢false (sym i))) (λ j x a b e i. taken.alone j x e i);
+        homes = taken.homes;
+      }))
+      r.place)

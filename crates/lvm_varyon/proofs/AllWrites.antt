@@ -2,7 +2,7 @@
 use Rattle.std.proofs.Common.{inl, inr, ℕ, false, List, Err, ◌∙◌, subst}
 use Rattle.lvm_disk.specs.Counts.{Rose}
 use Rattle.lvm_disk.specs.Device.{Device}
-use Rattle.lvm_homes.specs.declared.homes.Homes.{Homes}
+use Rattle.lvm_rec.specs.declared.homes.Homes.{Homes}
 use Rattle.lvm_write.specs.Parts.{Spends}
 use Rattle.lvm_write.proofs.Transfers.{spent_then}
 use Rattle.lvm_core.specs.declared.refused.Cause.{Cause}
@@ -22,16 +22,7 @@ module _ (b : Beginning) (copies : List Recopy) (before : ℕ) (read : Device) w
   records_stop new (cause.DiskFailed disk) bad = inl bad
   records_stop new cause.Dark off = (off.0, inl off.1)
   records_stop new cause.Stuck off = (off.0, inl off.1)
-  records_stop new cause.Memory off = off
-  records_stop new cause.HistoryFull off = off
-  records_stop new cause.NoRecord off = off
-  records_stop new cause.Ambiguous off = off
-  records_stop new (cause.NoQuorum have total) off = off
-  records_stop new (cause.ClockBack seen) off = off
-  records_stop new (cause.NoDisk disk) off = off
-  records_stop new (cause.TooMany limit) off = off
-  records_stop new (cause.TooSmall disk) off = off
-  records_stop new cause.GroupExists off = off
+  records_stop new _ off = off
 
   pub records_kept : (new : Device) → AgainStaysKept b false read new → AllWritesKeep b copies read new
   records_kept new kept group status disks was may equal = kept group status disks was may
@@ -55,16 +46,7 @@ module _ (b : Beginning) (copies : List Recopy) (before : ℕ) (read : Device) w
       },
       inr (record { restated = restated; homes = homes; written = written; stops = off.1 }),
     )
-    equal_stops between spends cause.Memory off = off
-    equal_stops between spends cause.HistoryFull off = off
-    equal_stops between spends cause.NoRecord off = off
-    equal_stops between spends cause.Ambiguous off = off
-    equal_stops between spends (cause.NoQuorum have total) off = off
-    equal_stops between spends (cause.ClockBack seen) off = off
-    equal_stops between spends (cause.NoDisk disk) off = off
-    equal_stops between spends (cause.TooMany limit) off = off
-    equal_stops between spends (cause.TooSmall disk) off = off
-    equal_stops between spends cause.GroupExists off = off
+    equal_stops between spends _ off = off
 
     pub all_kept : AgainStaysKept b false read restated → EqualisedStaysKept copies b.targets restated new → AllWritesKeep b copies read new
     all_kept records equal group status disks was may may_equal = kept_then read restated new (records group status disks was may) (equal group status b.targets (may_equal homes restated written))

@@ -26,7 +26,7 @@ use Rattle.lvm_kept.specs.Torn.{IsOfNote}
 use Rattle.lvm_stamps.specs.Behind.{StampsBefore, beginning_at, IsBehind}
 use Rattle.lvm_stamps.specs.Laws.{IsOtherOrEarlier}
 use Rattle.lvm_stamps.proofs.Writes.{changes_widen, earlier_keep_before, notes_and_data_are_outside}
-use Rattle.lvm_homes.specs.declared.homes.Homes.{Homes}
+use Rattle.lvm_rec.specs.declared.homes.Homes.{Homes}
 use Rattle.lvm_write.specs.Homes.{SparesNewest}
 use Rattle.lvm_write.specs.Written.{KeepsShelf}
 use Rattle.lvm_write.proofs.Writing.{both_from, both_then, changes_then, if_told, told_at}

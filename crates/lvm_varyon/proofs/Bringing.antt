@@ -17,7 +17,7 @@ use Rattle.lvm_stamps.proofs.Stamps.{later_is_ahead_too, before_is_behind}
 use Rattle.lvm_stamps.proofs.Shelves.{unwritten_stays_behind}
 use Rattle.lvm_stamps.proofs.Records.{all_is_behind_end}
 use Rattle.lvm_write.specs.Written.{KeepsShelf}
-use Rattle.lvm_homes.specs.declared.homes.Homes.{Homes}
+use Rattle.lvm_rec.specs.declared.homes.Homes.{Homes}
 use Rattle.lvm_write.specs.Homes.{SparesNewest}
 use Rattle.lvm_survey.specs.declared.row.Survey.{Survey}
 use Rattle.lvm_survey.specs.Surveyed.{surveyed}
@@ -51,15 +51,11 @@ stops_reading old new name moment patience cause.Dark is = record { how = is.1; 
 stops_reading old new name moment patience cause.Stuck is = record { how = is.1; when = inl is.0 }
 stops_reading old new name moment patience cause.Memory is = is
 stops_reading old new name moment patience cause.HistoryFull is = is
-stops_reading old new name moment patience cause.NoRecord is = absurd is
-stops_reading old new name moment patience cause.Ambiguous is = absurd is
-stops_reading old new name moment patience (cause.NoQuorum have total) is = absurd is
-stops_reading old new name moment patience (cause.ClockBack seen) is = absurd is
-stops_reading old new name moment patience (cause.DiskFailed disk) is = absurd is
 stops_reading old new name moment patience (cause.NoDisk disk) is = is
 stops_reading old new name moment patience (cause.TooMany limit) is = is
 stops_reading old new name moment patience (cause.TooSmall disk) is = is
 stops_reading old new name moment patience cause.GroupExists is = is
+stops_reading old new name moment patience _ is = absurd is
 
 at_choice : (old new : Device) (survey : Survey) → IsSurveyOf old new survey → (Why : Contents → Type 0) → Why (surveyed survey) → AtChoice old new Why
 at_choice old new survey is Why why = record {
@@ -76,13 +72,11 @@ stops_choosing old new name moment patience survey is (cause.NoQuorum have total
 stops_choosing old new name moment patience survey is (cause.ClockBack seen) why = at_choice old new survey is _ why
 stops_choosing old new name moment patience survey is cause.Memory why = (is.unwritten, is.rested)
 stops_choosing old new name moment patience survey is cause.HistoryFull why = why
-stops_choosing old new name moment patience survey is cause.Dark why = absurd why
-stops_choosing old new name moment patience survey is cause.Stuck why = absurd why
-stops_choosing old new name moment patience survey is (cause.DiskFailed disk) why = absurd why
 stops_choosing old new name moment patience survey is (cause.NoDisk disk) why = why
 stops_choosing old new name moment patience survey is (cause.TooMany limit) why = why
 stops_choosing old new name moment patience survey is (cause.TooSmall disk) why = why
 stops_choosing old new name moment patience survey is cause.GroupExists why = why
+stops_choosing old new name moment patience survey is _ why = absurd why
 
 -- ---- the writes
 
@@ -157,16 +151,12 @@ module _ (old read : Device) (survey : Survey) (is : IsSurveyOf old read survey)
     stops_writing (cause.DiskFailed disk) bad it = has_written new (same_misses b plan.copies read new it) (λ b copies r. OneFailed b copies disk r new) bad
     stops_writing cause.Dark off it = broken (IsCutOff old new) (cut_off off.0) it off.1
     stops_writing cause.Stuck off it = broken (IsStillOut before old new) (left_out off.0) it off.1
-    stops_writing cause.Memory off it = absurd off
     stops_writing cause.HistoryFull off it = off
-    stops_writing cause.NoRecord off it = absurd off
-    stops_writing cause.Ambiguous off it = absurd off
-    stops_writing (cause.NoQuorum have total) off it = absurd off
-    stops_writing (cause.ClockBack seen) off it = absurd off
     stops_writing (cause.NoDisk disk) off it = off
     stops_writing (cause.TooMany limit) off it = off
     stops_writing (cause.TooSmall disk) off it = off
     stops_writing cause.GroupExists off it = off
+    stops_writing _ off it = absurd off
 
     brought : HasSectors old → (homes : Homes) → IsEqualled b homes plan.copies read new → HasWrote b plan.copies read new → IsBrought old new name moment room plan.parts homes
     brought whole homes well it = record {

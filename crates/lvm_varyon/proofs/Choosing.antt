@@ -1,7 +1,6 @@
 -- What the choice gives, as a varyon speaks of it.
-use Rattle.std.proofs.Common.{◌≡◌, inl, inr, ℕ, ◌<◌, ◌≤◌, List, Option, Some, None, refl, sym, ap, subst, ◌∙◌}
-use Rattle.std.specs.Prelude.{IsTrue, slice_get, option_and_then, IfSome}
-use Rattle.lvm_num.specs.declared.record.Stamp.{Stamp}
+use Rattle.std.proofs.Common.{◌≡◌, inl, inr, ℕ, ◌<◌, ◌≤◌, List, Some, sym, ap, subst, ◌∙◌}
+use Rattle.std.specs.Prelude.{IsTrue, slice_get}
 use Rattle.lvm_num.specs.declared.descriptor.Descriptor.{Descriptor}
 use Rattle.lvm_num.specs.declared.status.Status.{Status}
 use Rattle.lvm_num.specs.Descriptor.{IsValid}
@@ -13,15 +12,13 @@ use Rattle.lvm_num.proofs.Newest.{is_one}
 use Rattle.lvm_kept.specs.Group.{is_status_of, is_voter, has_quorum, status_among}
 use Rattle.lvm_kept.proofs.Finding.{is_offered, offered}
 use Rattle.lvm_quorum.specs.declared.choice.Choice.{Choice}
-use Rattle.lvm_homes.specs.declared.homes.Homes.{Homes}
+use Rattle.lvm_rec.specs.declared.homes.Homes.{Homes}
 use Rattle.lvm_quorum.specs.Choosing.{IsChosenGroup, IsOnly, IsGreatestEpoch}
 use Rattle.lvm_write.specs.Homes.{SpareNewest}
-use Rattle.lvm_quorum.proofs.Chosen.{found_valid}
+use Rattle.lvm_quorum.proofs.Chosen.{found_valid, row_valid}
 use Rattle.lvm_quorum.proofs.Epochs.{found_on}
-use Rattle.lvm_survey.specs.declared.row.SurveyRow.{SurveyRow}
 use Rattle.lvm_survey.specs.declared.row.Survey.{Survey}
 use Rattle.lvm_survey.specs.Surveyed.{surveyed, IsSurveyValid}
-use Rattle.lvm_area.specs.Reading.{under}
 use Rattle.lvm_core.specs.declared.parts.Room.{Room}
 use Rattle.lvm_next.specs.Next.{IsNextStatus}
 use Rattle.lvm_recovery.specs.Plan.{ArePlannedInOrder}
@@ -35,15 +32,8 @@ status_valid : (s : Survey) (id : ℕ) (r : Stamped Status) → IsSurveyValid s 
 unfolding status_among
 status_valid s id r valid found =
     let one = is_one Status (offered (is_status_of id) (surveyed s).status (is_voter (surveyed s) all_disks id)) (surveyed s).disks r found in
-    on_row one.0 (slice_get s.rows one.0) refl (is_offered (is_status_of id) (surveyed s).status (is_voter (surveyed s) all_disks id) one.0 r one.2).0
-  where
-    shown_valid : (o : Option Status) (stamp : Stamp) → under o stamp ≡ Some r → IfSome o IsValidStatus → IsValidStatus r.value
-    shown_valid None stamp e v = absurd cc
-    shown_valid (Some g) stamp e v = let same : g ≡ r.value = cc in subst IsValidStatus same v
-
-    on_row : (d : ℕ) (o : Option SurveyRow) → slice_get s.rows d ≡ o → option_and_then (λ (row : SurveyRow). under row.status row.status_stamp) o ≡ Some r → IsValidStatus r.value
-    on_row d None at e = absurd cc
-    on_row d (Some row) at e = shown_valid row.status row.status_stamp e (valid d row at).status
+    row_valid IsValidStatus (λ row. row.status) (λ row. row.status_stamp) r (slice_get s.rows one.0)
+    (is_offered (is_status_of id) (surveyed s).status (is_voter (surveyed s) all_disks id) one.0 r one.2).0 (λ row at. (valid one.0 row at).status)
 
 module _ (s : Survey) (name : List ℕ) (choice : Choice) (is : IsChosenGroup (surveyed s) name choice) where
   own_id : is.id ≡ choice.descriptor.id

@@ -22,7 +22,7 @@ use Rattle.lvm_kept.specs.Torn.{IsOfNote}
 use Rattle.lvm_kept.proofs.Finding.{finding_reads}
 use Rattle.lvm_stamps.specs.Behind.{StampsBefore}
 use Rattle.lvm_stamps.proofs.Writes.{changes_widen}
-use Rattle.lvm_homes.specs.declared.homes.Homes.{Homes}
+use Rattle.lvm_rec.specs.declared.homes.Homes.{Homes}
 use Rattle.lvm_write.specs.Homes.{SparesNewest}
 use Rattle.lvm_write.specs.Notes.{empty_note_sector}
 use Rattle.lvm_write.proofs.Writing.{changes_then, told_at}

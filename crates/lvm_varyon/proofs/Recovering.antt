@@ -14,7 +14,7 @@ use Rattle.lvm_kept.specs.Group.{is_voter}
 use Rattle.lvm_kept.specs.Recovered.{IsRecordRange, IsCopyRange, Recovered}
 use Rattle.lvm_kept.specs.Torn.{IsOfNote}
 use Rattle.lvm_kept.proofs.Finding.{images_within}
-use Rattle.lvm_homes.specs.declared.homes.Homes.{Homes}
+use Rattle.lvm_rec.specs.declared.homes.Homes.{Homes}
 use Rattle.lvm_write.specs.Notes.{empty_note_sector}
 use Rattle.lvm_write.specs.Written.{IsInPlan}
 use Rattle.lvm_commit.specs.Committed.{ShowsCommitted}

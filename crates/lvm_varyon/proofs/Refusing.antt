@@ -11,18 +11,7 @@ use Rattle.lvm_varyon.specs.Varied.{Refuses, VaryonStops, VariesOnAt, log_after}
 -- where the history has room it is refused for what stops it
 pub refuses_so : (old new : Device) (name : List ℕ) (moment patience : ℕ) (log : Log) (why : Cause) → 1 ≤ spare_entries log → VaryonStops old new name moment patience why → Refuses old new name moment patience log why
 refuses_so old new name moment patience log cause.HistoryFull spare stops = absurd stops
-refuses_so old new name moment patience log cause.NoRecord spare stops = (spare, stops)
-refuses_so old new name moment patience log cause.Ambiguous spare stops = (spare, stops)
-refuses_so old new name moment patience log (cause.NoQuorum have total) spare stops = (spare, stops)
-refuses_so old new name moment patience log (cause.ClockBack seen) spare stops = (spare, stops)
-refuses_so old new name moment patience log (cause.DiskFailed disk) spare stops = (spare, stops)
-refuses_so old new name moment patience log cause.Dark spare stops = (spare, stops)
-refuses_so old new name moment patience log cause.Stuck spare stops = (spare, stops)
-refuses_so old new name moment patience log cause.Memory spare stops = (spare, stops)
-refuses_so old new name moment patience log (cause.NoDisk disk) spare stops = (spare, stops)
-refuses_so old new name moment patience log (cause.TooMany limit) spare stops = (spare, stops)
-refuses_so old new name moment patience log (cause.TooSmall disk) spare stops = (spare, stops)
-refuses_so old new name moment patience log cause.GroupExists spare stops = (spare, stops)
+refuses_so old new name moment patience log _ spare stops = (spare, stops)
 
 -- nothing is said of a session then
 pub refused_gives : {S : Type 0} (device : S → Device) (old : Device) (log : Log) (name : List ℕ) (moment : ℕ) (room : Room) (patience : ℕ) (why : Cause) (refused : Refused S) → refused.cause ≡ why → refused.history ≡ log_after why log

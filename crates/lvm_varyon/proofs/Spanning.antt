@@ -19,7 +19,7 @@ use Rattle.lvm_steps.proofs.Entering.{quiet_goes_on, calm_goes_on}
 use Rattle.lvm_steps.proofs.Spans.{keeps_still, steps_go_on, group_goes_on}
 use Rattle.lvm_stamps.specs.Behind.{ClockIsAhead}
 use Rattle.lvm_status.specs.Update.{Updates, members_there}
-use Rattle.lvm_homes.specs.declared.homes.Homes.{Homes}
+use Rattle.lvm_rec.specs.declared.homes.Homes.{Homes}
 use Rattle.lvm_core.specs.declared.parts.Room.{Room}
 use Rattle.lvm_core.specs.declared.refused.Cause.{Cause}
 use Rattle.lvm_core.specs.declared.refused.Cause.TheVariants as cause
@@ -66,33 +66,11 @@ cut_calm log old new = by_test (is_uncut log.facts)
 
 pub refused_keeps : (why : Cause) (log : Log) (old new : Device) → Path DeviceStep (StaysKept old) old new → Keeps log.run (at old log.facts) (at new (log_after why log).facts)
 refused_keeps cause.Dark log old new path = cut_keeps log old new (on_steps log old new path)
-refused_keeps cause.HistoryFull log old new path = on_steps log old new path
-refused_keeps cause.NoRecord log old new path = on_steps log old new path
-refused_keeps cause.Ambiguous log old new path = on_steps log old new path
-refused_keeps (cause.NoQuorum have total) log old new path = on_steps log old new path
-refused_keeps (cause.ClockBack seen) log old new path = on_steps log old new path
-refused_keeps (cause.DiskFailed disk) log old new path = on_steps log old new path
-refused_keeps cause.Stuck log old new path = on_steps log old new path
-refused_keeps cause.Memory log old new path = on_steps log old new path
-refused_keeps (cause.NoDisk disk) log old new path = on_steps log old new path
-refused_keeps (cause.TooMany limit) log old new path = on_steps log old new path
-refused_keeps (cause.TooSmall disk) log old new path = on_steps log old new path
-refused_keeps cause.GroupExists log old new path = on_steps log old new path
+refused_keeps _ log old new path = on_steps log old new path
 
 pub refused_calm : (why : Cause) (log : Log) (old new : Device) → StaysCalm (at old log.facts) (at new (log_after why log).facts)
 refused_calm cause.Dark log old new = cut_calm log old new
-refused_calm cause.HistoryFull log old new = same_calm log old new
-refused_calm cause.NoRecord log old new = same_calm log old new
-refused_calm cause.Ambiguous log old new = same_calm log old new
-refused_calm (cause.NoQuorum have total) log old new = same_calm log old new
-refused_calm (cause.ClockBack seen) log old new = same_calm log old new
-refused_calm (cause.DiskFailed disk) log old new = same_calm log old new
-refused_calm cause.Stuck log old new = same_calm log old new
-refused_calm cause.Memory log old new = same_calm log old new
-refused_calm (cause.NoDisk disk) log old new = same_calm log old new
-refused_calm (cause.TooMany limit) log old new = same_calm log old new
-refused_calm (cause.TooSmall disk) log old new = same_calm log old new
-refused_calm cause.GroupExists log old new = same_calm log old new
+refused_calm _ log old new = same_calm log old new
 
 -- ---- the group is on
 

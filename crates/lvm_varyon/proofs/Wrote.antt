@@ -11,7 +11,7 @@ use Rattle.lvm_core.specs.Leaves.{MayBeFound}
 use Rattle.lvm_recovery.specs.Planned.{ArePlanned}
 use Rattle.lvm_varyon.proofs.Beside.{beside_found, both_beside, copies_beside, notes_beside}
 use Rattle.lvm_kept.specs.Torn.{IsOfNote}
-use Rattle.lvm_homes.specs.declared.homes.Homes.{Homes}
+use Rattle.lvm_rec.specs.declared.homes.Homes.{Homes}
 use Rattle.lvm_write.specs.Notes.{empty_note_sector}
 use Rattle.lvm_write.specs.Written.{KeepsShelf}
 use Rattle.lvm_write.proofs.Transfers.{keeps_here}
@@ -102,16 +102,7 @@ module _ (b : Beginning) (copies : List Recopy) (read new : Device) where
   wrote patience (Err (cause.DiskFailed disk)) failed = wrote_failed disk failed
   wrote patience (Err cause.Dark) off = wrote_broken off.1
   wrote patience (Err cause.Stuck) off = wrote_broken off.1
-  wrote patience (Err cause.Memory) off = absurd off
-  wrote patience (Err cause.HistoryFull) off = absurd off
-  wrote patience (Err cause.NoRecord) off = absurd off
-  wrote patience (Err cause.Ambiguous) off = absurd off
-  wrote patience (Err (cause.NoQuorum have total)) off = absurd off
-  wrote patience (Err (cause.ClockBack seen)) off = absurd off
-  wrote patience (Err (cause.NoDisk disk)) off = absurd off
-  wrote patience (Err (cause.TooMany limit)) off = absurd off
-  wrote patience (Err (cause.TooSmall disk)) off = absurd off
-  wrote patience (Err cause.GroupExists) off = absurd off
+  wrote patience (Err _) off = absurd off
 
   pub same_misses : HasWrote b copies read new → new.counts.misses ≡ read.counts.misses
   same_misses it = it.forgets.misses ∙ it.made.misses ∙ it.records.misses

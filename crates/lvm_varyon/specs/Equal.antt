@@ -14,7 +14,7 @@ use Rattle.lvm_steps.specs.Moments.{StaysKept}
 use Rattle.lvm_area.specs.Reading.{IsRested, IsCutOff}
 use Rattle.lvm_write.specs.Notes.{empty_note_sector, NoteTold}
 use Rattle.lvm_write.specs.Written.{HaveRoom, KeepsShelf}
-use Rattle.lvm_homes.specs.declared.homes.Homes.{Homes}
+use Rattle.lvm_rec.specs.declared.homes.Homes.{Homes}
 use Rattle.lvm_begin.specs.Beginning.{Beginning, again_order, MayBeginAgain}
 use Rattle.lvm_begin.specs.Ends.{HasNoFault, IsLowestFailed}
 pub use Rattle.lvm_recovery.specs.declared.copying.Recopy.{Recopy}
@@ -73,16 +73,7 @@ module _ (patience : ℕ) (copies : List Recopy) (epoch : ℕ) (targets : Disks)
   EqualGives (Err (cause.DiskFailed disk)) = StopsEqualling copies epoch targets old new (CopyFailed copies disk old new) (λ copied. ForgettingFailed epoch targets disk copied new)
   EqualGives (Err cause.Dark) = IsCutOff old new × StopsEqualling copies epoch targets old new (StopsAtOne copies old new (λ d. Unit {0})) (λ copied. Unit {0})
   EqualGives (Err cause.Stuck) = IsStillOut patience old new × StopsEqualling copies epoch targets old new (StopsAtOne copies old new (λ d. Unit {0})) (λ copied. Unit {0})
-  EqualGives (Err cause.Memory) = ⊥
-  EqualGives (Err cause.HistoryFull) = ⊥
-  EqualGives (Err cause.NoRecord) = ⊥
-  EqualGives (Err cause.Ambiguous) = ⊥
-  EqualGives (Err (cause.NoQuorum have total)) = ⊥
-  EqualGives (Err (cause.ClockBack seen)) = ⊥
-  EqualGives (Err (cause.NoDisk disk)) = ⊥
-  EqualGives (Err (cause.TooMany limit)) = ⊥
-  EqualGives (Err (cause.TooSmall disk)) = ⊥
-  EqualGives (Err cause.GroupExists) = ⊥
+  EqualGives (Err _) = ⊥
 
 -- ---- behind the records
 
@@ -114,16 +105,7 @@ module _ (patience : ℕ) (b : Beginning) (copies : List Recopy) (read new : Dev
   AllWritesGive (Err (cause.DiskFailed disk)) = OneFailed b copies disk read new
   AllWritesGive (Err cause.Dark) = IsCutOff read new × BrokeOff b copies read new
   AllWritesGive (Err cause.Stuck) = IsStillOut patience read new × BrokeOff b copies read new
-  AllWritesGive (Err cause.Memory) = ⊥
-  AllWritesGive (Err cause.HistoryFull) = ⊥
-  AllWritesGive (Err cause.NoRecord) = ⊥
-  AllWritesGive (Err cause.Ambiguous) = ⊥
-  AllWritesGive (Err (cause.NoQuorum have total)) = ⊥
-  AllWritesGive (Err (cause.ClockBack seen)) = ⊥
-  AllWritesGive (Err (cause.NoDisk disk)) = ⊥
-  AllWritesGive (Err (cause.TooMany limit)) = ⊥
-  AllWritesGive (Err (cause.TooSmall disk)) = ⊥
-  AllWritesGive (Err cause.GroupExists) = ⊥
+  AllWritesGive (Err _) = ⊥
 
 -- ---- what lets it be done
 

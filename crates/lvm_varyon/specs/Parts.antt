@@ -14,7 +14,7 @@ use Rattle.lvm_kept.specs.Contents.{Contents}
 use Rattle.lvm_quorum.specs.declared.choice.Choice.{Choice}
 use Rattle.lvm_quorum.specs.declared.choice.ChooseFault.{ChooseFault}
 use Rattle.lvm_quorum.specs.declared.choice.ChooseFault.TheVariants as fault
-use Rattle.lvm_homes.specs.declared.homes.Homes.{Homes}
+use Rattle.lvm_rec.specs.declared.homes.Homes.{Homes}
 use Rattle.lvm_quorum.specs.Choosing.{HasNoRecord, HasRecord, IsAmbiguous, LacksQuorum}
 use Rattle.lvm_write.specs.Homes.{SpareNewest}
 use Rattle.lvm_survey.specs.declared.row.Survey.{Survey}
@@ -53,16 +53,7 @@ module _ (patience : ℕ) (old new : Device) where
   StopsReading cause.Dark = IsUnwritten old new × IsCutOff old new
   StopsReading cause.Stuck = IsUnwritten old new × IsStillOut patience old new
   StopsReading cause.Memory = IsUnwritten old new × IsRested old new
-  StopsReading cause.HistoryFull = ⊥
-  StopsReading cause.NoRecord = ⊥
-  StopsReading cause.Ambiguous = ⊥
-  StopsReading (cause.NoQuorum have total) = ⊥
-  StopsReading (cause.ClockBack seen) = ⊥
-  StopsReading (cause.DiskFailed disk) = ⊥
-  StopsReading (cause.NoDisk disk) = ⊥
-  StopsReading (cause.TooMany limit) = ⊥
-  StopsReading (cause.TooSmall disk) = ⊥
-  StopsReading cause.GroupExists = ⊥
+  StopsReading _ = ⊥
 
 abbrev pub SurveyGives : ℕ → Device → Device → Result (Survey × Buffer) Cause → Type 0
 SurveyGives patience old new (Ok got) = IsSurveyOf old new got.0
@@ -77,14 +68,7 @@ NotChosen c name moment cause.Ambiguous = HasRecord c name × IsAmbiguous c name
 NotChosen c name moment (cause.NoQuorum have total) = LacksQuorum c name have total
 NotChosen c name moment (cause.ClockBack seen) = IsClockBehindGroup c name moment seen
 NotChosen c name moment cause.Memory = Unit {0}
-NotChosen c name moment cause.HistoryFull = ⊥
-NotChosen c name moment cause.Dark = ⊥
-NotChosen c name moment cause.Stuck = ⊥
-NotChosen c name moment (cause.DiskFailed disk) = ⊥
-NotChosen c name moment (cause.NoDisk disk) = ⊥
-NotChosen c name moment (cause.TooMany limit) = ⊥
-NotChosen c name moment (cause.TooSmall disk) = ⊥
-NotChosen c name moment cause.GroupExists = ⊥
+NotChosen c name moment _ = ⊥
 
 -- the cause of a refusal of the choice
 abbrev pub cause_of : ChooseFault → Cause
@@ -149,16 +133,7 @@ module _ (patience : ℕ) (b : Beginning) (parts : List Part) (read new : Device
   StopsWriting (cause.DiskFailed disk) = OneWriteFailed b parts disk read new
   StopsWriting cause.Dark = IsCutOff read new × WasBrokenOff b parts read new
   StopsWriting cause.Stuck = IsStillOut patience read new × WasBrokenOff b parts read new
-  StopsWriting cause.Memory = ⊥
-  StopsWriting cause.HistoryFull = ⊥
-  StopsWriting cause.NoRecord = ⊥
-  StopsWriting cause.Ambiguous = ⊥
-  StopsWriting (cause.NoQuorum have total) = ⊥
-  StopsWriting (cause.ClockBack seen) = ⊥
-  StopsWriting (cause.NoDisk disk) = ⊥
-  StopsWriting (cause.TooMany limit) = ⊥
-  StopsWriting (cause.TooSmall disk) = ⊥
-  StopsWriting cause.GroupExists = ⊥
+  StopsWriting _ = ⊥
 
   abbrev pub AgainWritesGive : Result (Homes × Buffer) Cause → Type 0
   AgainWritesGive (Ok got) = AllWritten b parts got.0 read new

@@ -11,7 +11,7 @@ use Rattle.lvm_vol.specs.Log.{Log, spare_entries, cut_log}
 use Rattle.lvm_kept.specs.Contents.{Contents, contents_of}
 use Rattle.lvm_kept.specs.Recovered.{Recovered}
 use Rattle.lvm_stamps.specs.Behind.{ClockIsAhead, IsBehind}
-use Rattle.lvm_homes.specs.declared.homes.Homes.{Homes}
+use Rattle.lvm_rec.specs.declared.homes.Homes.{Homes}
 use Rattle.lvm_quorum.specs.Choosing.{HasNoRecord, HasRecord, IsAmbiguous, LacksQuorum}
 use Rattle.lvm_area.specs.Reading.{IsUnwritten, IsRested, IsCutOff}
 use Rattle.lvm_core.specs.declared.parts.Room.{Room}
@@ -107,11 +107,7 @@ module _ (old new : Device) (name : List ℕ) (moment patience : ℕ) where
   VaryonStops cause.Dark = WasStopped old new name moment (IsCutOff old new)
   VaryonStops cause.Stuck = WasStopped old new name moment (IsStillOut patience old new)
   VaryonStops cause.Memory = IsUnwritten old new × IsRested old new
-  VaryonStops cause.HistoryFull = ⊥
-  VaryonStops (cause.NoDisk disk) = ⊥
-  VaryonStops (cause.TooMany limit) = ⊥
-  VaryonStops (cause.TooSmall disk) = ⊥
-  VaryonStops cause.GroupExists = ⊥
+  VaryonStops _ = ⊥
 
   -- Why none came on: the history is full, or it isn't and this.
   abbrev pub Refuses : Log → Cause → Type 0
@@ -121,18 +117,7 @@ module _ (old new : Device) (name : List ℕ) (moment patience : ℕ) where
 -- the history after a refusal: a cut of the power is entered
 abbrev pub log_after : Cause → Log → Log
 log_after cause.Dark log = cut_log log
-log_after cause.HistoryFull log = log
-log_after cause.NoRecord log = log
-log_after cause.Ambiguous log = log
-log_after (cause.NoQuorum have total) log = log
-log_after (cause.ClockBack seen) log = log
-log_after (cause.DiskFailed disk) log = log
-log_after cause.Stuck log = log
-log_after cause.Memory log = log
-log_after (cause.NoDisk disk) log = log
-log_after (cause.TooMany limit) log = log
-log_after (cause.TooSmall disk) log = log
-log_after cause.GroupExists log = log
+log_after _ log = log
 
 -- The group on its shelf, or the shelf and the history again, and why.
 abbrev pub VaryonGives : {S : Type 0} → (S → Device) → Device → Log → List ℕ → ℕ → Room → ℕ → Result (S × Core) (Refused S) → Type 0

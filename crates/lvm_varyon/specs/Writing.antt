@@ -7,7 +7,7 @@ use Rattle.lvm_num.specs.DescriptorBytes.{descriptor_bytes}
 use Rattle.lvm_num.specs.StatusBytes.{status_bytes}
 use Rattle.lvm_disk.specs.Counts.{RoseBy}
 use Rattle.lvm_disk.specs.Device.{Device, Flight, image_of}
-use Rattle.lvm_homes.specs.declared.homes.Homes.{Homes}
+use Rattle.lvm_rec.specs.declared.homes.Homes.{Homes}
 use Rattle.lvm_write.specs.Homes.{SparesNewest}
 use Rattle.lvm_write.specs.Written.{KeepsShelf}
 use Rattle.lvm_area.specs.Reading.{IsUnwritten, IsRested}

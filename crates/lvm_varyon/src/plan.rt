@@ -16,10 +16,10 @@ ghost use Rattle.lvm_num.specs.DescriptorBytes.{descriptor_bytes};
 ghost use Rattle.lvm_num.specs.StatusBytes.{status_bytes};
 
 use lvm_core::{Cause, Parts, Room};
-use lvm_homes::Homes;
 use lvm_next::next_status;
 use lvm_num::{DiskSet, Memory, Name, Rows, Status};
 use lvm_quorum::{Choice, ChooseFault, choose};
+use lvm_rec::Homes;
 use lvm_recovery::{Recopy, named_by, plan_copies};
 use lvm_stale::StaleTable;
 use lvm_survey::Survey;

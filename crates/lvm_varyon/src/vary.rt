@@ -1,5 +1,5 @@
 //! Varying a group on.
-ghost use Rattle.std.specs.Prelude.{◌≡◌, ◌≢◌, ◌+◌, ◌≤◌, IfOk, IfErr};
+ghost use Rattle.std.specs.Prelude.{◌≡◌, ◌≢◌, ◌+◌, IfOk, IfErr};
 ghost use Rattle.lvm_disk.specs.Device.{IsReady};
 ghost use Rattle.lvm_disk.specs.Paths.{DeviceStep, Path};
 ghost use Rattle.lvm_steps.specs.Moments.{StaysKept};
@@ -20,8 +20,8 @@ use crate::writes::{make_equal, read_disks, write_plan};
 use lvm_core::{Cause, Driver, Parts, Refused, Room};
 use lvm_disk::Shelf;
 use lvm_history::History;
-use lvm_homes::Homes;
 use lvm_num::{Name, Pbuf, Stamp};
+use lvm_rec::Homes;
 use lvm_transfer::Patience;
 use std::alloc::Global;
 

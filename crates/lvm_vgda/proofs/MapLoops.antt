@@ -34,6 +34,14 @@ pub two_parts : (members : List PvRow) (used : List Pp) (copies : ℕ) (own : Li
 unfolding partition_at
 two_parts members used copies own rest = refl
 
+-- the partitions of a volume, whose numbers are read again in wider integers
+pub same_partitions : (members : List PvRow) (used : List Pp) (copies lps n m k : ℕ) (rest : Rest) → n ≡ copies → m ≡ lps → k ≡ copies
+    → partitions_at members used n (m * k) [] rest ≡ partitions_at members used copies (lps * copies) [] rest
+same_partitions members used copies lps n m k rest first second third =
+    ap (λ (x : ℕ). partitions_at members used x (m * k) [] rest) first
+    ∙ ap (λ (x : ℕ). partitions_at members used copies (x * k) [] rest) second
+    ∙ ap (λ (x : ℕ). partitions_at members used copies (lps * x) [] rest) third
+
 -- what is read behind the rows that are done
 abbrev pub with_front : List LvRow → Result (List LvRow × Rest) ℕ → Result (List LvRow × Rest) ℕ
 with_front front read = read >>= λ x. Ok (front ++ x.0, x.1)

@@ -12,7 +12,7 @@ use Rattle.lvm_num.specs.declared.descriptor.LvRow.{LvRow}
 use Rattle.lvm_num.specs.declared.descriptor.Mode.{Mode}
 use Rattle.lvm_num.specs.declared.descriptor.Mode.TheVariants.{Active, Passive, Off}
 use Rattle.lvm_num.specs.declared.descriptor.Policy.{Policy}
-use Rattle.lvm_num.specs.declared.descriptor.Policy.TheVariants.{Parallel, Sequential, ParallelWrite, RoundRobin}
+use Rattle.lvm_num.specs.declared.descriptor.Policy.TheVariants.{Parallel}
 use Rattle.lvm_num.specs.Name.{padded}
 use Rattle.lvm_num.specs.Descriptor.{most_volumes, IsVolume, AreVolumes}
 use Rattle.lvm_num.specs.DescriptorBytes.{mode_code, policy_code, mode_named, policy_named, volume_bytes, name_at, volume_at, volumes_at}
@@ -49,15 +49,11 @@ policy_is (suc (suc (suc (suc n)))) e = absurd (omega (arith, at_most (suc (suc 
 
 policy_again : (policy : Policy) → policy_named (policy_code policy) ≡ policy
 policy_again Parallel = refl
-policy_again Sequential = refl
-policy_again ParallelWrite = refl
-policy_again RoundRobin = refl
+policy_again _ = refl
 
 policy_small : (policy : Policy) → nat_le (policy_code policy) 3 ≡ true
 policy_small Parallel = refl
-policy_small Sequential = refl
-policy_small ParallelWrite = refl
-policy_small RoundRobin = refl
+policy_small _ = refl
 
 -- ---- a volume
 

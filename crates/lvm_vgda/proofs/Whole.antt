@@ -15,6 +15,7 @@ use Rattle.lvm_num.specs.Descriptor.{is_size, most_members, most_volumes, partit
 use Rattle.lvm_num.specs.DescriptorBytes.{flag, is_flag, descriptor_magic, member_bytes, volume_bytes, descriptor_bytes, IsDescriptor, version_at, name_at, member_count_at, members_at, volumes_at, maps_at, descriptor_of}
 use Rattle.lvm_num.specs.Reading.{◌>>=◌, Rest, bytes_at, number_at, zeros_at, end_at}
 use Rattle.lvm_num.proofs.MapsLemmas.{find-Some}
+use Rattle.lvm_num.proofs.Bounds.{few_volumes}
 use Rattle.lvm_fields.specs.declared.fault.Fault.{Fault}
 use Rattle.lvm_fields.specs.Reading.{Gives}
 use Rattle.lvm_fields.proofs.FieldLaws.{IsBytes, bind_ok, ok_is, both, from_both, Takes, bytes_takes, bytes_again, wide16, wide64, number_takes, number_again, number_value, byte_takes, byte_again, zeros_take, zeros_again}
@@ -362,7 +363,7 @@ spelled_is_read d valid =
     let s4 : List ℕ = to_be_bytes w16 d.mib ++ s5 in
     let s3 : List ℕ = padded d.name ++ s4 in
     let s2 : List ℕ = to_be_bytes w64 d.id ++ s3 in
-    let lvs-few : length d.lvs < 2 ^ 16 = few_volumes d.big head.volumes in
+    let lvs-few : length d.lvs < 2 ^ 16 = omega (arith, head.volumes, few_volumes d.big) in
     let regrouped : descriptor_bytes d ≡ nested d [] = sym (append-nil (descriptor_bytes d)) ∙ regroup d [] in
     let a = version_again d.big 0 s2 in
     let b = number_again w64 _ wide64 (λ n. not (n == 0)) 4 d.id s3 head.id (not_false (d.id == 0) (is_not d.id head.some_id)) in
@@ -398,10 +399,6 @@ spelled_is_read d valid =
       | inl same ↦ absurd (apart (eqb-true x 0 same))
       | inr isno ↦ isno
     ]
-
-    few_volumes : (big : Bool) → length d.lvs ≤ most_volumes big → length d.lvs < 2 ^ 16
-    few_volumes true le = omega (arith, le)
-    few_volumes false le = omega (arith, le)
 
 -- ---- what a call answers
 

@@ -12,11 +12,12 @@ use Rattle.lvm_num.specs.Status.{AreDirty, IsValidStatus}
 use Rattle.lvm_num.specs.DescriptorBytes.{flag}
 use Rattle.lvm_num.specs.Reading.{◌>>=◌, Rest, bytes_at, number_at, end_at}
 use Rattle.lvm_num.specs.StatusBytes.{version_of, status_magic, status_row_bytes, dirty_bytes, status_bytes, IsStatus, status_version_at, rows_and_size_at, status_rows_at, numbers_at, dirty_at, status_of}
+use Rattle.lvm_num.proofs.Bounds.{few_dirty}
 use Rattle.lvm_fields.specs.declared.fault.Fault.{Fault}
 use Rattle.lvm_fields.specs.Reading.{Gives}
 use Rattle.lvm_fields.proofs.FieldLaws.{IsBytes, bind_ok, ok_is, Takes, Takes-then, bytes_takes, bytes_again, wide16, wide64, number_takes, number_again, end_takes}
 use Rattle.lvm_vgsa.proofs.Rows.{rows_take, rows_again, numbers_take, numbers_again}
-use Rattle.lvm_vgsa.proofs.Sizes.{dirty_some, few_dirty, few_rows}
+use Rattle.lvm_vgsa.proofs.Sizes.{dirty_some, few_rows}
 
 -- ---- the version
 

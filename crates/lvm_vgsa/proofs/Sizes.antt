@@ -1,28 +1,15 @@
 -- How long the parts of a status are.
-use Rattle.std.proofs.Common.{◌≡◌, inl, inr, ℕ, zero, suc, ◌+◌, ◌*◌, ◌<◌, ◌≤◌, Bool, true, false, List, [], ◌∷◌, ◌++◌, length, get_or, take, refl, ap, ◌∙◌, arith, length-append}
+use Rattle.std.proofs.Common.{◌≡◌, ℕ, ◌+◌, ◌*◌, ◌<◌, ◌≤◌, false, List, [], ◌∷◌, ◌++◌, length, take, refl, ap, ◌∙◌, arith, length-append}
 use Rattle.std.specs.Prelude.{◌==◌, flat_map, All}
 use Rattle.std.specs.Int.{w16, to_be_bytes}
-use Rattle.std.proofs.lemmas.Bool.{cases_lt}
 use Rattle.std.proofs.lemmas.Bool.Decides.{nat_tests}
-use Rattle.lvm_num.specs.Descriptor.{most_members}
 use Rattle.std.proofs.lemmas.List.{length-take-le}
 use Rattle.std.proofs.lemmas.List.Elements.{All-head, All-tail, All-take}
 use Rattle.lvm_num.specs.declared.status.StatusRow.{StatusRow}
 use Rattle.lvm_num.specs.declared.status.Status.{Status}
-use Rattle.lvm_num.specs.Status.{IsStatusRow, AreDirty, IsValidStatus}
+use Rattle.lvm_num.specs.Status.{IsStatusRow, IsValidStatus}
 use Rattle.lvm_num.specs.StatusBytes.{status_row_bytes, dirty_bytes, status_bytes}
-
--- each number is above its place, so there are at most 511
-above_place : (xs : List ℕ) → AreDirty xs → (k : ℕ) → k < length xs → k < get_or xs k 0
-above_place xs all zero lt = omega (arith, (all.each 0 0 lt).least)
-above_place xs all (suc k) lt =
-    omega (arith, above_place xs all k (omega (arith, lt)), all.numbers_rise k (suc k) 0 (omega arith) lt)
-
-pub few_dirty : (xs : List ℕ) → AreDirty xs → length xs ≤ 511
-few_dirty xs all = elim (cases_lt 511 (length xs)) [
-  | inl many ↦ absurd (omega (arith, above_place xs all 511 many, (all.each 511 0 many).most))
-  | inr few ↦ few
-]
+use Rattle.lvm_num.proofs.Bounds.{few_members}
 
 row_size : (row : StatusRow) → length row.stale ≡ 127 → length (status_row_bytes row) ≡ 132
 row_size row size = omega (arith, length-append row.stale (0 ∷ []), size)
@@ -66,8 +53,4 @@ dirty_small [] few = omega arith
 dirty_small (n ∷ numbers) few = omega (arith, length-dirty (n ∷ numbers) (omega arith), few)
 
 pub few_rows : (s : Status) → IsValidStatus s → length s.rows ≤ 128
-few_rows s valid = by_size s.big valid.rows_fit
-  where
-    by_size : (big : Bool) → length s.rows ≤ most_members big → length s.rows ≤ 128
-    by_size true le = le
-    by_size false le = omega (arith, le)
+few_rows s valid = omega (arith, valid.rows_fit, few_members s.big)

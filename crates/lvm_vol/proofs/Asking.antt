@@ -2,7 +2,7 @@
 use Rattle.std.proofs.Common.{◌≡◌, inl, inr, ℕ, ◌&&◌, ◌==◌, not, Bool, true, false, cond, List, [], ◌∷◌, Option, Some, None, is_some, unwrap_or, refl, sym, ◌∙◌, ap, subst}
 use Rattle.std.specs.List.{list_any, find}
 use Rattle.std.proofs.lemmas.Bool.{eqb-true}
-use Rattle.lvm_vol.specs.Facts.{Request, Fact, Making, Made, Split, Removing, Removed, Begun, Landed, Taken, Cut, On, Stands, begun}
+use Rattle.lvm_vol.specs.Facts.{Request, Fact, Begun, Taken, Stands, begun}
 use Rattle.lvm_vol.specs.Log.{has_id, asked, no_request, request_of, lands_id, takes_id, is_open, is_answered}
 use Rattle.lvm_vol.specs.Order.{Follows}
 
@@ -29,15 +29,7 @@ begun_stands (f ∷ facts) r there = by_fact (λ later. begun_stands facts r lat
     by_fact : (Stands r (begun facts) → Stands (Begun r) facts) → (g : Fact) → Stands r (begun (g ∷ facts)) → Stands (Begun r) (g ∷ facts)
     by_fact rest (Begun s) (inl is) = inl (ap (λ (x : Request). Begun x) is)
     by_fact rest (Begun s) (inr later) = inr (rest later)
-    by_fact rest (Landed s how started got) later = inr (rest later)
-    by_fact rest (Taken s) later = inr (rest later)
-    by_fact rest (Making lv blocks m) later = inr (rest later)
-    by_fact rest (Made lv) later = inr (rest later)
-    by_fact rest (Split from lv) later = inr (rest later)
-    by_fact rest (Removing vol) later = inr (rest later)
-    by_fact rest (Removed vol) later = inr (rest later)
-    by_fact rest Cut later = inr (rest later)
-    by_fact rest (On moment) later = inr (rest later)
+    by_fact rest _ later = inr (rest later)
 
 -- the request of a number that began
 pub record IsFound (facts : List Fact) (id : ℕ) : Type 0 where

@@ -24,15 +24,7 @@ known-push facts f vol b = ap (λ (k : Knowledge). k vol b) (known-append facts 
 -- but for a split into the volume, a block is its own source
 not_split : (f : Fact) (vol : Vol) (b : ℕ) → is_about f vol b ≡ false → source f vol ≡ vol
 not_split (Split from lv) vol b other = ap (λ (t : Bool). cond t (Lv from) vol) other
-not_split (Making lv blocks m) vol b other = refl
-not_split (Made lv) vol b other = refl
-not_split (Removing gone) vol b other = refl
-not_split (Removed gone) vol b other = refl
-not_split (Begun r) vol b other = refl
-not_split (Landed r how started got) vol b other = refl
-not_split (Taken r) vol b other = refl
-not_split Cut vol b other = refl
-not_split (On moment) vol b other = refl
+not_split _ vol b other = refl
 
 unchanged : (f : Fact) (vol : Vol) (b : ℕ) (k : Known) → is_about f vol b ≡ false → change f vol b k ≡ k
 unchanged (Making lv blocks m) vol b k other = ap (λ (t : Bool). cond t (record { values = Some (zero_sector ∷ []); open_writes = []; loose = false; mode = m }) k) other
@@ -41,10 +33,7 @@ unchanged (Removed gone) vol b k other = ap (λ (t : Bool). cond t (record k { v
 unchanged (Begun r) vol b k other = ap (λ (t : Bool). cond t (record k { open_writes = r ∷ k.open_writes }) k) other
 unchanged (Landed r how started got) vol b k other = ap (λ (t : Bool). cond t (landed r how started (block_of r.blocks r.at b) (block_of got r.at b) k) k) other
 unchanged Cut vol b k other = absurd (let e : ◌≡◌ {A = Bool} true false = other in cc)
-unchanged (Made lv) vol b k other = refl
-unchanged (Removing gone) vol b k other = refl
-unchanged (Taken r) vol b k other = refl
-unchanged (On moment) vol b k other = refl
+unchanged _ vol b k other = refl
 
 pub others_stay : OthersStay
 others_stay facts f vol b other =
@@ -95,12 +84,7 @@ ended_grows r outcome.NoFresh started x k other = by_values k (ended r outcome.N
 
 read_grows : (how : Outcome) (x : Sector) (k : Known) → (how ≡ outcome.Got → k.loose ≡ true) → Grows k (read how x k)
 read_grows outcome.Got x k loose = by_values k (read outcome.Got x k) (ap (λ (t : Bool). (cond t k (record k { values = Some (x ∷ []) })).values) (loose refl))
-read_grows outcome.Done x k loose = λ y may. may
-read_grows outcome.Lost x k loose = λ y may. may
-read_grows outcome.ReadFailed x k loose = λ y may. may
-read_grows outcome.NoFresh x k loose = λ y may. may
-read_grows outcome.Off x k loose = λ y may. may
-read_grows outcome.Dark x k loose = λ y may. may
+read_grows _ x k loose = λ y may. may
 
 landed_grows : (r : Request) (how : Outcome) (started : Bool) (x y : Sector) (k : Known) → is_settling r how k ≡ false → Grows k (landed r how started x y k)
 landed_grows r how started x y k unsettled = by_write r.write (is_open_in r k.open_writes) refl refl
@@ -147,15 +131,7 @@ change_grows (On moment) vol b k unfixed = λ x may. may
 
 own_source : (f : Fact) (vol : Vol) (b : ℕ) (k : Known) → is_fixing f vol b k ≡ false → source f vol ≡ vol
 own_source (Split from lv) vol b k unfixed = ap (λ (t : Bool). cond t (Lv from) vol) unfixed
-own_source (Making lv blocks m) vol b k unfixed = refl
-own_source (Made lv) vol b k unfixed = refl
-own_source (Removing gone) vol b k unfixed = refl
-own_source (Removed gone) vol b k unfixed = refl
-own_source (Begun r) vol b k unfixed = refl
-own_source (Landed r how started got) vol b k unfixed = refl
-own_source (Taken r) vol b k unfixed = refl
-own_source Cut vol b k unfixed = refl
-own_source (On moment) vol b k unfixed = refl
+own_source _ vol b k unfixed = refl
 
 pub may_grows : MayGrows
 may_grows facts f vol b x unfixed may =
@@ -172,15 +148,11 @@ got_fixes facts r started got vol b over is_read tight =
 
 -- an ended write is no longer among the open ones
 pub ended_open : (r : Request) (how : Outcome) (started : Bool) (x : Sector) (k : Known) → (ended r how started x k).open_writes ≡ without r k.open_writes
-ended_open r outcome.Done started x k = refl
-ended_open r outcome.Lost started x k = refl
 ended_open r outcome.Off true x k = refl
 ended_open r outcome.Off false x k = refl
 ended_open r outcome.Dark true x k = refl
 ended_open r outcome.Dark false x k = refl
-ended_open r outcome.Got started x k = refl
-ended_open r outcome.ReadFailed started x k = refl
-ended_open r outcome.NoFresh started x k = refl
+ended_open r _ started x k = refl
 
 pub read_open : (how : Outcome) (x : Sector) (k : Known) → (read how x k).open_writes ≡ k.open_writes
 read_open outcome.Got x k = by_loose k.loose
@@ -188,12 +160,7 @@ read_open outcome.Got x k = by_loose k.loose
     by_loose : (t : Bool) → (cond t k (record k { values = Some (x ∷ []) })).open_writes ≡ k.open_writes
     by_loose true = refl
     by_loose false = refl
-read_open outcome.Done x k = refl
-read_open outcome.Lost x k = refl
-read_open outcome.ReadFailed x k = refl
-read_open outcome.NoFresh x k = refl
-read_open outcome.Off x k = refl
-read_open outcome.Dark x k = refl
+read_open _ x k = refl
 
 same_as_itself : (r : Request) → same_request r r ≡ true
 same_as_itself r =
@@ -247,14 +214,11 @@ pub record IsTight (k : Known) : Type 0 where
 
 tight_ended : (r : Request) (how : Outcome) (started : Bool) (x : Sector) (k : Known) → IsTight k → IsTight (ended r how started x k)
 tight_ended r outcome.Done started x k t = record { on_mode = t.on_mode; tight = refl }
-tight_ended r outcome.Lost started x k t = record { on_mode = t.on_mode; tight = t.tight }
 tight_ended r outcome.Off true x k t = record { on_mode = t.on_mode; tight = ap (λ (b : Bool). b || is_off k.mode) t.tight ∙ t.on_mode }
 tight_ended r outcome.Dark true x k t = record { on_mode = t.on_mode; tight = ap (λ (b : Bool). b || is_off k.mode) t.tight ∙ t.on_mode }
 tight_ended r outcome.Off false x k t = record { on_mode = t.on_mode; tight = t.tight }
 tight_ended r outcome.Dark false x k t = record { on_mode = t.on_mode; tight = t.tight }
-tight_ended r outcome.Got started x k t = record { on_mode = t.on_mode; tight = t.tight }
-tight_ended r outcome.ReadFailed started x k t = record { on_mode = t.on_mode; tight = t.tight }
-tight_ended r outcome.NoFresh started x k t = record { on_mode = t.on_mode; tight = t.tight }
+tight_ended r _ started x k t = record { on_mode = t.on_mode; tight = t.tight }
 
 tight_choice : (t : Bool) (a b : Known) → IsTight a → IsTight b → IsTight (cond t a b)
 tight_choice true a b ta tb = ta
@@ -262,12 +226,7 @@ tight_choice false a b ta tb = tb
 
 tight_read : (how : Outcome) (x : Sector) (k : Known) → IsTight k → IsTight (read how x k)
 tight_read outcome.Got x k t = tight_choice k.loose k (record k { values = Some (x ∷ []) }) t (record { on_mode = t.on_mode; tight = t.tight })
-tight_read outcome.Done x k t = t
-tight_read outcome.Lost x k t = t
-tight_read outcome.ReadFailed x k t = t
-tight_read outcome.NoFresh x k t = t
-tight_read outcome.Off x k t = t
-tight_read outcome.Dark x k t = t
+tight_read _ x k t = t
 
 tight_change : (f : Fact) (d b : ℕ) (k : Known) → IsTight k → IsTight (change f (Disk d) b k)
 tight_change (Making lv blocks m) d b k t = t
@@ -288,15 +247,7 @@ tight_change (On moment) d b k t = t
 
 disk_source : (f : Fact) (d : ℕ) → source f (Disk d) ≡ Disk d
 disk_source (Making lv blocks m) d = refl
-disk_source (Made lv) d = refl
-disk_source (Split from lv) d = refl
-disk_source (Removing gone) d = refl
-disk_source (Removed gone) d = refl
-disk_source (Begun r) d = refl
-disk_source (Landed r how started got) d = refl
-disk_source (Taken r) d = refl
-disk_source Cut d = refl
-disk_source (On moment) d = refl
+disk_source _ d = refl
 
 tight_after : (k : Knowledge) (facts : List Fact) → ((d b : ℕ) → IsTight (k (Disk d) b)) → (d b : ℕ) → IsTight (after k facts (Disk d) b)
 tight_after k [] tight d b = tight d b

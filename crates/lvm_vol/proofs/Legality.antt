@@ -5,7 +5,7 @@ use Rattle.std.proofs.lemmas.List.{append-nil}
 use Rattle.std.proofs.lemmas.List.Sums.{sum_by-append, sum_by-cons, sum_by_push}
 use Rattle.std.proofs.lemmas.List.Folds.{list_any-append}
 use Rattle.std.proofs.lemmas.Bool.Decides.{nat_tests}
-use Rattle.std.proofs.lemmas.Bool.{eqb-true}
+use Rattle.std.proofs.lemmas.Bool.{eqb-true, or_parts}
 use Rattle.lvm_vol.specs.declared.entry.Outcome.{Outcome}
 use Rattle.lvm_vol.specs.declared.entry.Vol.{Vol}
 use Rattle.lvm_vol.specs.Facts.{Request, Fact, Making, Made, Split, Removing, Removed, Begun, Landed, Taken, Cut, On, Stands, same_request, joined}
@@ -88,15 +88,7 @@ taking_landed past (Taken s) r fits is = by_name (same_name r s is)
       where
         alike : (l : List Fact) → list_any (lands r) l ≡ list_any (lands s) l
         alike l = ap (λ (n : ℕ). list_any (lands (record r { run = n })) l) names.0 ∙ ap (λ (n : ℕ). list_any (lands (record r { run = s.run; id = n })) l) names.1
-taking_landed past (Making lv blocks m) r fits is = absurd (let e : ◌≡◌ {A = Bool} false true = is in cc)
-taking_landed past (Made lv) r fits is = absurd (let e : ◌≡◌ {A = Bool} false true = is in cc)
-taking_landed past (Split from lv) r fits is = absurd (let e : ◌≡◌ {A = Bool} false true = is in cc)
-taking_landed past (Removing vol) r fits is = absurd (let e : ◌≡◌ {A = Bool} false true = is in cc)
-taking_landed past (Removed vol) r fits is = absurd (let e : ◌≡◌ {A = Bool} false true = is in cc)
-taking_landed past (Begun s) r fits is = absurd (let e : ◌≡◌ {A = Bool} false true = is in cc)
-taking_landed past (Landed s how started got) r fits is = absurd (let e : ◌≡◌ {A = Bool} false true = is in cc)
-taking_landed past Cut r fits is = absurd (let e : ◌≡◌ {A = Bool} false true = is in cc)
-taking_landed past (On moment) r fits is = absurd (let e : ◌≡◌ {A = Bool} false true = is in cc)
+taking_landed past _ r fits is = absurd (let e : ◌≡◌ {A = Bool} false true = is in cc)
 
 or_left : (a b : Bool) → a ≡ true → (a || b) ≡ true
 or_left a b is = ap (λ (t : Bool). t || b) is
@@ -221,19 +213,11 @@ fits_begun past log client vol at count given none = ap (λ (n : ℕ). n + 1) (s
 
 any_fewer : (t u : Fact → Bool) (facts : List Fact) → ((f : Fact) → t f ≡ true → u f ≡ true) → list_any u facts ≡ false → list_any t facts ≡ false
 any_fewer t u [] implies none = refl
-any_fewer t u (f ∷ facts) implies none = by_test (t f) refl (any_fewer t u facts implies (or_right (u f) (list_any u facts) none))
+any_fewer t u (f ∷ facts) implies none = by_test (t f) refl (any_fewer t u facts implies (or_parts (u f) (list_any u facts) none).1)
   where
-    or_right : (a b : Bool) → (a || b) ≡ false → b ≡ false
-    or_right true b is = absurd (let e : ◌≡◌ {A = Bool} true false = is in cc)
-    or_right false b is = is
-
-    or_first : (a b : Bool) → (a || b) ≡ false → a ≡ false
-    or_first true b is = is
-    or_first false b is = refl
-
     by_test : (b : Bool) → t f ≡ b → list_any t facts ≡ false → list_any t (f ∷ facts) ≡ false
     by_test false is rest = ap (λ (c : Bool). c || list_any t facts) is ∙ rest
-    by_test true is rest = let e = implies f is in let d = or_first (u f) (list_any u facts) none in absurd (cc)
+    by_test true is rest = let e = implies f is in let d = (or_parts (u f) (list_any u facts) none).0 in absurd (cc)
 
 any_more : (t u : Fact → Bool) (facts : List Fact) → ((f : Fact) → Stands f facts → u f ≡ true → t f ≡ true) → list_any u facts ≡ true → list_any t facts ≡ true
 any_more t u [] implies some = some
@@ -251,30 +235,14 @@ by_number r (Landed s how started got) is = let names = same_name r s is in ap (
   where
     equal : (n : ℕ) → (n == n) ≡ true
     equal n = grind (arith, nat_tests)
-by_number r (Making lv blocks m) is = is
-by_number r (Made lv) is = is
-by_number r (Split from lv) is = is
-by_number r (Removing vol) is = is
-by_number r (Removed vol) is = is
-by_number r (Begun s) is = is
-by_number r (Taken s) is = is
-by_number r Cut is = is
-by_number r (On moment) is = is
+by_number r _ is = is
 
 taken_by_number : (r : Request) (f : Fact) → takes r f ≡ true → takes_id r.id f ≡ true
 taken_by_number r (Taken s) is = let names = same_name r s is in ap (λ (n : ℕ). s.id == n) names.1 ∙ equal s.id
   where
     equal : (n : ℕ) → (n == n) ≡ true
     equal n = grind (arith, nat_tests)
-taken_by_number r (Making lv blocks m) is = is
-taken_by_number r (Made lv) is = is
-taken_by_number r (Split from lv) is = is
-taken_by_number r (Removing vol) is = is
-taken_by_number r (Removed vol) is = is
-taken_by_number r (Begun s) is = is
-taken_by_number r (Landed s how started got) is = is
-taken_by_number r Cut is = is
-taken_by_number r (On moment) is = is
+taken_by_number r _ is = is
 
 by_name : (run : ℕ) (facts : List Fact) (r : Request) → IsNumbered run facts → r.run ≡ run → (f : Fact) → Stands f facts → lands_id r.id f ≡ true → lands r f ≡ true
 by_name run facts r q own (Landed s how started got) there is =

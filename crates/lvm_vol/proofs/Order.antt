@@ -104,15 +104,7 @@ got_none id (Landed r how started got) other = if_none (is_got how) (r.id == id)
     if_none true false got is = refl
     if_none false b got is = refl
     if_none true true got is = absurd (cc)
-got_none id (Making lv blocks m) other = refl
-got_none id (Made lv) other = refl
-got_none id (Split from lv) other = refl
-got_none id (Removing vol) other = refl
-got_none id (Removed vol) other = refl
-got_none id (Begun r) other = refl
-got_none id (Taken r) other = refl
-got_none id Cut other = refl
-got_none id (On moment) other = refl
+got_none id _ other = refl
 
 -- what hasn't landed has got nothing
 pub got_nothing : (id : ℕ) (facts : List Fact) → list_any (lands_id id) facts ≡ false → filter_map (got_by id) facts ≡ []
@@ -172,9 +164,16 @@ module _ (run : ℕ) where
       or-false true = refl
       or-false false = refl
 
-  step_aside : (past : List Fact) (f : Fact) → IsAside f → IsNumbered run past → IsNumbered run (past ++ f ∷ [])
-  step_aside past f aside q =
-      let b = begun_same past f aside.begins in
+  -- What a fact keeps that begins nothing, if it gives nothing to what has landed, and what lands and is taken with it was begun.
+  step_beside : (past : List Fact) (f : Fact) → begun_by f ≡ None → IsNumbered run past
+      → ((r : Request) (how : Outcome) (started : Bool) (got : List (List ℕ)) → Stands (Landed r how started got) past → got_by r.id f ≡ None)
+      → ((r : Request) (how : Outcome) (started : Bool) (got : List (List ℕ)) → f ≡ Landed r how started got → IsAnswer (past ++ f ∷ []) r how got)
+      → ((r : Request) → f ≡ Taken r → Stands r (begun past))
+      → ((id : ℕ) → list_any (lands_id id) (past ++ f ∷ []) ≡ true → (1 ≤ id) × (id ≤ length (begun past)))
+      → ((id : ℕ) → list_any (takes_id id) (past ++ f ∷ []) ≡ true → list_any (lands_id id) (past ++ f ∷ []) ≡ true)
+      → IsNumbered run (past ++ f ∷ [])
+  step_beside past f none q gives_none landed taken lands takes =
+      let b = begun_same past f none in
       record {
         ids = subst (λ (rs : List Request). IdsFrom 1 rs) (sym b) q.ids;
         runs = λ r there. q.runs r (subst (λ (rs : List Request). Stands r rs) b there);
@@ -183,17 +182,23 @@ module _ (run : ℕ) where
             (λ old. let was = q.landed r how started got old in record {
               began = subst (λ (rs : List Request). Stands r rs) (sym b) was.began;
               its_got = was.its_got;
-              only = λ g. got_same r.id past f (got_none r.id f (aside.lands r.id)) ∙ was.only g;
+              only = λ g. got_same r.id past f (gives_none r how started got old) ∙ was.only g;
             })
-            (λ new. absurd (aside.not_landed r how started got new))
+            (λ new. landed r how started got new)
             (stands-push past f (Landed r how started got) there);
-        taken = λ r there. ⊎_elim
-            (λ old. subst (λ (rs : List Request). Stands r rs) (sym b) (q.taken r old))
-            (λ new. absurd (aside.not_taken r new))
-            (stands-push past f (Taken r) there);
-        lands = λ id is. subst (λ (rs : List Request). (1 ≤ id) × (id ≤ length rs)) (sym b) (q.lands id (sym (any_same (lands_id id) past f (aside.lands id)) ∙ is));
-        takes = λ id is. any_same (lands_id id) past f (aside.lands id) ∙ q.takes id (sym (any_same (takes_id id) past f (aside.takes id)) ∙ is);
+        taken = λ r there. subst (λ (rs : List Request). Stands r rs) (sym b) (⊎_elim (λ old. q.taken r old) (λ new. taken r new) (stands-push past f (Taken r) there));
+        lands = λ id is. subst (λ (rs : List Request). (1 ≤ id) × (id ≤ length rs)) (sym b) (lands id is);
+        takes = takes;
       }
+
+  step_aside : (past : List Fact) (f : Fact) → IsAside f → IsNumbered run past → IsNumbered run (past ++ f ∷ [])
+  step_aside past f aside q =
+      step_beside past f aside.begins q
+      (λ r how started got old. got_none r.id f (aside.lands r.id))
+      (λ r how started got new. absurd (aside.not_landed r how started got new))
+      (λ r new. absurd (aside.not_taken r new))
+      (λ id is. q.lands id (sym (any_same (lands_id id) past f (aside.lands id)) ∙ is))
+      (λ id is. any_same (lands_id id) past f (aside.lands id) ∙ q.takes id (sym (any_same (takes_id id) past f (aside.takes id)) ∙ is))
 
   step_begun : (past : List Fact) (r : Request) → IsNumbered run past → Follows run past (Begun r) → IsNumbered run (past ++ Begun r ∷ [])
   step_begun past r q follows =
@@ -238,15 +243,7 @@ module _ (run : ℕ) where
 
   AnswerOf : List Fact → Fact → Type 0
   AnswerOf facts (Landed r how started got) = IsAnswer facts r how got
-  AnswerOf facts (Making lv blocks m) = Unit {0}
-  AnswerOf facts (Made lv) = Unit {0}
-  AnswerOf facts (Split from lv) = Unit {0}
-  AnswerOf facts (Removing vol) = Unit {0}
-  AnswerOf facts (Removed vol) = Unit {0}
-  AnswerOf facts (Begun r) = Unit {0}
-  AnswerOf facts (Taken r) = Unit {0}
-  AnswerOf facts Cut = Unit {0}
-  AnswerOf facts (On moment) = Unit {0}
+  AnswerOf facts _ = Unit {0}
 
   other_id : (a b : ℕ) (past : List Fact) → list_any (lands_id a) past ≡ false → list_any (lands_id b) past ≡ true → (a == b) ≡ false
   other_id a b past none some = elim_test (a == b) refl
@@ -262,33 +259,19 @@ module _ (run : ℕ) where
   unfolding AnswerOf
   step_landed past r how started got q follows =
       let f : Fact = Landed r how started got in
-      let b = begun_same past f refl in
       let began : Stands r (begun past) = stands_begun past r follows.0 in
-      record {
-        ids = subst (λ (rs : List Request). IdsFrom 1 rs) (sym b) q.ids;
-        runs = λ s there. q.runs s (subst (λ (rs : List Request). Stands s rs) b there);
-        whole = λ s there. q.whole s (subst (λ (rs : List Request). Stands s rs) b there);
-        landed = λ s how' started' got' there. ⊎_elim
-            (λ old. let was = q.landed s how' started' got' old in record {
-              began = subst (λ (rs : List Request). Stands s rs) (sym b) was.began;
-              its_got = was.its_got;
-              only = λ g. got_same s.id past f (got_none s.id f (other_id r.id s.id past follows.1 (landed_any past s how' started' got' old))) ∙ was.only g;
-            })
-            (λ new. subst (AnswerOf (past ++ f ∷ [])) new (own began b))
-            (stands-push past f (Landed s how' started' got') there);
-        taken = λ s there. ⊎_elim
-            (λ old. subst (λ (rs : List Request). Stands s rs) (sym b) (q.taken s old))
-            (λ new. absurd (cc new))
-            (stands-push past f (Taken s) there);
-        lands = λ id is. subst (λ (rs : List Request). (1 ≤ id) × (id ≤ length rs)) (sym b) (⊎_elim
-            (λ old. q.lands id old)
-            (λ new. let at = stands-at 1 (begun past) r q.ids began in
-            let same : r.id ≡ id = eqb-true r.id id new in
-            let low = at.low in let high = at.high in
-            (omega (arith, same, low), omega (arith, same, high)))
-            (or-split (list_any (lands_id id) past) (lands_id id f) (sym (any-push (lands_id id) past f) ∙ is)));
-        takes = λ id is. any-push (lands_id id) past f ∙ ap (λ (t : Bool). t || lands_id id f) (q.takes id (sym (any_same (takes_id id) past f refl) ∙ is));
-      }
+      step_beside past f refl q
+      (λ s how' started' got' old. got_none s.id f (other_id r.id s.id past follows.1 (landed_any past s how' started' got' old)))
+      (λ s how' started' got' new. subst (AnswerOf (past ++ f ∷ [])) new (own began (begun_same past f refl)))
+      (λ s new. absurd (cc new))
+      (λ id is. ⊎_elim
+      (λ old. q.lands id old)
+      (λ new. let at = stands-at 1 (begun past) r q.ids began in
+      let same : r.id ≡ id = eqb-true r.id id new in
+      let low = at.low in let high = at.high in
+      (omega (arith, same, low), omega (arith, same, high)))
+      (or-split (list_any (lands_id id) past) (lands_id id f) (sym (any-push (lands_id id) past f) ∙ is)))
+      (λ id is. any-push (lands_id id) past f ∙ ap (λ (t : Bool). t || lands_id id f) (q.takes id (sym (any_same (takes_id id) past f refl) ∙ is)))
     where
       own : Stands r (begun past) → begun (past ++ Landed r how started got ∷ []) ≡ begun past → IsAnswer (past ++ Landed r how started got ∷ []) r how got
       own began b = record {
@@ -305,29 +288,15 @@ module _ (run : ℕ) where
   step_taken : (past : List Fact) (r : Request) → IsNumbered run past → Follows run past (Taken r) → IsNumbered run (past ++ Taken r ∷ [])
   step_taken past r q follows =
       let f : Fact = Taken r in
-      let b = begun_same past f refl in
-      record {
-        ids = subst (λ (rs : List Request). IdsFrom 1 rs) (sym b) q.ids;
-        runs = λ s there. q.runs s (subst (λ (rs : List Request). Stands s rs) b there);
-        whole = λ s there. q.whole s (subst (λ (rs : List Request). Stands s rs) b there);
-        landed = λ s how started got there. ⊎_elim
-            (λ old. let was = q.landed s how started got old in record {
-              began = subst (λ (rs : List Request). Stands s rs) (sym b) was.began;
-              its_got = was.its_got;
-              only = λ g. got_same s.id past f refl ∙ was.only g;
-            })
-            (λ new. absurd (cc new))
-            (stands-push past f (Landed s how started got) there);
-        taken = λ s there. ⊎_elim
-            (λ old. subst (λ (rs : List Request). Stands s rs) (sym b) (q.taken s old))
-            (λ new. subst (λ (x : Request). Stands x (begun (past ++ f ∷ []))) (own_request new) (subst (λ (rs : List Request). Stands r rs) (sym b) (stands_begun past r follows.0)))
-            (stands-push past f (Taken s) there);
-        lands = λ id is. subst (λ (rs : List Request). (1 ≤ id) × (id ≤ length rs)) (sym b) (q.lands id (sym (any_same (lands_id id) past f refl) ∙ is));
-        takes = λ id is. any_same (lands_id id) past f refl ∙ ⊎_elim
-            (λ old. q.takes id old)
-            (λ new. ap (λ (n : ℕ). list_any (lands_id n) past) (sym (eqb-true r.id id new)) ∙ follows.1)
-            (or-split (list_any (takes_id id) past) (takes_id id f) (sym (any-push (takes_id id) past f) ∙ is));
-      }
+      step_beside past f refl q
+      (λ s how started got old. refl)
+      (λ s how started got new. absurd (cc new))
+      (λ s new. subst (λ (x : Request). Stands x (begun past)) (own_request new) (stands_begun past r follows.0))
+      (λ id is. q.lands id (sym (any_same (lands_id id) past f refl) ∙ is))
+      (λ id is. any_same (lands_id id) past f refl ∙ ⊎_elim
+      (λ old. q.takes id old)
+      (λ new. ap (λ (n : ℕ). list_any (lands_id n) past) (sym (eqb-true r.id id new)) ∙ follows.1)
+      (or-split (list_any (takes_id id) past) (takes_id id f) (sym (any-push (takes_id id) past f) ∙ is)))
     where
       own_request : {s : Request} → Taken r ≡ Taken s → r ≡ s
       own_request is = cc is

@@ -56,15 +56,7 @@ block_of blocks at b = slice_index_or blocks (b - at) []
 
 abbrev pub begun_by : Fact → Option Request
 begun_by (Begun r) = Some r
-begun_by (Making lv blocks mode) = None
-begun_by (Made lv) = None
-begun_by (Split from lv) = None
-begun_by (Removing vol) = None
-begun_by (Removed vol) = None
-begun_by (Landed r how started got) = None
-begun_by (Taken r) = None
-begun_by Cut = None
-begun_by (On moment) = None
+begun_by _ = None
 
 -- the requests that began, in their order
 abbrev pub begun : List Fact → List Request

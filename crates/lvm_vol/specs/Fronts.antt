@@ -1,6 +1,6 @@
 -- What a value with a history tells, whose an entry is, and how histories and counts grow.
 use Rattle.std.specs.Prelude.{◌≡◌, ℕ, ◌==◌, ◌≤◌, Bool, false, List, [], ◌∷◌, ◌++◌, filter}
-use Rattle.lvm_vol.specs.Facts.{Fact, Making, Made, Split, Removing, Removed, Begun, Landed, Taken, Cut, On}
+use Rattle.lvm_vol.specs.Facts.{Fact, Begun, Taken}
 
 -- what a value tells of itself: its history, numbers that never change and counts that never fall
 pub record Told : Type 0 where
@@ -12,14 +12,7 @@ pub record Told : Type 0 where
 abbrev pub is_own : ℕ → Fact → Bool
 is_own client (Begun r) = r.client == client
 is_own client (Taken r) = r.client == client
-is_own client (Making lv blocks mode) = false
-is_own client (Made lv) = false
-is_own client (Split from lv) = false
-is_own client (Removing vol) = false
-is_own client (Removed vol) = false
-is_own client (Landed r how started got) = false
-is_own client Cut = false
-is_own client (On moment) = false
+is_own client _ = false
 
 -- the client's own entries, in their order
 abbrev pub own : ℕ → List Fact → List Fact

@@ -5,7 +5,7 @@ use Rattle.lvm_vol.specs.declared.entry.Vol.{Vol}
 use Rattle.lvm_vol.specs.declared.entry.Vol.TheVariants.{Disk, Lv}
 use Rattle.lvm_vol.specs.declared.entry.Outcome.{Outcome}
 use Rattle.lvm_vol.specs.declared.entry.Outcome.TheVariants as outcome
-use Rattle.lvm_vol.specs.Facts.{Request, Fact, Making, Made, Split, Removing, Removed, Begun, Landed, Taken, Cut, On, same_vol, is_over, block_of}
+use Rattle.lvm_vol.specs.Facts.{Request, Fact, Making, Split, Removed, Begun, Landed, Taken, Cut, same_vol, is_over, block_of}
 use Rattle.lvm_vol.specs.May.{Known, is_open_in, source, change, known, May}
 use Rattle.lvm_vol.specs.Legal.{begins_in, IsOutcomeOf, GotMay, Fits, Legal}
 
@@ -17,33 +17,20 @@ is_about (Removed gone) vol b = same_vol gone vol
 is_about (Begun r) vol b = r.write && is_over r vol b
 is_about (Landed r how started got) vol b = is_over r vol b
 is_about Cut vol b = true
-is_about (Made lv) vol b = false
-is_about (Removing gone) vol b = false
-is_about (Taken r) vol b = false
-is_about (On moment) vol b = false
+is_about _ vol b = false
 
 -- what ends a request so makes the value of the block known for certain
 abbrev pub is_settling : Request → Outcome → Known → Bool
 is_settling r outcome.Done k = r.write && is_open_in r k.open_writes
 is_settling r outcome.Got k = not r.write && not k.loose
-is_settling r outcome.Lost k = false
-is_settling r outcome.ReadFailed k = false
-is_settling r outcome.NoFresh k = false
-is_settling r outcome.Off k = false
-is_settling r outcome.Dark k = false
+is_settling r _ k = false
 
 -- the entry fixes the values of the block anew
 abbrev pub is_fixing : Fact → Vol → ℕ → Known → Bool
 is_fixing (Making lv blocks m) vol b k = same_vol (Lv lv) vol && nat_lt b blocks
 is_fixing (Split from lv) vol b k = same_vol (Lv lv) vol
 is_fixing (Landed r how started got) vol b k = is_over r vol b && is_settling r how k
-is_fixing (Removed gone) vol b k = false
-is_fixing (Begun r) vol b k = false
-is_fixing Cut vol b k = false
-is_fixing (Made lv) vol b k = false
-is_fixing (Removing gone) vol b k = false
-is_fixing (Taken r) vol b k = false
-is_fixing (On moment) vol b k = false
+is_fixing _ vol b k = false
 
 -- What is known after one entry more is what the entry makes of what was known of the block's source.
 abbrev pub KnownPush : Type 0

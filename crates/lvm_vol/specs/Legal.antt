@@ -3,47 +3,23 @@ use Rattle.std.specs.Prelude.{◌≡◌, ℕ, ◌+◌, ◌<◌, ◌≤◌, Bool,
 use Rattle.std.specs.List.{list_any}
 use Rattle.lvm_vol.specs.declared.entry.Outcome.{Outcome}
 use Rattle.lvm_vol.specs.declared.entry.Outcome.TheVariants as outcome
-use Rattle.lvm_vol.specs.Facts.{Request, Fact, Making, Made, Split, Removing, Removed, Begun, Landed, Taken, Cut, On, Stands, same_request, block_of}
+use Rattle.lvm_vol.specs.Facts.{Request, Fact, Begun, Landed, Taken, On, Stands, same_request, block_of}
 use Rattle.lvm_vol.specs.May.{known, May}
 
 -- the entry begins a request of this run
 abbrev pub begins_in : ℕ → Fact → Bool
 begins_in run (Begun r) = r.run == run
-begins_in run (Making lv blocks m) = false
-begins_in run (Made lv) = false
-begins_in run (Split from lv) = false
-begins_in run (Removing vol) = false
-begins_in run (Removed vol) = false
-begins_in run (Landed r how started got) = false
-begins_in run (Taken r) = false
-begins_in run Cut = false
-begins_in run (On moment) = false
+begins_in run _ = false
 
 -- the entry lands this request
 abbrev pub lands : Request → Fact → Bool
 lands r (Landed s how started got) = same_request r s
-lands r (Making lv blocks m) = false
-lands r (Made lv) = false
-lands r (Split from lv) = false
-lands r (Removing vol) = false
-lands r (Removed vol) = false
-lands r (Begun s) = false
-lands r (Taken s) = false
-lands r Cut = false
-lands r (On moment) = false
+lands r _ = false
 
 -- the entry takes this request's answer
 abbrev pub takes : Request → Fact → Bool
 takes r (Taken s) = same_request r s
-takes r (Making lv blocks m) = false
-takes r (Made lv) = false
-takes r (Split from lv) = false
-takes r (Removing vol) = false
-takes r (Removed vol) = false
-takes r (Begun s) = false
-takes r (Landed s how started got) = false
-takes r Cut = false
-takes r (On moment) = false
+takes r _ = false
 
 -- how a request of this kind may end
 abbrev pub IsOutcomeOf : Outcome → Request → Bool → Type 0
@@ -62,12 +38,7 @@ pub record Gets (past : List Fact) (r : Request) (got : List (List ℕ)) : Type 
 
 abbrev pub GotMay : List Fact → Request → Outcome → List (List ℕ) → Type 0
 GotMay past r outcome.Got got = Gets past r got
-GotMay past r outcome.Done got = Unit {0}
-GotMay past r outcome.Lost got = Unit {0}
-GotMay past r outcome.ReadFailed got = Unit {0}
-GotMay past r outcome.NoFresh got = Unit {0}
-GotMay past r outcome.Off got = Unit {0}
-GotMay past r outcome.Dark got = Unit {0}
+GotMay past r _ got = Unit {0}
 
 -- a request that began lands, for the first time, as one of its kind may
 pub record LandsOnce (past : List Fact) (r : Request) (how : Outcome) (started : Bool) (got : List (List ℕ)) : Type 0 where
@@ -94,12 +65,7 @@ Fits past (Begun r) = r.id ≡ count_by (begins_in r.run) past + 1
 Fits past (Landed r how started got) = LandsOnce past r how started got
 Fits past (Taken r) = TakenOnce past r
 Fits past (On moment) = IsLater past moment
-Fits past (Making lv blocks m) = Unit {0}
-Fits past (Made lv) = Unit {0}
-Fits past (Split from lv) = Unit {0}
-Fits past (Removing vol) = Unit {0}
-Fits past (Removed vol) = Unit {0}
-Fits past Cut = Unit {0}
+Fits past _ = Unit {0}
 
 -- each of these entries may follow those before it
 abbrev pub LegalFrom : List Fact → List Fact → Type 0

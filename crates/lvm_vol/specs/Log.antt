@@ -64,27 +64,11 @@ request_of facts id = unwrap_or (asked facts id) no_request
 
 abbrev pub lands_id : ℕ → Fact → Bool
 lands_id id (Landed r how started got) = r.id == id
-lands_id id (Making lv blocks m) = false
-lands_id id (Made lv) = false
-lands_id id (Split from lv) = false
-lands_id id (Removing vol) = false
-lands_id id (Removed vol) = false
-lands_id id (Begun r) = false
-lands_id id (Taken r) = false
-lands_id id Cut = false
-lands_id id (On moment) = false
+lands_id id _ = false
 
 abbrev pub takes_id : ℕ → Fact → Bool
 takes_id id (Taken r) = r.id == id
-takes_id id (Making lv blocks m) = false
-takes_id id (Made lv) = false
-takes_id id (Split from lv) = false
-takes_id id (Removing vol) = false
-takes_id id (Removed vol) = false
-takes_id id (Begun r) = false
-takes_id id (Landed r how started got) = false
-takes_id id Cut = false
-takes_id id (On moment) = false
+takes_id id _ = false
 
 -- the request has begun and not landed
 abbrev pub is_open : List Fact → ℕ → Bool
@@ -104,12 +88,7 @@ is_answered facts client id = is_some (asked facts id) && (request_of facts id).
 
 abbrev pub is_got : Outcome → Bool
 is_got outcome.Got = true
-is_got outcome.Done = false
-is_got outcome.Lost = false
-is_got outcome.ReadFailed = false
-is_got outcome.NoFresh = false
-is_got outcome.Off = false
-is_got outcome.Dark = false
+is_got _ = false
 
 -- the blocks at the request's place before it lands
 abbrev pub blocks_begun_with : Request → List (List ℕ)
@@ -133,16 +112,11 @@ taken_fact facts id = Taken (request_of facts id)
 
 -- the entries that are pushed as they are
 abbrev pub is_plain : Entry → Bool
-is_plain (entry.Making lv blocks mode) = true
-is_plain (entry.Made lv) = true
-is_plain (entry.Split from lv) = true
-is_plain (entry.Removing vol) = true
-is_plain (entry.Removed vol) = true
-is_plain (entry.On moment) = true
 is_plain (entry.Begun client id vol at count write place) = false
 is_plain (entry.Landed id how started) = false
 is_plain (entry.Taken client id) = false
 is_plain entry.Cut = false
+is_plain _ = true
 
 abbrev pub plain_fact : Entry → Fact
 plain_fact (entry.Making lv blocks mode) = Making lv blocks mode
@@ -161,13 +135,7 @@ abbrev pub need : Fact → ℕ
 need (Begun r) = 3
 need (Landed r how started got) = 0
 need (Taken r) = 0
-need (Making lv blocks m) = 1
-need (Made lv) = 1
-need (Split from lv) = 1
-need (Removing vol) = 1
-need (Removed vol) = 1
-need Cut = 1
-need (On moment) = 1
+need _ = 1
 
 -- the entries that stand, with those that the requests which began will need
 abbrev pub needed : List Fact → ℕ
@@ -205,11 +173,7 @@ is_uncut_after b (Making lv blocks m) = true
 is_uncut_after b (Removing vol) = true
 is_uncut_after b (On moment) = true
 is_uncut_after b Cut = false
-is_uncut_after b (Made lv) = b
-is_uncut_after b (Split from lv) = b
-is_uncut_after b (Removed vol) = b
-is_uncut_after b (Landed r how started got) = b
-is_uncut_after b (Taken r) = b
+is_uncut_after b _ = b
 
 abbrev pub is_uncut_from : Bool → List Fact → Bool
 is_uncut_from b [] = b
@@ -225,15 +189,7 @@ cut_log log = if is_uncut log.facts then with_fact log Cut else log
 -- what the read of this number got
 abbrev pub got_by : ℕ → Fact → Option (List (List ℕ))
 got_by id (Landed r how started got) = if is_got how && (r.id == id) then Some got else None
-got_by id (Making lv blocks m) = None
-got_by id (Made lv) = None
-got_by id (Split from lv) = None
-got_by id (Removing vol) = None
-got_by id (Removed vol) = None
-got_by id (Begun r) = None
-got_by id (Taken r) = None
-got_by id Cut = None
-got_by id (On moment) = None
+got_by id _ = None
 
 -- the blocks at the request's place: a write's data, what a read got, or zeros
 abbrev pub held : List Fact → Request → List (List ℕ)
@@ -259,15 +215,7 @@ entry_at place (On moment) = entry.On moment
 -- where the next request's blocks begin
 abbrev pub place_after : ℕ → Fact → ℕ
 place_after place (Begun r) = place + r.count
-place_after place (Making lv blocks m) = place
-place_after place (Made lv) = place
-place_after place (Split from lv) = place
-place_after place (Removing vol) = place
-place_after place (Removed vol) = place
-place_after place (Landed r how started got) = place
-place_after place (Taken r) = place
-place_after place Cut = place
-place_after place (On moment) = place
+place_after place _ = place
 
 abbrev pub entries_from : ℕ → List Fact → List Entry
 entries_from place [] = []

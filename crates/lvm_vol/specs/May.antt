@@ -8,7 +8,7 @@ use Rattle.lvm_vol.specs.declared.entry.Vol.{Vol}
 use Rattle.lvm_vol.specs.declared.entry.Vol.TheVariants.{Lv}
 use Rattle.lvm_vol.specs.declared.entry.Outcome.{Outcome}
 use Rattle.lvm_vol.specs.declared.entry.Outcome.TheVariants as outcome
-use Rattle.lvm_vol.specs.Facts.{Request, Fact, Making, Made, Split, Removing, Removed, Begun, Landed, Taken, Cut, On, Stands, same_vol, same_request, is_over, block_of}
+use Rattle.lvm_vol.specs.Facts.{Request, Fact, Making, Split, Removed, Begun, Landed, Cut, Stands, same_vol, same_request, is_over, block_of}
 
 -- What is known of a block: the values that it may have, or nothing; the writes of it that are open;
 -- whether two reads of it may differ; its volume's mode.
@@ -62,12 +62,7 @@ ended r outcome.NoFresh started x k = record k { open_writes = without r k.open_
 -- a read has ended, for which the block had value x
 abbrev pub read : Outcome → Sector → Known → Known
 read outcome.Got x k = if k.loose then k else record k { values = Some (x ∷ []) }
-read outcome.Done x k = k
-read outcome.Lost x k = k
-read outcome.ReadFailed x k = k
-read outcome.NoFresh x k = k
-read outcome.Off x k = k
-read outcome.Dark x k = k
+read _ x k = k
 
 -- a request over the block has landed
 abbrev pub landed : Request → Outcome → Bool → Sector → Sector → Known → Known
@@ -86,15 +81,7 @@ cut b k = record {
 -- of which volume the block's value was before the entry: its own, or at a split that of the volume split
 abbrev pub source : Fact → Vol → Vol
 source (Split from lv) vol = if same_vol (Lv lv) vol then Lv from else vol
-source (Making lv blocks m) vol = vol
-source (Made lv) vol = vol
-source (Removing gone) vol = vol
-source (Removed gone) vol = vol
-source (Begun r) vol = vol
-source (Landed r how started got) vol = vol
-source (Taken r) vol = vol
-source Cut vol = vol
-source (On moment) vol = vol
+source _ vol = vol
 
 -- What an entry makes of block b of a volume, of whose source this was known.
 abbrev pub change : Fact → Vol → ℕ → Known → Known
@@ -104,10 +91,7 @@ change (Begun r) vol b k = if r.write && is_over r vol b then record k { open_wr
 change (Landed r how started got) vol b k = if is_over r vol b then landed r how started (block_of r.blocks r.at b) (block_of got r.at b) k else k
 change Cut vol b k = cut b k
 change (Removed gone) vol b k = if same_vol gone vol then record k { values = None; open_writes = []; loose = false } else k
-change (Made lv) vol b k = k
-change (Removing gone) vol b k = k
-change (Taken r) vol b k = k
-change (On moment) vol b k = k
+change _ vol b k = k
 
 abbrev pub after_fact : Fact → Knowledge → Knowledge
 after_fact f known vol b = change f vol b (known (source f vol) b)

@@ -2,7 +2,7 @@
 use Rattle.std.specs.Prelude.{◌≡◌, ℕ, ◌+◌, ◌^◌, ◌<◌, true, false, List, [], ◌∷◌, ◌++◌, length, MatchBool}
 use Rattle.std.specs.List.{list_any}
 use Rattle.lvm_vol.specs.declared.entry.Outcome.{Outcome}
-use Rattle.lvm_vol.specs.Facts.{Request, Fact, Making, Made, Split, Removing, Removed, Begun, Landed, Taken, Cut, On, Stands, begun}
+use Rattle.lvm_vol.specs.Facts.{Request, Fact, Begun, Landed, Taken, Stands, begun}
 use Rattle.lvm_vol.specs.Log.{lands_id, takes_id, is_got}
 
 -- a write has a block of data for each that it asks, a read has none; blocks have numbers of 64 bits
@@ -18,13 +18,7 @@ abbrev pub Follows : ℕ → List Fact → Fact → Type 0
 Follows run past (Begun r) = (r.run ≡ run) × (r.id ≡ length (begun past) + 1) × IsWhole r
 Follows run past (Landed r how started got) = Stands (Begun r) past × (list_any (lands_id r.id) past ≡ false) × IsGotOf r how got
 Follows run past (Taken r) = Stands (Begun r) past × (list_any (lands_id r.id) past ≡ true) × (list_any (takes_id r.id) past ≡ false)
-Follows run past (Making lv size mode) = Unit {0}
-Follows run past (Made lv) = Unit {0}
-Follows run past (Split from lv) = Unit {0}
-Follows run past (Removing vol) = Unit {0}
-Follows run past (Removed vol) = Unit {0}
-Follows run past Cut = Unit {0}
-Follows run past (On moment) = Unit {0}
+Follows run past _ = Unit {0}
 
 abbrev pub Ordered : ℕ → List Fact → List Fact → Type 0
 Ordered run past [] = Unit {0}

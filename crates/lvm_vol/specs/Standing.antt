@@ -3,7 +3,7 @@ use Rattle.std.specs.Prelude.{ℕ, ◌==◌, if◌then◌else◌, List, [], ◌�
 use Rattle.lvm_num.specs.declared.descriptor.Mode.{Mode}
 use Rattle.lvm_vol.specs.declared.entry.Vol.{Vol}
 use Rattle.lvm_vol.specs.declared.entry.Vol.TheVariants.{Disk, Lv}
-use Rattle.lvm_vol.specs.Facts.{Fact, Making, Made, Split, Removing, Removed, Begun, Landed, Taken, Cut, On}
+use Rattle.lvm_vol.specs.Facts.{Fact, Making, Made, Split, Removing, Removed, Begun}
 
 -- A settled volume is there, an absent one isn't, and an open one may be.
 pub data Standing : Type 0 where
@@ -35,10 +35,7 @@ volumes_after_fact (Made n) volumes lv = put (Lv n) Settled volumes lv
 volumes_after_fact (Removing vol) volumes lv = put vol Open volumes lv
 volumes_after_fact (Removed vol) volumes lv = put vol Absent volumes lv
 volumes_after_fact (Begun r) volumes lv = put r.vol Settled volumes lv
-volumes_after_fact (Landed r how started got) volumes lv = volumes lv
-volumes_after_fact (Taken r) volumes lv = volumes lv
-volumes_after_fact Cut volumes lv = volumes lv
-volumes_after_fact (On moment) volumes lv = volumes lv
+volumes_after_fact _ volumes lv = volumes lv
 
 abbrev pub volumes_after : (ℕ → Volume) → List Fact → ℕ → Volume
 volumes_after volumes [] = volumes

@@ -29,15 +29,7 @@ FaultFacts fault.Dark patience old new = (new.device.flights ≡ []) × Rose old
 FaultFacts (fault.WentOff have total) patience old new = HasLostQuorum old.core.status new.core.status old.device new.device have total × IsReady new.device
 FaultFacts fault.Stuck patience old new = IsGivenUp 0 patience old.device new.device
 FaultFacts (fault.DiskFailed disk) patience old new = Rose (old.device.counts.faults disk) (new.device.counts.faults disk) × IsReady new.device
-FaultFacts fault.Busy patience old new = new ≡ old
-FaultFacts fault.NoVolume patience old new = new ≡ old
-FaultFacts fault.VolumeExists patience old new = new ≡ old
-FaultFacts (fault.CopyLimit now) patience old new = new ≡ old
-FaultFacts (fault.LastFresh lp) patience old new = new ≡ old
-FaultFacts (fault.TooMany limit) patience old new = new ≡ old
-FaultFacts (fault.NoRoom free) patience old new = new ≡ old
-FaultFacts fault.HistoryFull patience old new = new ≡ old
-FaultFacts fault.Memory patience old new = new ≡ old
+FaultFacts _ patience old new = new ≡ old
 
 abbrev pub Facts : {X : Type 0} → Result X GroupFault → ℕ → State → State → Type 0
 Facts (Ok done) patience old new = IsReady new.device
@@ -52,15 +44,9 @@ module _ (v : NewVolume) (patience : ℕ) (old new : State) (on : old.core.power
   mklv_facts (Err (fault.WentOff have total)) (inr making) = (making.ends.lost, making.ends.ready)
   mklv_facts (Err fault.Stuck) making = making.ends.out
   mklv_facts (Err (fault.DiskFailed disk)) fails = (fails.ends.fault, fails.ends.ready)
-  mklv_facts (Err fault.Busy) refused = refused.0
   mklv_facts (Err fault.NoVolume) none = absurd none
-  mklv_facts (Err fault.VolumeExists) refused = refused.0
-  mklv_facts (Err (fault.CopyLimit now)) refused = refused.0
   mklv_facts (Err (fault.LastFresh lp)) none = absurd none
-  mklv_facts (Err (fault.TooMany limit)) refused = refused.0
-  mklv_facts (Err (fault.NoRoom free)) refused = refused.0
-  mklv_facts (Err fault.HistoryFull) refused = refused.0
-  mklv_facts (Err fault.Memory) refused = refused.0
+  mklv_facts (Err _) refused = refused.0
 
 module _ (lv patience : ℕ) (old new : State) (on : old.core.power ≡ power.On) where
   pub rmlv_facts : (given : Result (Unit {0}) GroupFault) → RmlvGives lv patience old new given → Facts given patience old new
@@ -70,16 +56,11 @@ module _ (lv patience : ℕ) (old new : State) (on : old.core.power ≡ power.On
   rmlv_facts (Err (fault.WentOff have total)) (inl refused) = absurd (let off = refused.1.0 in cc (on, off))
   rmlv_facts (Err (fault.WentOff have total)) (inr removing) = (removing.ends.lost, removing.ends.ready)
   rmlv_facts (Err fault.Stuck) removing = removing.ends.out
-  rmlv_facts (Err (fault.DiskFailed disk)) none = absurd none
   rmlv_facts (Err fault.Busy) refused = refused.0
   rmlv_facts (Err fault.NoVolume) refused = refused.0
-  rmlv_facts (Err fault.VolumeExists) none = absurd none
-  rmlv_facts (Err (fault.CopyLimit now)) none = absurd none
-  rmlv_facts (Err (fault.LastFresh lp)) none = absurd none
-  rmlv_facts (Err (fault.TooMany limit)) none = absurd none
-  rmlv_facts (Err (fault.NoRoom free)) none = absurd none
   rmlv_facts (Err fault.HistoryFull) refused = refused.0
   rmlv_facts (Err fault.Memory) refused = refused.0
+  rmlv_facts (Err _) none = absurd none
 
 -- ---- what follows for the shelf
 
@@ -105,15 +86,7 @@ module _ {X : Type 0} (patience : ℕ) (old new : State) where
   ready_still (Err (fault.WentOff have total)) ready facts ends = absurd (cc (ends))
   ready_still (Err fault.Stuck) ready facts ends = absurd (cc (ends))
   ready_still (Err (fault.DiskFailed disk)) ready facts ends = facts.1
-  ready_still (Err fault.Busy) ready facts ends = as_is old new ready facts
-  ready_still (Err fault.NoVolume) ready facts ends = as_is old new ready facts
-  ready_still (Err fault.VolumeExists) ready facts ends = as_is old new ready facts
-  ready_still (Err (fault.CopyLimit now)) ready facts ends = as_is old new ready facts
-  ready_still (Err (fault.LastFresh lp)) ready facts ends = as_is old new ready facts
-  ready_still (Err (fault.TooMany limit)) ready facts ends = as_is old new ready facts
-  ready_still (Err (fault.NoRoom free)) ready facts ends = as_is old new ready facts
-  ready_still (Err fault.HistoryFull) ready facts ends = as_is old new ready facts
-  ready_still (Err fault.Memory) ready facts ends = as_is old new ready facts
+  ready_still (Err _) ready facts ends = as_is old new ready facts
 
   -- and once it was closed and lit again.
   pub closes_after : (given : Result X GroupFault) (shelf : Device) → Facts given patience old new → is_over given ≡ true → Relights new.device shelf → ClosesWell (volume_reply given) new.device shelf
@@ -143,31 +116,20 @@ mklv_shape v patience old new (Err fault.Dark) gives goes = absurd (cc (goes))
 mklv_shape v patience old new (Err (fault.WentOff have total)) gives goes = absurd (cc (goes))
 mklv_shape v patience old new (Err fault.Stuck) gives goes = absurd (cc (goes))
 mklv_shape v patience old new (Err (fault.DiskFailed disk)) fails goes = record { origin = ap (λ (c : Core). c.origin) fails.ends.is; pvs = ap (λ (c : Core). c.descriptor.pvs) fails.ends.is }
-mklv_shape v patience old new (Err fault.Busy) refused goes = shape_as old new refused.0
 mklv_shape v patience old new (Err fault.NoVolume) none goes = absurd none
-mklv_shape v patience old new (Err fault.VolumeExists) refused goes = shape_as old new refused.0
-mklv_shape v patience old new (Err (fault.CopyLimit now)) refused goes = shape_as old new refused.0
 mklv_shape v patience old new (Err (fault.LastFresh lp)) none goes = absurd none
-mklv_shape v patience old new (Err (fault.TooMany limit)) refused goes = shape_as old new refused.0
-mklv_shape v patience old new (Err (fault.NoRoom free)) refused goes = shape_as old new refused.0
-mklv_shape v patience old new (Err fault.HistoryFull) refused goes = shape_as old new refused.0
-mklv_shape v patience old new (Err fault.Memory) refused goes = shape_as old new refused.0
+mklv_shape v patience old new (Err _) refused goes = shape_as old new refused.0
 
 pub rmlv_shape : (lv patience : ℕ) (old new : State) (given : Result (Unit {0}) GroupFault) → RmlvGives lv patience old new given → is_over given ≡ false → SameShape old new
 rmlv_shape lv patience old new (Ok done) made goes = record { origin = ap (λ (c : Core). c.origin) made.is; pvs = ap (λ (c : Core). c.descriptor.pvs) made.is }
 rmlv_shape lv patience old new (Err fault.Dark) gives goes = absurd (cc (goes))
 rmlv_shape lv patience old new (Err (fault.WentOff have total)) gives goes = absurd (cc (goes))
 rmlv_shape lv patience old new (Err fault.Stuck) gives goes = absurd (cc (goes))
-rmlv_shape lv patience old new (Err (fault.DiskFailed disk)) none goes = absurd none
 rmlv_shape lv patience old new (Err fault.Busy) refused goes = shape_as old new refused.0
 rmlv_shape lv patience old new (Err fault.NoVolume) refused goes = shape_as old new refused.0
-rmlv_shape lv patience old new (Err fault.VolumeExists) none goes = absurd none
-rmlv_shape lv patience old new (Err (fault.CopyLimit now)) none goes = absurd none
-rmlv_shape lv patience old new (Err (fault.LastFresh lp)) none goes = absurd none
-rmlv_shape lv patience old new (Err (fault.TooMany limit)) none goes = absurd none
-rmlv_shape lv patience old new (Err (fault.NoRoom free)) none goes = absurd none
 rmlv_shape lv patience old new (Err fault.HistoryFull) refused goes = shape_as old new refused.0
 rmlv_shape lv patience old new (Err fault.Memory) refused goes = shape_as old new refused.0
+rmlv_shape lv patience old new (Err _) none goes = absurd none
 
 -- so the status with which it began has the rows of the members
 pub rows_stay : (old new : State) → SameShape old new → HasItsRows old.core.descriptor old.core.origin.table → HasItsRows new.core.descriptor new.core.origin.table

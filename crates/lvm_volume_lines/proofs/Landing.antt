@@ -65,15 +65,9 @@ module _ (P : List Fact → Type 0) (bears : BearsVolumes P) where
     mklv_bears (Err (fault.WentOff have total)) (inr ends) = as_is ends.entered new.core.history ends.ends.history (entered ends.map ends.entered ends.so_far)
     mklv_bears (Err fault.Stuck) ends = as_is ends.entered new.core.history ends.ends.history (entered ends.map ends.entered ends.so_far)
     mklv_bears (Err (fault.DiskFailed disk)) fails = subst (λ (c : Core). P c.history.facts) (sym fails.ends.is) holds
-    mklv_bears (Err fault.Busy) refused = unchanged refused.0
     mklv_bears (Err fault.NoVolume) none = absurd none
-    mklv_bears (Err fault.VolumeExists) refused = unchanged refused.0
-    mklv_bears (Err (fault.CopyLimit now)) refused = unchanged refused.0
     mklv_bears (Err (fault.LastFresh lp)) none = absurd none
-    mklv_bears (Err (fault.TooMany limit)) refused = unchanged refused.0
-    mklv_bears (Err (fault.NoRoom free)) refused = unchanged refused.0
-    mklv_bears (Err fault.HistoryFull) refused = unchanged refused.0
-    mklv_bears (Err fault.Memory) refused = unchanged refused.0
+    mklv_bears (Err _) refused = unchanged refused.0
 
   module _ (lv patience : ℕ) (old new : State) (holds : P old.core.history.facts) where
     with_removing : P (removing lv old).facts
@@ -89,13 +83,8 @@ module _ (P : List Fact → Type 0) (bears : BearsVolumes P) where
     rmlv_bears (Err (fault.WentOff have total)) (inl refused) = kept refused.0
     rmlv_bears (Err (fault.WentOff have total)) (inr ends) = as_is (removing lv old) new.core.history ends.ends.history with_removing
     rmlv_bears (Err fault.Stuck) ends = as_is (removing lv old) new.core.history ends.ends.history with_removing
-    rmlv_bears (Err (fault.DiskFailed disk)) none = absurd none
     rmlv_bears (Err fault.Busy) refused = kept refused.0
     rmlv_bears (Err fault.NoVolume) refused = kept refused.0
-    rmlv_bears (Err fault.VolumeExists) none = absurd none
-    rmlv_bears (Err (fault.CopyLimit now)) none = absurd none
-    rmlv_bears (Err (fault.LastFresh lp)) none = absurd none
-    rmlv_bears (Err (fault.TooMany limit)) none = absurd none
-    rmlv_bears (Err (fault.NoRoom free)) none = absurd none
     rmlv_bears (Err fault.HistoryFull) refused = kept refused.0
     rmlv_bears (Err fault.Memory) refused = kept refused.0
+    rmlv_bears (Err _) none = absurd none

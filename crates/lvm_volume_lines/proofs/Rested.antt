@@ -15,7 +15,7 @@ use Rattle.lvm_range_lines.proofs.passed.Running.{runs_none}
 use Rattle.lvm_range_lines.specs.passed.Handover.{MayHandOver}
 use Rattle.lvm_range_lines.specs.passed.Stage.{IsOfKind, open_in, session_of, shelf_of, IsOnBetween, Holder}
 use Rattle.lvm_range_lines.specs.passed.HolderVariants as holder
-use Rattle.lvm_volume_lines.specs.Commands.{HasBrokenOff, HasRested}
+use Rattle.lvm_volume_lines.specs.Commands.{HasBrokenOff, HasRested, IsTurned}
 use Rattle.lvm_volume_lines.proofs.Resting.{none_stay, turns_keep}
 
 no_open : {X : Type 0} (xs : List X) → length xs ≡ 0 → xs ≡ []
@@ -65,18 +65,16 @@ module _ {S : Type 0} (device : S → Device) where
     pub may_drained : IsDrained (state_of device new) → MayHandOver (state_of device new)
     may_drained drained = may_settle (state_of device driver) (state_of device new) was_on (sym (ap (λ (h : Holder S). open_in (session_of h)) is) ∙ none) turns runs drained
 
+    its_turned : (before after : ℕ) → after ≤ before → RoseBy (before - after) (device driver.0).counts.waits (device new.0).counts.waits → IsTurned device (holder.Serving driver) before after new
+    its_turned before after few waited =
+        let sound = (turns_keep (state_of device driver) (state_of device new) was_on.sound turns).sound in
+        record { core = driver.1; its = refl; turns = turns; runs = runs; sound = sound; few = few; waited = waited }
+
     pub serving_rests : (before after : ℕ) → after ≤ before → RoseBy (before - after) (device driver.0).counts.waits (device new.0).counts.waits → (left : S × Core) → left ≡ new → IsSettled new.1
         → IsSoundBetween (state_of device new) → HasRested device by before after left
+    unfolding its_turned
     serving_rests before after few waited left same settled between = subst (λ (h : Holder S). HasRested device h before after left) (sym is) (subst (HasRested device (holder.Serving driver) before after) (sym same) (record {
-      turned = record {
-        core = driver.1;
-        its = refl;
-        turns = turns;
-        runs = runs;
-        sound = (turns_keep (state_of device driver) (state_of device new) was_on.sound turns).sound;
-        few = few;
-        waited = waited;
-      };
+      turned = its_turned before after few waited;
       empty = λ none. absurd ((subst IsOfKind is kind) none);
       settled = settled;
       between = between;
@@ -84,16 +82,9 @@ module _ {S : Type 0} (device : S → Device) where
 
     pub serving_breaks : (before after : ℕ) → after ≤ before → RoseBy (before - after) (device driver.0).counts.waits (device new.0).counts.waits → (why : DrainFault) → FailsSo after (state_of device new) why
         → HasBrokenOff device by before after new why
+    unfolding its_turned
     serving_breaks before after few waited why fails = subst (λ (h : Holder S). HasBrokenOff device h before after new why) (sym is) (record {
-      turned = record {
-        core = driver.1;
-        its = refl;
-        turns = turns;
-        runs = runs;
-        sound = (turns_keep (state_of device driver) (state_of device new) was_on.sound turns).sound;
-        few = few;
-        waited = waited;
-      };
+      turned = its_turned before after few waited;
       volumes = subst IsOfKind is kind;
       fails = fails;
     })

@@ -53,16 +53,7 @@ abbrev pub ends_session : GroupFault → Bool
 ends_session fault.Dark = true
 ends_session (fault.WentOff have total) = true
 ends_session fault.Stuck = true
-ends_session fault.Busy = false
-ends_session fault.NoVolume = false
-ends_session fault.VolumeExists = false
-ends_session (fault.CopyLimit now) = false
-ends_session (fault.LastFresh lp) = false
-ends_session (fault.TooMany limit) = false
-ends_session (fault.NoRoom free) = false
-ends_session fault.HistoryFull = false
-ends_session (fault.DiskFailed disk) = false
-ends_session fault.Memory = false
+ends_session _ = false
 
 -- the reply to a command on a volume
 abbrev pub volume_reply : {X : Type 0} → Result X GroupFault → Reply

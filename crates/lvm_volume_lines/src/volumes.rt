@@ -1,11 +1,10 @@
 //! The lines that make or remove a volume.
-ghost use Rattle.std.specs.Prelude.{◌≡◌, ◌≤◌, ℕ, [], All, IfOk, IfErr, IfSome, IsSome, IsTrue, IsFalse, Err, true};
+ghost use Rattle.std.specs.Prelude.{◌≡◌, ◌≤◌, [], All, IfOk, IfErr, IfSome, IsSome, IsTrue, IsFalse, Err, true};
 ghost use Rattle.lvm_num.specs.declared.descriptor.Mode.TheVariants.{Passive};
 ghost use Rattle.lvm_transfer.specs.Transfer.{Relights};
 ghost use Rattle.lvm_status.specs.Calls.{IsMarkable};
 ghost use Rattle.lvm_status.specs.Members.{HasItsRows};
 ghost use Rattle.lvm_session.specs.Sound.{IsSound};
-ghost use Rattle.lvm_core.specs.Looking.{IsNumberOf};
 ghost use Rattle.lvm_core.specs.Settled.{IsSettled};
 ghost use Rattle.lvm_core.specs.State.{state_of};
 ghost use Rattle.lvm_range_lines.specs.passed.Handover.{MayServe, StaysSound};

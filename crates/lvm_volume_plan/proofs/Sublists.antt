@@ -4,6 +4,7 @@ use Rattle.std.specs.Prelude.{filter, insert, All, AllPairs}
 use Rattle.std.proofs.lemmas.List.{length-drop, length-take-le, take-append-drop, get_or-take, get_or-drop}
 use Rattle.std.proofs.lemmas.List.Elements.{All-append, All-cons, All-take, All-drop, All-filter}
 use Rattle.lvm_num.proofs.Pairs.{AllPairs-left, AllPairs-right, AllPairs-across, AllPairs-append}
+use Rattle.lvm_num.proofs.ListLemmas.{one_of_left, one_of_right, one_of_either}
 use Rattle.lvm_kept.specs.Group.{IsOneOf}
 
 -- ---- pairs
@@ -55,30 +56,16 @@ module _ {X : Type 0} (xs : List X) (k : ℕ) (y : X) (le : k ≤ length xs) whe
 
 -- ---- one of them
 
-pub one_left : {X : Type 0} (xs ys : List X) (x : X) → IsOneOf xs x → IsOneOf (xs ++ ys) x
-one_left [] ys x one = absurd one
-one_left (z ∷ xs) ys x (inl here) = inl here
-one_left (z ∷ xs) ys x (inr there) = inr (one_left xs ys x there)
-
-pub one_right : {X : Type 0} (xs ys : List X) (x : X) → IsOneOf ys x → IsOneOf (xs ++ ys) x
-one_right [] ys x one = one
-one_right (z ∷ xs) ys x one = inr (one_right xs ys x one)
-
-pub one_cases : {X : Type 0} (xs ys : List X) (x : X) → IsOneOf (xs ++ ys) x → IsOneOf xs x ⊎ IsOneOf ys x
-one_cases [] ys x one = inr one
-one_cases (z ∷ xs) ys x (inl here) = inl (inl here)
-one_cases (z ∷ xs) ys x (inr there) = ⊎_elim (λ a. inl (inr a)) (λ b. inr b) (one_cases xs ys x there)
-
 -- one of those with one more is that, or one of the others
 pub one_insert : {X : Type 0} (xs : List X) (k : ℕ) (y x : X) → IsOneOf (insert xs k y) x → (x ≡ y) ⊎ IsOneOf xs x
-one_insert {X} xs k y x one = ⊎_elim (λ a. inr (whole (one_left (take k xs) (drop k xs) x a))) behind (one_cases (take k xs) (y ∷ drop k xs) x one)
+one_insert {X} xs k y x one = ⊎_elim (λ a. inr (whole (one_of_left (take k xs) (drop k xs) x a))) behind (one_of_either (take k xs) (y ∷ drop k xs) x one)
   where
     whole : IsOneOf (take k xs ++ drop k xs) x → IsOneOf xs x
     whole a = subst (λ (l : List X). IsOneOf l x) (take-append-drop k xs) a
 
     behind : IsOneOf (y ∷ drop k xs) x → (x ≡ y) ⊎ IsOneOf xs x
     behind (inl here) = inl here
-    behind (inr there) = inr (whole (one_right (take k xs) (drop k xs) x there))
+    behind (inr there) = inr (whole (one_of_right (take k xs) (drop k xs) x there))
 
 pub one_filter : {X : Type 0} (p : X → Bool) (xs : List X) (x : X) → IsOneOf (filter p xs) x → IsOneOf xs x
 one_filter p [] x one = one

@@ -71,16 +71,7 @@ abbrev pub RefusesAll : Core → GroupFault → Type 0
 RefusesAll core fault.Dark = core.power ≡ power.Dark
 RefusesAll core (fault.WentOff have total) = (core.power ≡ power.Off) × (have ≡ votes_there core) × (total ≡ total_votes core.descriptor)
 RefusesAll core fault.Busy = (core.power ≡ power.On) × (core.requests ≡ [] → ⊥)
-RefusesAll core fault.NoVolume = ⊥
-RefusesAll core fault.VolumeExists = ⊥
-RefusesAll core (fault.CopyLimit now) = ⊥
-RefusesAll core (fault.LastFresh lp) = ⊥
-RefusesAll core (fault.TooMany limit) = ⊥
-RefusesAll core (fault.NoRoom free) = ⊥
-RefusesAll core fault.HistoryFull = ⊥
-RefusesAll core (fault.DiskFailed disk) = ⊥
-RefusesAll core fault.Stuck = ⊥
-RefusesAll core fault.Memory = ⊥
+RefusesAll core _ = ⊥
 
 -- why no volume is made, each cause exactly where it holds and those before it don't; want of memory, which is free, only where none holds that comes before places are looked for
 abbrev pub RefusesMklv : NewVolume → Core → GroupFault → Type 0
@@ -93,10 +84,7 @@ RefusesMklv v core fault.Memory = HasNumber v core
 RefusesMklv v core fault.Dark = RefusesAll core fault.Dark
 RefusesMklv v core (fault.WentOff have total) = RefusesAll core (fault.WentOff have total)
 RefusesMklv v core fault.Busy = RefusesAll core fault.Busy
-RefusesMklv v core fault.NoVolume = ⊥
-RefusesMklv v core (fault.LastFresh lp) = ⊥
-RefusesMklv v core (fault.DiskFailed disk) = ⊥
-RefusesMklv v core fault.Stuck = ⊥
+RefusesMklv v core _ = ⊥
 
 -- nothing stands against a removal
 pub record MayBeRemoved (lv : ℕ) (core : Core) : Type 0 where
@@ -112,13 +100,7 @@ RefusesRmlv lv core fault.Memory = MayBeRemoved lv core
 RefusesRmlv lv core fault.Dark = RefusesAll core fault.Dark
 RefusesRmlv lv core (fault.WentOff have total) = RefusesAll core (fault.WentOff have total)
 RefusesRmlv lv core fault.Busy = RefusesAll core fault.Busy
-RefusesRmlv lv core fault.VolumeExists = ⊥
-RefusesRmlv lv core (fault.CopyLimit now) = ⊥
-RefusesRmlv lv core (fault.LastFresh lp) = ⊥
-RefusesRmlv lv core (fault.TooMany limit) = ⊥
-RefusesRmlv lv core (fault.NoRoom free) = ⊥
-RefusesRmlv lv core (fault.DiskFailed disk) = ⊥
-RefusesRmlv lv core fault.Stuck = ⊥
+RefusesRmlv lv core _ = ⊥
 
 -- nothing has happened, for this cause
 abbrev pub IsRefused : (Core → GroupFault → Type 0) → GroupFault → State → State → Type 0

@@ -7,4 +7,3 @@ mod next;
 
 pub use fault::GroupFault;
 pub use new_volume::{NewVolume, VolumePlan, has_room, prepare_without, takes_commands};
-pub use next::with_volumes;

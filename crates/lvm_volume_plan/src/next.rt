@@ -1,10 +1,10 @@
 //! The descriptor of a group with one volume more or less.
-ghost use Rattle.std.specs.Prelude.{◌≡◌, ◌+◌, ◌<◌, ◌≤◌, ◌==◌, not, length, insert, filter, find, None, IfOk};
+ghost use Rattle.std.specs.Prelude.{◌≡◌, ◌+◌, ◌<◌, ◌≤◌, length, insert, IfOk};
 ghost use Rattle.lvm_num.specs.declared.descriptor.LvRow.{LvRow};
-ghost use Rattle.lvm_num.specs.Descriptor.{IsValid, most_volumes};
+ghost use Rattle.lvm_num.specs.Descriptor.{IsValid};
 ghost use Rattle.lvm_volume_plan.specs.NewVolume.{IsLowestFree, IsInOrder, with_volume, without_volume};
 
-use lvm_num::{Descriptor, LvRow, Memory, Rows};
+use lvm_num::{Descriptor, LvRow, Memory, Rows, copy_of_volume, copy_of_volumes, with_volumes};
 use std::alloc::Global;
 
 /// The lowest number from 1 that no volume of the group has.
@@ -30,7 +30,7 @@ pub fn with_volume(alloc: Global, d: &Descriptor, row: LvRow) -> Result<Descript
     ensures { IfOk result (λ next. next ≡ with_volume d.now row) }
 {
     let place = usize::from(row.number - 1);
-    let mut lvs = copy_all(alloc, d.lvs.as_slice())?;
+    let mut lvs = copy_of_volumes(alloc, d.lvs.as_slice())?;
     lvs.insert(place, row)?;
     with_volumes(alloc, d, Rows::new(lvs))
 }
@@ -42,50 +42,8 @@ pub fn without_volume(alloc: Global, d: &Descriptor, lv: u16) -> Result<Descript
     let mut lvs = Vec::new(alloc);
     for row in d.lvs.as_slice() {
         if row.number != lv {
-            lvs.push(copy_of(alloc, row)?)?;
+            lvs.push(copy_of_volume(alloc, row)?)?;
         }
     }
     with_volumes(alloc, d, Rows::new(lvs))
-}
-
-/// The group with these volumes.
-pub fn with_volumes(alloc: Global, d: &Descriptor, lvs: Rows<LvRow>) -> Result<Descriptor, Memory>
-    ensures { IfOk result (λ next. next ≡ record d.now { lvs = lvs }) }
-{
-    let pvs = Vec::from_slice(alloc, d.pvs.as_slice())?;
-    Ok(Descriptor {
-        id: d.id,
-        name: d.name,
-        mib: d.mib,
-        quorum: d.quorum,
-        even: d.even,
-        big: d.big,
-        pvs: Rows::new(pvs),
-        lvs,
-    })
-}
-
-fn copy_all(alloc: Global, rows: &[LvRow]) -> Result<Vec<LvRow>, Memory>
-    ensures { IfOk result (λ copies. copies.items ≡ rows.now) }
-{
-    let mut copies = Vec::new(alloc);
-    for row in rows {
-        copies.push(copy_of(alloc, row)?)?;
-    }
-    Ok(copies)
-}
-
-fn copy_of(alloc: Global, row: &LvRow) -> Result<LvRow, Memory>
-    ensures { IfOk result (λ copy. copy ≡ row.now) }
-{
-    let map = Vec::from_slice(alloc, row.map.as_slice())?;
-    Ok(LvRow {
-        number: row.number,
-        name: row.name,
-        copies: row.copies,
-        mode: row.mode,
-        policy: row.policy,
-        lps: row.lps,
-        map: Rows::new(map),
-    })
 }

@@ -28,32 +28,21 @@ use Rattle.lvm_volume_plan.specs.PlannedVolume.{IsPlannedVolume, IsWithout}
 pub refused_mklv : (v : NewVolume) (p : ℕ) (s : State) (why : GroupFault) → RefusesMklv v s.core why → MklvGives v p s s (Err why)
 refused_mklv v p s fault.Dark refuses = inl (refl, refuses)
 refused_mklv v p s (fault.WentOff have total) refuses = inl (refl, refuses)
-refused_mklv v p s fault.Busy refuses = (refl, refuses)
 refused_mklv v p s fault.NoVolume refuses = refuses
-refused_mklv v p s fault.VolumeExists refuses = (refl, refuses)
-refused_mklv v p s (fault.CopyLimit now) refuses = (refl, refuses)
 refused_mklv v p s (fault.LastFresh lp) refuses = refuses
-refused_mklv v p s (fault.TooMany limit) refuses = (refl, refuses)
-refused_mklv v p s (fault.NoRoom free) refuses = (refl, refuses)
-refused_mklv v p s fault.HistoryFull refuses = (refl, refuses)
 refused_mklv v p s (fault.DiskFailed disk) refuses = absurd refuses
 refused_mklv v p s fault.Stuck refuses = absurd refuses
-refused_mklv v p s fault.Memory refuses = (refl, refuses)
+refused_mklv v p s _ refuses = (refl, refuses)
 
 pub refused_rmlv : (lv p : ℕ) (s : State) (why : GroupFault) → RefusesRmlv lv s.core why → RmlvGives lv p s s (Err why)
 refused_rmlv lv p s fault.Dark refuses = inl (refl, refuses)
 refused_rmlv lv p s (fault.WentOff have total) refuses = inl (refl, refuses)
 refused_rmlv lv p s fault.Busy refuses = (refl, refuses)
 refused_rmlv lv p s fault.NoVolume refuses = (refl, refuses)
-refused_rmlv lv p s fault.VolumeExists refuses = refuses
-refused_rmlv lv p s (fault.CopyLimit now) refuses = refuses
-refused_rmlv lv p s (fault.LastFresh lp) refuses = refuses
-refused_rmlv lv p s (fault.TooMany limit) refuses = refuses
-refused_rmlv lv p s (fault.NoRoom free) refuses = refuses
 refused_rmlv lv p s fault.HistoryFull refuses = (refl, refuses)
-refused_rmlv lv p s (fault.DiskFailed disk) refuses = refuses
 refused_rmlv lv p s fault.Stuck refuses = absurd refuses
 refused_rmlv lv p s fault.Memory refuses = (refl, refuses)
+refused_rmlv lv p s _ refuses = refuses
 
 pub always_on : {A : Type 0} (r : Result A GroupFault) (P : Type 0) → P → IfOn r P
 always_on (Ok done) P holds = holds

@@ -45,12 +45,7 @@ needs_one (entry.Making lv blocks mode) is = refl
 needs_one (entry.Made lv) is = refl
 needs_one (entry.Removing vol) is = refl
 needs_one (entry.Removed vol) is = refl
-needs_one (entry.Split from lv) is = absurd is
-needs_one (entry.On moment) is = absurd is
-needs_one (entry.Begun client id vol at count write place) is = absurd is
-needs_one (entry.Landed id how started) is = absurd is
-needs_one (entry.Taken client id) is = absurd is
-needs_one entry.Cut is = absurd is
+needs_one _ is = absurd is
 
 pub settled_entered : (s : State) (f : Fact) → IsSettled s.core → IsSettled (with_entry s f).core
 settled_entered s f settled = record {

@@ -10,6 +10,7 @@ use Rattle.lvm_num.specs.declared.descriptor.LvRow.{LvRow}
 use Rattle.lvm_num.specs.declared.descriptor.Descriptor.{Descriptor}
 use Rattle.lvm_num.specs.Descriptor.{IsValid, copies_of, volume_of}
 use Rattle.lvm_num.specs.Status.{calls_stale}
+use Rattle.lvm_num.proofs.ListLemmas.{any_one}
 use Rattle.lvm_kept.specs.Group.{IsOneOf}
 use Rattle.lvm_kept.proofs.Entries.{volume_is_row}
 use Rattle.lvm_steps.specs.Committing.{DiffersInVolume}
@@ -26,15 +27,6 @@ use Rattle.lvm_volume_plan.specs.NewVolume.{row_for, with_volume}
 use Rattle.lvm_volume_plan.proofs.Sublists.{one_insert}
 
 -- ---- copies
-
--- one of a list for which a test holds
-pub any_one : (test : Pp → Bool) (ps : List Pp) → IsTrue (list_any test ps) → (p : Pp) × IsOneOf ps p × IsTrue (test p)
-any_one test [] is = absurd (false≢true is)
-any_one test (x ∷ xs) is = by_test (test x) refl (any_one test xs) is
-  where
-    by_test : (b : Bool) → test x ≡ b → (IsTrue (list_any test xs) → (p : Pp) × IsOneOf xs p × IsTrue (test p)) → IsTrue (b || list_any test xs) → (p : Pp) × IsOneOf (x ∷ xs) p × IsTrue (test p)
-    by_test true here rest is = (x, inl refl, here)
-    by_test false here rest is = let at = rest is in (at.0, inr at.1, at.2)
 
 pub one_any : (test : Pp → Bool) (ps : List Pp) (p : Pp) → IsOneOf ps p → IsTrue (test p) → IsTrue (list_any test ps)
 one_any test [] p one is = absurd one

@@ -10,15 +10,15 @@ use Rattle.lvm_num.specs.Disks.{Disks}
 use Rattle.lvm_num.specs.Descriptor.{is_member}
 use Rattle.lvm_num.specs.Status.{calls_stale, calls_missing}
 use Rattle.lvm_disk.specs.Counts.{Rose, NoneFalls}
-use Rattle.lvm_disk.specs.Device.{Device, image_of}
+use Rattle.lvm_disk.specs.Device.{Device}
 use Rattle.lvm_kept.specs.Moments.{Moment}
 use Rattle.lvm_kept.specs.Torn.{RecordWrite}
-use Rattle.lvm_kept.specs.Plans.{Plan, ChangesBy}
+use Rattle.lvm_kept.specs.Plans.{Plan}
 use Rattle.lvm_status.specs.Update.{members_there}
 use Rattle.lvm_write.specs.Written.{KeepsShelf}
-use Rattle.lvm_write.proofs.Writing.{logs_wider, both_map, changes_more}
 use Rattle.lvm_write.proofs.Transfers.{keeps_here, keeps_then, spends_none, spends_then}
 use Rattle.lvm_commit.specs.Settling.{there, IsOfSession, StatesGroup, IsOfStatus, IsOfCommit}
+use Rattle.lvm_commit.proofs.Chaining.{keeps_wider}
 use Rattle.lvm_session.specs.State.{State, is_there}
 use Rattle.lvm_core.specs.Zeros.{IsZeroOf}
 use Rattle.lvm_core.specs.Held.{IsHeld}
@@ -38,17 +38,7 @@ rose_from a b c le rose = record { later = omega (arith, rose.later, le); risen 
 -- ---- wider plans
 
 pub wider : (T U : Disks) (P Q : Plan) (old new : Device) → ((d : ℕ) → IsTrue (T d) → IsTrue (U d)) → ((d s : ℕ) (value : Sector) → P d s value → Q d s value) → KeepsShelf T P old new → KeepsShelf U Q old new
-wider T U P Q old new targets more keeps = record {
-  sizes = keeps.sizes;
-  arranges = keeps.arranges;
-  orders = keeps.orders;
-  misses = keeps.misses;
-  starts = λ d off. keeps.starts d (outside (T d) (U d) (targets d) off);
-  faults = λ d off. keeps.faults d (outside (T d) (U d) (targets d) off);
-  media = both_map old.media new.media (λ was is. ChangesBy P (image_of old.sizes was) (image_of new.sizes is)) (λ was is. ChangesBy Q (image_of old.sizes was) (image_of new.sizes is)) keeps.media
-      (λ m n was is by. changes_more P Q (image_of old.sizes m) (image_of new.sizes n) more by);
-  wrote = logs_wider P Q old.wrote new.wrote more keeps.wrote;
-}
+wider T U P Q old new targets more keeps = keeps_wider T U P Q old new (λ d off. outside (T d) (U d) (targets d) off) more keeps
 
 -- ---- members
 

@@ -61,8 +61,7 @@ job_with image = job.Image
 
 abbrev first_low : Numbered → ℕ
 first_low sim = 1
-first_low gen = 0
-first_low image = 0
+first_low _ = 0
 
 abbrev first_high : Numbered → ℕ
 first_high sim = 32
@@ -70,9 +69,8 @@ first_high gen = 2 ^ 64 - 1
 first_high image = 127
 
 abbrev second_low : Numbered → ℕ
-second_low sim = 1
 second_low gen = 0
-second_low image = 1
+second_low _ = 1
 
 abbrev second_high : Numbered → ℕ
 second_high sim = 64

@@ -1,5 +1,5 @@
 //! What the words of the command line ask for.
-ghost use Rattle.std.specs.Prelude.{◌≡◌, Ok, Err, IfOk, IfSome, IfNone};
+ghost use Rattle.std.specs.Prelude.{◌≡◌, Ok, Err, IfOk, IfSome};
 ghost use Rattle.lvm_words.specs.Words.{told_by, told_of, work_of, job_of, IsWithin};
 
 use crate::job::Job;

@@ -13,9 +13,9 @@ use Rattle.lvm_kept.specs.Torn.{RecordWrite, IsOfRecord, StandsOn}
 use Rattle.lvm_kept.proofs.Records.{never}
 use Rattle.lvm_transfer.specs.declared.moves.Moved.{Moved}
 use Rattle.lvm_transfer.specs.declared.moves.Moved.TheVariants as moved
-use Rattle.lvm_homes.specs.declared.homes.Homes.{Homes}
+use Rattle.lvm_rec.specs.declared.homes.Homes.{Homes}
 use Rattle.lvm_write.specs.declared.write.SlotWrite.{SlotWrite}
-use Rattle.lvm_homes.specs.Homes.{second_slots, next_slot, Flips}
+use Rattle.lvm_rec.specs.Homes.{second_slots, next_slot, Flips}
 use Rattle.lvm_write.specs.declared.write.Wrote.TheVariants as wrote
 use Rattle.lvm_write.specs.Written.{write_of, HaveRoom, KeepsShelf, StandsTold, written_well}
 use Rattle.lvm_write.specs.Writes.{DiskWritesLeave, RecordWritesEnd}

@@ -7,7 +7,7 @@ use Rattle.lvm_num.specs.Buffer.{Buffer}
 use Rattle.lvm_num.specs.Disks.{Disks}
 use Rattle.lvm_num.specs.Record.{frame, slot_start, record_sectors}
 use Rattle.lvm_disk.specs.Counts.{Counts, Rose, RoseAt, RoseBy}
-use Rattle.lvm_disk.specs.Device.{Media, Flight, Range, Device, IsReady, written, image_of}
+use Rattle.lvm_disk.specs.Device.{Media, Flight, Range, Device, Orders, IsReady, written, image_of}
 use Rattle.lvm_disk.specs.Steps.{Logs, BothTold, Cuts, CountsFailure, IsRecordRead, IsFault, Puts}
 use Rattle.lvm_disk.specs.Paths.{DeviceStep, Path}
 use Rattle.lvm_disk.proofs.Paths.{map-path, last-path}
@@ -112,14 +112,42 @@ is_fault f g old new same write (inr fault) = subst (λ (x : Flight). IsFault x.
 
 -- ---- what a transfer does
 
--- of its counts and of what is told
-record Effect (old new : Device) (disk first count number before : ℕ) (how : Moved) : Type 0 where
+-- what an ending leaves as it was while the transfer was out
+record Lasting : Type 0 where
+  wrote : Option (List Range)
+  sizes : List ℕ
+  arranges : Bool
+  orders : Orders
+  misses : ℕ → ℕ
+  starts : ℕ → ℕ
+
+abbrev lasting : Device → Lasting
+lasting d = record { wrote = d.wrote; sizes = d.sizes; arranges = d.arranges; orders = d.orders; misses = d.counts.misses; starts = d.counts.starts }
+
+-- of that a write has changed the log and the starts of its disk, if anything
+record Lasts (old new : Device) (disk first count : ℕ) : Type 0 where
   wrote : Logs old.wrote (record { disk = disk; first = first; count = count }) new.wrote ⊎ (new.wrote ≡ old.wrote)
   sizes : new.sizes ≡ old.sizes
   arranges : new.arranges ≡ old.arranges
   orders : new.orders ≡ old.orders
   misses : new.counts.misses ≡ old.counts.misses
   starts : (d : ℕ) → (d ≡ disk → ⊥) → new.counts.starts d ≡ old.counts.starts d
+
+out_lasts : (old now new : Device) (ticket disk first count : ℕ) (buf : Buffer) → IsOut old now (flight_of ticket true disk first count buf) → lasting new ≡ lasting now → Lasts old new disk first count
+out_lasts old now new ticket disk first count buf out same =
+    let facts = out_facts old now (flight_of ticket true disk first count buf) out in
+    record {
+      wrote = inl (subst (λ (o : Option (List Range)). Logs old.wrote (record { disk = disk; first = first; count = count }) o) (sym (ap (λ (l : Lasting). l.wrote) same ∙ facts.wrote)) out.starts.wrote);
+      sizes = ap (λ (l : Lasting). l.sizes) same ∙ facts.sizes;
+      arranges = ap (λ (l : Lasting). l.arranges) same ∙ facts.arranges;
+      orders = ap (λ (l : Lasting). l.orders) same ∙ facts.orders;
+      misses = ap (λ (l : Lasting). l.misses) same ∙ facts.misses;
+      starts = λ d differ. ap (λ (l : Lasting). l.starts d) same ∙ facts.starts d differ;
+    }
+
+-- of its counts and of what is told
+record Effect (old new : Device) (disk first count number before : ℕ) (how : Moved) : Type 0 where
+  lasts : Lasts old new disk first count
   faults : (d : ℕ) → (d ≡ disk → ⊥) → new.counts.faults d ≡ old.counts.faults d
   told : BothTold old.media new.media (λ was is. Unit {0})
   counts : CountsEnd disk old.counts new.counts how
@@ -140,12 +168,7 @@ effect before old new ticket disk first count buf (moved.Done back) ready (now, 
     let it = one_left f now.flights new.flights ends.flight (out_flights old now f out ready.flights) ends.flights in
     let faults = ap (λ (d : Device). d.counts.faults) ends.new_is ∙ facts.faults in
     record {
-      wrote = inl (subst (λ (o : Option (List Range)). Logs old.wrote (record { disk = disk; first = first; count = count }) o) (sym (ap (λ (d : Device). d.wrote) ends.new_is ∙ facts.wrote)) out.starts.wrote);
-      sizes = ap (λ (d : Device). d.sizes) ends.new_is ∙ facts.sizes;
-      arranges = ap (λ (d : Device). d.arranges) ends.new_is ∙ facts.arranges;
-      orders = ap (λ (d : Device). d.orders) ends.new_is ∙ facts.orders;
-      misses = ap (λ (d : Device). d.counts.misses) ends.new_is ∙ facts.misses;
-      starts = λ d differ. ap (λ (x : Device). x.counts.starts d) ends.new_is ∙ facts.starts d differ;
+      lasts = out_lasts old now new ticket disk first count buf out (ap lasting ends.new_is);
       faults = λ d differ. ap (λ (h : ℕ → ℕ). h d) faults;
       told = still_told old.media now.media new.media (Puts ends.flight) facts.media ends.media;
       counts = (faults, ap (λ (d : Device). d.counts.cuts) ends.new_is ∙ facts.cuts);
@@ -158,12 +181,7 @@ effect before old new ticket disk first count buf (moved.Failed back) ready (now
     let it = one_left f now.flights new.flights ends.flight (out_flights old now f out ready.flights) ends.flights in
     let fault = is_fault f ends.flight now.counts new.counts it.0 refl ends.counts in
     record {
-      wrote = inl (subst (λ (o : Option (List Range)). Logs old.wrote (record { disk = disk; first = first; count = count }) o) (sym (ap (λ (d : Device). d.wrote) ends.new_is ∙ facts.wrote)) out.starts.wrote);
-      sizes = ap (λ (d : Device). d.sizes) ends.new_is ∙ facts.sizes;
-      arranges = ap (λ (d : Device). d.arranges) ends.new_is ∙ facts.arranges;
-      orders = ap (λ (d : Device). d.orders) ends.new_is ∙ facts.orders;
-      misses = ap (λ (c : Counts). c.misses) fault.new_is ∙ facts.misses;
-      starts = λ d differ. ap (λ (c : Counts). c.starts d) fault.new_is ∙ facts.starts d differ;
+      lasts = out_lasts old now new ticket disk first count buf out (ap lasting ends.new_is ∙ ap (λ (c : Counts). lasting (record now { counts = c })) fault.new_is);
       faults = λ d differ. fault.faults.elsewhere d differ ∙ ap (λ (h : ℕ → ℕ). h d) facts.faults;
       told = still_told old.media now.media new.media (Rattle.lvm_disk.specs.Steps.PutsSome ends.flight) facts.media ends.media;
       counts = (subst (λ (h : ℕ → ℕ). RoseAt disk h new.counts.faults) facts.faults fault.faults, ap (λ (c : Counts). c.cuts) fault.new_is ∙ facts.cuts);
@@ -175,12 +193,7 @@ effect before old new ticket disk first count buf (moved.Dark true) ready (now, 
     let facts = out_facts old now f out in
     let faults = ap (λ (d : Device). d.counts.faults) cuts.new_is ∙ facts.faults in
     record {
-      wrote = inl (subst (λ (o : Option (List Range)). Logs old.wrote (record { disk = disk; first = first; count = count }) o) (sym (ap (λ (d : Device). d.wrote) cuts.new_is ∙ facts.wrote)) out.starts.wrote);
-      sizes = ap (λ (d : Device). d.sizes) cuts.new_is ∙ facts.sizes;
-      arranges = ap (λ (d : Device). d.arranges) cuts.new_is ∙ facts.arranges;
-      orders = ap (λ (d : Device). d.orders) cuts.new_is ∙ facts.orders;
-      misses = ap (λ (d : Device). d.counts.misses) cuts.new_is ∙ facts.misses;
-      starts = λ d differ. ap (λ (x : Device). x.counts.starts d) cuts.new_is ∙ facts.starts d differ;
+      lasts = out_lasts old now new ticket disk first count buf out (ap lasting cuts.new_is);
       faults = λ d differ. ap (λ (h : ℕ → ℕ). h d) faults;
       told = still_told old.media now.media new.media (λ m n. Rattle.lvm_disk.specs.Device.IsTorn m now.flights n) facts.media cuts.media;
       counts = (faults, subst (λ (n : ℕ). Rose n new.counts.cuts) facts.cuts cuts.cuts);
@@ -199,12 +212,14 @@ effect before old new ticket disk first count buf (moved.Dark true) ready (now, 
 effect before old new ticket disk first count buf (moved.Dark false) ready cuts =
     let faults = ap (λ (d : Device). d.counts.faults) cuts.new_is in
     record {
-      wrote = inr (ap (λ (d : Device). d.wrote) cuts.new_is);
-      sizes = ap (λ (d : Device). d.sizes) cuts.new_is;
-      arranges = ap (λ (d : Device). d.arranges) cuts.new_is;
-      orders = ap (λ (d : Device). d.orders) cuts.new_is;
-      misses = ap (λ (d : Device). d.counts.misses) cuts.new_is;
-      starts = λ d differ. ap (λ (x : Device). x.counts.starts d) cuts.new_is;
+      lasts = record {
+        wrote = inr (ap (λ (d : Device). d.wrote) cuts.new_is);
+        sizes = ap (λ (d : Device). d.sizes) cuts.new_is;
+        arranges = ap (λ (d : Device). d.arranges) cuts.new_is;
+        orders = ap (λ (d : Device). d.orders) cuts.new_is;
+        misses = ap (λ (d : Device). d.counts.misses) cuts.new_is;
+        starts = λ d differ. ap (λ (x : Device). x.counts.starts d) cuts.new_is;
+      };
       faults = λ d differ. ap (λ (h : ℕ → ℕ). h d) faults;
       told = still_told old.media old.media new.media (λ m n. Rattle.lvm_disk.specs.Device.IsTorn m old.flights n) refl cuts.media;
       counts = (faults, cuts.cuts);
@@ -220,12 +235,7 @@ effect before old new ticket disk first count buf moved.Stuck ready (out, waits)
     let f = flight_of ticket true disk first count buf in
     let facts = out_facts old new f out in
     record {
-      wrote = inl (subst (λ (o : Option (List Range)). Logs old.wrote (record { disk = disk; first = first; count = count }) o) (sym (facts.wrote)) out.starts.wrote);
-      sizes = facts.sizes;
-      arranges = facts.arranges;
-      orders = facts.orders;
-      misses = facts.misses;
-      starts = facts.starts;
+      lasts = out_lasts old new new ticket disk first count buf out refl;
       faults = λ d differ. ap (λ (h : ℕ → ℕ). h d) facts.faults;
       told = same_told old.media new.media facts.media;
       counts = (facts.faults, facts.cuts);
@@ -256,13 +266,13 @@ module _ (targets : Disks) (P : Plan) (disk number before after : ℕ) (old new 
       let other : (d : ℕ) → IsFalse (targets d) → d ≡ disk → ⊥ = λ d off here. never (targets disk) target (subst (λ (x : ℕ). IsFalse (targets x)) here off) in
       record {
         keeps = record {
-          sizes = done.sizes;
-          arranges = done.arranges;
-          orders = done.orders;
-          misses = done.misses;
-          starts = λ d off. done.starts d (other d off);
+          sizes = done.lasts.sizes;
+          arranges = done.lasts.arranges;
+          orders = done.lasts.orders;
+          misses = done.lasts.misses;
+          starts = λ d off. done.lasts.starts d (other d off);
           faults = λ d off. done.faults d (other d off);
-          wrote = ⊎_elim (logs_one P old.wrote new.wrote (record { disk = disk; first = first; count = count }) inside) (logs_same P old.wrote new.wrote) done.wrote;
+          wrote = ⊎_elim (logs_one P old.wrote new.wrote (record { disk = disk; first = first; count = count }) inside) (logs_same P old.wrote new.wrote) done.lasts.wrote;
           media = media_written P old new done.told (last-path moments);
         };
         counts = done.counts;

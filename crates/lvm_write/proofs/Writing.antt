@@ -13,7 +13,7 @@ use Rattle.lvm_disk.proofs.Paths.{append-path, map-path}
 use Rattle.lvm_kept.specs.Raw.{OnlyAdds}
 use Rattle.lvm_kept.specs.Plans.{Plan, ChangesBy, IsPlanned}
 use Rattle.lvm_kept.specs.Torn.{RecordWrite, IsOfRecord}
-use Rattle.lvm_kept.proofs.Planned.{then_disks}
+use Rattle.lvm_kept.proofs.Planned.{then_disks, further}
 use Rattle.lvm_write.specs.Written.{IsWriting, IsInPlan, LogsPlan}
 use Rattle.lvm_write.specs.Parts.{PartsStand}
 
@@ -68,16 +68,7 @@ pub changes_more : (P Q : Plan) (a b : Image) → ((d s : ℕ) (value : Sector) 
 changes_more P Q a b more by = record { same = by.same; each = λ d s. ⊎_elim (λ same. inl same) (λ p. inr (more d s (b.sector d s) p)) (by.each d s) }
 
 pub changes_then : (P : Plan) (a b c : Image) → ChangesBy P a b → ChangesBy P b c → ChangesBy P a c
-changes_then P a b c one two = record {
-  same = then_disks a b c one.same two.same;
-  each = λ d s. ⊎_elim
-      (λ (is : c.sector d s ≡ b.sector d s). ⊎_elim
-      (λ (was : b.sector d s ≡ a.sector d s). inl (is ∙ was))
-      (λ (p : P d s (b.sector d s)). inr (subst (P d s) (sym is) p))
-      (one.each d s))
-      (λ (p : P d s (c.sector d s)). inr p)
-      (two.each d s);
-}
+changes_then P a b c one two = further P a b c one two.same two.each
 
 pub changes_none : (P : Plan) (a : Image) → ChangesBy P a a
 changes_none P a = record { same = record { disks = refl; size = λ d. refl }; each = λ d s. inl refl }

@@ -1,5 +1,5 @@
 //! The consistency records of several disks are emptied, one transfer at a time.
-ghost use Rattle.std.specs.Prelude.{ℕ, IsTrue};
+ghost use Rattle.std.specs.Prelude.{IsTrue};
 ghost use Rattle.lvm_num.specs.Disks.{Disks, has};
 ghost use Rattle.lvm_disk.specs.Device.{IsReady};
 ghost use Rattle.lvm_kept.specs.Torn.{IsOfNote};

@@ -9,9 +9,8 @@ ghost use Rattle.lvm_write.specs.Parts.{write_to, PartsStand, IfMoved, WritesPar
 ghost use Rattle.lvm_write.specs.Writes.{DiskWritesLeave, RecordWritesEnd};
 
 use lvm_disk::Shelf;
-use lvm_homes::Homes;
 use lvm_num::{DiskSet, Kind, Pbuf, Stamp};
-use lvm_rec::{frame, slot_sectors};
+use lvm_rec::{Homes, frame, slot_sectors};
 use lvm_transfer::{Moved, Patience, transfer};
 
 const PIECE: u32 = 256;

@@ -1,3 +1,3 @@
 -- Passed on from `lvm_ranges`.
-pub use Rattle.lvm_stage.proofs.passed.Ranges.{answered_for, ended_well, off_votes, range_cause, reads_on, room_first, table_same, table_then}
-pub use Rattle.lvm_stage.proofs.passed.Ranges.{turn_table}
+pub use Rattle.lvm_stage.proofs.passed.Ranges.{answered_for, counted_since, ended_well, going_cause, off_votes, range_cause, reads_on, room_first}
+pub use Rattle.lvm_stage.proofs.passed.Ranges.{rows_stay, table_same, table_then, turn_table}

@@ -1,6 +1,5 @@
 -- Passed on from `lvm_ranges`.
-pub use Rattle.lvm_stage.specs.passed.Ranges.{AllMoved, AnyFailed, AreApart, AreGot, AskRangeFault, AskRangeGives, Asks, AwaitEnds, FinishGives}
-pub use Rattle.lvm_stage.specs.passed.Ranges.{Finished, HasEndedWell, HavePiecesLanded, IsAskedFor, IsRead, IsUnfinished, KeepsEarlier, KeepsOthers}
-pub use Rattle.lvm_stage.specs.passed.Ranges.{KeepsTable, LastEnded, Moves, NoMove, OneMove, RangeCause, StepEnds, Stuck, TakesRange, TurnsFor}
-pub use Rattle.lvm_stage.specs.passed.Ranges.{WasStuck, range_fault}
-pub use Rattle.lvm_stage.specs.passed.Ranges.{AwaitCosts, FinishCosts}
+pub use Rattle.lvm_stage.specs.passed.Ranges.{AllMoved, AnyFailed, AreApart, AreGot, AreSince, AskRangeFault, AskRangeGives, Asks, AwaitCosts}
+pub use Rattle.lvm_stage.specs.passed.Ranges.{AwaitEnds, FinishCosts, FinishGives, Finished, GoingCause, HasEndedWell, HavePiecesLanded, IsAskedFor}
+pub use Rattle.lvm_stage.specs.passed.Ranges.{IsRead, IsUnfinished, KeepsEarlier, KeepsOthers, KeepsTable, LastEnded, Moves, NoMove, OneMove}
+pub use Rattle.lvm_stage.specs.passed.Ranges.{RangeCause, StepEnds, Stuck, TakesRange, TurnsFor, WasStuck, range_fault}

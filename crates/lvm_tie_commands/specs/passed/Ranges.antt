@@ -1,6 +1,5 @@
 -- Passed on from `lvm_ranges`.
-pub use Rattle.lvm_handover.specs.passed.Ranges.{AllMoved, AnyFailed, AreApart, AreGot, AskRangeFault, AskRangeGives, Asks, AwaitEnds, FinishGives}
-pub use Rattle.lvm_handover.specs.passed.Ranges.{Finished, HasEndedWell, HavePiecesLanded, IsAskedFor, IsRead, IsUnfinished, KeepsEarlier, KeepsOthers}
-pub use Rattle.lvm_handover.specs.passed.Ranges.{KeepsTable, LastEnded, Moves, NoMove, OneMove, RangeCause, StepEnds, Stuck, TakesRange, TurnsFor}
-pub use Rattle.lvm_handover.specs.passed.Ranges.{WasStuck, range_fault}
-pub use Rattle.lvm_handover.specs.passed.Ranges.{AwaitCosts, FinishCosts}
+pub use Rattle.lvm_handover.specs.passed.Ranges.{AllMoved, AnyFailed, AreApart, AreGot, AreSince, AskRangeFault, AskRangeGives, Asks, AwaitCosts}
+pub use Rattle.lvm_handover.specs.passed.Ranges.{AwaitEnds, FinishCosts, FinishGives, Finished, GoingCause, HasEndedWell, HavePiecesLanded}
+pub use Rattle.lvm_handover.specs.passed.Ranges.{IsAskedFor, IsRead, IsUnfinished, KeepsEarlier, KeepsOthers, KeepsTable, LastEnded, Moves, NoMove}
+pub use Rattle.lvm_handover.specs.passed.Ranges.{OneMove, RangeCause, StepEnds, Stuck, TakesRange, TurnsFor, WasStuck, range_fault}

@@ -1,6 +1,5 @@
 -- Passed on from `lvm_ranges`.
-pub use Rattle.lvm_tie_commands.specs.passed.Ranges.{AllMoved, AnyFailed, AreApart, AreGot, AskRangeFault, AskRangeGives, Asks, AwaitEnds}
-pub use Rattle.lvm_tie_commands.specs.passed.Ranges.{FinishGives, Finished, HasEndedWell, HavePiecesLanded, IsAskedFor, IsRead, IsUnfinished, KeepsEarlier}
-pub use Rattle.lvm_tie_commands.specs.passed.Ranges.{KeepsOthers, KeepsTable, LastEnded, Moves, NoMove, OneMove, RangeCause, StepEnds, Stuck}
-pub use Rattle.lvm_tie_commands.specs.passed.Ranges.{TakesRange, TurnsFor, WasStuck, range_fault}
-pub use Rattle.lvm_tie_commands.specs.passed.Ranges.{AwaitCosts, FinishCosts}
+pub use Rattle.lvm_tie_commands.specs.passed.Ranges.{AllMoved, AnyFailed, AreApart, AreGot, AreSince, AskRangeFault, AskRangeGives, Asks, AwaitCosts}
+pub use Rattle.lvm_tie_commands.specs.passed.Ranges.{AwaitEnds, FinishCosts, FinishGives, Finished, GoingCause, HasEndedWell, HavePiecesLanded}
+pub use Rattle.lvm_tie_commands.specs.passed.Ranges.{IsAskedFor, IsRead, IsUnfinished, KeepsEarlier, KeepsOthers, KeepsTable, LastEnded, Moves}
+pub use Rattle.lvm_tie_commands.specs.passed.Ranges.{NoMove, OneMove, RangeCause, StepEnds, Stuck, TakesRange, TurnsFor, WasStuck, range_fault}

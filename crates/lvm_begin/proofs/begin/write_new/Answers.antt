@@ -15,7 +15,6 @@ use Rattle.lvm_begin.proofs.begin.write_new.Goals as goal
 pub returns-in_default : goal.returns-in_default
 returns-in_default g c =
     let b : Beginning = new_beginning c.args.epoch c.args.descriptor.now c.args.status.now (has c.args.targets) c.args.homes.now in
-    let fits : length c.args.status.now ≤ 31740 = c.requires.status in
     let gives : ManyGives b new_order c.args.buf.number c.args.patience.now.left c.forget_notes.new.patience.left (g.S.Shelf.device c.args.shelf.now) (g.S.Shelf.device c.forget_notes.new.shelf) c.forget_notes.result =
     stopped_gives b (TheNotes ∷ []) (TheStatus ∷ TheDescriptor ∷ []) c.args.buf.number c.args.patience.now.left c.forget_notes.new.patience.left (g.S.Shelf.device c.args.shelf.now) (g.S.Shelf.device c.forget_notes.new.shelf) c.forget_notes.result c.in_default.not-Ended
     (first_gives b TheNotes c.args.buf.number c.args.patience.now.left c.forget_notes.new.patience.left (g.S.Shelf.device c.args.shelf.now) (g.S.Shelf.device c.forget_notes.new.shelf) c.forget_notes.result c.forget_notes.ensures.gives) in

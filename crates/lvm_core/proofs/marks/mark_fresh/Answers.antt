@@ -12,7 +12,7 @@ use Rattle.lvm_core.proofs.marks.mark_fresh.Goals.{then-is_stale, else-is_stale}
 pub want-requires : goal.want-requires
 want-requires c =
     let p : Pp = slice_index_or c.args.pps.now c.loop-pp.pp-index (record { disk = 0; pp = 0 }) in
-    markable_still c.args.updater.now.wanted c.loop-pp.updater.wanted p c.loop-pp.invariant.rows (c.requires.markable c.loop-pp.pp-index (record { disk = 0; pp = 0 }) c.loop-pp-test.true)
+    markable_still c.args.updater.now.wanted c.loop-pp.updater.wanted p c.loop-pp.invariant.rest.rows (c.requires.markable c.loop-pp.pp-index (record { disk = 0; pp = 0 }) c.loop-pp-test.true)
 
 pub loop-pp-preserved : goal.loop-pp-preserved
 loop-pp-preserved c =

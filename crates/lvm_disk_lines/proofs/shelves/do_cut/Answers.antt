@@ -1,3 +1,4 @@
+use Rattle.std.proofs.Common.{◌∙◌}
 use Rattle.lvm_disk.specs.declared.shelf.Arrange.TheVariants as arrange
 use Rattle.lvm_disk_lines.specs.Shelves.{CutDoes, CutNotPlanned}
 use Rattle.lvm_stage.specs.declared.reply.Refusal.TheVariants as refusal
@@ -16,4 +17,4 @@ pub returns : goal.returns
 returns g c =
     cut_ends g.S.Shelf.device c.args.stage c.arrange.new.self c.args.word c.requires.fits c.requires.between c.if-not-arrange.ensures.shelf c.if-not-arrange.ensures.session c.if-not-arrange.ensures.history
     (g.S.Shelf.device c.close-closed.result.0.shelf) c.close-closed.ensures.shelf c.close-closed.result.0.history c.close-closed.ensures.history c.close-closed.result.1 c.close-closed.result.2 c.close-closed.ensures.posts c.close-closed.ensures.rooms
-    c.relight.new.shelf c.relight.ensures.lit c.cut.new.self c.cut.ensures c.answered.result.stage c.answered.ensures.stage c.answered.result.reply c.answered.ensures.reply
+    c.relight.new.shelf c.relight.ensures.lit c.cut.new.self c.cut.ensures c.answered.result.stage (c.answered.ensures.stage ∙ c.off.ensures) c.answered.result.reply c.answered.ensures.reply

@@ -2,7 +2,7 @@ use Rattle.std.proofs.Common.{◌≡◌, ◌≤◌, ℕ, List, length, sym, subs
 use Rattle.lvm_num.specs.declared.record.Kind.TheVariants as kind
 use Rattle.lvm_num.specs.Disks.{Disks, has}
 use Rattle.lvm_num.specs.Record.{longest_content}
-use Rattle.lvm_homes.specs.declared.homes.Homes.{Homes}
+use Rattle.lvm_rec.specs.declared.homes.Homes.{Homes}
 use Rattle.lvm_write.specs.Writes.{DiskWritesLeave}
 use Rattle.lvm_begin.specs.Beginning.{Beginning, new_beginning, new_order, IsOfParts}
 use Rattle.lvm_begin.specs.Kept.{NewStaysKept}

@@ -24,4 +24,4 @@ returns g c =
     let count = c.open.ensures ∙ ap open_in on.1 in
     closed_ends g.S.Shelf.device c.args.stage c.requires.fits c.requires.between on.0 on.1 (none_few on.0.requests (omega (arith, few, count)))
     c.close-closed.result.0.shelf c.close-closed.result.0.history c.close-closed.result.1 c.close-closed.result.2 c.close-closed.ensures.shelf c.close-closed.ensures.history c.close-closed.ensures.posts c.close-closed.ensures.rooms
-    c.answered.result.stage c.args.name c.answered.result.reply c.answered.ensures.stage on.2 c.answered.ensures.reply
+    c.answered.result.stage c.args.name c.answered.result.reply (c.answered.ensures.stage ∙ c.off.ensures) on.2 c.answered.ensures.reply

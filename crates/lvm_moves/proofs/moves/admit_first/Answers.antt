@@ -15,6 +15,12 @@ is_quiet-quiet-requires g c =
     let found = next_admission core c.first_admission.result c.admission_of.result c.first_admission.ensures.first c.admission_of.ensures.some c.admission_of.ensures.none c.in-Some.place c.in-Some.is in
     slice_get_within core.requests c.in-Some.place found.request found.there
 
+pub holds_pin-pinned-requires : goal.holds_pin-pinned-requires
+holds_pin-pinned-requires g c =
+    let core = core_of c.args.session.now in
+    let found = next_admission core c.first_admission.result c.admission_of.result c.first_admission.ensures.first c.admission_of.ensures.some c.admission_of.ensures.none c.in-Some.place c.in-Some.is in
+    slice_get_within core.requests c.in-Some.place found.request found.there
+
 pub admit_at-requires-clause-there : goal.admit_at-requires-clause-there
 admit_at-requires-clause-there g c =
     let core = core_of c.args.session.now in
@@ -46,7 +52,7 @@ pub returns-in-Some-clause-due : goal.returns-in-Some-clause-due
 returns-in-Some-clause-due g c =
     let core = core_of c.args.session.now in
     let due = c.requires.due in
-    c.admitted.ensures (state (g.S.Shelf.device c.args.shelf.now) core) c.requires.may.going c.is_quiet-quiet.ensures c.admit_at.ensures.admits
+    c.admitted.ensures (state (g.S.Shelf.device c.args.shelf.now) core) c.requires.may.going c.is_quiet-quiet.ensures c.holds_pin-pinned.ensures c.admit_at.ensures.admits
     (record { landing = due.landing; admission = c.first_admission.ensures.span; pinning = due.pinning; note = due.note; «data» = due.data })
 
 pub returns-in-None-clause-due : goal.returns-in-None-clause-due

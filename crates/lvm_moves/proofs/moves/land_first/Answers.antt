@@ -10,6 +10,12 @@ use Rattle.lvm_session.specs.Worked.{faultless}
 use Rattle.lvm_moves.proofs.Found.{due_landing, landed_there, no_landing}
 use Rattle.lvm_moves.proofs.moves.land_first.Goals as goal
 
+pub holds_pin-pinned-requires : goal.holds_pin-pinned-requires
+holds_pin-pinned-requires c =
+    let core = core_of c.args.session.now in
+    let found = due_landing core c.first_landing.result c.landing_of.result c.first_landing.ensures.first c.landing_of.ensures.some c.landing_of.ensures.none c.in-Some.place c.in-Some.outcome c.in-Some.is in
+    slice_get_within core.requests c.in-Some.place found.request found.there
+
 pub land_at-requires-clause-there : goal.land_at-requires-clause-there
 land_at-requires-clause-there c =
     let core = core_of c.args.session.now in
@@ -38,7 +44,7 @@ landed-requires c = record { there = landed_there (state faultless (core_of c.ar
 pub returns-in-Some-clause-due : goal.returns-in-Some-clause-due
 returns-in-Some-clause-due c =
     let due = c.requires.due in
-    c.landed.ensures (state faultless (core_of c.args.session.now)) c.in-Some.outcome c.requires.going (c.land_at.ensures.lands faultless)
+    c.landed.ensures (state faultless (core_of c.args.session.now)) c.in-Some.outcome c.requires.going c.holds_pin-pinned.ensures (c.land_at.ensures.lands faultless)
     (record { landing = c.first_landing.ensures.span; admission = due.admission; pinning = due.pinning; note = due.note; «data» = due.data })
 
 pub returns-in-None-clause-due : goal.returns-in-None-clause-due

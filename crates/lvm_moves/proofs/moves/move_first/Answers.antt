@@ -2,7 +2,7 @@ use Rattle.std.proofs.Common.{true, sym, ◌∙◌, ap, subst}
 use Rattle.lvm_session.specs.State.{Core}
 use Rattle.lvm_session.specs.Fields.{core_of}
 use Rattle.lvm_session.specs.Enabled.{admission}
-use Rattle.lvm_pins.specs.Pinning.{PinGives}
+use Rattle.lvm_moves.specs.Pinning.{PinGives}
 use Rattle.lvm_session.specs.Sound.{IsGoing}
 use Rattle.lvm_admit.specs.Choosing.{MayChoose}
 use Rattle.lvm_moves.specs.Moving.{FirstGives}

@@ -5,7 +5,7 @@ use Rattle.lvm_num.specs.declared.status.StatusRow.{StatusRow}
 use Rattle.lvm_num.specs.declared.status.Status.{Status}
 use Rattle.lvm_num.specs.Descriptor.{partitions_in}
 use Rattle.lvm_num.specs.Disks.{has}
-use Rattle.lvm_left.specs.Marking.{IsLeftIn, Marks, IsMarkable}
+use Rattle.lvm_stale.specs.Marking.{IsLeftIn, Marks, IsMarkable}
 use Rattle.lvm_next.specs.Next.{IsNextStatus}
 use Rattle.lvm_next.specs.Rows.{AreMemberRows}
 use Rattle.lvm_next.proofs.Building.{first_valid, all_markable, next_is, passive_as, ok_more}

@@ -1,12 +1,10 @@
 use Rattle.std.proofs.Common.{◌∙◌, ap, subst, sym, List, false}
 use Rattle.lvm_vol.specs.Log.{Log, is_uncut}
 use Rattle.lvm_vol.specs.Facts.{Fact}
-use Rattle.lvm_kept.specs.Moments.{StaysCalm}
-use Rattle.lvm_steps.specs.Moments.{Keeps}
 use Rattle.lvm_steps.specs.Requests.{next_read, at as moment_of}
-use Rattle.lvm_piece.specs.Keeping.{HaveAllLanded, NoneComesOn}
+use Rattle.lvm_piece.specs.Keeping.{PieceKeeps}
 use Rattle.lvm_piece.proofs.Logs.{uncut_begun, read_ended, read_takes, read_lands, read_later}
-use Rattle.lvm_piece.proofs.Moving.{power_after, ready_after, none_after, behind_after, shelf_after, cause_after}
+use Rattle.lvm_piece.proofs.Moving.{piece_keeps}
 use Rattle.lvm_piece.proofs.Spanning.{read_keeps, read_closes}
 use Rattle.lvm_piece.proofs.request.read_piece.Goals as goal
 
@@ -30,27 +28,13 @@ returns-clause-keeps g c =
     let old = g.S.Shelf.device c.args.shelf.now in
     let mid = g.S.Shelf.device c.transfer-how.new.shelf in
     let new = g.S.Shelf.device c.relight_after.new.shelf in
-    let how = c.transfer-how.result in
-    let path = c.transfer-how.ensures.moments in
-    let fewer = c.relight_after.ensures.moments in
-    let lit = c.relight_after.ensures.lit in
-    let rests = c.transfer-how.ensures.rests in
-    let ready = c.requires.ready in
-    let low = c.requires.may.area in
-    let gives = c.transfer-how.ensures.gives in
-    let facts = sym (returns-clause-does g c).facts in
-    record {
-      keeps = subst (λ (l : List Fact). Keeps h.run (moment_of old h.facts) (moment_of new l)) facts (read_keeps h.run c.args.disk c.args.from c.args.count buf old mid new h.facts ready.flights c.requires.may.none low fewer path gives.0 c.args.patience.now.left how gives.1 lit c.requires.may.range c.end_read.ensures.front);
-      calm = λ heard. subst (λ (l : List Fact). StaysCalm (moment_of old h.facts) (moment_of new l)) facts (read_closes h.run c.args.disk c.args.from c.args.count buf old mid new h.facts ready.flights c.requires.may.none low fewer path how heard);
-      none = none_after false c.args.disk c.args.from c.args.count buf old mid new how ready low rests lit path fewer c.requires.may.none;
-      behind = behind_after false c.args.disk c.args.from c.args.count buf old mid new how ready low rests lit path fewer;
-      shelf = shelf_after false c.args.disk c.args.from c.args.count buf old mid new how ready low rests lit path fewer gives.0 c.args.patience.now.left c.transfer-how.new.patience.left gives.1 c.transfer-how.ensures.patience c.transfer-how.ensures.waited;
-      power = power_after false c.args.disk c.args.from c.args.count buf gives.0 c.args.patience.now.left old mid new how ready gives.1 rests lit;
-      ready = ready_after mid new how rests lit;
-      landed = λ heard. subst (λ (l : List Fact). HaveAllLanded h.facts → HaveAllLanded l) facts (read_lands h.facts (next_read h.run h.facts c.args.disk c.args.from c.args.count) how heard);
-      later = subst (λ (l : List Fact). NoneComesOn h.facts l) facts (read_later h.facts (next_read h.run h.facts c.args.disk c.args.from c.args.count) how);
-      cause = cause_after false c.args.disk c.args.from c.args.count buf gives.0 c.args.patience.now.left old mid new how ready low lit gives.1;
-    }
+    subst (λ (l : List Fact). PieceKeeps h.run c.args.disk c.args.patience.now.left c.transfer-how.new.patience.left (moment_of old h.facts) (moment_of new l) c.transfer-how.result) (sym (returns-clause-does g c).facts)
+    (piece_keeps false h.run c.args.disk c.args.from c.args.count buf c.transfer-how.ensures.gives.0 c.args.patience.now.left c.transfer-how.new.patience.left old mid new h.facts _ c.transfer-how.result
+    (read_keeps h.run c.args.disk c.args.from c.args.count buf old mid new h.facts c.requires.ready.flights c.requires.may.none c.requires.may.area c.relight_after.ensures.moments c.transfer-how.ensures.moments c.transfer-how.ensures.gives.0 c.args.patience.now.left c.transfer-how.result c.transfer-how.ensures.gives.1 c.relight_after.ensures.lit c.requires.may.range c.end_read.ensures.front)
+    (read_closes h.run c.args.disk c.args.from c.args.count buf old mid new h.facts c.requires.ready.flights c.requires.may.none c.requires.may.area c.relight_after.ensures.moments c.transfer-how.ensures.moments c.transfer-how.result)
+    (read_lands h.facts (next_read h.run h.facts c.args.disk c.args.from c.args.count) c.transfer-how.result)
+    (read_later h.facts (next_read h.run h.facts c.args.disk c.args.from c.args.count) c.transfer-how.result)
+    c.requires.ready c.requires.may.area c.requires.may.none c.transfer-how.ensures.gives.1 c.transfer-how.ensures.rests c.relight_after.ensures.lit c.transfer-how.ensures.moments c.relight_after.ensures.moments c.transfer-how.ensures.patience c.transfer-how.ensures.waited)
 
 pub returns-clause-takes : goal.returns-clause-takes
 returns-clause-takes g c =

@@ -5,21 +5,21 @@ use Rattle.lvm_raw.specs.declared.fault.RawFault.TheVariants as fault
 use Rattle.lvm_raw.specs.Pieces.{ReadsGo}
 use Rattle.lvm_raw.proofs.Answering.{unasked, lacking, went}
 use Rattle.lvm_raw.proofs.Going.{ok_both}
-use Rattle.lvm_raw.proofs.Refusing.{reads_of, not_read_failed}
+use Rattle.lvm_raw.proofs.Refusing.{reads_of, not_of_pieces}
 use Rattle.lvm_raw.proofs.disk.read_disk.Goals as goal
 
 pub returns-in_err-buf : goal.returns-in_err-buf
 returns-in_err-buf g c =
     let p = err_from_is_err_and c.from_residual.result c.from_residual.ensures.1 in
-    let its = unasked fault.ReadFailed (λ run. ReadsGo run c.args.disk c.args.at c.args.count) (λ run. reads_of run c.args.disk c.args.at c.args.count) (not_read_failed (List Sector)) c.args.history.now c.args.disk c.args.at c.args.count c.args.patience.now.left (g.S.Shelf.device c.args.shelf.now) c.ask.new.patience.left c.ask.new.history (g.S.Shelf.device c.ask.new.shelf) c.in_err-buf.field-0.0 c.in_err-buf.ensures.unasked c.in_err-buf.ensures.keeps in
+    let its = unasked fault.ReadFailed (λ run. ReadsGo run c.args.disk c.args.at c.args.count) (λ run. reads_of run c.args.disk c.args.at c.args.count) (not_of_pieces (List Sector) fault.ReadFailed (λ e. e)) c.args.history.now c.args.disk c.args.at c.args.count c.args.patience.now.left (g.S.Shelf.device c.args.shelf.now) c.ask.new.patience.left c.ask.new.history (g.S.Shelf.device c.ask.new.shelf) c.in_err-buf.field-0.0 c.in_err-buf.ensures.unasked c.in_err-buf.ensures.keeps in
     rw (p.1, p.2) (record { does = its.does; got = tt; ends = its.ends; keeps = its.keeps; rooms = its.rooms })
 
 pub returns-in_default : goal.returns-in_default
 returns-in_default g c =
-    let its = lacking fault.ReadFailed (λ run. ReadsGo run c.args.disk c.args.at c.args.count) (λ run. reads_of run c.args.disk c.args.at c.args.count) (not_read_failed (List Sector)) c.args.history.now c.args.disk c.args.at c.args.count c.args.patience.now.left (g.S.Shelf.device c.args.shelf.now) c.ask.new.patience.left c.ask.new.history (g.S.Shelf.device c.ask.new.shelf) c.in_ok-buf.buf c.in_ok-buf.ensures.may.0 c.in_ok-buf.ensures.found c.in_ok-buf.ensures.same c.in_ok-buf.ensures.keeps in
+    let its = lacking fault.ReadFailed (λ run. ReadsGo run c.args.disk c.args.at c.args.count) (λ run. reads_of run c.args.disk c.args.at c.args.count) (not_of_pieces (List Sector) fault.ReadFailed (λ e. e)) c.args.history.now c.args.disk c.args.at c.args.count c.args.patience.now.left (g.S.Shelf.device c.args.shelf.now) c.ask.new.patience.left c.ask.new.history (g.S.Shelf.device c.ask.new.shelf) c.in_ok-buf.buf c.in_ok-buf.ensures.may.0 c.in_ok-buf.ensures.found c.in_ok-buf.ensures.same c.in_ok-buf.ensures.keeps in
     record { does = its.does; got = tt; ends = its.ends; keeps = its.keeps; rooms = its.rooms }
 
 pub returns : goal.returns
 returns g c =
-    let its = went fault.ReadFailed (λ run. ReadsGo run c.args.disk c.args.at c.args.count) (λ run. reads_of run c.args.disk c.args.at c.args.count) (not_read_failed (List Sector)) c.args.history.now c.args.disk c.args.at c.args.count c.args.patience.now.left (g.S.Shelf.device c.args.shelf.now) c.ask.new.patience.left c.ask.new.history (g.S.Shelf.device c.ask.new.shelf) c.in_ok-buf.buf c.in_ok-buf.ensures.may.0 c.in_ok-buf.ensures.found c.in_ok-buf.ensures.same c.in_ok-buf.ensures.keeps c.requires.ready c.read_pieces.new.patience.left c.read_pieces.new.history (g.S.Shelf.device c.read_pieces.new.shelf) c.read_pieces.result c.read_pieces.ensures.goes c.read_pieces.ensures.keeps c.read_pieces.ensures.rooms in
+    let its = went fault.ReadFailed (λ run. ReadsGo run c.args.disk c.args.at c.args.count) (λ run. reads_of run c.args.disk c.args.at c.args.count) (not_of_pieces (List Sector) fault.ReadFailed (λ e. e)) c.args.history.now c.args.disk c.args.at c.args.count c.args.patience.now.left (g.S.Shelf.device c.args.shelf.now) c.ask.new.patience.left c.ask.new.history (g.S.Shelf.device c.ask.new.shelf) c.in_ok-buf.buf c.in_ok-buf.ensures.may.0 c.in_ok-buf.ensures.found c.in_ok-buf.ensures.same c.in_ok-buf.ensures.keeps c.requires.ready c.read_pieces.new.patience.left c.read_pieces.new.history (g.S.Shelf.device c.read_pieces.new.shelf) c.read_pieces.result c.read_pieces.ensures.goes c.read_pieces.ensures.keeps c.read_pieces.ensures.rooms in
     record { does = its.does; got = ok_both c.read_pieces.result (λ blocks. length blocks ≡ c.args.count) c.in_ok-buf.ensures.may.1 c.read_pieces.ensures.got; ends = its.ends; keeps = its.keeps; rooms = its.rooms }

@@ -1,8 +1,8 @@
 use Rattle.std.proofs.Common.{◌≡◌, ◌≤◌, ◌<◌, ◌↔◌, ℕ, List, [], inl, inr, ⊎_elim, refl, length, ap, arith}
 use Rattle.std.proofs.lemmas.Bool.{cases_lt}
 use Rattle.lvm_io.specs.Reading.{to_come}
+use Rattle.lvm_io.proofs.Told.{told_more}
 use Rattle.lvm_io.specs.declared.lines.NextLine.TheVariants as next
-use Rattle.lvm_top.proofs.Scripting.{told_then}
 use Rattle.lvm_top.proofs.script.read_line.Goals as goal
 
 -- the limit isn't passed where a line is given out
@@ -72,7 +72,7 @@ returns-in-Memory-clause-none g c = record {
   ends = λ is. absurd (cc (is));
   wanting = λ is. c.in-Memory.ensures.line;
   behind = λ is. absurd (cc (is));
-  beyond = λ cause. record { same = told_then (to_come c.args.lines.now (g.I.Source.left c.args.input.now)) (to_come c.next_line.new.self (g.I.Source.left c.next_line.new.input)) (λ a b. (b ≡ a) × (a ≡ [] → ⊥)) (λ a b. b ≡ a) (λ a b left. left.0) c.in-Memory.ensures.line; clean = c.in-Memory.ensures.front.0; few = c.in-Memory.ensures.front.1 };
+  beyond = λ cause. record { same = told_more (to_come c.args.lines.now (g.I.Source.left c.args.input.now)) (to_come c.next_line.new.self (g.I.Source.left c.next_line.new.input)) (λ a b. (b ≡ a) × (a ≡ [] → ⊥)) (λ a b. b ≡ a) (λ a b left. left.0) c.in-Memory.ensures.line; clean = c.in-Memory.ensures.front.0; few = c.in-Memory.ensures.front.1 };
   failed = λ is. absurd (cc (is));
   well = λ no. c.in-Memory.ensures.well (λ is. cc (is));
 }

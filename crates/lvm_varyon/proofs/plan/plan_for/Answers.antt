@@ -9,7 +9,7 @@ use Rattle.lvm_num.specs.Status.{IsValidStatus}
 use Rattle.lvm_survey.specs.declared.row.Survey.{Survey}
 use Rattle.lvm_survey.specs.Surveyed.{surveyed}
 use Rattle.lvm_quorum.specs.declared.choice.Choice.{Choice}
-use Rattle.lvm_homes.specs.declared.homes.Homes.{Homes}
+use Rattle.lvm_rec.specs.declared.homes.Homes.{Homes}
 use Rattle.lvm_core.specs.declared.parts.Room.{Room}
 use Rattle.lvm_session_start.specs.Parts.{IsOneGroup}
 use Rattle.lvm_next.specs.Next.{IsNextStatus}

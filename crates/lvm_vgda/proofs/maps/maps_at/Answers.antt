@@ -8,7 +8,7 @@ use Rattle.lvm_num.specs.DescriptorBytes.{partitions_at, maps_at}
 use Rattle.lvm_num.specs.Reading.{Rest}
 use Rattle.lvm_fields.specs.Reading.{rest_of, Fails}
 use Rattle.lvm_vgda.specs.Used.{Uses}
-use Rattle.lvm_vgda.proofs.MapLoops.{mapped, with_front, taken, taken_partitions, left_over, next_row, maps_go_on, maps_end, maps_done, own_copies}
+use Rattle.lvm_vgda.proofs.MapLoops.{same_partitions, mapped, with_front, taken, taken_partitions, left_over, next_row, maps_go_on, maps_end, maps_done, own_copies}
 use Rattle.lvm_vgda.proofs.maps.maps_at.Goals as goal
 
 pub partitions_at-requires-clause-copies : goal.partitions_at-requires-clause-copies
@@ -27,12 +27,7 @@ returns-in_err-map c =
     let there = next_row old c.loop-k.k row row [] [] lt c.index-row.ensures c.index-row.ensures refl c.args.rows.items c.loop-k.invariant.left in
     let fails : Fails c.in_err-map.field-0.0 (partitions_at c.args.members.now (partitions_in (take c.loop-k.k c.loop-k.rows.items)) c.from-copies.result (c.from.result * c.from-in-loop-k.result) [] (rest_of c.loop-k.rest)) =
     c.in_err-map.ensures.read used c.loop-k.invariant.used in
-    let copies : c.from-copies.result ≡ c.index-row.result.now.copies = c.from-copies.ensures in
-    let count : c.from.result * c.from-in-loop-k.result ≡ c.index-row.result.now.lps * c.index-row.result.now.copies = ap (λ n. n * c.from-in-loop-k.result) c.from.ensures ∙ ap (λ n. c.index-row.result.now.lps * n) c.from-in-loop-k.ensures in
-    let same : partitions_at c.args.members.now (partitions_in (take c.loop-k.k c.loop-k.rows.items)) c.from-copies.result (c.from.result * c.from-in-loop-k.result) [] (rest_of c.loop-k.rest)
-    ≡ partitions_at c.args.members.now (partitions_in (take c.loop-k.k c.loop-k.rows.items)) c.index-row.result.now.copies (c.index-row.result.now.lps * c.index-row.result.now.copies) [] (rest_of c.loop-k.rest) =
-    ap (λ n. partitions_at c.args.members.now used n (c.from.result * c.from-in-loop-k.result) [] (rest_of c.loop-k.rest)) copies
-    ∙ ap (λ n. partitions_at c.args.members.now used row.copies n [] (rest_of c.loop-k.rest)) count in
+    let same = same_partitions c.args.members.now used row.copies row.lps c.from-copies.result c.from.result c.from-in-loop-k.result (rest_of c.loop-k.rest) c.from-copies.ensures c.from.ensures c.from-in-loop-k.ensures in
     rw (p.1, p.2)
     (maps_end c.args.members.now used c.args.rows.items c.loop-k.k row (rest_of c.loop-k.rest) (take c.loop-k.k old) (maps_at c.args.members.now [] c.args.rows.items (rest_of c.args.unread)) there c.loop-k.invariant.read
     c.in_err-map.field-0.0 (subst (λ (read : Result (List Pp × Rest) ℕ). Fails c.in_err-map.field-0.0 read) same fails))
@@ -54,12 +49,7 @@ loop-k-preserved c =
     let there = next_row old k row seen own map lt c.index-row.ensures c.index_mut.ensures.value c.new.ensures all c.loop-k.invariant.left in
     let read : partitions_at c.args.members.now (partitions_in (take c.loop-k.k c.loop-k.rows.items)) c.from-copies.result (c.from.result * c.from-in-loop-k.result) [] (rest_of c.loop-k.rest) ≡ Ok (c.in_ok-map.map.items, rest_of c.in_ok-map.after) =
     c.in_ok-map.ensures.read used c.loop-k.invariant.used in
-    let copies : c.from-copies.result ≡ c.index-row.result.now.copies = c.from-copies.ensures in
-    let count : c.from.result * c.from-in-loop-k.result ≡ c.index-row.result.now.lps * c.index-row.result.now.copies = ap (λ n. n * c.from-in-loop-k.result) c.from.ensures ∙ ap (λ n. c.index-row.result.now.lps * n) c.from-in-loop-k.ensures in
-    let same : partitions_at c.args.members.now (partitions_in (take c.loop-k.k c.loop-k.rows.items)) c.from-copies.result (c.from.result * c.from-in-loop-k.result) [] (rest_of c.loop-k.rest)
-    ≡ partitions_at c.args.members.now (partitions_in (take c.loop-k.k c.loop-k.rows.items)) c.index-row.result.now.copies (c.index-row.result.now.lps * c.index-row.result.now.copies) [] (rest_of c.loop-k.rest) =
-    ap (λ n. partitions_at c.args.members.now used n (c.from.result * c.from-in-loop-k.result) [] (rest_of c.loop-k.rest)) copies
-    ∙ ap (λ n. partitions_at c.args.members.now used row.copies n [] (rest_of c.loop-k.rest)) count in
+    let same = same_partitions c.args.members.now used row.copies row.lps c.from-copies.result c.from.result c.from-in-loop-k.result (rest_of c.loop-k.rest) c.from-copies.ensures c.from.ensures c.from-in-loop-k.ensures in
     let next = maps_go_on c.args.members.now used all k row (rest_of c.loop-k.rest) (take k old) total there c.loop-k.invariant.read own (rest_of c.in_ok-map.after) (sym same ∙ read) in
     record {
       size = length-set old k (mapped seen map) ∙ c.loop-k.invariant.size;

@@ -8,4 +8,4 @@ use Rattle.lvm_due.proofs.due.Due.pinned.Goals as goal
 
 pub returns : goal.returns
 returns c old going pins due =
-    c.moved.ensures none waits_entry old.core (core_of c.args.session.now) c.requires.there (covers_nothing c.args.session.now.requests.items (length c.args.session.now.requests.items) c.all.result (ap (λ (s : Span). s.to) c.all.ensures)) c.entries.ensures (pin_moves old (core_of c.args.session.now) c.args.place pins) due
+    c.moved.ensures none waits_entry old.core (covers_nothing c.args.session.now.requests.items (length c.args.session.now.requests.items) c.all.result (ap (λ (s : Span). s.to) c.all.ensures)) c.entries.ensures (pin_moves old (core_of c.args.session.now) c.args.place pins) due

@@ -1,16 +1,10 @@
-use Rattle.std.proofs.Common.{List, ap, ◌∙◌}
-use Rattle.std.specs.List.{list_any}
-use Rattle.lvm_checker.specs.declared.row.Ask.{Ask}
-use Rattle.lvm_checker.specs.declared.row.Row.{Row}
+use Rattle.std.proofs.Common.{◌∙◌}
 use Rattle.lvm_history.specs.Opened.{kept_of}
-use Rattle.lvm_checker.specs.Rows.{is_landing}
-use Rattle.lvm_history.specs.Keeping.{awaited_by, ask_found}
-use Rattle.lvm_history.proofs.Entering.{awaited_kept}
+use Rattle.lvm_history.specs.Keeping.{awaited_by}
+use Rattle.lvm_history.proofs.Entering.{asked_alike, awaited_kept}
 use Rattle.lvm_history.proofs.history.History.awaited.Goals as goal
 
 pub returns : goal.returns
 returns c =
-    c.awaited_in.ensures
-    ∙ ap (λ (l : List Ask). awaited_by (ask_found l c.args.id) (list_any (is_landing c.args.id) c.deref-2.result.now)) c.deref.ensures.value
-    ∙ ap (λ (l : List Row). awaited_by (ask_found c.self.inside.asks.items c.args.id) (list_any (is_landing c.args.id) l)) c.deref-2.ensures.value
+    c.awaited_in.ensures ∙ asked_alike awaited_by c.args.id c.deref.ensures.value c.deref-2.ensures.value
     ∙ awaited_kept (kept_of c.self.inside) c.args.self.now c.args.id c.self.invariant c.self.view_is

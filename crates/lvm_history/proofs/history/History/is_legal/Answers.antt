@@ -1,14 +1,13 @@
-use Rattle.std.proofs.Common.{◌≡◌, ◌↔◌, ℕ, IsTrue, List, ap, ◌∙◌, subst}
+use Rattle.std.proofs.Common.{◌≡◌, ◌↔◌, IsTrue, List, ap, ◌∙◌, subst}
 use Rattle.std.specs.List.{list_all}
 use Rattle.lvm_checker.specs.declared.row.Ask.{Ask}
-use Rattle.lvm_checker.specs.declared.row.Row.{Row}
 use Rattle.lvm_vol.specs.Facts.{Fact}
 use Rattle.lvm_checker.specs.Fitting.{is_bounded}
 use Rattle.lvm_vol.specs.Legal.{Legal}
 use Rattle.lvm_vol.specs.Log.{Log}
 use Rattle.lvm_history.specs.Opened.{kept_of}
 use Rattle.lvm_checker.specs.Rows.{facts_of}
-use Rattle.lvm_history.proofs.Entering.{all_bounded}
+use Rattle.lvm_history.proofs.Entering.{all_bounded, facts_alike}
 use Rattle.lvm_history.proofs.history.History.is_legal.Goals as goal
 
 pub is_legal-requires : goal.is_legal-requires
@@ -17,8 +16,5 @@ is_legal-requires c = ap (λ (l : List Ask). list_all is_bounded l) c.deref-2.en
 pub returns : goal.returns
 returns c =
     let are : facts_of c.self.inside.run c.deref-2.result.now c.deref-3.result.now c.deref.result.now ≡ c.args.self.now.facts =
-    ap (λ (l : List Row). facts_of c.self.inside.run c.deref-2.result.now c.deref-3.result.now l) c.deref.ensures.value
-    ∙ ap (λ (l : List Ask). facts_of c.self.inside.run l c.deref-3.result.now c.self.inside.rows.items) c.deref-2.ensures.value
-    ∙ ap (λ (l : List (List ℕ)). facts_of c.self.inside.run c.self.inside.asks.items l c.self.inside.rows.items) c.deref-3.ensures.value
-    ∙ ap (λ (x : Log). x.facts) c.self.view_is in
+    facts_alike c.self.inside.run c.deref-2.ensures.value c.deref-3.ensures.value c.deref.ensures.value ∙ ap (λ (x : Log). x.facts) c.self.view_is in
     subst (λ (l : List Fact). IsTrue c.is_legal.result ↔ Legal l) are (c.is_legal.ensures c.self.inside.run)

@@ -1,19 +1,37 @@
-use Rattle.std.proofs.Common.{◌∙◌, ap, Some, None}
+use Rattle.std.proofs.Common.{◌∙◌, sym, ap, Some, None}
+use Rattle.std.specs.List.{position}
+use Rattle.lvm_mwc.specs.declared.notes.DiskNotes.{DiskNotes}
 use Rattle.lvm_mwc.specs.Notes.{is_on}
 use Rattle.lvm_mwc.specs.Cache.{Cached}
-use Rattle.lvm_mwc.proofs.FirstsLemmas.{looked_for}
-use Rattle.lvm_mwc.proofs.NotesLemmas.{not_started, started_at}
+use Rattle.lvm_mwc.proofs.FiltersLemmas.{filters_kept}
+use Rattle.lvm_mwc.proofs.FirstsLemmas.{first_at}
+use Rattle.lvm_mwc.proofs.NotesLemmas.{looked_up, disks_same, not_started, started_at}
 use Rattle.lvm_mwc.proofs.cache.Cache.start_note.Goals as goal
 use Rattle.lvm_mwc.proofs.cache.Cache.start_note.Goals.{in-Some, in_default}
 
 pub returns-clause-cache : goal.returns-clause-cache
 returns-clause-cache c =
-    elim c.match-place_of.branch [
+    elim c.match-place_of_disk.branch [
       | in-Some w ↦ rw w.self-inside-is
           (started_at c.args.self.now c.self.inside.entries.items c.self.inside.notes.items c.args.disk w.in-Some.place w.index_mut.result.now w.note_of.result c.self.view_is
-          (looked_for (is_on c.args.disk) c.self.inside.notes.items c.deref.result.now (Some w.in-Some.place) c.deref.ensures.value w.in-Some.ensures)
+          (looked_up c.args.disk c.self.inside.notes.items c.self.inside.disks.items c.deref.result.now (Some w.in-Some.place) c.self.invariant.2 c.deref.ensures.value w.in-Some.ensures)
           w.index_mut.ensures.value w.note_of.ensures)
       | in_default w ↦ rw (w.self-inside-is, c.self.view_is)
           (not_started c.args.self.now c.args.disk
-          (looked_for (is_on c.args.disk) c.args.self.now.notes c.deref.result.now None (c.deref.ensures.value ∙ ap (λ (s : Cached). s.notes) c.self.view_is) w.in_default.ensures))
+          (ap (λ (s : Cached). position (is_on c.args.disk) s.notes) (sym c.self.view_is) ∙ looked_up c.args.disk c.self.inside.notes.items c.self.inside.disks.items c.deref.result.now None c.self.invariant.2 c.deref.ensures.value w.in_default.ensures))
+    ]
+
+pub invariant_of-self : goal.invariant_of-self
+invariant_of-self c =
+    elim c.match-place_of_disk.branch [
+      | in-Some w ↦
+          let notes = c.self.inside.notes.items in
+          let row = w.index_mut.result.now in
+          let first = first_at (is_on c.args.disk) notes row w.in-Some.place (looked_up c.args.disk notes c.self.inside.disks.items c.deref.result.now (Some w.in-Some.place) c.self.invariant.2 c.deref.ensures.value w.in-Some.ensures) in
+          rw w.self-inside-is (
+            c.self.invariant.0,
+            filters_kept notes c.self.inside.filters.items w.in-Some.place _ c.self.invariant.1 first.within row (ap (λ (n : DiskNotes). n.written) w.index_mut.ensures.value),
+            disks_same notes c.self.inside.disks.items w.in-Some.place _ row c.self.invariant.2 (ap (λ (n : DiskNotes). n.disk) w.index_mut.ensures.value),
+          )
+      | in_default w ↦ rw w.self-inside-is c.self.invariant
     ]

@@ -3,9 +3,10 @@ use Rattle.std.specs.Prelude.{if◌then◌else◌, sum_by}
 use Rattle.lvm_num.specs.declared.descriptor.PvRow.{PvRow}
 use Rattle.lvm_num.specs.Disks.{has}
 use Rattle.lvm_num.specs.Votes.{votes_of}
-use Rattle.lvm_num.proofs.VotesLemmas.{votes_by-most, counted-more, picks, leaves, few_members}
+use Rattle.lvm_num.proofs.VotesLemmas.{votes_by-most, counted-more, picks, leaves}
 use Rattle.lvm_num.proofs.descriptor.Descriptor.votes_in.Goals as goal
 use Rattle.lvm_num.proofs.descriptor.Descriptor.votes_in.Goals.{then-has, else-has}
+use Rattle.lvm_num.proofs.Bounds.{few_members}
 
 abbrev no_row : PvRow
 no_row = record { disk = 0; pps = 0; spare = false }

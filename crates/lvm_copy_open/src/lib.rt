@@ -1,8 +1,0 @@
-//! A copy is opened, and is brought up from then on.
-#![tactic(auto)]
-
-mod faults;
-mod open;
-mod opened;
-
-pub use open::open_copy;

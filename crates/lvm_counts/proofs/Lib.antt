@@ -1,2 +1,0 @@
-mod FreeCount
-mod Counting

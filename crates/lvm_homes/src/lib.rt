@@ -1,6 +1,0 @@
-//! To which slot of each disk its next record goes.
-#![tactic(auto)]
-
-mod homes;
-
-pub use homes::Homes;

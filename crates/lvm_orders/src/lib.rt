@@ -1,6 +1,0 @@
-//! Orders to the shelf of a session.
-#![tactic(auto)]
-
-mod orders;
-
-pub use orders::arrange;

@@ -1,6 +1,0 @@
-//! Requests pin their track groups in the cache.
-#![tactic(auto)]
-
-mod pins;
-
-pub use pins::pin_first;

@@ -1,0 +1,6 @@
+mod disk;
+mod fixtures;
+mod image;
+mod lane;
+mod raw;
+mod trial;

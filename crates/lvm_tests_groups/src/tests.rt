@@ -1,0 +1,4 @@
+mod begin;
+mod fixtures;
+mod recovery;
+mod varyon;

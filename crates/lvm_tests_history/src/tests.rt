@@ -1,0 +1,4 @@
+mod fixtures;
+mod posts;
+mod turn;
+mod vol;

@@ -1,0 +1,12 @@
+//! What ends a test.
+use std::process::Abort;
+
+/// Ends the test where this isn't so, and says of what.
+pub fn check(rt: &impl Abort, is: bool, what: &str) {
+    assert!(rt; is, "{what}");
+}
+
+/// The same, with the place of a step.
+pub fn check_at(rt: &impl Abort, is: bool, what: &str, at: usize) {
+    assert!(rt; is, "{what} {at}");
+}

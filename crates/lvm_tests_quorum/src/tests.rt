@@ -1,0 +1,4 @@
+mod choice;
+mod fixtures;
+mod survey;
+mod write;

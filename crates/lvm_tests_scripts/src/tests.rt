@@ -1,0 +1,4 @@
+mod drawn;
+mod files;
+mod given;
+mod outside;

@@ -1,4 +1,0 @@
-pub mod Frames
-pub mod Telling
-pub mod Stepping
-pub mod Reading

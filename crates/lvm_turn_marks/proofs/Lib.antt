@@ -1,4 +1,0 @@
-pub mod Statuses
-pub mod Reviewing
-pub mod Requests
-pub mod Turning
