@@ -10,7 +10,7 @@ fn are_whole(buf: &Pbuf, count: u32)
     ensures { (k : ℕ) → k < count → IsSomeAnd (slice_get buf.now.sectors k) (λ sector. length sector ≡ 512) }
 {
     for k in 0..count {
-        let _ = buf.sector(k);
+        let _: &[u8] = buf.sector(k);
     }
 }
 
