@@ -65,7 +65,7 @@ module _ {V : Type 0} (tells : V → Told) (past : V → Option (List (List Sect
   }
 
   -- where a pass that is outside holds all clients, the value is at home
-  pub closes : (id : ℕ) (v : View) (ws : List ℕ) (xs : List (Option V)) → v.inside ≡ false → v.spent ≡ false → HoldsAll n v.clients
+  closes : (id : ℕ) (v : View) (ws : List ℕ) (xs : List (Option V)) → v.inside ≡ false → v.spent ≡ false → HoldsAll n v.clients
       → Final (Seen (TurnRule tells past always n root) id v) ws xs → (y : V) × (get_elem? xs 0 ≡ some (Some y)) × Continues tells past always v y
   closes id v ws xs outside live all end =
       let s = end.0 in
@@ -84,3 +84,10 @@ module _ {V : Type 0} (tells : V → Told) (past : V → Option (List (List Sect
       let view : v ≡ taken.view = some-injective v taken.view (sym at ∙ ap (λ j. get_elem? s.views j) same ∙ taken.there) in
       absurd (off v.inside outside (ap (λ (u : View). u.inside) view ∙ taken.holder.inside)))
       r.place
+
+  -- so by what a pass is known to know
+  pub closes_as : (id : ℕ) (v knows : View) (ws : List ℕ) (xs : List (Option V)) → v ≡ knows → knows.inside ≡ false → v.spent ≡ false → HoldsAll n knows.clients
+      → Final (Seen (TurnRule tells past always n root) id v) ws xs → (y : V) × (get_elem? xs 0 ≡ some (Some y)) × Continues tells past always knows y
+  closes_as id v knows ws xs same outside live all end =
+      subst (λ (w : View). (y : V) × (get_elem? xs 0 ≡ some (Some y)) × Continues tells past always w y) same
+      (closes id v ws xs (ap (λ (w : View). w.inside) same ∙ outside) live (subst (λ (w : View). HoldsAll n w.clients) (sym same) all) end)

@@ -1,5 +1,5 @@
 -- Passes are cut in two and made one.
-use Rattle.std.proofs.Common.{◌≡◌, ◌≢◌, ℕ, zero, suc, ◌⊎◌, eqb, Bool, true, false, true≢false, cond, not, Option, List, [], ◌∷◌, ◌++◌, length, set, refl, sym, ap, ◌∙◌, subst, ⊎_elim, inl, inr, arith, eq-eqb, ne_eqb, length-set}
+use Rattle.std.proofs.Common.{◌≡◌, ◌≢◌, ℕ, zero, suc, ◌⊎◌, eqb, Bool, true, false, true≢false, cond, not, Option, List, [], ◌∷◌, ◌++◌, length, set, ◌<◌, ◌≤◌, refl, sym, ap, ◌∙◌, subst, ⊎_elim, inl, inr, arith, eq-eqb, ne_eqb, length-set}
 use Rattle.std.specs.Prelude.{filter, ◌==◌}
 use mathlib.Core.Option.{some, some-ne-none, some-injective}
 use mathlib.Core.Logic.{dite}
@@ -7,7 +7,7 @@ use native.Mathlib.Decide.{ℕ_discrete}
 use lib.ListN.{get_elem?}
 use Rattle.atomic_table.specs.Table.{State, Splits, Joins}
 use Rattle.atomic_table.proofs.Lists.{at_set, set_here, set_else, at_longer, at_last}
-use Rattle.lvm_vol.specs.Fronts.{Told}
+use Rattle.lvm_vol.specs.Fronts.{Told, own}
 use Rattle.lvm_num.specs.Buffer.{Sector}
 use Rattle.lvm_vol.specs.Facts.{Fact}
 use Rattle.lvm_turn.specs.Views.{Fixed, Client, View, Owns, Holds, without, only, without_client, with_client_alone, met, nobody}
@@ -102,6 +102,12 @@ after_cut F views id left right one other rest j u e = ⊎_elim
     (λ (t : (j ≡ length (set views id left)) × (right ≡ u)). subst (λ (y : ℕ × View). F y.0 y.1) (λ i. (sym (t.0 ∙ length-set views id left) i, t.1 i)) other)
     (at_end (set views id left) right u j e)
 
+-- what a pass knows fits other seats and other clients of its own, if these have their seats there
+reseated : {history : List Fact} {root : Fixed} {best : List ℕ} {turn n : ℕ} {seat_of : ℕ → ℕ} {j : ℕ} (v : View) → Fits history root best turn n seat_of j v
+    → (so : ℕ → ℕ) (k : ℕ) (clients : List Client) → ((c : ℕ) (l : List Fact) → Owns clients c l → (k ≡ so c) × (0 < c) × (c ≤ n) × (own c history ≡ l))
+    → Fits history root best turn n so k (record v { clients = clients })
+reseated v f so k clients its = record { front = f.front; also = f.also; counts = f.counts; number = f.number; fixed = f.fixed; clients = its }
+
 module _ {V : Type 0} (tells : V → Told) (past : V → Option (List (List Sector))) (always : V → Type 0) (n : ℕ) (root : Fixed) where
   abbrev St : Type 0
   St = State (Option V) View
@@ -121,33 +127,12 @@ module _ {V : Type 0} (tells : V → Told) (past : V → Option (List (List Sect
       λ j u ne e. at_longer (set s.views id left) (right ∷ []) j u (set_else s.views id j left ne ∙ e) in
       over_views tells past always n root s r new so
       (after_cut (λ j u. Fits r.history root r.best r.turn n so j u) s.views id left right
-      (record {
-        front = f.front;
-        also = f.also;
-        counts = f.counts;
-        number = f.number;
-        fixed = f.fixed;
-        clients = λ c l h. let t = without_fewer v.clients client c l h in let k = f.clients c l t.0 in (k.0 ∙ sym (moved_else r.seat_of client to c t.1), k.1, k.2, k.3);
-      })
-      (record {
-        front = f.front;
-        also = f.also;
-        counts = f.counts;
-        number = f.number;
-        fixed = f.fixed;
-        clients = λ c l h. let t = only_fewer v.clients client c l h in let k = f.clients c l t.0 in (sym (moved_here r.seat_of client to c t.1), k.1, k.2, k.3);
-      })
-      (λ j u ne e. let g = r.each j u e in record {
-        front = g.front;
-        also = g.also;
-        counts = g.counts;
-        number = g.number;
-        fixed = g.fixed;
-        clients = λ c l h.
-            let k = g.clients c l h in
-            let other : c ≢ client = λ same. ne (k.0 ∙ ap r.seat_of same ∙ sym (f.clients client holds.0 holds.1).0) in
-            (k.0 ∙ sym (moved_else r.seat_of client to c other), k.1, k.2, k.3);
-      }))
+      (reseated v f so id left.clients (λ c l h. let t = without_fewer v.clients client c l h in let k = f.clients c l t.0 in (k.0 ∙ sym (moved_else r.seat_of client to c t.1), k.1, k.2, k.3)))
+      (reseated v f so to right.clients (λ c l h. let t = only_fewer v.clients client c l h in let k = f.clients c l t.0 in (sym (moved_here r.seat_of client to c t.1), k.1, k.2, k.3)))
+      (λ j u ne e. let g = r.each j u e in reseated u g so j u.clients (λ c l h.
+      let k = g.clients c l h in
+      let other : c ≢ client = λ same. ne (k.0 ∙ ap r.seat_of same ∙ sym (f.clients client holds.0 holds.1).0) in
+      (k.0 ∙ sym (moved_else r.seat_of client to c other), k.1, k.2, k.3))))
       (λ c low high. dite (ℕ_discrete c client)
       (λ (e : c ≡ client). (right, ap (λ k. get_elem? new k) (moved_here r.seat_of client to c e) ∙ at_last (set s.views id left) right to (length-set s.views id left), only_keeps v.clients client c (subst (Holds v.clients) (sym e) holds) e))
       (λ (ne : c ≢ client).

@@ -4,18 +4,17 @@ ghost use Rattle.lvm_num.specs.declared.descriptor.PvRow.{PvRow as pv_row};
 ghost use Rattle.lvm_num.specs.DescriptorBytes.{descriptor_of};
 ghost use Rattle.lvm_commit.specs.Settling.{IsOf, MaySettle, HasNumbers};
 
-use crate::tests::fixtures::{
-    blank_shelf, check, first_homes, group, has_room, row, stamp, status, survey, volume,
-};
+use crate::tests::fixtures::{check, row};
 use lvm_commit::{CommitEnd, commit_descriptor, commit_status};
 use lvm_disk::Shelf;
 use lvm_faults::{Act, Planned};
 use lvm_memory::MemShelf;
-use lvm_num::{Descriptor, Pbuf, Pp, Rows, Stamp};
+use lvm_num::{Descriptor, Mode, Pbuf, Pp, Rows, Stamp};
 use lvm_rec::Homes;
 use lvm_stale::StaleTable;
 use lvm_status::{Change, Updater};
 use lvm_survey::Survey;
+use lvm_tests_shelves::{blank_shelf, first_homes, group, has_room, stamp, status, survey, volume};
 use lvm_transfer::{Patience, relight};
 use std::process::Abort;
 
@@ -295,37 +294,26 @@ static CASES: [Case; 12] = [
 
 fn end_of(settled: CommitEnd) -> End {
     match settled {
-        CommitEnd::Done { buf } => {
-            if buf.number() == 9 {
-                End::Done
-            } else {
-                End::OtherBuffer
-            }
-        }
-        CommitEnd::WentOff { have, total, buf } => {
-            if buf.number() == 9 {
-                End::WentOff(have, total)
-            } else {
-                End::OtherBuffer
-            }
-        }
+        CommitEnd::Done { buf } if buf.number() == 9 => End::Done,
+        CommitEnd::WentOff { have, total, buf } if buf.number() == 9 => End::WentOff(have, total),
         CommitEnd::Dark => End::Dark,
         CommitEnd::Stuck => End::Stuck,
+        _ => End::OtherBuffer,
     }
 }
 
 fn group_of(rt: &(impl Abort + AllocGlobal), is: Group) -> Descriptor {
-    let mut group = group(rt, ID, 3);
+    let mut group = group(rt.alloc(), ID, 3).expect(rt, "a group");
     group.quorum = is != Group::NoQuorum;
     if is == Group::Mirrored {
-        group.lvs = volume(rt, [FIRST, SECOND]);
+        group.lvs = volume(rt.alloc(), Mode::Off, [FIRST, SECOND]).expect(rt, "memory");
     }
     group
 }
 
 // A table with a row for each member and nothing stale.
 fn first_table(rt: &(impl Abort + AllocGlobal)) -> StaleTable {
-    let status = status(rt, ID, 3);
+    let status = status(rt.alloc(), ID, 3, false).expect(rt, "memory");
     assert!(rt; status.is_valid());
     StaleTable::from_status(rt.alloc(), &status).expect(rt, "memory")
 }
@@ -496,7 +484,7 @@ fn run(
 #[test]
 fn records_are_committed(rt: HostRuntime) {
     for case in &CASES {
-        let mut shelf = blank_shelf(&rt, &SIZES, case.plan);
+        let mut shelf = blank_shelf(rt.alloc(), &SIZES, case.plan, 0).expect(&rt, "disks");
         let group = group_of(&rt, case.group);
         let ran = run(&rt, &mut shelf, &group, case.stale);
         check(&rt, ran == case.ran, case.name);
@@ -518,10 +506,10 @@ fn stamps_on(rt: &impl Abort, survey: &Survey, disk: usize) -> (Stamp, Stamp) {
 }
 
 fn left(rt: &(impl Abort + AllocGlobal), plan: &[Planned]) -> [(Stamp, Stamp); 3] {
-    let mut shelf = blank_shelf(rt, &SIZES, plan);
+    let mut shelf = blank_shelf(rt.alloc(), &SIZES, plan, 0).expect(rt, "disks");
     let group = group_of(rt, Group::Plain);
     let _ = run(rt, &mut shelf, &group, Some(SECOND));
-    let survey = survey(rt, &mut shelf);
+    let survey = survey(rt.alloc(), &mut shelf).expect(rt, "a survey");
     stamps_in(rt, &survey)
 }
 
@@ -552,7 +540,7 @@ fn a_cut_ends_a_commit(rt: HostRuntime) {
             call,
             act: Act::Cut(0x5555),
         }];
-        let mut shelf = blank_shelf(&rt, &SIZES, &plan);
+        let mut shelf = blank_shelf(rt.alloc(), &SIZES, &plan, 0).expect(&rt, "disks");
         let group = group_of(&rt, Group::Plain);
         let ran = run(&rt, &mut shelf, &group, Some(SECOND));
         check(&rt, ran.stated == (End::Dark, call), "a cut");

@@ -8,6 +8,14 @@ use lvm_memory::MemShelf;
 use lvm_num::{Pbuf, Rows};
 use std::process::Abort;
 
+/// Sectors of a disk from one on, so many, that are written or read: the first is filled with the word, and each other
+/// with the next, wrapping.
+#[derive(Clone, Copy)]
+pub enum Transfer {
+    Write(u16, u64, u32, u64),
+    Read(u16, u64, u32, u64),
+}
+
 pub fn plan_of(rt: &(impl Abort + AllocGlobal), plan: &[Planned]) -> Rows<Planned>
     ensures { result ≡ plan.now }
 {

@@ -1,5 +1,5 @@
 //! Image files: those of the system, and the one of a trial system, which watches the calls on it.
-use crate::tests::fixtures::{check, check_at, sink, start};
+use crate::tests::fixtures::{Transfer, check, check_at, sink, start};
 use crate::tests::trial::{Fault, Trial, are_filled};
 use End::*;
 use Transfer::*;
@@ -18,14 +18,6 @@ const ROOM: usize = 100;
 
 // What the sectors of a buffer have that take no part in a transfer.
 const REST: u64 = u64::MAX;
-
-// A transfer of a disk's sectors from one on, so many, the first of which is filled with the word, and each
-// other with the next.
-#[derive(Clone, Copy)]
-enum Transfer {
-    Write(u16, u64, u32, u64),
-    Read(u16, u64, u32, u64),
-}
 
 #[derive(Clone, Copy, PartialEq, Eq)]
 enum End {

@@ -1,7 +1,7 @@
 //! Ranges of a disk in memory, written and read.
-use crate::tests::fixtures::{blank_shelf, check};
+use crate::tests::fixtures::{Transfer, blank_shelf, check};
 use Answer::*;
-use Ask::*;
+use Transfer::*;
 use lvm_disk::Shelf;
 use lvm_faults::{Act, Planned};
 use lvm_history::History;
@@ -11,14 +11,6 @@ use lvm_raw::{RawFault, read_disk, write_disk};
 use lvm_transfer::{Patience, relight};
 use lvm_vol::{Entry, Outcome};
 use std::process::Abort;
-
-// Blocks of a disk from one on, so many, the first of which is filled with the word, and each other with
-// the next, wrapping.
-#[derive(Clone, Copy)]
-enum Ask {
-    Write(u16, u64, u32, u64),
-    Read(u16, u64, u32, u64),
-}
 
 #[derive(Clone, Copy, PartialEq, Eq)]
 enum Answer {
@@ -32,23 +24,18 @@ enum Answer {
 struct Case {
     name: &'static str,
     plan: &'static [Planned],
-    // The history's room for entries and for bytes.
-    room: (u32, u64),
     // What is answered, and how many entries the history has then.
-    asks: &'static [(Ask, Answer, u32)],
+    asks: &'static [(Transfer, Answer, u32)],
     // How the requests landed, in their order.
     landed: &'static [Outcome],
 }
 
-const ROOM: (u32, u64) = (100, 1_000_000);
-
 // On two disks, of 4,864 and of 100 sectors, in no group. The reads of the slots are ten transfers, which are
 // 20 calls.
-static CASES: [Case; 6] = [
+static CASES: [Case; 5] = [
     Case {
         name: "a range is written and read back in pieces",
         plan: &[],
-        room: ROOM,
         asks: &[
             (Write(0, 4349, 260, u64::MAX - 1), Well, 9),
             (Read(0, 4350, 3, u64::MAX), Well, 15),
@@ -79,7 +66,6 @@ static CASES: [Case; 6] = [
                 act: Act::Heal(0),
             },
         ],
-        room: ROOM,
         asks: &[
             (Write(0, 4351, 258, 5), Not(RawFault::Lost), 9),
             (Read(0, 4608, 1, 262), Well, 12),
@@ -92,7 +78,6 @@ static CASES: [Case; 6] = [
             call: 21,
             act: Act::Fail(0),
         }],
-        room: ROOM,
         asks: &[(Read(0, 4351, 258, 0), Not(RawFault::ReadFailed), 9)],
         landed: &[
             Outcome::ReadFailed,
@@ -106,7 +91,6 @@ static CASES: [Case; 6] = [
             call: 1,
             act: Act::Fail(0),
         }],
-        room: ROOM,
         asks: &[
             (
                 Read(0, 4096, 1, 0),
@@ -127,7 +111,6 @@ static CASES: [Case; 6] = [
             call: 22,
             act: Act::Cut(1),
         }],
-        room: ROOM,
         asks: &[
             (Write(0, 4096, 2, 7), Not(RawFault::Dark), 4),
             (Read(0, 4096, 1, 7), Well, 7),
@@ -135,39 +118,40 @@ static CASES: [Case; 6] = [
         ],
         landed: &[Outcome::Dark, Outcome::Got, Outcome::Got],
     },
-    Case {
-        name: "ranges are refused in order",
-        plan: &[],
-        room: (4, 1_000),
-        asks: &[
-            (Read(2, 0, 1, 0), Not(RawFault::NoDisk { disk: 2 }), 0),
-            (
-                Read(1, 4096, 1, 0),
-                Not(RawFault::OutOfRange { blocks: 100 }),
-                0,
-            ),
-            (
-                Read(0, u64::MAX, 4096, 0),
-                Not(RawFault::OutOfRange { blocks: 4864 }),
-                0,
-            ),
-            (
-                Write(0, 4095, 1, 0),
-                Not(RawFault::OutOfRange { blocks: 4864 }),
-                0,
-            ),
-            (
-                Read(0, 4864, 1, 0),
-                Not(RawFault::OutOfRange { blocks: 4864 }),
-                0,
-            ),
-            (Read(0, 4351, 2, 0), Not(RawFault::HistoryFull), 0),
-            (Write(0, 4096, 2, 0), Not(RawFault::HistoryFull), 0),
-            (Read(0, 4863, 1, 0), Well, 3),
-        ],
-        landed: &[Outcome::Got],
-    },
 ];
+
+// With room for four entries alone.
+static REFUSED: Case = Case {
+    name: "ranges are refused in order",
+    plan: &[],
+    asks: &[
+        (Read(2, 0, 1, 0), Not(RawFault::NoDisk { disk: 2 }), 0),
+        (
+            Read(1, 4096, 1, 0),
+            Not(RawFault::OutOfRange { blocks: 100 }),
+            0,
+        ),
+        (
+            Read(0, u64::MAX, 4096, 0),
+            Not(RawFault::OutOfRange { blocks: 4864 }),
+            0,
+        ),
+        (
+            Write(0, 4095, 1, 0),
+            Not(RawFault::OutOfRange { blocks: 4864 }),
+            0,
+        ),
+        (
+            Read(0, 4864, 1, 0),
+            Not(RawFault::OutOfRange { blocks: 4864 }),
+            0,
+        ),
+        (Read(0, 4351, 2, 0), Not(RawFault::HistoryFull), 0),
+        (Write(0, 4096, 2, 0), Not(RawFault::HistoryFull), 0),
+        (Read(0, 4863, 1, 0), Well, 3),
+    ],
+    landed: &[Outcome::Got],
+};
 
 fn are_words(blocks: &Rows<[u8; 512]>, word: u64, count: u32) -> bool {
     blocks.len() == count as usize
@@ -175,73 +159,50 @@ fn are_words(blocks: &Rows<[u8; 512]>, word: u64, count: u32) -> bool {
             == fill(word.wrapping_add(u64::from(k))))
 }
 
-fn write<S: Shelf>(
-    rt: &impl AllocGlobal,
-    shelf: &mut S,
-    history: &mut History,
-    disk: u16,
-    at: (u64, u32),
-    word: u64,
-) -> Answer {
-    let (first, count) = at;
-    if shelf.flights() > 0 || count == 0 {
-        return Refused;
-    }
-    relight(shelf);
-    let mut patience = Patience::whole();
-    match write_disk(
-        rt.alloc(),
-        shelf,
-        history,
-        disk,
-        first,
-        count,
-        word,
-        &mut patience,
-    ) {
+// How a write ended.
+fn written(done: Result<(), RawFault>) -> Answer {
+    match done {
         Ok(()) => Well,
         Err(why) => Not(why),
     }
 }
 
-fn read<S: Shelf>(
-    rt: &impl AllocGlobal,
-    shelf: &mut S,
-    history: &mut History,
-    disk: u16,
-    at: (u64, u32),
-    word: u64,
-) -> Answer {
-    let (first, count) = at;
-    if shelf.flights() > 0 || count == 0 {
-        return Refused;
-    }
-    relight(shelf);
-    let mut patience = Patience::whole();
-    match read_disk(
-        rt.alloc(),
-        shelf,
-        history,
-        disk,
-        first,
-        count,
-        &mut patience,
-    ) {
-        Ok(blocks) => {
-            if are_words(&blocks, word, count) {
-                Well
-            } else {
-                OtherBlocks
-            }
-        }
+// How a read ended that is to show these words.
+fn shown(read: Result<Rows<[u8; 512]>, RawFault>, word: u64, count: u32) -> Answer {
+    match read {
+        Ok(blocks) if are_words(&blocks, word, count) => Well,
+        Ok(_) => OtherBlocks,
         Err(why) => Not(why),
     }
 }
 
-fn asked(rt: &impl AllocGlobal, shelf: &mut MemShelf, history: &mut History, what: Ask) -> Answer {
-    match what {
-        Write(disk, first, count, word) => write(rt, shelf, history, disk, (first, count), word),
-        Read(disk, first, count, word) => read(rt, shelf, history, disk, (first, count), word),
+fn asked<S: Shelf>(
+    rt: &impl AllocGlobal,
+    shelf: &mut S,
+    history: &mut History,
+    what: Transfer,
+) -> Answer {
+    let (Write(disk, first, count, word) | Read(disk, first, count, word)) = what;
+    if shelf.flights() > 0 || count == 0 {
+        return Refused;
+    }
+    relight(shelf);
+    let mut whole = Patience::whole();
+    if matches!(what, Write(..)) {
+        let done = write_disk(
+            rt.alloc(),
+            shelf,
+            history,
+            disk,
+            first,
+            count,
+            word,
+            &mut whole,
+        );
+        written(done)
+    } else {
+        let read = read_disk(rt.alloc(), shelf, history, disk, first, count, &mut whole);
+        shown(read, word, count)
     }
 }
 
@@ -255,22 +216,27 @@ fn landings(rt: &(impl Abort + AllocGlobal), history: &History) -> Vec<Outcome> 
     all
 }
 
-fn history_of(rt: &(impl Abort + AllocGlobal), room: (u32, u64)) -> History {
-    let (entries, bytes) = room;
+fn history_of(rt: &(impl Abort + AllocGlobal), entries: u32, bytes: u64) -> History {
     assert!(rt; entries >= 4);
     History::new(rt.alloc(), 1, entries, bytes).expect(rt, "memory")
+}
+
+// Over a history with room for so many entries and bytes.
+fn run(rt: &(impl Abort + AllocGlobal), case: &Case, entries: u32, bytes: u64) {
+    let mut shelf = blank_shelf(rt, &[4864, 100], case.plan);
+    let mut history = history_of(rt, entries, bytes);
+    for (what, answer, len) in case.asks {
+        let got = (asked(rt, &mut shelf, &mut history, *what), history.len());
+        check(rt, got == (*answer, *len), case.name);
+    }
+    let landed = landings(rt, &history);
+    check(rt, landed.as_slice() == case.landed, case.name);
 }
 
 #[test]
 fn ranges_of_a_disk_in_no_group(rt: HostRuntime) {
     for case in &CASES {
-        let mut shelf = blank_shelf(&rt, &[4864, 100], case.plan);
-        let mut history = history_of(&rt, case.room);
-        for (what, answer, entries) in case.asks {
-            let got = (asked(&rt, &mut shelf, &mut history, *what), history.len());
-            check(&rt, got == (*answer, *entries), case.name);
-        }
-        let landed = landings(&rt, &history);
-        check(&rt, landed.as_slice() == case.landed, case.name);
+        run(&rt, case, 100, 1_000_000);
     }
+    run(&rt, &REFUSED, 4, 1_000);
 }

@@ -3,8 +3,8 @@ ghost use Rattle.lvm_survey.specs.Rows.{AreRows};
 ghost use Rattle.lvm_survey.specs.Surveyed.{IsSurveyValid};
 
 use crate::tests::fixtures::{
-    Begin, begin_first, begin_next, blank_shelf, change, check, first_three, group, image_shelf,
-    images_of, name_of, row, stamp, status, survey,
+    Begin, begin_first, begin_next, change, check, first_three, image_shelf, images_of, name_of,
+    row,
 };
 use lvm_disk::Shelf;
 use lvm_faults::{Act, Planned};
@@ -12,6 +12,7 @@ use lvm_memory::MemShelf;
 use lvm_num::{Descriptor, Stamp, Status};
 use lvm_quorum::{Choice, ChooseFault, choose};
 use lvm_survey::{Survey, SurveyRow};
+use lvm_tests_shelves::{blank_shelf, group, stamp, status, survey};
 use std::process::Abort;
 
 const SECTOR: usize = 512;
@@ -80,11 +81,11 @@ fn shown_in(rt: &impl Abort, survey: &Survey) -> [Shown; 3] {
 }
 
 fn is_group(rt: &(impl Abort + AllocGlobal), descriptor: &Descriptor) -> bool {
-    *descriptor == group(rt, GROUP, 3)
+    *descriptor == group(rt.alloc(), GROUP, 3).expect(rt, "a group")
 }
 
 fn is_new(rt: &(impl Abort + AllocGlobal), is: &Status) -> bool {
-    *is == status(rt, GROUP, 3)
+    *is == status(rt.alloc(), GROUP, 3, false).expect(rt, "memory")
 }
 
 fn told(rt: &(impl Abort + AllocGlobal), choice: &Choice) -> Chosen {
@@ -107,13 +108,13 @@ fn chosen_in(rt: &(impl Abort + AllocGlobal), survey: &Survey) -> Chosen
 }
 
 fn see<S: Shelf>(rt: &(impl Abort + AllocGlobal), shelf: &mut S) -> ([Shown; 3], Chosen) {
-    let survey = survey(rt, shelf);
+    let survey = survey(rt.alloc(), shelf).expect(rt, "a survey");
     (shown_in(rt, &survey), chosen_in(rt, &survey))
 }
 
 // Makes a group of all disks, and says how that ended, after how many calls.
 fn make(rt: &(impl Abort + AllocGlobal), shelf: &mut MemShelf, id: u64) -> (Begin, u64) {
-    let group = group(rt, id, shelf.disks());
+    let group = group(rt.alloc(), id, shelf.disks()).expect(rt, "a group");
     let end = begin_first(rt, shelf, &group);
     (end, shelf.calls())
 }
@@ -130,7 +131,7 @@ fn shows<S: Shelf>(
 
 #[test]
 fn a_new_group_is_found_and_comes_on_again(rt: HostRuntime) {
-    let mut shelf = blank_shelf(&rt, &SIZES, &[]);
+    let mut shelf = blank_shelf(rt.alloc(), &SIZES, &[], 0).expect(&rt, "disks");
     let made = make(&rt, &mut shelf, GROUP);
     check(&rt, made == (Begin::Ended, 18), "made");
     comes_on_again(&rt, &mut shelf);
@@ -143,7 +144,7 @@ fn comes_on_again<S: Shelf>(rt: &(impl Abort + AllocGlobal), shelf: &mut S) {
 }
 
 fn come_on<S: Shelf>(rt: &(impl Abort + AllocGlobal), shelf: &mut S, epoch: u64) -> Begin {
-    let group = group(rt, GROUP, shelf.disks());
+    let group = group(rt.alloc(), GROUP, shelf.disks()).expect(rt, "a group");
     begin_next(rt, shelf, &group, epoch)
 }
 
@@ -159,7 +160,7 @@ fn is_begun(shown: &Shown) -> bool {
 }
 
 fn see_begun<S: Shelf>(rt: &(impl Abort + AllocGlobal), shelf: &mut S) {
-    let survey = survey(rt, shelf);
+    let survey = survey(rt.alloc(), shelf).expect(rt, "a survey");
     for row in survey.rows.as_slice() {
         check(rt, is_begun(&shown_on(rt, row)), "begun records");
     }
@@ -168,7 +169,9 @@ fn see_begun<S: Shelf>(rt: &(impl Abort + AllocGlobal), shelf: &mut S) {
 // The power is cut at this call of the making of a group.
 fn cut_at(rt: &(impl Abort + AllocGlobal), call: u64, word: u64) {
     let act = Act::Cut(word);
-    let mut shelf = blank_shelf(rt, &[4096; 2], &[Planned { call, act }]);
+    let mut shelf = blank_shelf(rt.alloc(), &[4096; 2], &[Planned { call, act }], 0).expect(
+        rt, "disks",
+    );
     let made = make(rt, &mut shelf, GROUP);
     check(rt, made == (Begin::Dark, call), "a cut");
     see_begun(rt, &mut shelf);
@@ -190,7 +193,7 @@ fn the_lowest_disk_that_failed_is_named(rt: HostRuntime) {
         call: 7,
         act: Act::Fail(disk),
     });
-    let mut shelf = blank_shelf(&rt, &SIZES, &plan);
+    let mut shelf = blank_shelf(rt.alloc(), &SIZES, &plan, 0).expect(&rt, "disks");
     let made = make(&rt, &mut shelf, GROUP);
     check(&rt, made == (Begin::DiskFailed(1), 12), "disk 1");
 }
@@ -225,7 +228,7 @@ static CHANGED: [(&str, &[(usize, usize, u8)], Chosen); 4] = [
 
 // The bytes of the disks after a group of all three was made.
 fn group_images(rt: &(impl Abort + AllocGlobal), id: u64) -> Vec<Vec<u8>> {
-    let mut shelf = blank_shelf(rt, &SIZES, &[]);
+    let mut shelf = blank_shelf(rt.alloc(), &SIZES, &[], 0).expect(rt, "disks");
     let made = make(rt, &mut shelf, id);
     check(rt, made == (Begin::Ended, 18), "made");
     images_of(rt, &shelf)

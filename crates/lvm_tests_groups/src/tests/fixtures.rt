@@ -1,22 +1,12 @@
-//! What the tests share: disks in memory with plans of faults, groups and their records, and what the calls of the
-//! layer want of their arguments.
-ghost use Rattle.std.specs.Prelude.{◌≡◌, ◌%◌, ◌<◌, ◌≤◌, ℕ, length, IsTrue};
-ghost use Rattle.std.specs.List.{All};
-ghost use Rattle.lvm_num.specs.Disks.{has};
-ghost use Rattle.lvm_write.specs.Written.{HasRoom};
-ghost use Rattle.lvm_survey.specs.Rows.{AreRows};
-ghost use Rattle.lvm_survey.specs.Surveyed.{IsSurveyValid};
-
+//! What the tests share: what stands on disks in memory, and groups that begin there.
 use lvm_begin::{Begun, begin_again, begin_new};
 use lvm_disk::Shelf;
-use lvm_faults::{Planned, names_disks};
+use lvm_faults::Planned;
 use lvm_memory::MemShelf;
-use lvm_num::{
-    Descriptor, DiskSet, LvRow, Mode, Name, Pbuf, Policy, Pp, PvRow, Rows, Stamp, Status,
-    StatusRow, VolumeNumbers,
-};
+use lvm_num::{Descriptor, DiskSet, Name, Pbuf, Rows};
 use lvm_rec::Homes;
-use lvm_survey::{Survey, SurveyRow, Surveyed, survey_disks};
+use lvm_survey::{Survey, SurveyRow};
+use lvm_tests_shelves::{all_disks, first_homes, has_room, status, survey};
 use lvm_transfer::{Patience, relight};
 use lvm_write::homes_of;
 use std::process::Abort;
@@ -26,24 +16,7 @@ pub fn check(rt: &impl Abort, is: bool, what: &str) {
     assert!(rt; is, "{what}");
 }
 
-pub fn stamp(epoch: u64, seq: u32) -> Stamp {
-    Stamp { epoch, seq }
-}
-
 // ---- disks
-
-fn plan_of(rt: &(impl Abort + AllocGlobal), plan: &[Planned]) -> Rows<Planned>
-    ensures { result ≡ plan.now }
-{
-    Rows::new(Vec::from_slice(rt.alloc(), plan).expect(rt, "memory"))
-}
-
-/// Disks of zeros, of these numbers of sectors.
-pub fn blank_shelf(rt: &(impl Abort + AllocGlobal), sizes: &[u64], plan: &[Planned]) -> MemShelf {
-    assert!(rt; !sizes.is_empty() && sizes.len() <= 128);
-    assert!(rt; names_disks(plan, sizes.len() as u16));
-    MemShelf::new(rt.alloc(), sizes, plan_of(rt, plan), 0).expect(rt, "memory")
-}
 
 /// What stands on the disks.
 pub fn images_of(rt: &(impl Abort + AllocGlobal), shelf: &MemShelf) -> Vec<Vec<u8>> {
@@ -70,10 +43,7 @@ pub fn image_shelf(
     images: &[Vec<u8>],
     plan: &[Planned],
 ) -> MemShelf {
-    let rows = rows_of(rt, images);
-    assert!(rt; !rows.is_empty() && rows.len() <= 128);
-    assert!(rt; are_whole(rows.as_slice()) && names_disks(plan, rows.len() as u16));
-    MemShelf::from_images(rt.alloc(), rows, plan_of(rt, plan), 0).expect(rt, "memory")
+    lvm_tests_shelves::image_shelf(rt.alloc(), rows_of(rt, images), plan, 0).expect(rt, "disks")
 }
 
 /// Changes bytes of the disks, each on a disk at a place.
@@ -82,35 +52,6 @@ pub fn change(rt: &impl Abort, images: &mut Vec<Vec<u8>>, changes: &[(usize, usi
         let image = images.get_mut(*disk).expect(rt, "a disk");
         *image.get_mut(*place).expect(rt, "a byte") = *byte;
     }
-}
-
-fn are_whole(images: &[Rows<u8>]) -> bool
-    ensures { IsTrue result → All (λ bytes. length bytes % 512 ≡ 0) images.now }
-{
-    images.iter().all(|bytes| bytes.len() % 512 == 0)
-}
-
-/// Whether each disk has room for records.
-pub fn has_room<S: Shelf>(shelf: &S) -> bool
-    ensures { IsTrue result → (d : ℕ) → d < length (S.device shelf.now).sizes → HasRoom (S.device shelf.now) d }
-{
-    for disk in 0..shelf.disks() {
-        if shelf.sectors(disk) < 4096 {
-            return false;
-        }
-    }
-    true
-}
-
-pub fn all_disks(count: u16) -> DiskSet
-    requires { count ≤ 128 }
-    ensures { (d : ℕ) → IsTrue (has result d) → d < count }
-{
-    let mut disks = DiskSet::empty();
-    for disk in 0..count {
-        disks = disks.with(disk);
-    }
-    disks
 }
 
 pub fn first_three(disks: DiskSet) -> [bool; 3] {
@@ -123,74 +64,6 @@ pub fn name_of(rt: &impl Abort, name: &[u8]) -> Name {
     Name::read(name).expect(rt, "a name")
 }
 
-fn members(rt: &(impl Abort + AllocGlobal), count: u16) -> Rows<PvRow> {
-    let mut pvs = Vec::new(rt.alloc());
-    for disk in 0..count {
-        let spare = false;
-        let row = PvRow {
-            disk,
-            pps: 1,
-            spare,
-        };
-        pvs.push(row).expect(rt, "memory");
-    }
-    Rows::new(pvs)
-}
-
-/// The group `datavg` of the first disks, with one partition of 1 MiB each, and without volumes.
-pub fn group(rt: &(impl Abort + AllocGlobal), id: u64, count: u16) -> Descriptor {
-    Descriptor {
-        id,
-        name: name_of(rt, b"datavg"),
-        mib: 1,
-        quorum: true,
-        even: false,
-        big: false,
-        pvs: members(rt, count),
-        lvs: Rows::empty(rt.alloc()),
-    }
-}
-
-/// The volume `lv00` of one logical partition in this mode, of which these are the copies.
-pub fn volume(rt: &(impl Abort + AllocGlobal), mode: Mode, copies: [Pp; 2]) -> Rows<LvRow> {
-    let mut rows = Vec::new(rt.alloc());
-    let map = Vec::from_slice(rt.alloc(), &copies).expect(rt, "memory");
-    let row = LvRow {
-        number: 1,
-        name: name_of(rt, b"lv00"),
-        mode,
-        policy: Policy::Parallel,
-        copies: 2,
-        lps: 1,
-        map: Rows::new(map),
-    };
-    rows.push(row).expect(rt, "memory");
-    Rows::new(rows)
-}
-
-fn status_rows(rt: &(impl Abort + AllocGlobal), count: u16) -> Rows<StatusRow> {
-    let mut rows = Vec::new(rt.alloc());
-    for disk in 0..count {
-        let row = StatusRow {
-            disk,
-            missing: false,
-            stale: [0; 127],
-        };
-        rows.push(row).expect(rt, "memory");
-    }
-    Rows::new(rows)
-}
-
-/// The status of a new group of the first disks: nothing is missing or stale.
-pub fn status(rt: &(impl Abort + AllocGlobal), id: u64, count: u16) -> Status {
-    Status {
-        id,
-        big: false,
-        dirty: VolumeNumbers::empty(rt.alloc()).expect(rt, "memory"),
-        rows: status_rows(rt, count),
-    }
-}
-
 // ---- what is written and read
 
 fn descriptor_bytes(rt: &(impl Abort + AllocGlobal), group: &Descriptor) -> Rows<u8> {
@@ -199,17 +72,9 @@ fn descriptor_bytes(rt: &(impl Abort + AllocGlobal), group: &Descriptor) -> Rows
 }
 
 fn status_bytes(rt: &(impl Abort + AllocGlobal), id: u64, count: u16) -> Rows<u8> {
-    let status = status(rt, id, count);
+    let status = status(rt.alloc(), id, count, false).expect(rt, "memory");
     assert!(rt; status.is_valid());
     lvm_vgsa::encode(rt.alloc(), &status).expect(rt, "memory")
-}
-
-// The slots of blank disks.
-pub fn first_homes() -> Homes {
-    Homes {
-        descriptor: DiskSet::empty(),
-        status: DiskSet::empty(),
-    }
 }
 
 /// How the writes of a beginning ended.
@@ -225,22 +90,11 @@ pub enum Begin {
 
 fn begin_of(begun: Begun) -> Begin {
     match begun {
-        Begun::Ended { buf } => {
-            if buf.number() == 9 {
-                Begin::Ended
-            } else {
-                Begin::OtherBuffer
-            }
-        }
-        Begun::DiskFailed { disk, buf } => {
-            if buf.number() == 9 {
-                Begin::DiskFailed(disk)
-            } else {
-                Begin::OtherBuffer
-            }
-        }
+        Begun::Ended { buf } if buf.number() == 9 => Begin::Ended,
+        Begun::DiskFailed { disk, buf } if buf.number() == 9 => Begin::DiskFailed(disk),
         Begun::Dark => Begin::Dark,
         Begun::Stuck => Begin::Stuck,
+        _ => Begin::OtherBuffer,
     }
 }
 
@@ -327,23 +181,8 @@ pub fn begin_next<S: Shelf>(
 }
 
 fn next_homes<S: Shelf>(rt: &(impl Abort + AllocGlobal), shelf: &mut S) -> Homes {
-    let survey = survey(rt, shelf);
+    let survey = survey(rt.alloc(), shelf).expect(rt, "a survey");
     homes_of(&survey)
-}
-
-/// What stands in the records of all disks.
-pub fn survey<S: Shelf>(rt: &(impl Abort + AllocGlobal), shelf: &mut S) -> Survey
-    ensures rows { AreRows result }
-    ensures valid { IsSurveyValid result }
-{
-    assert!(rt; shelf.flights() == 0);
-    relight(shelf);
-    let mut patience = Patience::whole();
-    let buf = Pbuf::fresh(rt.alloc(), 7).expect(rt, "memory");
-    match survey_disks(rt.alloc(), shelf, buf, &mut patience) {
-        Surveyed::Ended { survey, buf: _ } => survey,
-        _ => panic!(rt; "not ended"),
-    }
 }
 
 pub fn row<'a>(rt: &impl Abort, survey: &'a Survey, disk: usize) -> &'a SurveyRow {

@@ -1,13 +1,12 @@
 //! Groups of two disks that come on, and that don't.
-use crate::tests::fixtures::{
-    Begin, begin_first, blank_shelf, check, group, images_of, name_of, volume,
-};
+use crate::tests::fixtures::{Begin, begin_first, check, images_of, name_of};
 use lvm_core::{Cause, Driver, Room};
 use lvm_disk::{Arrange, Shelf};
 use lvm_faults::{Act, Planned};
 use lvm_history::History;
 use lvm_memory::MemShelf;
 use lvm_num::{Mode, Pp};
+use lvm_tests_shelves::{blank_shelf, group, volume};
 use lvm_transfer::{Patience, relight};
 use lvm_varyon::varyon;
 use std::process::Abort;
@@ -49,9 +48,9 @@ pub const WHOLE: Answer = Answer::On(Session {
 
 /// Two disks on which a group was made that has a volume of one logical partition with a copy on each.
 pub fn made(rt: &(impl Abort + AllocGlobal), mode: Mode, plan: &[Planned]) -> MemShelf {
-    let mut shelf = blank_shelf(rt, &[6144, 6144], plan);
-    let mut group = group(rt, GROUP, 2);
-    group.lvs = volume(rt, mode, [FIRST, SECOND]);
+    let mut shelf = blank_shelf(rt.alloc(), &[6144, 6144], plan, 0).expect(rt, "disks");
+    let mut group = group(rt.alloc(), GROUP, 2).expect(rt, "a group");
+    group.lvs = volume(rt.alloc(), mode, [FIRST, SECOND]).expect(rt, "memory");
     let begin = begin_first(rt, &mut shelf, &group);
     check(rt, begin == Begin::Ended, "the making");
     shelf

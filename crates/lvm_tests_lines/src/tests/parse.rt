@@ -162,8 +162,9 @@ fn disks_and_cuts_are_spelled(rt: HostRuntime) {
 #[test]
 fn groups_are_spelled(rt: HostRuntime) {
     let datavg = name(&rt, b"datavg");
-    spells(&rt, b"varyonvg -n datavg", Command::Varyon { name: datavg });
-    spells(&rt, b"varyonvg datavg", Command::Varyon { name: datavg });
+    for line in ["varyonvg -n datavg", "varyonvg datavg"] {
+        spells(&rt, line.as_bytes(), Command::Varyon { name: datavg });
+    }
     spells(&rt, b"varyoffvg datavg", Command::Varyoff { name: datavg });
     spells(
         &rt,
@@ -264,41 +265,45 @@ fn volume_in(rt: &impl Abort, mode: Mode, copies: u8, policy: Policy, lps: u32) 
     }
 }
 
+// A line, and the copies, the policy and the logical partitions that it asks for.
+static NEW_VOLUMES: [(&[u8], u8, Policy, u32); 5] = [
+    (b"mklv -y lv00 -w n datavg 7", 1, Policy::Parallel, 7),
+    (
+        b"mklv -d pr -c 0 -w n -y lv00 datavg 65535",
+        0,
+        Policy::RoundRobin,
+        65535,
+    ),
+    (
+        b"mklv -w n -d s -c 9 -y lv00 datavg 1",
+        9,
+        Policy::Sequential,
+        1,
+    ),
+    (
+        b"mklv -y lv00 -d ps -w n -c 02 datavg 00001",
+        2,
+        Policy::ParallelWrite,
+        1,
+    ),
+    (b"mklv -y lv00 -d p -w n datavg 1", 1, Policy::Parallel, 1),
+];
+
 #[test]
 fn a_new_volume_is_spelled(rt: HostRuntime) {
-    spells(
-        &rt,
-        b"mklv -y lv00 -w n datavg 7",
-        volume(&rt, 1, Policy::Parallel, 7),
-    );
-    spells(
-        &rt,
-        b"mklv -d pr -c 0 -w n -y lv00 datavg 65535",
-        volume(&rt, 0, Policy::RoundRobin, 65535),
-    );
-    spells(
-        &rt,
-        b"mklv -w n -d s -c 9 -y lv00 datavg 1",
-        volume(&rt, 9, Policy::Sequential, 1),
-    );
-    spells(
-        &rt,
-        b"mklv -y lv00 -d ps -w n -c 02 datavg 00001",
-        volume(&rt, 2, Policy::ParallelWrite, 1),
-    );
-    spells(
-        &rt,
-        b"mklv -y lv00 -d p -w n datavg 1",
-        volume(&rt, 1, Policy::Parallel, 1),
-    );
+    for (line, copies, policy, lps) in &NEW_VOLUMES {
+        spells(&rt, line, volume(&rt, *copies, *policy, *lps));
+    }
 }
 
 #[test]
 fn a_volume_is_active_unless_it_is_said(rt: HostRuntime) {
-    let active = volume_in(&rt, Mode::Active, 2, Policy::Parallel, 7);
-    spells(&rt, b"mklv -y lv00 -c 2 datavg 7", active);
-    let active = volume_in(&rt, Mode::Active, 2, Policy::Parallel, 7);
-    spells(&rt, b"mklv -y lv00 -c 2 -w y datavg 7", active);
-    let active = volume_in(&rt, Mode::Active, 2, Policy::Parallel, 7);
-    spells(&rt, b"mklv -w a -c 2 -y lv00 datavg 7", active);
+    for line in [
+        "mklv -y lv00 -c 2 datavg 7",
+        "mklv -y lv00 -c 2 -w y datavg 7",
+        "mklv -w a -c 2 -y lv00 datavg 7",
+    ] {
+        let active = volume_in(&rt, Mode::Active, 2, Policy::Parallel, 7);
+        spells(&rt, line.as_bytes(), active);
+    }
 }

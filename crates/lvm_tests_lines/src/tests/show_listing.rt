@@ -1,13 +1,14 @@
 ghost use Rattle.std.specs.Prelude.{◌≡◌, ◌==◌};
 ghost use Rattle.std.specs.List.{find};
 ghost use Rattle.std.specs.Option.{option_copied};
-ghost use Rattle.lvm_num.specs.Descriptor.{volume_of, member_of};
+ghost use Rattle.lvm_num.specs.Descriptor.{volume_of, member_of, IsValid};
 ghost use Rattle.lvm_num.specs.declared.descriptor.PvRow.{PvRow};
 
-use crate::tests::fixtures::{Member, Volume, check, group, status, volume};
+use crate::tests::fixtures::check;
 use lvm_num::{Descriptor, Pp, PvRow, Rows, Text, volume_of};
 use lvm_show::{show_disk, show_group, show_map, show_volumes};
 use lvm_stale::StaleTable;
+use lvm_tests_values::{Member, Volume, group, table, volume};
 use std::process::Abort;
 
 // Members of six partitions on the first disks.
@@ -33,31 +34,34 @@ fn member_of(pvs: &[PvRow], disk: u16) -> Option<&PvRow>
     pvs.iter().find(|row| row.disk == disk)
 }
 
-fn map(rt: &(impl Abort + AllocGlobal), d: &Descriptor, t: &StaleTable, lv: u16) -> Text {
+fn check_valid(rt: &impl Abort, d: &Descriptor)
+    ensures { IsValid d.now }
+{
     let valid = d.is_valid();
     assert!(rt; valid);
+}
+
+fn map(rt: &(impl Abort + AllocGlobal), d: &Descriptor, t: &StaleTable, lv: u16) -> Text {
+    check_valid(rt, d);
     let there = volume_of(d.lvs.as_slice(), lv).is_some();
     assert!(rt; there);
     show_map(rt.alloc(), d, t, lv).expect(rt, "memory")
 }
 
 fn disk(rt: &(impl Abort + AllocGlobal), d: &Descriptor, t: &StaleTable, disk: u16) -> Text {
-    let valid = d.is_valid();
-    assert!(rt; valid);
+    check_valid(rt, d);
     let there = member_of(d.pvs.as_slice(), disk).is_some();
     assert!(rt; there);
     show_disk(rt.alloc(), d, t, disk).expect(rt, "memory")
 }
 
 fn all(rt: &(impl Abort + AllocGlobal), d: &Descriptor, t: &StaleTable) -> Text {
-    let valid = d.is_valid();
-    assert!(rt; valid);
+    check_valid(rt, d);
     show_group(rt.alloc(), d, t).expect(rt, "memory")
 }
 
 fn volumes(rt: &(impl Abort + AllocGlobal), d: &Descriptor, t: &StaleTable) -> Text {
-    let valid = d.is_valid();
-    assert!(rt; valid);
+    check_valid(rt, d);
     show_volumes(rt.alloc(), d, t).expect(rt, "memory")
 }
 
@@ -72,10 +76,7 @@ fn listed(rt: &(impl Abort + AllocGlobal), d: &Descriptor, t: &StaleTable, list:
 
 // A table of the first three disks, of which nothing is stale.
 fn fresh(rt: &(impl Abort + AllocGlobal), disks: &[u16]) -> StaleTable {
-    let status = status(rt, disks, 0, &[]);
-    let valid = status.is_valid();
-    assert!(rt; valid);
-    StaleTable::from_status(rt.alloc(), &status).expect(rt, "memory")
+    table(rt.alloc(), disks, &[]).expect(rt, "a table")
 }
 
 fn mark(rt: &impl Abort, table: &mut StaleTable, disk: u16, pp: u16) {
@@ -125,7 +126,7 @@ static NEW: [(usize, &[u16], bool, &str); 4] = [
 ];
 
 fn empty(rt: &(impl Abort + AllocGlobal), members: &[Member], quorum: bool) -> Descriptor {
-    let mut group = group(rt, members, &[]);
+    let mut group = group(rt.alloc(), members, &[]).expect(rt, "a group");
     group.quorum = quorum;
     group
 }
@@ -179,7 +180,7 @@ static LISTS: [(List, &str); 7] = [
 
 #[test]
 fn a_group_with_stale_partitions_and_a_missing_disk_is_listed(rt: HostRuntime) {
-    let d = group(&rt, &DISKS, &VOLUMES);
+    let d = group(rt.alloc(), &DISKS, &VOLUMES).expect(&rt, "a group");
     let t = stale(&rt);
     for (list, text) in &LISTS {
         let shown = listed(&rt, &d, &t, list);
@@ -203,11 +204,11 @@ fn first_pps(rt: &(impl Abort + AllocGlobal), count: u16) -> Rows<Pp> {
 // A group of ten disks, with one volume of 10,000 partitions.
 fn large(rt: &(impl Abort + AllocGlobal)) -> Descriptor {
     let disks = [0, 1, 2, 3, 4, 5, 6, 7, 8, 9].map(|disk| (disk, 1016, false));
-    let mut row = volume(rt, &(1, "lv00", 1, 10_000, &[]));
+    let mut row = volume(rt.alloc(), &(1, "lv00", 1, 10_000, &[])).expect(rt, "a volume");
     row.map = first_pps(rt, 10_000);
     let mut lvs = Vec::new(rt.alloc());
     lvs.push(row).expect(rt, "memory");
-    let mut group = group(rt, &disks, &[]);
+    let mut group = group(rt.alloc(), &disks, &[]).expect(rt, "a group");
     group.lvs = Rows::new(lvs);
     group
 }

@@ -1,14 +1,12 @@
-use crate::tests::fixtures::{Volume, check, group, status};
+use crate::tests::fixtures::check;
 use lvm_num::Pp;
 use lvm_stale::StaleTable;
+use lvm_tests_values::{Volume, group, table};
 use std::process::Abort;
 
 // The table of disks 3 and 7, with volume 5 dirty.
 fn table_of(rt: &(impl Abort + AllocGlobal)) -> StaleTable {
-    let status = status(rt, &[3, 7], 0, &[5]);
-    let valid = status.is_valid();
-    assert!(rt; valid);
-    StaleTable::from_status(rt.alloc(), &status).expect(rt, "memory")
+    table(rt.alloc(), &[3, 7], &[5]).expect(rt, "a table")
 }
 
 fn mark(rt: &impl Abort, table: &mut StaleTable, disk: u16, pp: u16) {
@@ -99,7 +97,12 @@ const MIRRORED: Volume = (2, "lv", 2, 2, &[(3, 4), (7, 4), (3, 1015), (7, 1015)]
 
 // How many copies of a volume of a group of disks 3 and 7 are stale.
 fn stale_copies(rt: &(impl Abort + AllocGlobal), table: &StaleTable, lv: u16) -> u32 {
-    let group = group(rt, &[(3, 1016, false), (7, 1016, false)], &[MIRRORED]);
+    let group = group(
+        rt.alloc(),
+        &[(3, 1016, false), (7, 1016, false)],
+        &[MIRRORED],
+    )
+    .expect(rt, "a group");
     let valid = group.is_valid();
     assert!(rt; valid);
     table.stale_of(&group, lv)

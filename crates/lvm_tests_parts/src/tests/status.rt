@@ -1,4 +1,4 @@
-use crate::tests::fixtures::{Member, check, check_at, group, status};
+use crate::tests::fixtures::{check, check_at};
 use crate::tests::status::Do::{
     Clean, Clear, Dirty, Ends, Flies, HasStamp, IsDirty, Mark, Miss, Missing, SetStamp, Stale,
     Starts, Votes, Writes, WritesNone,
@@ -7,14 +7,12 @@ use lvm_num::{Descriptor, Pp, Stamp};
 use lvm_stale::StaleTable;
 use lvm_status::Progress::{Committed, QuorumLost, Waiting};
 use lvm_status::{Change, Progress, Updater};
+use lvm_tests_values::{Member, group, table};
 use std::process::Abort;
 
 // A table with rows for these disks and nothing stale.
 fn table_of(rt: &(impl Abort + AllocGlobal), disks: &[u16]) -> StaleTable {
-    let status = status(rt, disks, 0, &[]);
-    let valid = status.is_valid();
-    assert!(rt; valid);
-    StaleTable::from_status(rt.alloc(), &status).expect(rt, "memory")
+    table(rt.alloc(), disks, &[]).expect(rt, "a table")
 }
 
 fn updater_of(rt: &(impl Abort + AllocGlobal), group: &Descriptor, table: StaleTable) -> Updater {
@@ -29,14 +27,14 @@ const THREE: [Member; 3] = [(9, 6, false), (2, 6, false), (5, 6, false)];
 
 // Three members, of which the first is disk 9.
 fn three(rt: &(impl Abort + AllocGlobal), quorum: bool) -> Updater {
-    let mut group = group(rt, &THREE, &[]);
+    let mut group = group(rt.alloc(), &THREE, &[]).expect(rt, "a group");
     group.quorum = quorum;
     updater_of(rt, &group, table_of(rt, &[2, 5, 9]))
 }
 
 // Two members, of which the first is disk 4.
 fn two(rt: &(impl Abort + AllocGlobal), even: bool) -> Updater {
-    let mut group = group(rt, &[(4, 6, false), (1, 6, false)], &[]);
+    let mut group = group(rt.alloc(), &[(4, 6, false), (1, 6, false)], &[]).expect(rt, "a group");
     group.even = even;
     updater_of(rt, &group, table_of(rt, &[1, 4]))
 }
@@ -171,12 +169,13 @@ fn three_without_2(rt: &(impl Abort + AllocGlobal)) -> Updater {
     let there = table.has_row(2);
     assert!(rt; there);
     table.set_missing(2, true);
-    updater_of(rt, &group(rt, &THREE, &[]), table)
+    let group = group(rt.alloc(), &THREE, &[]).expect(rt, "a group");
+    updater_of(rt, &group, table)
 }
 
 // Two members, of which the first is disk 5.
 fn first_5(rt: &(impl Abort + AllocGlobal)) -> Updater {
-    let group = group(rt, &[(5, 6, false), (1, 6, false)], &[]);
+    let group = group(rt.alloc(), &[(5, 6, false), (1, 6, false)], &[]).expect(rt, "a group");
     updater_of(rt, &group, table_of(rt, &[1, 5]))
 }
 
@@ -525,7 +524,7 @@ static TABLES: [(&[u16], bool); 4] = [
 
 // Whether a table of these disks fits the three members.
 fn fits(rt: &(impl Abort + AllocGlobal), disks: &[u16]) -> bool {
-    let group = group(rt, &THREE, &[]);
+    let group = group(rt.alloc(), &THREE, &[]).expect(rt, "a group");
     Updater::has_its_rows(&group, &table_of(rt, disks))
 }
 

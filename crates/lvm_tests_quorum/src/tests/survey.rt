@@ -1,12 +1,11 @@
 //! What the records of disks in memory are found to be.
-use crate::tests::fixtures::{
-    DATA, FIRST, LATER, NAMESAKE, NONE, check, group, image_shelf, status,
-};
+use crate::tests::fixtures::{DATA, FIRST, LATER, NAMESAKE, NONE, check, group, status};
 use lvm_disk::Shelf;
 use lvm_faults::{Act, Planned};
 use lvm_num::{Kind, Pbuf, Rows, Stamp};
 use lvm_rec::{frame, slot_sectors, write_note};
 use lvm_survey::{Survey, SurveyRow, Surveyed, survey_disks};
+use lvm_tests_shelves::image_shelf;
 use lvm_transfer::{Patience, relight};
 use std::process::Abort;
 
@@ -494,7 +493,8 @@ fn survey<S: Shelf>(rt: &(impl Abort + AllocGlobal), shelf: &mut S, case: &Case)
 
 fn see(rt: &(impl Abort + AllocGlobal), cases: &[Case]) {
     for case in cases {
-        let mut shelf = image_shelf(rt, images_of(rt, case.disks), case.plan);
+        let images = images_of(rt, case.disks);
+        let mut shelf = image_shelf(rt.alloc(), images, case.plan, 8).expect(rt, "disks");
         let end = survey(rt, &mut shelf, case);
         let is = end == case.end && shelf.calls() == case.calls;
         check(rt, is, case.name);

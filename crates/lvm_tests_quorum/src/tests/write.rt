@@ -2,14 +2,15 @@
 ghost use Rattle.std.specs.Prelude.{◌≡◌};
 ghost use Rattle.lvm_num.specs.Record.{longest_content};
 
-use crate::tests::fixtures::{all_disks, blank_shelf, check, first_two, has_room, plan_of};
+use crate::tests::fixtures::{check, first_two};
 use End::*;
 use Step::*;
 use lvm_disk::Shelf;
 use lvm_faults::{Act, Planned, names_disks};
 use lvm_memory::MemShelf;
-use lvm_num::{DiskSet, Kind, Pbuf, Stamp};
+use lvm_num::{Kind, Pbuf, Stamp};
 use lvm_rec::{Homes, read_note, read_slot};
+use lvm_tests_shelves::{all_disks, blank_shelf, first_homes, has_room, plan_of};
 use lvm_transfer::{Patience, relight};
 use lvm_write::{Wrote, empty_notes, write_record};
 use std::process::Abort;
@@ -333,7 +334,7 @@ fn write<S: Shelf>(
 
 fn replan(rt: &(impl Abort + AllocGlobal), shelf: &mut MemShelf, plan: &[Planned]) -> End {
     assert!(rt; names_disks(plan, shelf.disks()));
-    shelf.set_plan(plan_of(rt, plan));
+    shelf.set_plan(plan_of(rt.alloc(), plan).expect(rt, "memory"));
     Replanned
 }
 
@@ -403,10 +404,7 @@ fn look(rt: &(impl Abort + AllocGlobal), shelf: &MemShelf, homes: &Homes, kind: 
 }
 
 fn see_steps(rt: &(impl Abort + AllocGlobal), case: &Case, shelf: &mut MemShelf) {
-    let mut homes = Homes {
-        descriptor: DiskSet::empty(),
-        status: DiskSet::empty(),
-    };
+    let mut homes = first_homes();
     let mut patience = Patience {
         left: case.patience,
     };
@@ -421,7 +419,7 @@ fn see_steps(rt: &(impl Abort + AllocGlobal), case: &Case, shelf: &mut MemShelf)
 #[test]
 fn records_are_written(rt: HostRuntime) {
     for case in &CASES {
-        let mut shelf = blank_shelf(&rt, &[4096, 4096], case.plan);
+        let mut shelf = blank_shelf(rt.alloc(), &[4096, 4096], case.plan, 8).expect(&rt, "disks");
         see_steps(&rt, case, &mut shelf);
     }
 }
@@ -482,7 +480,7 @@ fn note_on(rt: &impl Abort, shelf: &MemShelf, disk: u16) -> Option<u64> {
 #[test]
 fn notes_are_emptied(rt: HostRuntime) {
     for (name, plan, end, stamps) in &NOTES {
-        let mut shelf = blank_shelf(&rt, &[4096, 4096], plan);
+        let mut shelf = blank_shelf(rt.alloc(), &[4096, 4096], plan, 8).expect(&rt, "disks");
         let ended = empty(&rt, &mut shelf, 50);
         let notes = [note_on(&rt, &shelf, 0), note_on(&rt, &shelf, 1)];
         let is = ended == *end && notes == *stamps && shelf.calls() == 4;

@@ -1,6 +1,7 @@
-use crate::tests::fixtures::{Member, Volume, check, group};
+use crate::tests::fixtures::check;
 use lvm_map::{MapFault, allocate, allocate_more, blocks, place};
 use lvm_num::{Descriptor, DiskSet, Place, Pp, Rows};
+use lvm_tests_values::{Member, Volume, group};
 use std::process::Abort;
 
 type Map = Result<Rows<Pp>, MapFault>;
@@ -179,7 +180,7 @@ fn further(rt: &(impl Abort + AllocGlobal), d: &Descriptor, usable: DiskSet, cop
 }
 
 fn answered(rt: &(impl Abort + AllocGlobal), of: &Group, usable: &[u16], ask: &Ask) -> Map {
-    let d = group(rt, of.0, of.1);
+    let d = group(rt.alloc(), of.0, of.1).expect(rt, "a group");
     match ask {
         Ask::New(lps, copies) => first_fit(rt, &d, set_of(rt, usable), *lps, *copies),
         Ask::More(copies) => further(rt, &d, set_of(rt, usable), *copies),
@@ -239,7 +240,7 @@ fn blocks_of(rt: &impl Abort, d: &Descriptor, lv: u16) -> Option<u64> {
 
 #[test]
 fn a_block_has_a_sector_on_each_copy(rt: HostRuntime) {
-    let d = group(&rt, &DISKS, &[MIRRORED]);
+    let d = group(rt.alloc(), &DISKS, &[MIRRORED]).expect(&rt, "a group");
     for (lv, copy, block, want) in &PLACES {
         check(&rt, sector(&rt, &d, *lv, *copy, *block) == *want, "a place");
     }

@@ -1,5 +1,6 @@
-use crate::tests::fixtures::{Member, Volume, check, group, members, status, volume};
+use crate::tests::fixtures::check;
 use lvm_num::{Descriptor, DiskSet, Name, Pp, PvRow, Rows};
+use lvm_tests_values::{Member, Volume, group, members, status, volume};
 use std::process::Abort;
 
 type Disks = &'static [Member];
@@ -104,7 +105,7 @@ fn is_head(
     even: bool,
     disks: &[Member],
 ) -> bool {
-    let mut group = group(rt, disks, &[]);
+    let mut group = group(rt.alloc(), disks, &[]).expect(rt, "a group");
     group.id = id;
     group.mib = mib;
     group.even = even;
@@ -119,7 +120,9 @@ fn heads_and_members_are_refused_at_each_rule(rt: HostRuntime) {
 }
 
 fn has_volumes(rt: &(impl Abort + AllocGlobal), volumes: &[Volume]) -> bool {
-    group(rt, TWO, volumes).is_valid()
+    group(rt.alloc(), TWO, volumes)
+        .expect(rt, "a group")
+        .is_valid()
 }
 
 #[test]
@@ -135,11 +138,11 @@ fn many(rt: &(impl Abort + AllocGlobal), count: u16) -> Rows<PvRow> {
     for disk in 0..count {
         rows.push((disk, 1016, false)).expect(rt, "memory");
     }
-    members(rt, &rows)
+    members(rt.alloc(), &rows).expect(rt, "memory")
 }
 
 fn group_of_many(rt: &(impl Abort + AllocGlobal), disks: u16, big: bool) -> Descriptor {
-    let mut group = group(rt, &[], &[]);
+    let mut group = group(rt.alloc(), &[], &[]).expect(rt, "a group");
     group.big = big;
     group.pvs = many(rt, disks);
     group
@@ -180,7 +183,7 @@ fn full_map(rt: &(impl Abort + AllocGlobal), last: Pp) -> Rows<Pp> {
 
 // One volume on all of them.
 fn full_group(rt: &(impl Abort + AllocGlobal), last: Pp) -> Descriptor {
-    let mut row = volume(rt, &(511, "lv00", 1, 130_048, &[]));
+    let mut row = volume(rt.alloc(), &(511, "lv00", 1, 130_048, &[])).expect(rt, "a volume");
     row.map = full_map(rt, last);
     let mut lvs = Vec::new(rt.alloc());
     lvs.push(row).expect(rt, "memory");
@@ -227,7 +230,7 @@ fn is_status(
     disks: &[u16],
     dirty: &[u16],
 ) -> bool {
-    let mut status = status(rt, disks, 0xff, dirty);
+    let mut status = status(rt.alloc(), disks, 0xff, dirty).expect(rt, "memory");
     status.id = id;
     status.big = big;
     status.is_valid()
@@ -276,7 +279,7 @@ fn a_set_has_what_was_put_in_last(rt: HostRuntime) {
 
 // The group of two disks.
 fn two_disks(rt: &(impl Abort + AllocGlobal), quorum: bool, even: bool) -> Descriptor {
-    let mut group = group(rt, TWO, &[]);
+    let mut group = group(rt.alloc(), TWO, &[]).expect(rt, "a group");
     group.quorum = quorum;
     group.even = even;
     group

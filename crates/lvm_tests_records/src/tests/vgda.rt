@@ -1,7 +1,8 @@
-use crate::tests::fixtures::{Member, check, check_at, group, members};
+use crate::tests::fixtures::{check, check_at};
 use lvm_fields::Fault;
 use lvm_num::{Descriptor, LvRow, Mode, Name, Policy, Pp, PvRow, Rows};
 use lvm_spelling::encode;
+use lvm_tests_values::{Member, group, members};
 use lvm_vgda::decode;
 use std::process::Abort;
 
@@ -32,7 +33,7 @@ fn decoded(rt: &(impl Abort + AllocGlobal), bytes: &[u8]) -> Descriptor {
 }
 
 fn three(rt: &(impl Abort + AllocGlobal), big: bool) -> Descriptor {
-    let mut group = group(rt, &MEMBERS, &[]);
+    let mut group = group(rt.alloc(), &MEMBERS, &[]).expect(rt, "a group");
     group.big = big;
     group
 }
@@ -224,13 +225,13 @@ fn full_members(rt: &(impl Abort + AllocGlobal), count: u16) -> Rows<PvRow> {
     for disk in 0..count {
         rows.push((disk, 1016, true)).expect(rt, "memory");
     }
-    members(rt, &rows)
+    members(rt.alloc(), &rows).expect(rt, "memory")
 }
 
 // So many members, and so many volumes that have all of their partitions.
 fn full_group(rt: &(impl Abort + AllocGlobal), big: bool, pvs: u16, lvs: u16) -> Descriptor {
     let each = u32::from(pvs) * 1016 / (u32::from(lvs) + 1);
-    let mut group = group(rt, &[], &[]);
+    let mut group = group(rt.alloc(), &[], &[]).expect(rt, "a group");
     group.big = big;
     group.pvs = full_members(rt, pvs);
     group.lvs = full_volumes(rt, lvs, each);
