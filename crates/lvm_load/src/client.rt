@@ -1,5 +1,5 @@
 //! Clients whose requests one thread submits, and whose answers it takes.
-ghost use Rattle.std.specs.Prelude.{◌≡◌, ◌≤◌, ◌<◌, ◌+◌, ◌-◌, ◌*◌, ◌^◌, ◌||◌, ◌==◌, false, nat_lt, length, vec_capacity};
+ghost use Rattle.std.specs.Prelude.{◌≡◌, ◌≤◌, ◌<◌, ◌+◌, ◌-◌, ◌*◌, ◌^◌, ◌||◌, ◌==◌, ℕ, Some, false, nat_lt, length, vec_capacity};
 ghost use Rattle.std.specs.Option.{option_map_or};
 ghost use Rattle.lvm_session.specs.declared.open.Power.TheVariants as power;
 ghost use Rattle.lvm_session.specs.Left.{left_of};
@@ -9,7 +9,7 @@ ghost use Rattle.lvm_running.specs.Running.{RunsOn};
 ghost use Rattle.lvm_driver.specs.Answers.{state_of};
 ghost use Rattle.lvm_draws.specs.Draws.{after_draw};
 ghost use Rattle.lvm_load.specs.Waiting.{AreWaiting, AreWaitingBut, OthersWait, landed_by};
-ghost use Rattle.lvm_load.specs.Weaving.{AsksDrawn, TakesFor, TakesEach, Turns, goes_on, idle_after, turns_left};
+ghost use Rattle.lvm_load.specs.Weaving.{AsksDrawn, TakesFor, TakesEach, Turns, goes_on, idle_after, open_of, turns_left};
 
 use crate::request::submit_drawn;
 use lvm_disk::Shelf;
@@ -66,19 +66,18 @@ fn has_asked(client: &Client, id: u64) -> bool
     }
 }
 
-// Takes the answer of a client's open request, where it is this one and has landed. Any other one waits.
-fn take_this<S: Shelf>(driver: &mut Driver<S>, clients: &mut [Client], k: u32, id: u64)
-    requires within { k < length clients.old }
-    requires few { length clients.old ≤ 64 }
-    requires waiting { AreWaitingBut id driver.old.1 clients.old }
-    ensures takes { TakesFor k (state_of S.device driver.old) (state_of S.device driver.new) clients.old clients.new }
-    ensures waiting { AreWaitingBut id driver.new.1 clients.new }
-    ensures runs { RunsOn (state_of S.device driver.old) (state_of S.device driver.new) }
+// The first client, from one on, that has this request open, or how many there are.
+fn next_asker(clients: &[Client], from: u32, id: u64) -> u32
+    requires few { length clients.now ≤ 64 }
+    requires from { from ≤ length clients.now }
+    ensures within { (from ≤ result) × (result ≤ length clients.now) }
+    ensures others { (k : ℕ) → from ≤ k → k < result → open_of clients.now k ≡ Some id → ⊥ }
 {
-    is_sound(driver);
-    if has_asked(&clients[k as usize], id) {
-        take(driver, clients, k);
+    let mut k = from;
+    while k < clients.len() as u32 && !has_asked(&clients[k as usize], id) {
+        k += 1;
     }
+    k
 }
 
 // Takes the answer of this request where it has landed. All others wait.
@@ -88,8 +87,13 @@ fn take_only<S: Shelf>(driver: &mut Driver<S>, clients: &mut [Client], id: u64)
     ensures takes { TakesEach (state_of S.device driver.old) clients.old (length clients.old) (state_of S.device driver.new) clients.new }
     ensures runs { RunsOn (state_of S.device driver.old) (state_of S.device driver.new) }
 {
-    for k in 0..clients.len() as u32 {
-        take_this(driver, clients, k, id);
+    is_sound(driver);
+    let count = clients.len() as u32;
+    let mut k = next_asker(clients, 0, id);
+    while k < count {
+        take(driver, clients, k);
+        is_sound(driver);
+        k = next_asker(clients, k + 1, id);
     }
 }
 

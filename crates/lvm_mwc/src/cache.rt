@@ -147,9 +147,9 @@ impl Cache {
     pub fn has_note_in_flight(&self, disk: u16) -> bool
         ensures { result ≡ is_some (flight_on self.now disk) }
     {
-        match row_of(&self.notes, disk) {
+        match place_of_disk(&self.disks, disk) {
             None => false,
-            Some(row) => row.flight.is_some(),
+            Some(place) => self.notes[place].flight.is_some(),
         }
     }
 

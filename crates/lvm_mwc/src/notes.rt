@@ -45,11 +45,12 @@ pub fn row_of(notes: &[DiskNotes], disk: u16) -> Option<&DiskNotes>
     notes.iter().find(|row| row.disk == disk)
 }
 
-// Whether a note names a track group.
+// Whether a note names a track group. It is looked for from the end, where those stand that were pinned last.
 fn names_group(note: &[NoteEntry], lv: u16, group: u32) -> bool
     ensures { result ≡ names_group note.now lv group }
 {
     note.iter()
+        .rev()
         .any(|entry| entry.lv == lv && entry.group == group)
 }
 
