@@ -39,7 +39,7 @@ use Rattle.lvm_keeps_turn.proofs.Frames.{copy_stays, marked_stays, note_stays, s
 use Rattle.lvm_load.specs.declared.client.Client.{Client}
 use Rattle.lvm_load.specs.Requests.{ask_of, bytes_of, word_of}
 use Rattle.lvm_load.specs.Waiting.{AreWaiting, waits_for}
-use Rattle.lvm_load.specs.Weaving.{AsksDrawn, Names, NextClient, NoClient, NoneOpen, Takes, TakesEach, TakesFor, TakesWhere, Turns, Waits, Weaving, drew, fresh_clients, may_land, open_of, opened_by}
+use Rattle.lvm_load.specs.Weaving.{AsksDrawn, Names, NextClient, NoClient, NoneOpen, Takes, TakesEach, TakesFor, TakesWhere, Turns, Waits, Weaving, drew, fresh_clients, might_have_landed, open_of, opened_by}
 
 -- ---- a turn
 
@@ -282,7 +282,7 @@ neither true b is = absurd (cc is)
 neither false b is = (refl, is)
 
 -- so behind a turn, whether what has landed is taken or nothing has
-pub behind_waits : (old mid new : State) (clients after : List Client) (answer : Turned) → AreWaiting old.core clients → TurnMakes old mid answer → (b : Bool) → may_land old mid answer ≡ b → TakesWhere b mid new clients after
+pub behind_waits : (old mid new : State) (clients after : List Client) (answer : Turned) → AreWaiting old.core clients → TurnMakes old mid answer → (b : Bool) → might_have_landed old mid answer ≡ b → TakesWhere b mid new clients after
     → AreWaiting new.core after
 behind_waits old mid new clients after answer waiting made true may takes k id has = all_waiting mid new clients after (left_by_each mid clients (length clients) new after takes) k id has
 behind_waits old mid new clients after answer waiting made false may still k id has =
@@ -291,7 +291,7 @@ behind_waits old mid new clients after answer waiting made false may still k id 
     ap (λ (s : State). list_any (waits_for (k + 1) id) s.core.requests) still.0 ∙ same (k + 1) id ∙ waiting k id (ap (λ (cs : List Client). open_of cs k) (sym still.1) ∙ has)
 
 pub turn_waits : (old new : State) (clients after : List Client) (idle idle1 : ℕ) → AreWaiting old.core clients → Turns old new clients after idle idle1 → AreWaiting new.core after
-turn_waits old new clients after idle idle1 waiting turns = behind_waits old turns.mid new clients after turns.answer waiting turns.made (may_land old turns.mid turns.answer) refl turns.takes
+turn_waits old new clients after idle idle1 waiting turns = behind_waits old turns.mid new clients after turns.answer waiting turns.made (might_have_landed old turns.mid turns.answer) refl turns.takes
 
 -- ---- a request is drawn
 

@@ -147,8 +147,8 @@ fn is_last(answer: Turned) -> bool
     }
 }
 
-// Whether answers may have landed in a turn: the history has grown in it, or the session is over.
-fn may_land(before: u32, after: u32, answer: Turned) -> bool
+// Whether answers might have landed in a turn: the history has grown in it, or the session is over.
+fn might_have_landed(before: u32, after: u32, answer: Turned) -> bool
     ensures { result ≡ (nat_lt before after || is_last answer) }
 {
     before < after || is_last(answer)
@@ -175,7 +175,7 @@ pub(crate) fn turn<S: Shelf>(driver: &mut Driver<S>, clients: &mut [Client], idl
     let before = driver.history().len();
     let answer = driver.turn();
     *idle = idle_after(answer, *idle);
-    if may_land(before, driver.history().len(), answer) {
+    if might_have_landed(before, driver.history().len(), answer) {
         take_behind(driver, clients, before, answer);
     }
 }
