@@ -10,7 +10,7 @@ ghost use Rattle.lvm_stale.specs.Rows.{IsRowAt, SetsAmong};
 ghost use Rattle.lvm_stale.specs.Table.{has_row, is_pp, SameMembers, SameStale, SameMissing, stale_count};
 
 use lvm_num::{
-    Descriptor, Memory, Pp, Status, StatusRow, VolumeNumbers, clear_bit, copy_of_status, has_bit,
+    Descriptor, Memory, Pp, Status, StatusRow, VolumeNumbers, clear_bit, clone_status, has_bit,
     set_bit, volume_of,
 };
 use std::alloc::Global;
@@ -41,7 +41,7 @@ impl StaleTable {
         requires { IsValidStatus s.now }
         ensures { IfOk result (λ table. table ≡ s.now) }
     {
-        let status = copy_of_status(alloc, s)?;
+        let status = clone_status(alloc, s)?;
         Ok(StaleTable { status })
     }
 
@@ -50,7 +50,7 @@ impl StaleTable {
         ensures same { IfOk result (λ status. status ≡ self.now) }
         ensures valid { IfOk result IsValidStatus }
     {
-        copy_of_status(alloc, &self.status)
+        clone_status(alloc, &self.status)
     }
 
     /// The status that it is, without memory.
