@@ -185,14 +185,7 @@ impl<S: Shelf> Stage<S> {
         let power = driver.power();
         let posts = ended_posts(&driver, posts);
         let driver::Closed { shelf, history } = driver.close();
-        Stage {
-            holder: Holder::Off {
-                shelf: relit(shelf, power),
-                history,
-            },
-            posts,
-            bytes,
-        }
+        Stage::off(relit(shelf, power), history, posts, bytes)
     }
 
     /// The stage after turns or calls of its session: one that is over has ended.
