@@ -1,6 +1,7 @@
 //! What stands between two lines of a script.
-ghost use Rattle.std.specs.Prelude.{◌≡◌, ◌≤◌, ◌⊎◌, ◌↔◌, ℕ, [], length, vec_capacity, IsTrue, IsFalse, IsSome, IfSome, IfOk, Some, None};
+ghost use Rattle.std.specs.Prelude.{◌≡◌, ◌≤◌, ◌⊎◌, ◌↔◌, ℕ, [], length, vec_capacity, IsTrue, IsFalse, IsSome, IfSome, IfOk, IfErr, Some, None};
 ghost use Rattle.lvm_disk.specs.Device.{Device};
+ghost use Rattle.lvm_vol.specs.Order.{Ordered};
 ghost use Rattle.lvm_stage.specs.Replies.{IsStuck, is_unheard};
 ghost use Rattle.lvm_stage.specs.Stages.{ComesTo, GivesBack, HaveRooms, IsCarried, IsClosed, IsEnded, IsLeftBy, IsNotOn, IsOn, IsOnIn, history_in, posts_ended, session_in, session_of, shelf_in};
 
@@ -121,6 +122,31 @@ impl<S: Shelf> Stage<S> {
             holder: Holder::Off { shelf, history },
             posts,
             bytes,
+        }
+    }
+
+    /// The shelf and the history beside the posts and the room for bytes, while no group is on; else the stage as it was.
+    pub fn into_off(self) -> Result<(Closed<S>, Vec<Post>, Vec<u8>), Stage<S>>
+        ensures off { IfOk result (λ parts. self ≡ record { holder = Holder.Off parts.0.shelf parts.0.history; posts = parts.1; bytes = parts.2 }) }
+        ensures ordered { IfOk result (λ parts. Ordered parts.0.history.run [] parts.0.history.facts) }
+        ensures kept { IfErr result (λ stage. stage ≡ self) }
+        ensures on { IfErr result (λ _. IsSome (session_in self)) }
+    {
+        let Stage {
+            holder,
+            posts,
+            bytes,
+        } = self;
+        match holder {
+            Holder::Off { shelf, history } => {
+                let _ = history.run();
+                Ok((Closed { shelf, history }, posts, bytes))
+            }
+            holder => Err(Stage {
+                holder,
+                posts,
+                bytes,
+            }),
         }
     }
 
