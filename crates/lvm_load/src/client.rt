@@ -3,7 +3,6 @@ ghost use Rattle.std.specs.Prelude.{◌≡◌, ◌≤◌, ◌<◌, ◌+◌, ◌-
 ghost use Rattle.std.specs.Option.{option_map_or};
 ghost use Rattle.lvm_session.specs.declared.open.Power.TheVariants as power;
 ghost use Rattle.lvm_session.specs.Left.{left_of};
-ghost use Rattle.lvm_session.specs.Sound.{IsSound};
 ghost use Rattle.lvm_keeps_turn.specs.Turning.{is_last};
 ghost use Rattle.lvm_running.specs.Running.{RunsOn};
 ghost use Rattle.lvm_driver.specs.Answers.{state_of};
@@ -75,7 +74,7 @@ fn take_this<S: Shelf>(driver: &mut Driver<S>, clients: &mut [Client], k: u32, i
     ensures waiting { AreWaitingBut id driver.new.1 clients.new }
     ensures runs { RunsOn (state_of S.device driver.old) (state_of S.device driver.new) }
 {
-    is_sound(driver);
+    driver.is_sound();
     if has_asked(&clients[k as usize], id) {
         take(driver, clients, k);
     }
@@ -154,13 +153,6 @@ fn might_have_landed(before: u32, after: u32, answer: Turned) -> bool
     before < after || is_last(answer)
 }
 
-/// The session of a driver is sound.
-pub(crate) fn is_sound<S: Shelf>(driver: &Driver<S>)
-    ensures { IsSound (state_of S.device driver.now) }
-{
-    let _ = driver.power();
-}
-
 /// Makes a turn, and takes what has landed.
 pub(crate) fn turn<S: Shelf>(driver: &mut Driver<S>, clients: &mut [Client], idle: &mut u32)
     requires unstuck { driver.old.1.power ≡ power.Stuck → ⊥ }
@@ -171,7 +163,7 @@ pub(crate) fn turn<S: Shelf>(driver: &mut Driver<S>, clients: &mut [Client], idl
     ensures less { turns_left driver.new.1 idle.new < turns_left driver.old.1 idle.old }
     ensures runs { RunsOn (state_of S.device driver.old) (state_of S.device driver.new) }
 {
-    is_sound(driver);
+    driver.is_sound();
     let before = driver.history().len();
     let answer = driver.turn();
     *idle = idle_after(answer, *idle);
