@@ -1,5 +1,4 @@
-use Rattle.std.proofs.Common.{◌≡◌, length, sym, subst, arith}
-use Rattle.lvm_num.specs.declared.status.Status.{Status}
+use Rattle.std.proofs.Common.{◌≡◌, length, sym, arith}
 use Rattle.lvm_num.specs.declared.status.StatusRow.{StatusRow}
 use Rattle.lvm_stale.specs.Rows.{IsRowAt, with_row_at}
 use Rattle.lvm_stale.specs.Table.{SameMembers}
