@@ -38,11 +38,11 @@ HasOpen base core clients = length core.requests ≡ base + count_by has_open cl
 
 any_weaker : (t u : Open → Bool) → ((o : Open) → t o ≡ true → u o ≡ true) → (os : List Open) → list_any t os ≡ true → list_any u os ≡ true
 any_weaker t u weaker [] some = not_so some
-any_weaker t u weaker (o ∷ os) some = by (t o) refl some
+any_weaker t u weaker (o ∷ os) some = by (t o) refl (any_weaker t u weaker os) some
   where
-    by : (b : Bool) → t o ≡ b → b || list_any t os ≡ true → u o || list_any u os ≡ true
-    by true is e = ap (λ b. b || list_any u os) (weaker o is)
-    by false is e = or_right (u o) (list_any u os) (any_weaker t u weaker os e)
+    by : (b : Bool) → t o ≡ b → (list_any t os ≡ true → list_any u os ≡ true) → b || list_any t os ≡ true → u o || list_any u os ≡ true
+    by true is rest e = ap (λ b. b || list_any u os) (weaker o is)
+    by false is rest e = or_right (u o) (list_any u os) (rest e)
 
 -- the request that a client waits for is there
 is_there : (core : Core) (clients : List Client) → AreWaiting core clients → (k id : ℕ) → open_of clients k ≡ Some id → list_any (is_asked (k + 1) id) core.requests ≡ true
@@ -50,15 +50,15 @@ is_there core clients waiting k id has = any_weaker (waits_for (k + 1) id) (is_a
 
 none_counted : (cs : List Client) → list_any has_open cs ≡ false → count_by has_open cs ≡ 0
 none_counted [] none = refl
-none_counted (c ∷ cs) none = by (has_open c) refl none
+none_counted (c ∷ cs) none = by (has_open c) refl (none_counted cs) none
   where
-    by : (b : Bool) → has_open c ≡ b → b || list_any has_open cs ≡ false → count_by has_open (c ∷ cs) ≡ 0
-    by true is e = absurd (cc e)
-    by false is e =
+    by : (b : Bool) → has_open c ≡ b → (list_any has_open cs ≡ false → count_by has_open cs ≡ 0) → b || list_any has_open cs ≡ false → count_by has_open (c ∷ cs) ≡ 0
+    by true is rest e = absurd (cc e)
+    by false is rest e =
         let here : count_if (has_open c) ≡ 0 = ap count_if is in
-        let rest = none_counted cs e in
+        let others = rest e in
         let all = count_cons has_open c cs in
-        omega (arith, here, rest, all)
+        omega (arith, here, others, all)
 
 fresh_counted : (n : ℕ) → count_by has_open (fresh_clients n) ≡ 0
 fresh_counted zero = refl
