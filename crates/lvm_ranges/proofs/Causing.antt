@@ -280,9 +280,9 @@ module _ (faults : ℕ → ℕ) (asked : Asked) (old new : State) (why : RangeFa
   rose_at_end : (disk : ℕ) × Rose (faults disk) (old.device.counts.faults disk) → (disk : ℕ) × Rose (faults disk) (new.device.counts.faults disk)
   rose_at_end rose = (rose.0, subst (λ (d : Device). Rose (faults rose.0) (d.counts.faults rose.0)) (sym takes.shelf) rose.1)
 
-  lacks : (o : Open) → IsLandedFor old o outcome.NoFresh → AnyFailedSince (state new.device old.core) ⊎ (list_any (was_usable old.core) (copies_for old.core o.request.ask) ≡ false)
-  lacks o (inl failed) = inl (failed.0, subst (λ (d : Device). Rose (faults_at_first old.core failed.0) (d.counts.faults failed.0)) (sym takes.shelf) failed.1)
-  lacks o (inr none) = inr none
+  lacks_at_end : (o : Open) → IsLandedFor old o outcome.NoFresh → AnyFailedSince (state new.device old.core) ⊎ (list_any (was_usable old.core) (copies_for old.core o.request.ask) ≡ false)
+  lacks_at_end o (inl failed) = inl (failed.0, subst (λ (d : Device). Rose (faults_at_first old.core failed.0) (d.counts.faults failed.0)) (sym takes.shelf) failed.1)
+  lacks_at_end o (inr none) = inr none
 
   piece_going : (k : ℕ) (how : Outcome) (w : RangeFault) → k < asked.pieces → fault_by (piece_lp asked k) (votes_there old.core) (total_votes old.core.descriptor) how ≡ Some w → HasLandedSo old (asked.first + k) how → GoingCause faults asked old.core new.device w
   piece_going k outcome.Done w less is it = absurd (cc is)
@@ -298,7 +298,7 @@ module _ (faults : ℕ → ℕ) (asked : Asked) (old new : State) (why : RangeFa
   piece_going k outcome.NoFresh w less is it =
       let same : fault.NoFresh (piece_lp asked k) ≡ w = cc is in
       subst (GoingCause faults asked old.core new.device) same
-      (record { piece = k; below = less; lp_is = refl; request = it.request; found = it.found; lacks = lacks it.request it.cause })
+      (record { piece = k; below = less; lp_is = refl; request = it.request; found = it.found; lacks = lacks_at_end it.request it.cause })
   piece_going k outcome.Off w less is it = not_so (sym (ap is_over on) ∙ it.cause.0)
   piece_going k outcome.Dark w less is it = absurd (let e : power.On ≡ power.Dark = sym on ∙ it.cause in cc e)
 
