@@ -107,12 +107,9 @@ pub fn do_sync_volume<S: Shelf>(stage: Stage<S>, name: Name) -> Answered<S>
         bytes,
     } = stage;
     match holder {
-        Holder::Off { shelf, history } => Stage {
-            holder: Holder::Off { shelf, history },
-            posts,
-            bytes,
+        Holder::Off { shelf, history } => {
+            Stage::off(shelf, history, posts, bytes).refused(Refusal::NoGroup)
         }
-        .refused(Refusal::NoGroup),
         Holder::Empty { driver } => Stage {
             holder: Holder::Empty { driver },
             posts,

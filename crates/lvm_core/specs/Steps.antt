@@ -20,7 +20,7 @@ use Rattle.lvm_core.specs.Committing.{Marks, AreMarked, with_one_out}
 
 -- ---- the marks
 
--- At most marks of partitions are wanted that weren't, and nothing is in flight.
+-- Of what is wanted at most the marks of partitions have changed, and nothing is in flight.
 pub record WantsMarksAtMost (old new : Stored) : Type 0 where
   pub group : new.group ≡ old.group
   pub committed : new.committed ≡ old.committed

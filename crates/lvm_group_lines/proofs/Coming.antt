@@ -1,6 +1,6 @@
 -- How a group comes on, or doesn't.
 use Rattle.std.proofs.Common.{◌≡◌, ◌+◌, ◌<◌, ◌≤◌, [], ◌∷◌, ◌++◌, ℕ, List, Option, Some, None, Result, Ok, Err, IfOk, IfErr, false, refl, sym, ◌∙◌, ap, subst, arith}
-use Rattle.std.specs.Prelude.{◌^◌, IfNone, IsSome}
+use Rattle.std.specs.Prelude.{◌^◌, IfNone}
 use Rattle.std.specs.Global.{Vec}
 use Rattle.lvm_disk.specs.Device.{Device, IsReady}
 use Rattle.lvm_io.specs.Count.{Rose}
@@ -186,12 +186,6 @@ module _ (run : ℕ) (old : State) (off : old.session ≡ None) (between : IsBet
 -- the stage with this holder
 abbrev pub held : {S : Type 0} → Holder S → Vec Post → Vec ℕ → Stage S
 held by posts bytes = record { holder = by; posts = posts; bytes = bytes }
-
--- a group is on unless none is
-pub on_unless : {S : Type 0} (it : Holder S) → ((shelf : S) (log : Log) → it ≡ holder.Off shelf log → ⊥) → IsSome (session_of it)
-on_unless (holder.Off shelf log) other = absurd (other shelf log refl)
-on_unless (holder.Empty driver) other = refl
-on_unless (holder.Serving driver) other = refl
 
 -- who holds the shelf and the history then, and the answer
 pub record Left {S : Type 0} (device : S → Device) (outcome : Result (S × Core) (Refused S)) (by : Holder S) (answer : Reply) : Type 0 where

@@ -3,7 +3,6 @@ ghost use Rattle.std.specs.Prelude.{◌≡◌, ◌≤◌, ◌<◌, ◌+◌, ◌-
 ghost use Rattle.std.specs.Option.{option_map_or};
 ghost use Rattle.lvm_session.specs.declared.open.Power.TheVariants as power;
 ghost use Rattle.lvm_session.specs.Left.{left_of};
-ghost use Rattle.lvm_session.specs.Sound.{IsSound};
 ghost use Rattle.lvm_keeps_turn.specs.Turning.{is_last};
 ghost use Rattle.lvm_running.specs.Running.{RunsOn};
 ghost use Rattle.lvm_driver.specs.Answers.{state_of};
@@ -87,12 +86,12 @@ fn take_only<S: Shelf>(driver: &mut Driver<S>, clients: &mut [Client], id: u64)
     ensures takes { TakesEach (state_of S.device driver.old) clients.old (length clients.old) (state_of S.device driver.new) clients.new }
     ensures runs { RunsOn (state_of S.device driver.old) (state_of S.device driver.new) }
 {
-    is_sound(driver);
+    driver.is_sound();
     let count = clients.len() as u32;
     let mut k = next_asker(clients, 0, id);
     while k < count {
         take(driver, clients, k);
-        is_sound(driver);
+        driver.is_sound();
         k = next_asker(clients, k + 1, id);
     }
 }
@@ -151,18 +150,11 @@ fn is_last(answer: Turned) -> bool
     }
 }
 
-// Whether answers may have landed in a turn: the history has grown in it, or the session is over.
-fn may_land(before: u32, after: u32, answer: Turned) -> bool
+// Whether answers might have landed in a turn: the history has grown in it, or the session is over.
+fn might_have_landed(before: u32, after: u32, answer: Turned) -> bool
     ensures { result ≡ (nat_lt before after || is_last answer) }
 {
     before < after || is_last(answer)
-}
-
-/// The session of a driver is sound.
-pub(crate) fn is_sound<S: Shelf>(driver: &Driver<S>)
-    ensures { IsSound (state_of S.device driver.now) }
-{
-    let _ = driver.power();
 }
 
 /// Makes a turn, and takes what has landed.
@@ -175,11 +167,11 @@ pub(crate) fn turn<S: Shelf>(driver: &mut Driver<S>, clients: &mut [Client], idl
     ensures less { turns_left driver.new.1 idle.new < turns_left driver.old.1 idle.old }
     ensures runs { RunsOn (state_of S.device driver.old) (state_of S.device driver.new) }
 {
-    is_sound(driver);
+    driver.is_sound();
     let before = driver.history().len();
     let answer = driver.turn();
     *idle = idle_after(answer, *idle);
-    if may_land(before, driver.history().len(), answer) {
+    if might_have_landed(before, driver.history().len(), answer) {
         take_behind(driver, clients, before, answer);
     }
 }

@@ -225,12 +225,7 @@ fn wait_off<S: Shelf>(alloc: Global, stage: Stage<S>) -> Answered<S>
     let (Closed { shelf, mut history }, mut posts, bytes) = stage.close();
     let answers = take_off(alloc, &mut history, &posts);
     posts.clear();
-    Stage {
-        holder: Holder::Off { shelf, history },
-        posts,
-        bytes,
-    }
-    .answered(answers.reply())
+    Stage::off(shelf, history, posts, bytes).answered(answers.reply())
 }
 
 // Answers all posts of a session each of which has landed.

@@ -11,3 +11,4 @@ pub mod Stepping
 pub mod Finishing
 pub mod Choosing
 pub mod Causing
+pub mod Sourced

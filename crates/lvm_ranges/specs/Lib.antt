@@ -8,3 +8,4 @@ pub mod Taking
 pub mod Choosing
 pub mod Finishing
 pub mod Stepping
+pub mod Worked

@@ -34,7 +34,10 @@ use Rattle.lvm_session_start.specs.Beginning.{AreFaults, MayBegin, first_core}
 
 -- ---- an empty cache
 
-notes_fit : (d : Descriptor) (c : Cached) → IsEmptyCache d c → (disk : ℕ) → has_disk c disk ≡ is_member d disk
+pub no_entries : AreEntries []
+no_entries = record { most = omega arith; differ = tt; counting = All-nil _ }
+
+pub notes_fit : (d : Descriptor) (c : Cached) → IsEmptyCache d c → (disk : ℕ) → has_disk c disk ≡ is_member d disk
 notes_fit d c empty disk = ap (λ (o : Option DiskNotes). is_some o) (empty.notes disk) ∙ by_test (is_member d disk)
   where
     by_test : (b : Bool) → is_some (cond b (Some (no_notes disk)) None) ≡ b
@@ -64,6 +67,10 @@ none_asked count disk = zeros 128 disk ∙ sym (ap (λ b. if b then count disk e
 
 -- ---- the session
 
+-- it has as many buffers as its room says
+pub pool_size : (p : Parts) → IsReserved p.descriptor p.table p.room p → length p.pool ≡ p.room.pool
+pool_size p its = ap length its.pool ∙ length-replicate p.room.pool false
+
 module _ (device : Device) (history : Log) (stamp : Stamp) (homes : Homes) (p : Parts) (may : MayBegin device history stamp homes p) (faults : List ℕ) (are : AreFaults device faults) where
   abbrev core : Core
   core = first_core p history stamp homes faults
@@ -72,10 +79,7 @@ module _ (device : Device) (history : Log) (stamp : Stamp) (homes : Homes) (p : 
   its = may.reserved
 
   buffers : length p.pool ≡ p.room.pool
-  buffers = ap length its.pool ∙ length-replicate p.room.pool false
-
-  no_entries : AreEntries []
-  no_entries = record { most = omega arith; differ = tt; counting = All-nil _ }
+  buffers = pool_size p its
 
   fitting : IsFitting core
   fitting = record {

@@ -1,4 +1,4 @@
-//! Copies of descriptors, of volumes and of statuses, which take memory.
+//! Clones of descriptors, of volumes and of statuses, which take memory.
 ghost use Rattle.std.specs.Prelude.{◌≡◌, IfOk};
 
 use crate::{Descriptor, LvRow, Memory, Rows, Status, VolumeNumbers};
@@ -26,27 +26,27 @@ pub fn with_volumes(
 }
 
 /// A descriptor that says the same.
-pub fn copy_of_descriptor(alloc: Global, group: &Descriptor) -> Result<Descriptor, Memory>
-    ensures { IfOk result (λ copy. copy ≡ group.now) }
+pub fn clone_descriptor(alloc: Global, group: &Descriptor) -> Result<Descriptor, Memory>
+    ensures { IfOk result (λ clone. clone ≡ group.now) }
 {
-    let lvs = copy_of_volumes(alloc, group.lvs.as_slice())?;
+    let lvs = clone_volumes(alloc, group.lvs.as_slice())?;
     with_volumes(alloc, group, Rows::new(lvs))
 }
 
 /// Volumes that say the same.
-pub fn copy_of_volumes(alloc: Global, volumes: &[LvRow]) -> Result<Vec<LvRow>, Memory>
-    ensures { IfOk result (λ copy. copy.items ≡ volumes.now) }
+pub fn clone_volumes(alloc: Global, volumes: &[LvRow]) -> Result<Vec<LvRow>, Memory>
+    ensures { IfOk result (λ clones. clones.items ≡ volumes.now) }
 {
-    let mut copy = Vec::new(alloc);
+    let mut clones = Vec::new(alloc);
     for volume in volumes {
-        copy.push(copy_of_volume(alloc, volume)?)?;
+        clones.push(clone_volume(alloc, volume)?)?;
     }
-    Ok(copy)
+    Ok(clones)
 }
 
 /// A volume that says the same.
-pub fn copy_of_volume(alloc: Global, volume: &LvRow) -> Result<LvRow, Memory>
-    ensures { IfOk result (λ copy. copy ≡ volume.now) }
+pub fn clone_volume(alloc: Global, volume: &LvRow) -> Result<LvRow, Memory>
+    ensures { IfOk result (λ clone. clone ≡ volume.now) }
 {
     match Vec::from_slice(alloc, volume.map.as_slice()) {
         Ok(map) => Ok(LvRow {
@@ -63,8 +63,8 @@ pub fn copy_of_volume(alloc: Global, volume: &LvRow) -> Result<LvRow, Memory>
 }
 
 /// A status that says the same, with all its room for numbers.
-pub fn copy_of_status(alloc: Global, status: &Status) -> Result<Status, Memory>
-    ensures { IfOk result (λ copy. copy ≡ status.now) }
+pub fn clone_status(alloc: Global, status: &Status) -> Result<Status, Memory>
+    ensures { IfOk result (λ clone. clone ≡ status.now) }
 {
     let dirty = VolumeNumbers::new(alloc, status.dirty.as_slice())?;
     match Vec::from_slice(alloc, status.rows.as_slice()) {
