@@ -28,6 +28,7 @@ use Rattle.lvm_core.proofs.Settling.{starts_settled, starts_numbered}
 use Rattle.lvm_session.specs.Placed.{ArePlaced}
 use Rattle.lvm_session_start.specs.Beginning.{first_core}
 use Rattle.lvm_session.specs.State.{Core}
+use Rattle.lvm_session_start.specs.declared.parts.Parts.{Parts}
 use Rattle.lvm_group.specs.NewGroup.{NewGroup, size_for, new_group, new_status}
 use Rattle.lvm_group.specs.Made.{IsMade}
 use Rattle.lvm_group.specs.Steps.{Stands}
@@ -39,7 +40,7 @@ use Rattle.lvm_group.proofs.Groups.{are_placed, nothing_missing}
 none_left_of_none : (d : Descriptor) (u : Stored) → d.lvs ≡ [] → NoneIsLeft d u
 none_left_of_none d u empty p is = absurd (subst (λ (rows : List LvRow). IsOneOf rows is.row) empty is.volume)
 
-module _ (w : NewGroup) (room : Room) (was is : Log) (old new : Device) (standing : Standing) (stands : Stands w room was is old new standing) where
+module _ (w : NewGroup) (room : Room) (was is : Log) (old new : Device) (standing : Standing Parts) (stands : Stands w room was is old new standing) where
   pub spare_left : 1 ≤ spare_entries is
   spare_left = subst (λ (l : Log). 1 ≤ spare_entries l) (sym stands.entered) (let e = spare_given was w.disks in let room_for = stands.clear.free.may.entries in omega (arith, e, room_for))
 

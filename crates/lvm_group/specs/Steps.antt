@@ -91,12 +91,12 @@ cut_at (Err why) log = if cuts_power why then cut_log log else log
 -- ---- all of it
 
 -- what the session of these parts starts with, where its records were written
-abbrev pub standing_of : Parts → Result Homes Cause → Result Standing Cause
+abbrev pub standing_of : {P : Type 0} → P → Result Homes Cause → Result (Standing P) Cause
 standing_of parts (Ok homes) = Ok (record { parts = parts; homes = homes })
 standing_of parts (Err why) = Err why
 
 -- The records of the new group stand on each disk named, and its session may start, with these parts and slots.
-pub record Stands (w : NewGroup) (room : Room) (was is : Log) (old new : Device) (standing : Standing) : Type 0 where
+pub record Stands (w : NewGroup) (room : Room) (was is : Log) (old new : Device) (standing : Standing Parts) : Type 0 where
   pub clear : IsClear w was old new
   pub homes : Homes
   pub spares : SparesTold homes old

@@ -202,6 +202,12 @@ pub unpinned : (es now : List CacheEntry) (lv group k : ℕ) (d : CacheEntry) �
 unpinned es now lv group k d is at =
     rw is (refilled es (set es k (less (get_or es k d))) (length-set es k (less (get_or es k d))) ∙ (first_at (is_entry lv group) es d k at).changed less)
 
+pub pins_there : (es now : List CacheEntry) (lv group k : ℕ) (d : CacheEntry) → now ≡ es → position (is_entry lv group) es ≡ Some k → (get_or now k d).pins ≡ pins_of es lv group
+pins_there es now lv group k d is at = rw is (sym (pins_at es lv group k d (first_at (is_entry lv group) es d k at)))
+
+pub pins_nowhere : (es : List CacheEntry) (lv group : ℕ) → position (is_entry lv group) es ≡ None → 0 ≡ pins_of es lv group
+pins_nowhere es lv group at = sym (no_pins es lv group (none_at (is_entry lv group) es at))
+
 pub some_pins : (es now : List CacheEntry) (lv group k : ℕ) (d : CacheEntry) → now ≡ es → position (is_entry lv group) es ≡ Some k → 0 < pins_of es lv group → 1 ≤ (get_or now k d).pins
 some_pins es now lv group k d is at some = rw is (omega (arith, pins_at es lv group k d (first_at (is_entry lv group) es d k at)))
 

@@ -1,9 +1,10 @@
 -- The notes of a disk among those of all.
-use Rattle.std.proofs.Common.{◌≡◌, ◌<◌, ◌≤◌, ◌+◌, ◌++◌, ◌&&◌, ◌==◌, ℕ, suc, List, [], ◌∷◌, Some, None, Option, Bool, true, false, cond, not, nat_lt, length, get_or, set, take, refl, sym, ◌∙◌, ap, arith, inl, inr, IsTrue}
-use Rattle.std.specs.List.{find, position, position_or_len}
+use Rattle.std.proofs.Common.{◌≡◌, ◌<◌, ◌≤◌, ◌+◌, ◌++◌, ◌&&◌, ◌||◌, ◌==◌, ℕ, suc, List, [], ◌∷◌, Some, None, Option, Bool, true, false, cond, not, nat_lt, length, reverse, get_or, set, take, refl, sym, ◌∙◌, ap, arith, inl, inr, IsTrue}
+use Rattle.std.specs.Prelude.{is_some, option_and_then}
+use Rattle.std.specs.List.{find, list_any, position, position_or_len}
 use Rattle.std.specs.Option.{option_map_or, option_or}
 use Rattle.std.proofs.lemmas.Bool.{cases_order, lt-ltb, le-ltb, eq-eqb, ne_eqb, and_right}
-use Rattle.std.proofs.lemmas.List.Folds.{find-append}
+use Rattle.std.proofs.lemmas.List.Folds.{find-append, list_any-append}
 use Rattle.std.proofs.Math.Seq.{map-set_same}
 use Rattle.lvm_num.specs.declared.record.NoteEntry.{NoteEntry}
 use Rattle.lvm_num.specs.Disks.{has}
@@ -12,10 +13,10 @@ use Rattle.lvm_mwc.specs.declared.entries.CacheEntry.{CacheEntry}
 use Rattle.lvm_mwc.specs.declared.notes.DiskNotes.{DiskNotes}
 use Rattle.lvm_mwc.specs.Firsts.{with_first}
 use Rattle.lvm_mwc.specs.Entries.{note_of}
-use Rattle.std.proofs.lemmas.List.{length-take}
+use Rattle.std.proofs.lemmas.List.{length-take, reverse-append}
 use Rattle.std.proofs.lemmas.List.Sums.{length-filter, count_by-le-length}
-use Rattle.lvm_mwc.specs.Notes.{is_on, both_name, names_group, common, disks_of}
-use Rattle.lvm_mwc.specs.Cache.{Cached, is_named, after_start, after_end, started, ended, ended_as, no_notes, IsNew}
+use Rattle.lvm_mwc.specs.Notes.{is_on, is_in_flight, both_name, names_group, common, disks_of}
+use Rattle.lvm_mwc.specs.Cache.{Cached, has_disk, flight_on, flight_names, is_named, after_start, after_end, started, ended, ended_as, no_notes, IsNew}
 use Rattle.lvm_mwc.proofs.FirstsLemmas.{first_at, none_at}
 
 abbrev pub cached : List CacheEntry → List DiskNotes → Cached
@@ -41,6 +42,43 @@ place_on disk notes = let first = first_on disk notes in let long = as_many note
 pub looked_up : (disk : ℕ) (notes : List DiskNotes) (disks now : List ℕ) (place : Option ℕ) → disks ≡ disks_of notes → now ≡ disks → place ≡ position (λ (d : ℕ). d == disk) now → position (is_on disk) notes ≡ place
 looked_up disk notes disks now place are is answer =
     sym (place_on disk notes) ∙ ap (position (λ (d : ℕ). d == disk)) (sym (is ∙ are)) ∙ sym answer
+
+-- ---- a note that is looked through from its end
+
+either_way : (a b : Bool) → (a || (b || false)) ≡ (b || a)
+either_way true true = refl
+either_way true false = refl
+either_way false true = refl
+either_way false false = refl
+
+pub any_from_end : (p : NoteEntry → Bool) (note : List NoteEntry) → list_any p (reverse note) ≡ list_any p note
+any_from_end p [] = refl
+any_from_end p (e ∷ note) =
+    ap (list_any p) (reverse-append (e ∷ []) note) ∙ list_any-append p (reverse note) (e ∷ []) ∙ ap (λ (b : Bool). b || (p e || false)) (any_from_end p note) ∙ either_way (list_any p note) (p e)
+
+-- ---- whether a disk has notes
+
+pub there_on : (s : Cached) (disk : ℕ) (place : Option ℕ) → position (is_on disk) s.notes ≡ place → is_some place ≡ has_disk s disk
+there_on s disk None at = sym (ap (λ (o : Option DiskNotes). is_some o) (none_at (is_on disk) s.notes at).found)
+there_on s disk (Some k) at = sym (ap (λ (o : Option DiskNotes). is_some o) (first_at (is_on disk) s.notes (no_notes 0) k at).found)
+
+-- ---- what is in flight
+
+pub no_flight : (s : Cached) (disk : ℕ) → position (is_on disk) s.notes ≡ None → is_some (flight_on s disk) ≡ false
+no_flight s disk at = ap (λ (o : Option DiskNotes). is_some (option_and_then (λ (n : DiskNotes). n.flight) o)) (none_at (is_on disk) s.notes at).found
+
+pub flight_at : (s : Cached) (disk k : ℕ) (d : DiskNotes) → position (is_on disk) s.notes ≡ Some k → is_some (flight_on s disk) ≡ is_some (get_or s.notes k d).flight
+flight_at s disk k d at = ap (λ (o : Option DiskNotes). is_some (option_and_then (λ (n : DiskNotes). n.flight) o)) (first_at (is_on disk) s.notes d k at).found
+
+-- whether the note in flight on a disk names a track group
+abbrev names_in_flight : ℕ → ℕ → Option DiskNotes → Bool
+names_in_flight lv group o = option_map_or (λ (note : ArrayVec NoteEntry). names_group note.items lv group) (option_and_then (λ (n : DiskNotes). n.flight) o) false
+
+pub not_flying : (s : Cached) (disk lv group : ℕ) → position (is_on disk) s.notes ≡ None → flight_names s disk lv group ≡ false
+not_flying s disk lv group at = ap (names_in_flight lv group) (none_at (is_on disk) s.notes at).found
+
+pub flying_at : (s : Cached) (disk lv group k : ℕ) (d : DiskNotes) → position (is_on disk) s.notes ≡ Some k → flight_names s disk lv group ≡ is_in_flight lv group (get_or s.notes k d)
+flying_at s disk lv group k d at = ap (names_in_flight lv group) (first_at (is_on disk) s.notes d k at).found
 
 -- ---- what is named
 

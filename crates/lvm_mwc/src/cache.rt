@@ -2,10 +2,10 @@
 ghost use Rattle.std.specs.Prelude.{◌≡◌, ◌≢◌, ◌+◌, ◌<◌, ◌^◌, false, position, IsTrue, IfOk, IsSome, IsNone, is_some, All, replicate};
 ghost use Rattle.lvm_num.specs.Note.{IsEntry};
 
-use crate::entries::{CacheEntry, entry_of, make_room, note_of, place_of};
+use crate::entries::{CacheEntry, make_room, note_of, place_of};
 use crate::notes::{
     DiskNotes, FILTER, both_name, disks_of, end_flight, filter_of, is_in_flight, passes,
-    place_of_disk, row_of,
+    place_of_disk,
 };
 use arrayvec::ArrayVec;
 use lvm_num::{DiskSet, Memory, NoteEntry};
@@ -13,7 +13,7 @@ use std::alloc::Global;
 use std::marker::Model;
 
 /// How a pin ended.
-#[derive(Clone, Copy, Debug, PartialEq, Eq)]
+#[derive(Clone, Copy, PartialEq, Eq)]
 pub enum Pin {
     /// The track group stands in the cache, with a pin more.
     Pinned,
@@ -97,9 +97,9 @@ impl Cache {
     pub fn pins(&self, lv: u16, group: u32) -> u32
         ensures { result ≡ pins_of self.now.entries lv group }
     {
-        match entry_of(&self.entries, lv, group) {
+        match place_of(&self.entries, lv, group) {
             None => 0,
-            Some(entry) => entry.pins,
+            Some(place) => self.entries[place].pins,
         }
     }
 
@@ -140,16 +140,16 @@ impl Cache {
     pub fn has_disk(&self, disk: u16) -> bool
         ensures { result ≡ has_disk self.now disk }
     {
-        row_of(&self.notes, disk).is_some()
+        place_of_disk(&self.disks, disk).is_some()
     }
 
     /// Whether a note is in flight on a disk.
     pub fn has_note_in_flight(&self, disk: u16) -> bool
         ensures { result ≡ is_some (flight_on self.now disk) }
     {
-        match row_of(&self.notes, disk) {
+        match place_of_disk(&self.disks, disk) {
             None => false,
-            Some(row) => row.flight.is_some(),
+            Some(place) => self.notes[place].flight.is_some(),
         }
     }
 
@@ -197,9 +197,9 @@ impl Cache {
     pub fn flight_names(&self, disk: u16, lv: u16, group: u32) -> bool
         ensures { result ≡ flight_names self.now disk lv group }
     {
-        match row_of(&self.notes, disk) {
+        match place_of_disk(&self.disks, disk) {
             None => false,
-            Some(row) => is_in_flight(row, lv, group),
+            Some(place) => is_in_flight(&self.notes[place], lv, group),
         }
     }
 }

@@ -151,6 +151,6 @@ BringGives old new name moment patience room (Ok got) = IsBrought old new name m
 BringGives old new name moment patience room (Err why) = VaryonStops old new name moment patience why
 
 -- what the session of these parts begins with, where its records were written
-abbrev pub brought_of : Parts → Result Homes Cause → Result (Parts × Homes) Cause
+abbrev pub brought_of : {T : Type 0} → T → Result Homes Cause → Result (T × Homes) Cause
 brought_of parts (Ok homes) = Ok (parts, homes)
 brought_of parts (Err why) = Err why

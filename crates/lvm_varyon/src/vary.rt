@@ -138,8 +138,22 @@ fn write_all<S: Shelf>(
 fn begin_with(plan: Plan, written: Result<Homes, Cause>) -> Result<(Parts, Homes), Cause>
     ensures { result ≡ brought_of plan.parts written }
 {
-    match written {
-        Ok(homes) => Ok((plan.parts, homes)),
+    with_homes(parts_of(plan), written)
+}
+
+// The parts of its session alone.
+fn parts_of(plan: Plan) -> Parts
+    ensures { result ≡ plan.parts }
+{
+    plan.parts
+}
+
+// What begins with these parts and these homes, where there are some.
+fn with_homes<P: Drop>(parts: P, homes: Result<Homes, Cause>) -> Result<(P, Homes), Cause>
+    ensures { result ≡ brought_of parts homes }
+{
+    match homes {
+        Ok(homes) => Ok((parts, homes)),
         Err(why) => Err(why),
     }
 }

@@ -1,6 +1,6 @@
-use Rattle.lvm_show.proofs.Digits.{one, two, three, four, filled, full}
+use Rattle.lvm_replies.proofs.Digits.{one, two, three, four, filled, full}
 use Rattle.std.proofs.Common.{arith}
-use Rattle.lvm_show.proofs.words.zeros_before.Goals as goal
+use Rattle.lvm_replies.proofs.words.zeros_before.Goals as goal
 
 pub returns-in-0-to-9 : goal.returns-in-0-to-9
 returns-in-0-to-9 c = filled c.args.number 1 (one c.args.number (omega arith))

@@ -2,7 +2,7 @@
 ghost use Rattle.std.specs.Prelude.{◌≡◌, ◌++◌, ◌<◌, OnOk, Some, replicate, length, ◌-◌};
 ghost use Rattle.std.specs.Fmt.{decimal};
 ghost use Rattle.std.specs.String.{string_bytes};
-ghost use Rattle.lvm_show.specs.Texts.{counted};
+ghost use Rattle.lvm_replies.specs.Texts.{counted};
 
 use lvm_num::Name;
 use std::alloc::AllocError;
@@ -33,7 +33,7 @@ pub struct FourDigits(pub u64);
 
 impl fmt::Display for FourDigits {
     ghost use Rattle.std.specs.Prelude.{Some};
-    ghost use Rattle.lvm_show.specs.Texts.{four_digits};
+    ghost use Rattle.lvm_replies.specs.Texts.{four_digits};
 
     ghost output = { λ n. Some (four_digits n.0) };
 
