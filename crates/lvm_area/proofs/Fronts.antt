@@ -8,7 +8,7 @@ use Rattle.lvm_num.specs.declared.record.Kind.{Kind}
 use Rattle.lvm_num.specs.declared.record.Framed.{Framed}
 use Rattle.lvm_num.specs.Record.{joined, record_sectors, longest_content, payload_of, announced, may_be, record_bytes, record_in}
 use Rattle.lvm_area.specs.Reading.{announced_length}
-use Rattle.lvm_area.proofs.Joining.{joined-shifted, joined-add}
+use Rattle.lvm_transfer.proofs.Joining.{joined-shifted, joined-add}
 
 -- a piece that lies in the front
 within : (front rest : List ℕ) (k n : ℕ) → k + n ≤ length front → take n (drop k (front ++ rest)) ≡ take n (drop k front)

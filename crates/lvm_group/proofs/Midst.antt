@@ -19,7 +19,7 @@ use Rattle.lvm_steps.proofs.Spans.{keeps_still, keeps_steps, steps_go_on, disks_
 use Rattle.lvm_stamps.specs.Behind.{IsBehind, IsAhead, ClockIsAhead}
 use Rattle.lvm_stamps.proofs.Clock.{all_is_behind_next}
 use Rattle.lvm_stamps.proofs.Shelves.{unwritten_stays_behind}
-use Rattle.lvm_area.specs.Reading.{IsUnwritten, OnlyReads}
+use Rattle.lvm_transfer.specs.Reading.{IsUnwritten, OnlyReads}
 use Rattle.lvm_rec.specs.declared.homes.Homes.{Homes}
 use Rattle.lvm_write.specs.Homes.{SparesNewest}
 use Rattle.lvm_write.specs.Writes.{DiskWritesLeave}

@@ -1,3 +1,6 @@
 pub mod Waiting
 pub mod Ending
 pub mod Effects
+pub mod Joining
+pub mod Transferring
+pub mod Following

@@ -11,7 +11,7 @@ use Rattle.lvm_disk.specs.Paths.{DeviceStep, Path}
 use Rattle.lvm_kept.specs.Group.{IsOneOf}
 use Rattle.lvm_kept.specs.Torn.{IsOfNote}
 use Rattle.lvm_steps.specs.Moments.{StaysKept}
-use Rattle.lvm_area.specs.Reading.{IsRested, IsCutOff}
+use Rattle.lvm_transfer.specs.Reading.{IsRested, IsCutOff}
 use Rattle.lvm_write.specs.Notes.{empty_note_sector, NoteTold}
 use Rattle.lvm_write.specs.Written.{HaveRoom, KeepsShelf}
 use Rattle.lvm_rec.specs.declared.homes.Homes.{Homes}

@@ -21,7 +21,7 @@ use Rattle.lvm_survey.specs.declared.row.Survey.{Survey}
 use Rattle.lvm_survey.specs.declared.row.SurveyRow.{SurveyRow}
 use Rattle.lvm_survey.specs.Rows.{AreRows}
 use Rattle.lvm_survey.specs.Surveyed.{surveyed, IsSurveyValid}
-use Rattle.lvm_area.specs.Reading.{IsUnwritten, IsRested, IsCutOff}
+use Rattle.lvm_transfer.specs.Reading.{IsUnwritten, IsRested, IsCutOff}
 use Rattle.lvm_survey.specs.Surveying.{IsSurveyed}
 use Rattle.lvm_core.specs.declared.parts.Room.{Room}
 use Rattle.lvm_core.specs.declared.refused.Cause.{Cause}

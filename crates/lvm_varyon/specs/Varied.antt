@@ -13,7 +13,7 @@ use Rattle.lvm_kept.specs.Recovered.{Recovered}
 use Rattle.lvm_stamps.specs.Behind.{ClockIsAhead, IsBehind}
 use Rattle.lvm_rec.specs.declared.homes.Homes.{Homes}
 use Rattle.lvm_quorum.specs.Choosing.{HasNoRecord, HasRecord, IsAmbiguous, LacksQuorum}
-use Rattle.lvm_area.specs.Reading.{IsUnwritten, IsRested, IsCutOff}
+use Rattle.lvm_transfer.specs.Reading.{IsUnwritten, IsRested, IsCutOff}
 use Rattle.lvm_core.specs.declared.parts.Room.{Room}
 use Rattle.lvm_core.specs.declared.refused.Cause.{Cause}
 use Rattle.lvm_core.specs.declared.refused.Refused.{Refused}

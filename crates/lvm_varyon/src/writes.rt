@@ -8,7 +8,7 @@ ghost use Rattle.lvm_write.specs.Written.{HaveRoom};
 ghost use Rattle.lvm_begin.specs.Beginning.{again_beginning, again_order, IsOfParts};
 ghost use Rattle.lvm_begin.specs.Kept.{AgainStaysKept};
 ghost use Rattle.lvm_write.specs.Writes.{DiskWritesLeave};
-ghost use Rattle.lvm_area.specs.Reading.{OnlyReads};
+ghost use Rattle.lvm_transfer.specs.Reading.{OnlyReads};
 ghost use Rattle.lvm_write.specs.Parts.{Spends};
 ghost use Rattle.lvm_recovery.specs.Copying.{MayCopy, AreApart};
 ghost use Rattle.lvm_recovery.specs.Equalising.{EqualisedStaysKept};

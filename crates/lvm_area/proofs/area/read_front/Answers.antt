@@ -3,11 +3,12 @@ use Rattle.std.proofs.lemmas.Result.{err_from_is_err_and}
 use Rattle.lvm_num.specs.declared.record.Kind.TheVariants as kind
 use Rattle.lvm_num.specs.Record.{joined, record_in, record_sectors}
 use Rattle.lvm_disk.specs.Device.{Media}
-use Rattle.lvm_area.specs.declared.area.Extent.{Extent}
-use Rattle.lvm_area.specs.Reading.{announced_length, ReadsEnd}
-use Rattle.lvm_area.proofs.Following.{reads_then, told_before}
+use Rattle.lvm_transfer.specs.declared.reading.Extent.{Extent}
+use Rattle.lvm_transfer.specs.Reading.{ReadsEnd}
+use Rattle.lvm_area.specs.Reading.{announced_length}
+use Rattle.lvm_transfer.proofs.Following.{reads_then, told_before}
 use Rattle.lvm_area.proofs.Fronts.{record-kept}
-use Rattle.lvm_area.proofs.Joining.{told-both}
+use Rattle.lvm_transfer.proofs.Joining.{told-both}
 use Rattle.lvm_area.proofs.area.read_front.Goals as goal
 
 pub returns-in_err-back-clause-reads : goal.returns-in_err-back-clause-reads

@@ -14,11 +14,11 @@ use Rattle.lvm_transfer.specs.declared.moves.Moved.TheVariants as moved
 use Rattle.lvm_transfer.specs.Transfer.{IsOut, TransferGives, Rests, flight_of}
 use Rattle.lvm_transfer.proofs.Effects.{DoneEffect, done_effect, out_flights}
 use Rattle.lvm_transfer.proofs.Ending.{one_left}
-use Rattle.lvm_area.specs.declared.area.Stop.TheVariants as stop
-use Rattle.lvm_area.specs.declared.area.Unread.{Unread}
-use Rattle.lvm_area.specs.declared.area.Unread.TheVariants as unread
-use Rattle.lvm_area.specs.Reading.{IsUnwritten, IsUntouched, IsCutOff, IsReadStuck, AllWereRead, OneReadFailed, ReadsAnswer, ReadsEnd}
-use Rattle.lvm_area.proofs.Joining.{joined-read}
+use Rattle.lvm_transfer.specs.declared.reading.Stop.TheVariants as stop
+use Rattle.lvm_transfer.specs.declared.reading.Unread.{Unread}
+use Rattle.lvm_transfer.specs.declared.reading.Unread.TheVariants as unread
+use Rattle.lvm_transfer.specs.Reading.{IsUnwritten, IsUntouched, IsCutOff, IsReadStuck, AllWereRead, OneReadFailed, ReadsAnswer, ReadsEnd}
+use Rattle.lvm_transfer.proofs.Joining.{joined-read}
 
 -- media of which each sector is the same are the same
 same_media : (m n : Media) → ((d s : ℕ) → n d s ≡ m d s) → n ≡ m

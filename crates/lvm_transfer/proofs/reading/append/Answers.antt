@@ -1,7 +1,7 @@
 use Rattle.std.proofs.Common.{◌++◌, ℕ, List, length, ◌∙◌, ap, arith}
 use Rattle.std.proofs.lemmas.List.{length-append}
-use Rattle.lvm_area.proofs.Joining.{joined-front}
-use Rattle.lvm_area.proofs.area.append.Goals as goal
+use Rattle.lvm_transfer.proofs.Joining.{joined-front}
+use Rattle.lvm_transfer.proofs.reading.append.Goals as goal
 
 pub returns-clause-size : goal.returns-clause-size
 returns-clause-size c = omega (arith, ap (length {A = ℕ}) c.in_ok-extend_from_slice.ensures.items, length-append c.args.bytes.now.items c.front.result.now, c.front.ensures.size)

@@ -1,6 +1,6 @@
 use Rattle.lvm_transfer.specs.declared.moves.Moved.TheVariants as moved
-use Rattle.lvm_area.proofs.Transferring.{read_ends, done_bytes}
-use Rattle.lvm_area.proofs.area.read_piece.Goals as goal
+use Rattle.lvm_transfer.proofs.Transferring.{read_ends, done_bytes}
+use Rattle.lvm_transfer.proofs.reading.read_piece.Goals as goal
 
 pub returns-in-Done-clause-reads : goal.returns-in-Done-clause-reads
 returns-in-Done-clause-reads g c =

@@ -6,13 +6,13 @@ use Rattle.lvm_disk.specs.Device.{Media, Device, IsReady}
 use Rattle.lvm_disk.specs.Paths.{Here}
 use Rattle.lvm_disk.specs.Steps.{IsRange}
 use Rattle.lvm_disk.proofs.Paths.{leaves_on}
-use Rattle.lvm_area.specs.declared.area.Stop.{Stop}
-use Rattle.lvm_area.specs.declared.area.Stop.TheVariants as stop
-use Rattle.lvm_area.specs.declared.area.Unread.{Unread}
-use Rattle.lvm_area.specs.declared.area.Unread.TheVariants as unread
-use Rattle.lvm_area.specs.Reading.{IsUntouched, OnlyReads, IsRested, IsInRecords, IsReadStuck, AllWereRead, ReadsAnswer, ReadsEnd, StopGives}
-use Rattle.lvm_area.proofs.Joining.{or_got}
-use Rattle.lvm_area.proofs.Transferring.{unwritten_more}
+use Rattle.lvm_transfer.specs.declared.reading.Stop.{Stop}
+use Rattle.lvm_transfer.specs.declared.reading.Stop.TheVariants as stop
+use Rattle.lvm_transfer.specs.declared.reading.Unread.{Unread}
+use Rattle.lvm_transfer.specs.declared.reading.Unread.TheVariants as unread
+use Rattle.lvm_transfer.specs.Reading.{IsUntouched, OnlyReads, IsRested, IsInRecords, IsReadStuck, AllWereRead, ReadsAnswer, ReadsEnd, StopGives}
+use Rattle.lvm_transfer.proofs.Joining.{or_got}
+use Rattle.lvm_transfer.proofs.Transferring.{unwritten_more}
 
 -- ---- nothing yet
 

@@ -1,7 +1,7 @@
 use Rattle.std.proofs.Common.{◌-◌, ◌≡◌, ◌+◌, ◌*◌, ◌++◌, ◌≤◌, Ok, length, min, IfSome}
 use Rattle.lvm_num.specs.Record.{joined}
-use Rattle.lvm_area.specs.Reading.{ReadsEnd}
-use Rattle.lvm_area.proofs.area.append_sectors.Given as goal
+use Rattle.lvm_transfer.specs.Reading.{ReadsEnd}
+use Rattle.lvm_transfer.proofs.reading.append_sectors.Given as goal
 
 abbrev pub invariant-loop-done : goal.invariant-loop-done
 invariant-loop-done g l = record {

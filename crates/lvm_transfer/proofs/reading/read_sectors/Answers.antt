@@ -1,5 +1,5 @@
-use Rattle.lvm_area.proofs.Following.{reads_none, reads_starve}
-use Rattle.lvm_area.proofs.area.read_sectors.Goals as goal
+use Rattle.lvm_transfer.proofs.Following.{reads_none, reads_starve}
+use Rattle.lvm_transfer.proofs.reading.read_sectors.Goals as goal
 
 pub returns-in_default-clause-reads : goal.returns-in_default-clause-reads
 returns-in_default-clause-reads g c =

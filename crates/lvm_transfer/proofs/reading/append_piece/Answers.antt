@@ -1,8 +1,8 @@
 use Rattle.std.proofs.Common.{◌≡◌, ◌++◌, [], slice_index_or}
 use Rattle.lvm_num.specs.Record.{joined}
 use Rattle.lvm_disk.specs.Device.{Media}
-use Rattle.lvm_area.proofs.Joining.{append-same, told-more}
-use Rattle.lvm_area.proofs.area.append_piece.Goals as goal
+use Rattle.lvm_transfer.proofs.Joining.{append-same, told-more}
+use Rattle.lvm_transfer.proofs.reading.append_piece.Goals as goal
 
 pub returns-in-Ok-clause-bytes : goal.returns-in-Ok-clause-bytes
 returns-in-Ok-clause-bytes g c =
