@@ -1,5 +1,3 @@
-pub mod Searches
-pub mod Groups
 pub mod Rows
 pub mod Seeing
 pub mod Entries

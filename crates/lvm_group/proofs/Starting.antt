@@ -29,12 +29,12 @@ use Rattle.lvm_session.specs.Placed.{ArePlaced}
 use Rattle.lvm_session_start.specs.Beginning.{first_core}
 use Rattle.lvm_session.specs.State.{Core}
 use Rattle.lvm_session_start.specs.declared.parts.Parts.{Parts}
-use Rattle.lvm_group.specs.NewGroup.{NewGroup, size_for, new_group, new_status}
+use Rattle.lvm_group_plan.specs.NewGroup.{NewGroup, size_for, new_group, new_status}
 use Rattle.lvm_group.specs.Made.{IsMade}
 use Rattle.lvm_group.specs.Steps.{Stands}
 use Rattle.lvm_group.specs.declared.make.Standing.{Standing}
 use Rattle.lvm_group.proofs.Entries.{spare_given, landed_given, later_given}
-use Rattle.lvm_group.proofs.Groups.{are_placed, nothing_missing}
+use Rattle.lvm_group_plan.proofs.Groups.{are_placed, nothing_missing}
 
 -- where there is no volume no copy is left behind
 none_left_of_none : (d : Descriptor) (u : Stored) → d.lvs ≡ [] → NoneIsLeft d u

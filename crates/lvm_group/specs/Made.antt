@@ -19,7 +19,7 @@ use Rattle.lvm_session_start.specs.declared.parts.Parts.{Parts}
 use Rattle.lvm_core.specs.Starting.{IsReservedFor}
 use Rattle.lvm_session_start.specs.Beginning.{first_core}
 use Rattle.lvm_session.specs.State.{Core}
-use Rattle.lvm_group.specs.NewGroup.{NewGroup, among, new_group, new_status, given_up, MayBegin, RefusesFirst}
+use Rattle.lvm_group_plan.specs.NewGroup.{NewGroup, among, new_group, new_status, given_up, MayBegin, RefusesFirst}
 use Rattle.lvm_group.specs.Shown.{IfShown, HasGroup, IsClockBehindDisks, IsUnread, AllRead, AreFree, IsClear, SparesTold}
 
 -- ---- what is written

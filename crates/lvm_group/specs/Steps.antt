@@ -1,5 +1,5 @@
 -- The two steps in which a group is made on a shelf: its disks are read, and its records are written.
-use Rattle.std.specs.Prelude.{◌≡◌, ℕ, ◌<◌, ◌≤◌, Bool, true, false, if◌then◌else◌, Result, Ok, Err}
+use Rattle.std.specs.Prelude.{◌≡◌, ℕ, ◌<◌, ◌≤◌, Bool, true, false, if◌then◌else◌, List, Result, Ok, Err}
 use Rattle.lvm_num.specs.Record.{last_moment}
 use Rattle.lvm_num.specs.Descriptor.{IsValid}
 use Rattle.lvm_disk.specs.Device.{Device}
@@ -15,10 +15,15 @@ use Rattle.lvm_core.specs.declared.parts.Room.{Room}
 use Rattle.lvm_session_start.specs.declared.parts.Parts.{Parts}
 use Rattle.lvm_core.specs.Starting.{IsReservedFor}
 use Rattle.lvm_group.specs.declared.look.Free.{Free}
+use Rattle.lvm_group.specs.declared.make.Asked.{Asked}
 use Rattle.lvm_group.specs.declared.make.Standing.{Standing}
-use Rattle.lvm_group.specs.NewGroup.{NewGroup, among, size_for, new_group, new_status, given_up}
+use Rattle.lvm_group_plan.specs.NewGroup.{NewGroup, among, size_for, new_group, new_status, given_up}
 use Rattle.lvm_group.specs.Made.{beginning_for, IsAsBefore}
 use Rattle.lvm_group.specs.Shown.{IfShown, HasGroup, ShowsEarlier, IsClockBehindDisks, IsUnread, AllRead, IsClear, SparesTold}
+
+-- the group that is asked for
+abbrev pub asked_group : Asked → List ℕ → ℕ → NewGroup
+asked_group asked disks moment = record { name = asked.name; mib = asked.mib; disks = disks; force = asked.force; moment = moment }
 
 -- ---- the disks are read
 

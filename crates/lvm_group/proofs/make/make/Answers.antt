@@ -11,10 +11,10 @@ use Rattle.lvm_core.specs.Held.{StartsHeld}
 use Rattle.lvm_session_start.specs.declared.parts.Parts.{Parts}
 use Rattle.lvm_session_start.specs.Beginning.{first_core}
 use Rattle.lvm_group.specs.declared.make.Standing.{Standing}
-use Rattle.lvm_group.specs.NewGroup.{NewGroup}
-use Rattle.lvm_group.specs.Planned.{asked_group, IsPlannedFor, RefusesPlan}
+use Rattle.lvm_group_plan.specs.NewGroup.{NewGroup}
+use Rattle.lvm_group_plan.specs.Planned.{IsPlannedFor, RefusesPlan}
 use Rattle.lvm_group.specs.Made.{Refuses}
-use Rattle.lvm_group.specs.Steps.{Stands}
+use Rattle.lvm_group.specs.Steps.{asked_group, Stands}
 use Rattle.lvm_group.proofs.Composing.{refuses_plan}
 use Rattle.lvm_group.proofs.Midst.{made_then, refused_then, held_then, leaves_then}
 use Rattle.lvm_group.proofs.make.make.Goals as goal
