@@ -1,5 +1,4 @@
 pub mod Found
-pub mod Chosen
 pub mod Writing
 pub mod Restated
 pub mod Varied

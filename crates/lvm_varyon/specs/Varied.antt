@@ -26,7 +26,7 @@ use Rattle.lvm_session.specs.State.{Core}
 use Rattle.lvm_begin.specs.Beginning.{Beginning, MayBeginAgain}
 use Rattle.lvm_varyon.specs.Found.{Found, HaveAnswered}
 use Rattle.lvm_next.specs.Next.{IsNextStatus}
-use Rattle.lvm_varyon.specs.Chosen.{answering, MayComeOn, IsClockBehindGroup}
+use Rattle.lvm_varyon_plan.specs.Chosen.{answering, MayComeOn, IsClockBehindGroup}
 use Rattle.lvm_next.specs.Restated.{Restated}
 use Rattle.lvm_recover.specs.Recovered.{HasNoPassive}
 use Rattle.lvm_recovery.specs.declared.copying.Recopy.{Recopy}

@@ -15,7 +15,6 @@ ghost use Rattle.lvm_write.specs.Parts.{Spends};
 ghost use Rattle.lvm_varyon.specs.Parts.{IsPlannedBy, plan_beginning};
 ghost use Rattle.lvm_varyon.specs.Equal.{AllWritesGive, AllWritesKeep, MayWritePlan};
 
-use crate::plan::{Plan, plan_of};
 use crate::writes::{make_equal, read_disks, write_plan};
 use lvm_core::{Cause, Driver, Parts, Refused, Room};
 use lvm_disk::Shelf;
@@ -23,6 +22,7 @@ use lvm_history::History;
 use lvm_num::{Name, Pbuf, Stamp};
 use lvm_rec::Homes;
 use lvm_transfer::Patience;
+use lvm_varyon_plan::{Plan, plan_of};
 use std::alloc::Global;
 
 /// Varies the group of a name on: reads the records of all disks of the shelf, chooses the group's newest

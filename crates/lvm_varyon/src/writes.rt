@@ -15,7 +15,6 @@ ghost use Rattle.lvm_recovery.specs.Equalising.{EqualisedStaysKept};
 ghost use Rattle.lvm_varyon.specs.Equal.{EqualGives};
 ghost use Rattle.lvm_varyon.specs.Parts.{SurveyGives, plan_beginning, AgainWritesGive};
 
-use crate::plan::Plan;
 use lvm_begin::{Begun, begin_again};
 use lvm_core::Cause;
 use lvm_disk::Shelf;
@@ -24,6 +23,7 @@ use lvm_rec::Homes;
 use lvm_recovery::equalise;
 use lvm_survey::{Survey, Surveyed, survey_disks};
 use lvm_transfer::Patience;
+use lvm_varyon_plan::Plan;
 use std::alloc::Global;
 
 /// Reads the records of all disks. The buffer that it read with comes back for the writes.

@@ -11,7 +11,7 @@ ghost use Rattle.lvm_survey.specs.Rows.{AreRows};
 ghost use Rattle.lvm_survey.specs.Surveyed.{IsSurveyValid};
 ghost use Rattle.lvm_core.specs.Starting.{IsRoom};
 ghost use Rattle.lvm_session_start.specs.Parts.{IsOneGroup};
-ghost use Rattle.lvm_varyon.specs.Parts.{PlanGives, IsPlanFor, cause_of, IsPlanOfChoice};
+ghost use Rattle.lvm_varyon_plan.specs.Planned.{PlanGives, IsPlanFor, cause_of, IsPlanOfChoice};
 ghost use Rattle.lvm_num.specs.DescriptorBytes.{descriptor_bytes};
 ghost use Rattle.lvm_num.specs.StatusBytes.{status_bytes};
 
