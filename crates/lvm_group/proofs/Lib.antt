@@ -1,3 +1,4 @@
+pub mod passed
 pub mod Rows
 pub mod Seeing
 pub mod Entries

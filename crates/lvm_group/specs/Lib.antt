@@ -1,3 +1,4 @@
+pub mod passed
 pub mod Shown
 pub mod Judged
 pub mod Made

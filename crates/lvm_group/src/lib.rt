@@ -7,4 +7,5 @@ mod make;
 mod making;
 mod write;
 
+pub use lvm_group_plan::size_to_begin;
 pub use making::mkvg;

@@ -5,13 +5,13 @@ ghost use Rattle.lvm_core.specs.Coming.{shelf_left, history_left};
 ghost use Rattle.lvm_core.specs.Sound.{HaveAllLanded};
 ghost use Rattle.lvm_core.specs.Starting.{IsRoom};
 ghost use Rattle.lvm_core.specs.State.{state_of};
-ghost use Rattle.lvm_group_plan.specs.NewGroup.{IsWellFormed};
+ghost use Rattle.lvm_group.specs.passed.GroupPlan.{IsWellFormed};
 ghost use Rattle.lvm_quiesce.specs.Groups.{BringsOnEach, CauseRose, IsStartedEach, MkvgOnceQuiet, RestGives, VaryonOnceQuiet};
 
 use crate::ends::{Quiesced, quiesce};
 use lvm_core::{Cause, Driver, Refused, Room};
 use lvm_disk::Shelf;
-use lvm_group_plan::size_to_begin;
+use lvm_group::size_to_begin;
 use lvm_history::History;
 use lvm_num::Name;
 use lvm_transfer::Patience;
