@@ -1,6 +1,7 @@
 //! The cache of track groups.
-ghost use Rattle.std.specs.Prelude.{◌≡◌, ◌≢◌, ◌+◌, ◌<◌, ◌^◌, false, position, IsTrue, IfOk, IsSome, IsNone, is_some, All, replicate};
+ghost use Rattle.std.specs.Prelude.{◌≡◌, ◌≢◌, ◌+◌, ◌<◌, ◌^◌, [], false, position, IsTrue, IfOk, IsSome, IsNone, is_some, All, replicate};
 ghost use Rattle.lvm_num.specs.Note.{IsEntry};
+ghost use Rattle.lvm_mwc.specs.Cache.{IsNew};
 
 use crate::entries::{CacheEntry, make_room, note_of, place_of};
 use crate::notes::{
@@ -48,6 +49,24 @@ impl Model for Cache {
     ghost invariant = { λ c. AreEntries c.entries.items × AreFilters c.notes.items c.filters.items × (c.disks.items ≡ disks_of c.notes.items) };
 }
 
+// The notes of the disks of a set, which name nothing.
+fn blank_notes(alloc: Global, disks: DiskSet) -> Result<Vec<DiskNotes>, Memory>
+    ensures new { IfOk result (λ notes. IsNew disks (record { entries = []; notes = notes.items })) }
+    ensures blank { IfOk result (λ notes. All (λ n. n.written.items ≡ []) notes.items) }
+{
+    let mut notes = Vec::new(alloc);
+    for disk in 0..128 {
+        if disks.has(disk) {
+            notes.push(DiskNotes {
+                disk,
+                written: ArrayVec::new(),
+                flight: None,
+            })?;
+        }
+    }
+    Ok(notes)
+}
+
 // So many filters that pass nothing.
 fn closed_filters(alloc: Global, count: usize) -> Result<Vec<[bool; FILTER]>, Memory>
     ensures { IfOk result (λ filters. filters.items ≡ replicate count (replicate 512 false)) }
@@ -66,20 +85,12 @@ impl Cache {
     pub fn new(alloc: Global, disks: DiskSet) -> Result<Cache, Memory>
         ensures { IfOk result (IsNew disks) }
     {
-        let mut notes = Vec::new(alloc);
-        for disk in 0..128 {
-            if disks.has(disk) {
-                notes.push(DiskNotes {
-                    disk,
-                    written: ArrayVec::new(),
-                    flight: None,
-                })?;
-            }
-        }
+        let notes = blank_notes(alloc, disks)?;
         let filters = closed_filters(alloc, notes.len())?;
+        let disks = disks_of(alloc, &notes)?;
         Ok(Cache {
             entries: ArrayVec::new(),
-            disks: disks_of(alloc, &notes)?,
+            disks,
             notes,
             filters,
         })
