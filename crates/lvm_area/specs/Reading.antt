@@ -1,6 +1,5 @@
 -- What reads of a disk's records find.
-use Rattle.std.specs.Prelude.{◌≡◌, ℕ, ◌≤◌, List, take, drop, Option, Some, None, Result, option_map, IfSome, if◌then◌else◌}
-use Rattle.std.specs.Int.{w32, from_be_bytes}
+use Rattle.std.specs.Prelude.{◌≡◌, ℕ, ◌≤◌, List, Option, Some, None, Result, option_map, IfSome, if◌then◌else◌}
 use Rattle.lvm_num.specs.declared.record.Stamp.{Stamp}
 use Rattle.lvm_num.specs.declared.record.Kind.{Kind}
 use Rattle.lvm_num.specs.declared.record.Kind.TheVariants as kind
@@ -37,10 +36,6 @@ home_of (Some a) None = 0
 home_of (Some a) (Some b) = if stamp_lt a.stamp b.stamp then 1 else 0
 
 -- ---- what is read
-
--- the length that the first sector of a slot says that its record has
-abbrev pub announced_length : List ℕ → ℕ
-announced_length slot = from_be_bytes w32 (take 4 (drop 16 slot))
 
 -- a record that was found, under its stamp
 abbrev pub stamped_found : {X : Type 0} → Option (Found X) → Option (Stamped X)

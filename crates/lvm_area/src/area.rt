@@ -1,31 +1,23 @@
 //! Reading the records of a disk: two slots of each kind, and the note.
-ghost use Rattle.std.specs.Prelude.{◌≡◌, ◌+◌, ◌-◌, ◌<◌, ◌≤◌, length, max, min, slice_index_or, IfSome, IfOk};
+ghost use Rattle.std.specs.Prelude.{◌≡◌, ◌<◌, ◌≤◌, length, slice_index_or, IfSome, IfOk};
 ghost use Rattle.lvm_num.specs.declared.record.Kind.TheVariants as kind_is;
 ghost use Rattle.lvm_num.specs.Descriptor.{IsValid};
 ghost use Rattle.lvm_num.specs.DescriptorBytes.{descriptor_of};
-ghost use Rattle.lvm_num.specs.Record.{joined, record_in, record_sectors};
+ghost use Rattle.lvm_num.specs.Record.{joined};
 ghost use Rattle.lvm_num.specs.Status.{IsValidStatus};
 ghost use Rattle.lvm_num.specs.StatusBytes.{status_of};
 ghost use Rattle.lvm_rec.specs.Slots.{held};
 ghost use Rattle.lvm_disk.specs.Device.{IsReady, image_of};
 ghost use Rattle.lvm_transfer.specs.Reading.{only_buffer, IsInRecords, ReadsEnd};
-ghost use Rattle.lvm_area.specs.Reading.{announced_length, descriptor_shown, stamped_found, IsArea, IsAreaValid, IsLatestOn, IsValidLatest};
+ghost use Rattle.lvm_area.specs.Reading.{descriptor_shown, stamped_found, IsArea, IsAreaValid, IsLatestOn, IsValidLatest};
 
 use crate::found::{Found, Latest, descriptor_in, newest, status_in};
 use lvm_disk::Shelf;
 use lvm_num::{Descriptor, Memory, Pbuf, Status};
-use lvm_transfer::{Extent, Patience, Stop, Unread, append_sectors, read_sectors};
+use lvm_transfer::{Extent, Patience, Stop, Unread, read_front, read_sectors};
 use std::alloc::Global;
 
 const SECTOR: usize = 512;
-
-// The bytes of a record's part in each sector, and those of its length before it.
-const PART: usize = 496;
-
-const LENGTH: usize = 4;
-
-// So many sectors of a slot of descriptors are read first.
-const FRONT: u32 = 256;
 
 const NOTE: u64 = 8;
 
@@ -38,8 +30,6 @@ const STATUS_SECTORS: u32 = 64;
 const FIRST_DESCRIPTOR: u64 = 512;
 
 const SECOND_DESCRIPTOR: u64 = 1664;
-
-const DESCRIPTOR_SECTORS: u32 = 1152;
 
 /// The newest records of a disk, and the bytes of its note.
 #[derive(Drop)]
@@ -211,55 +201,4 @@ fn read_note<S: Shelf>(
     let mut note = [0; SECTOR];
     note.copy_from_slice(&bytes);
     Ok((note, back))
-}
-
-// Reads all sectors of a slot of descriptors, and keeps those of the first read and all of the record that the first
-// sector announces: of a slot of zeros nearly nothing is copied.
-fn read_front<S: Shelf>(
-    alloc: Global,
-    shelf: &mut S,
-    disk: u16,
-    first: u64,
-    buf: Pbuf,
-    patience: &mut Patience,
-) -> Result<(Vec<u8>, Pbuf), Unread>
-    requires ready { IsReady (S.device shelf.old) }
-    requires inside { IsInRecords (S.device shelf.old) disk first 1152 }
-    ensures reads { ReadsEnd disk buf.number patience.old.left patience.new.left (S.device shelf.old) (S.device shelf.new) (only_buffer result) }
-    ensures record { IfOk result (λ got. IfSome (S.device shelf.old).media (λ media. record_in kind_is.Descriptor got.0.items ≡ record_in kind_is.Descriptor (joined (media disk) first 1152))) }
-{
-    let front = Extent {
-        disk,
-        first,
-        count: FRONT,
-        keep: FRONT,
-    };
-    let (mut bytes, buf) = read_sectors(alloc, shelf, front, buf, patience)?;
-    let rest = rest_of(disk, first, &bytes);
-    let back = append_sectors(shelf, rest, &mut bytes, buf, patience)?;
-    Ok((bytes, back))
-}
-
-// The rest of a slot of descriptors whose front has been read, of which what belongs to the record is kept.
-fn rest_of(disk: u16, first: u64, front: &[u8]) -> Extent
-    requires long { 512 ≤ length front.now }
-    requires records { first + 1152 ≤ 4096 }
-    ensures { result ≡ record { disk = disk; first = first + 256; count = 896; keep = max 256 (min (record_sectors (announced_length front.now)) 1152) - 256 } }
-{
-    let record = announced_sectors(front);
-    Extent {
-        disk,
-        first: first + u64::from(FRONT),
-        count: DESCRIPTOR_SECTORS - FRONT,
-        keep: record.clamp(FRONT, DESCRIPTOR_SECTORS) - FRONT,
-    }
-}
-
-// How many sectors the record has that the first sector of a slot announces, if it holds one.
-fn announced_sectors(slot: &[u8]) -> u32
-    requires { 512 ≤ length slot.now }
-    ensures { result ≡ record_sectors (announced_length slot.now) }
-{
-    let length = u32::from_be_bytes([slot[16], slot[17], slot[18], slot[19]]);
-    (length as usize + LENGTH).div_ceil(PART) as u32
 }

@@ -4,3 +4,4 @@ pub mod Effects
 pub mod Joining
 pub mod Transferring
 pub mod Following
+pub mod Fronts

@@ -1,5 +1,6 @@
 -- What reads of a disk's records change, and how they end.
-use Rattle.std.specs.Prelude.{◌≡◌, ℕ, ◌+◌, ◌-◌, ◌<◌, ◌≤◌, true, false, [], ◌∷◌, length, Result, Ok, Err, slice_index_or}
+use Rattle.std.specs.Prelude.{◌≡◌, ℕ, ◌+◌, ◌-◌, ◌<◌, ◌≤◌, true, false, List, [], ◌∷◌, length, take, drop, Result, Ok, Err, slice_index_or}
+use Rattle.std.specs.Int.{w32, from_be_bytes}
 use Rattle.lvm_num.specs.Buffer.{Buffer}
 use Rattle.lvm_num.specs.Geometry.{data_start}
 use Rattle.lvm_disk.specs.Counts.{RoseBy, Rose}
@@ -102,3 +103,7 @@ pub record IsInRecords (device : Device) (disk first count : ℕ) : Type 0 where
   pub there : disk < length device.sizes
   pub within : first + count ≤ slice_index_or device.sizes disk 0
   pub below : first + count ≤ data_start
+
+-- the length that the first sector of a slot says that its record has
+abbrev pub announced_length : List ℕ → ℕ
+announced_length slot = from_be_bytes w32 (take 4 (drop 16 slot))

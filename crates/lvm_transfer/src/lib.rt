@@ -5,4 +5,4 @@ mod moves;
 mod reading;
 
 pub use moves::{Moved, Patience, relight, transfer};
-pub use reading::{Extent, Stop, Unread, append_sectors, read_sectors};
+pub use reading::{Extent, Stop, Unread, read_front, read_sectors};

@@ -1,9 +1,10 @@
 //! Sectors of a disk's record area are read, by one transfer after another.
-ghost use Rattle.std.specs.Prelude.{◌≡◌, ◌+◌, ◌*◌, ◌++◌, ◌<◌, ◌≤◌, ℕ, length, slice_index_or, [], IfSome, IfOk, OnOk};
-ghost use Rattle.lvm_num.specs.Record.{joined};
+ghost use Rattle.std.specs.Prelude.{◌≡◌, ◌+◌, ◌-◌, ◌*◌, ◌++◌, ◌<◌, ◌≤◌, ℕ, length, max, min, slice_index_or, [], IfSome, IfOk, OnOk};
+ghost use Rattle.lvm_num.specs.declared.record.Kind.TheVariants as kind_is;
+ghost use Rattle.lvm_num.specs.Record.{joined, record_in, record_sectors};
 ghost use Rattle.lvm_disk.specs.Device.{IsReady};
 ghost use Rattle.lvm_disk.specs.Steps.{IsRange};
-ghost use Rattle.lvm_transfer.specs.Reading.{only_buffer, IsInRecords, ReadsEnd};
+ghost use Rattle.lvm_transfer.specs.Reading.{announced_length, only_buffer, IsInRecords, ReadsEnd};
 
 use crate::moves::{Moved, Patience, transfer};
 use lvm_disk::Shelf;
@@ -14,6 +15,13 @@ const SECTOR: usize = 512;
 
 // As many sectors as one transfer may have.
 const PIECE: u32 = 256;
+
+// The bytes of a record's part in each sector, and those of its length before it.
+const PART: usize = 496;
+
+const LENGTH: usize = 4;
+
+const DESCRIPTOR_SECTORS: u32 = 1152;
 
 /// Why reads were ended before their end.
 #[derive(Drop)]
@@ -65,8 +73,8 @@ pub fn read_sectors<S: Shelf>(
     Ok((bytes, back))
 }
 
-/// Reads sectors of a disk's record area piece by piece, and appends those that are kept.
-pub fn append_sectors<S: Shelf>(
+// Reads sectors of a disk's record area piece by piece, and appends those that are kept.
+fn append_sectors<S: Shelf>(
     shelf: &mut S,
     extent: Extent,
     bytes: &mut Vec<u8>,
@@ -156,4 +164,55 @@ fn append(bytes: &mut Vec<u8>, buf: &Pbuf, count: u32) -> Result<(), AllocError>
 {
     bytes.extend_from_slice(buf.front(count))?;
     Ok(())
+}
+
+/// Reads all sectors of a slot of descriptors, and keeps those of the first read and all of the record that the first
+/// sector announces: of a slot of zeros nearly nothing is copied.
+pub fn read_front<S: Shelf>(
+    alloc: Global,
+    shelf: &mut S,
+    disk: u16,
+    first: u64,
+    buf: Pbuf,
+    patience: &mut Patience,
+) -> Result<(Vec<u8>, Pbuf), Unread>
+    requires ready { IsReady (S.device shelf.old) }
+    requires inside { IsInRecords (S.device shelf.old) disk first 1152 }
+    ensures reads { ReadsEnd disk buf.number patience.old.left patience.new.left (S.device shelf.old) (S.device shelf.new) (only_buffer result) }
+    ensures record { IfOk result (λ got. IfSome (S.device shelf.old).media (λ media. record_in kind_is.Descriptor got.0.items ≡ record_in kind_is.Descriptor (joined (media disk) first 1152))) }
+{
+    let front = Extent {
+        disk,
+        first,
+        count: PIECE,
+        keep: PIECE,
+    };
+    let (mut bytes, buf) = read_sectors(alloc, shelf, front, buf, patience)?;
+    let rest = rest_of(disk, first, &bytes);
+    let back = append_sectors(shelf, rest, &mut bytes, buf, patience)?;
+    Ok((bytes, back))
+}
+
+// The rest of a slot of descriptors whose front has been read, of which what belongs to the record is kept.
+fn rest_of(disk: u16, first: u64, front: &[u8]) -> Extent
+    requires long { 512 ≤ length front.now }
+    requires records { first + 1152 ≤ 4096 }
+    ensures { result ≡ record { disk = disk; first = first + 256; count = 896; keep = max 256 (min (record_sectors (announced_length front.now)) 1152) - 256 } }
+{
+    let record = announced_sectors(front);
+    Extent {
+        disk,
+        first: first + u64::from(PIECE),
+        count: DESCRIPTOR_SECTORS - PIECE,
+        keep: record.clamp(PIECE, DESCRIPTOR_SECTORS) - PIECE,
+    }
+}
+
+// How many sectors the record has that the first sector of a slot announces, if it holds one.
+fn announced_sectors(slot: &[u8]) -> u32
+    requires { 512 ≤ length slot.now }
+    ensures { result ≡ record_sectors (announced_length slot.now) }
+{
+    let length = u32::from_be_bytes([slot[16], slot[17], slot[18], slot[19]]);
+    (length as usize + LENGTH).div_ceil(PART) as u32
 }

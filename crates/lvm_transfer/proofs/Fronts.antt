@@ -7,7 +7,7 @@ use Rattle.std.proofs.lemmas.List.{take-append-le, drop-append-le, length-take, 
 use Rattle.lvm_num.specs.declared.record.Kind.{Kind}
 use Rattle.lvm_num.specs.declared.record.Framed.{Framed}
 use Rattle.lvm_num.specs.Record.{joined, record_sectors, longest_content, payload_of, announced, may_be, record_bytes, record_in}
-use Rattle.lvm_area.specs.Reading.{announced_length}
+use Rattle.lvm_transfer.specs.Reading.{announced_length}
 use Rattle.lvm_transfer.proofs.Joining.{joined-shifted, joined-add}
 
 -- a piece that lies in the front

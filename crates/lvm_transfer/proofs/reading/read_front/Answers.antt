@@ -4,12 +4,11 @@ use Rattle.lvm_num.specs.declared.record.Kind.TheVariants as kind
 use Rattle.lvm_num.specs.Record.{joined, record_in, record_sectors}
 use Rattle.lvm_disk.specs.Device.{Media}
 use Rattle.lvm_transfer.specs.declared.reading.Extent.{Extent}
-use Rattle.lvm_transfer.specs.Reading.{ReadsEnd}
-use Rattle.lvm_area.specs.Reading.{announced_length}
+use Rattle.lvm_transfer.specs.Reading.{announced_length, ReadsEnd}
 use Rattle.lvm_transfer.proofs.Following.{reads_then, told_before}
-use Rattle.lvm_area.proofs.Fronts.{record-kept}
+use Rattle.lvm_transfer.proofs.Fronts.{record-kept}
 use Rattle.lvm_transfer.proofs.Joining.{told-both}
-use Rattle.lvm_area.proofs.area.read_front.Goals as goal
+use Rattle.lvm_transfer.proofs.reading.read_front.Goals as goal
 
 pub returns-in_err-back-clause-reads : goal.returns-in_err-back-clause-reads
 returns-in_err-back-clause-reads g c =
