@@ -185,6 +185,9 @@ pinned_entries es new lv group are its is few =
       counting = counting-note (room_for es lv group ++ e ∷ []) (All-push Counts (room_for es lv group) e (room_counts (has_entry es lv group) (nat_lt (length es) 62) es lv group (note-counting es are.counting)) its);
     }
 
+pub no_entries : (es : List CacheEntry) → es ≡ [] → AreEntries es
+no_entries es none = rw none (record { most = omega arith; differ = tt; counting = All-nil IsEntry })
+
 -- ---- an unpin
 
 pub unpinned_entries : (es : List CacheEntry) (lv group : ℕ) → AreEntries es → AreEntries (with_unpin es lv group)

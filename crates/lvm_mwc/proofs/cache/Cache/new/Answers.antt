@@ -1,4 +1,19 @@
+use Rattle.std.proofs.Common.{◌≡◌, ◌∙◌, List, Bool, false, length, replicate, ap, arith}
+use Rattle.std.proofs.lemmas.List.{length-replicate}
+use Rattle.lvm_mwc.specs.Notes.{disks_of}
+use Rattle.lvm_mwc.proofs.EntriesLemmas.{no_entries}
+use Rattle.lvm_mwc.proofs.FiltersLemmas.{filters_blank}
 use Rattle.lvm_mwc.proofs.cache.Cache.new.Goals as goal
+
+pub invariant_of-result : goal.invariant_of-result
+invariant_of-result c =
+    let notes = c.in_ok-notes.notes.items in
+    let filters = c.in_ok-filters.filters.items in
+    let long : length filters ≡ length notes = omega (arith, ap (λ (l : List (List Bool)). length l) c.in_ok-filters.ensures, length-replicate c.len.result (replicate 512 false), c.len.ensures) in (
+      no_entries c.new.result.items c.new.ensures,
+      filters_blank notes filters long c.in_ok-notes.ensures.blank,
+      c.in_ok-disks.ensures ∙ ap disks_of c.deref.ensures.value,
+    )
 
 pub returns : goal.returns
 returns c = record { entries = c.new.ensures; notes = c.in_ok-notes.ensures.new.notes }
