@@ -1,11 +1,9 @@
 -- What reads of a disk's records find.
-use Rattle.std.specs.Prelude.{◌≡◌, ℕ, ◌≤◌, List, Option, Some, None, Result, option_map, IfSome, if◌then◌else◌}
-use Rattle.lvm_num.specs.declared.record.Stamp.{Stamp}
+use Rattle.std.specs.Prelude.{◌≡◌, ℕ, List, Option, Result, option_map, IfSome}
 use Rattle.lvm_num.specs.declared.record.Kind.{Kind}
 use Rattle.lvm_num.specs.declared.record.Kind.TheVariants as kind
 use Rattle.lvm_num.specs.Descriptor.{IsValid}
 use Rattle.lvm_num.specs.DescriptorBytes.{descriptor_of}
-use Rattle.lvm_num.specs.Record.{Stamped, stamp_lt}
 use Rattle.lvm_num.specs.Status.{IsValidStatus}
 use Rattle.lvm_num.specs.StatusBytes.{status_of}
 use Rattle.lvm_num.specs.Torn.{Sectors}
@@ -13,39 +11,17 @@ use Rattle.lvm_rec.specs.Slots.{held, newest_on, slot_of}
 use Rattle.lvm_disk.specs.Device.{Image}
 use Rattle.lvm_kept.specs.Contents.{note_sector, contents_of}
 use Rattle.lvm_area.specs.declared.area.RecordArea.{RecordArea}
-use Rattle.lvm_area.specs.declared.found.Found.{Found}
-use Rattle.lvm_area.specs.declared.found.Latest.{Latest}
+use Rattle.lvm_rec.specs.declared.latest.Latest.{Latest}
+pub use Rattle.lvm_rec.specs.Latest.{under, home_of, stamped_found, IsHome}
 use Rattle.lvm_num.specs.declared.descriptor.Descriptor.{Descriptor}
 
 -- ---- records that are found
-
--- a value that was found, under its stamp
-abbrev pub under : {X : Type 0} → Option X → Stamp → Option (Stamped X)
-under None stamp = None
-under (Some x) stamp = Some (record { stamp = stamp; value = x })
 
 -- the newest descriptor that a disk of the image shows
 abbrev pub descriptor_shown : Image → ℕ → Option Descriptor
 descriptor_shown image d = option_map (λ r. r.value) ((contents_of image).descriptor d)
 
--- the slot with the newer of two records, 2 where there is none
-abbrev pub home_of : {X : Type 0} → Option (Stamped X) → Option (Stamped X) → ℕ
-home_of None None = 2
-home_of None (Some b) = 1
-home_of (Some a) None = 0
-home_of (Some a) (Some b) = if stamp_lt a.stamp b.stamp then 1 else 0
-
 -- ---- what is read
-
--- a record that was found, under its stamp
-abbrev pub stamped_found : {X : Type 0} → Option (Found X) → Option (Stamped X)
-stamped_found None = None
-stamped_found (Some found) = Some (record { stamp = found.stamp; value = found.value })
-
--- the stamp of a record that was found and the slot that has it, which without one are (0, 0) and 2
-abbrev pub IsHome : {X : Type 0} → Option X → Stamp → ℕ → Type 0
-IsHome None stamp home = (stamp ≡ record { epoch = 0; seq = 0 }) × (home ≡ 2)
-IsHome (Some x) stamp home = home ≤ 1
 
 -- the newest record of the kind on a disk with these sectors, and the slot that has it
 pub record IsLatestOn {X : Type 0} (content_of : List ℕ → Result X ℕ) (kind : Kind) (sectors : Sectors) (latest : Latest X) : Type 0 where

@@ -5,4 +5,3 @@ mod area;
 mod found;
 
 pub use area::{RecordArea, read_area, read_descriptor};
-pub use found::Latest;
