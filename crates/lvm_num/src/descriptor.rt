@@ -1,6 +1,6 @@
 //! What a volume group is: its disks, its volumes and where they lie.
 
-ghost use Rattle.std.specs.Prelude.{◌↔◌, ◌≡◌, ◌==◌, IsTrue};
+ghost use Rattle.std.specs.Prelude.{◌↔◌, ◌≡◌, IsTrue};
 
 use crate::listed::has_member;
 use crate::valid::{are_maps, are_volumes, is_size, partition_counts};
