@@ -9,7 +9,7 @@ use Rattle.lvm_num.specs.DescriptorBytes.{descriptor_of}
 use Rattle.lvm_rec.specs.Slots.{newest_on}
 use Rattle.lvm_disk.specs.Device.{Media, image_of}
 use Rattle.lvm_kept.specs.Contents.{has_records, descriptor_on}
-use Rattle.lvm_area.specs.declared.found.Latest.{Latest}
+use Rattle.lvm_rec.specs.declared.latest.Latest.{Latest}
 use Rattle.lvm_area.specs.Reading.{under, descriptor_shown, IsLatestOn}
 
 pub is_there : (d n size : ℕ) → d < n → 4096 ≤ size → (nat_lt d n && nat_le 4096 size) ≡ true

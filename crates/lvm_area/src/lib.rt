@@ -4,5 +4,4 @@
 mod area;
 mod found;
 
-pub use area::{RecordArea, Stop, Unread, read_area, read_descriptor};
-pub use found::Latest;
+pub use area::{RecordArea, read_area, read_descriptor};

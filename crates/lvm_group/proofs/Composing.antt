@@ -11,19 +11,19 @@ use Rattle.lvm_rec.specs.declared.homes.Homes.{Homes}
 use Rattle.lvm_write.specs.Parts.{Spends}
 use Rattle.lvm_write.specs.Written.{LogsPlan, KeepsShelf, IsDarkened, IsGivenUp}
 use Rattle.lvm_write.proofs.Transfers.{darkened_then, given_up_then}
-use Rattle.lvm_area.specs.Reading.{IsUnwritten, IsRested}
+use Rattle.lvm_transfer.specs.Reading.{IsUnwritten, IsRested}
 use Rattle.lvm_begin.specs.Beginning.{Beginning, Part, new_beginning, new_order, IsOfParts, Stands as PartStands}
 use Rattle.lvm_begin.specs.Ends.{BothFlip, HasNoFault, StopsAt, IsLowestFailed, WasTriedOnTargets}
 use Rattle.lvm_core.specs.declared.parts.Room.{Room}
 use Rattle.lvm_core.specs.declared.refused.Cause.{Cause}
 use Rattle.lvm_core.specs.declared.refused.Cause.TheVariants as cause
-use Rattle.lvm_group.specs.NewGroup.{NewGroup, among, size_for, given_up, MayBegin, RefusesFirst}
+use Rattle.lvm_group_plan.specs.NewGroup.{NewGroup, among, size_for, given_up, MayBegin, RefusesFirst}
 use Rattle.lvm_group.specs.Shown.{IsClear}
-use Rattle.lvm_group.specs.Planned.{IsPlanned, RefusesPlan}
+use Rattle.lvm_group_plan.specs.Planned.{IsPlanned, RefusesPlan}
 use Rattle.lvm_group.specs.Made.{beginning_for, IsAsBefore, StopsAtWrite, Breaks, HasRead, Refuses}
 use Rattle.lvm_group.specs.Steps.{HasOnlyRead, LetsMake, RefusesFound, AreWritten, WritingFails, Stands, cuts_power}
 use Rattle.lvm_group.specs.declared.look.Free.{Free}
-use Rattle.lvm_group.specs.declared.plan.Plan.{Plan}
+use Rattle.lvm_group_plan.specs.declared.plan.Plan.{Plan}
 
 -- ---- refusals before the first write
 

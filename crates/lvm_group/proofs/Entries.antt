@@ -15,7 +15,7 @@ use Rattle.lvm_steps.proofs.Entering.{quiet_goes_on, calm_goes_on}
 use Rattle.lvm_core.specs.Sound.{HaveAllLanded}
 use Rattle.lvm_core.proofs.Dark.{landed_still}
 use Rattle.lvm_stamps.proofs.Clock.{later_joins}
-use Rattle.lvm_group.specs.NewGroup.{given_up}
+use Rattle.lvm_group_plan.specs.NewGroup.{given_up}
 
 -- the entries by which the contents of disks are given up
 abbrev pub out : List ℕ → List Fact

@@ -60,10 +60,10 @@ use Rattle.lvm_core.specs.Starting.{IsReservedFor}
 use Rattle.lvm_session_start.specs.Beginning.{first_core}
 use Rattle.lvm_session.specs.State.{Core, is_there}
 use Rattle.lvm_core.proofs.Held.{empty_names_none}
-use Rattle.lvm_group.specs.NewGroup.{NewGroup, among, sectors_on, size_for, member_for, new_group, new_status, first_absent, first_too_small}
+use Rattle.lvm_group_plan.specs.NewGroup.{NewGroup, among, sectors_on, size_for, member_for, new_group, new_status, first_absent, first_too_small}
 use Rattle.lvm_group.specs.Shown.{IfShown, HasGroup, ShowsEarlier, SparesTold}
 use Rattle.lvm_group.specs.Made.{beginning_for}
-use Rattle.lvm_group.proofs.Groups.{room_among, placed_among, member_among, nothing_missing, there_among, first_among}
+use Rattle.lvm_group_plan.proofs.Groups.{room_among, placed_among, member_among, nothing_missing, there_among, first_among}
 use Rattle.lvm_group.proofs.Seeing.{told_by, if_told}
 
 -- a shelf that tells its media now told it before

@@ -19,7 +19,7 @@ use Rattle.lvm_steps.proofs.Spans.{keeps_still, keeps_steps, steps_go_on, disks_
 use Rattle.lvm_stamps.specs.Behind.{IsBehind, IsAhead, ClockIsAhead}
 use Rattle.lvm_stamps.proofs.Clock.{all_is_behind_next}
 use Rattle.lvm_stamps.proofs.Shelves.{unwritten_stays_behind}
-use Rattle.lvm_area.specs.Reading.{IsUnwritten, OnlyReads}
+use Rattle.lvm_transfer.specs.Reading.{IsUnwritten, OnlyReads}
 use Rattle.lvm_rec.specs.declared.homes.Homes.{Homes}
 use Rattle.lvm_write.specs.Homes.{SparesNewest}
 use Rattle.lvm_write.specs.Writes.{DiskWritesLeave}
@@ -35,16 +35,16 @@ use Rattle.lvm_core.specs.Held.{StartsHeld}
 use Rattle.lvm_session_start.specs.declared.parts.Parts.{Parts}
 use Rattle.lvm_core.specs.Starting.{IsReservedFor}
 use Rattle.lvm_session_start.specs.Beginning.{first_core}
-use Rattle.lvm_group.specs.NewGroup.{NewGroup, among, sectors_on, size_for, new_group, new_status, given_up, first_absent, first_too_small, MayBegin}
+use Rattle.lvm_group_plan.specs.NewGroup.{NewGroup, among, sectors_on, size_for, new_group, new_status, given_up, first_absent, first_too_small, MayBegin}
 use Rattle.lvm_group.specs.Shown.{IfShown, HasGroup, ShowsEarlier, SparesTold}
-use Rattle.lvm_group.specs.Planned.{IsPlanned}
+use Rattle.lvm_group_plan.specs.Planned.{IsPlanned}
 use Rattle.lvm_group.specs.Made.{beginning_for, Refuses}
 use Rattle.lvm_group.specs.Steps.{LetsMake, AreWritten, WritingFails, NewWritesGive, Stands, cuts_power, cut_at, standing_of}
 use Rattle.lvm_group.specs.declared.look.Free.{Free}
-use Rattle.lvm_group.specs.declared.plan.Plan.{Plan}
+use Rattle.lvm_group_plan.specs.declared.plan.Plan.{Plan}
 use Rattle.lvm_group.proofs.Composing.{cut_where, same_beginning, refuses_writing, stands}
 use Rattle.lvm_group.proofs.Entries.{keeps_cut, calm_cut, calm_given}
-use Rattle.lvm_group.proofs.Groups.{room_among}
+use Rattle.lvm_group_plan.proofs.Groups.{room_among}
 use Rattle.lvm_group.proofs.Keeping.{IsBeginning, descriptor_fits, status_fits, path_kept, then_behind, starts_held}
 
 -- ---- entries after a cut

@@ -1,7 +1,7 @@
 //! The disks are read, and what they show is judged.
 ghost use Rattle.std.specs.Prelude.{◌≢◌};
 ghost use Rattle.lvm_disk.specs.Device.{IsReady};
-ghost use Rattle.lvm_area.specs.Reading.{OnlyReads};
+ghost use Rattle.lvm_transfer.specs.Reading.{OnlyReads};
 ghost use Rattle.lvm_group.specs.Steps.{LookGives};
 
 use crate::judge::judge;

@@ -8,17 +8,16 @@ ghost use Rattle.lvm_core.specs.Held.{StartsHeld};
 ghost use Rattle.lvm_core.specs.Sound.{HaveAllLanded};
 ghost use Rattle.lvm_core.specs.Starting.{IsRoom};
 ghost use Rattle.lvm_session_start.specs.Beginning.{first_core};
-ghost use Rattle.lvm_group.specs.NewGroup.{IsWellFormed, given_up};
-ghost use Rattle.lvm_group.specs.Planned.{asked_group, IsPlannedFor, RefusesPlan};
+ghost use Rattle.lvm_group_plan.specs.NewGroup.{IsWellFormed, given_up};
+ghost use Rattle.lvm_group_plan.specs.Planned.{IsPlannedFor, RefusesPlan};
 ghost use Rattle.lvm_group.specs.Made.{Refuses};
-ghost use Rattle.lvm_group.specs.Steps.{cut_at, standing_of, Stands};
+ghost use Rattle.lvm_group.specs.Steps.{asked_group, cut_at, standing_of, Stands};
 
-use crate::checks::size_to_begin;
 use crate::look::look;
-use crate::plan::Plan;
 use crate::write::write;
 use lvm_core::{Cause, Parts, Room};
 use lvm_disk::Shelf;
+use lvm_group_plan::{Plan, size_to_begin};
 use lvm_history::History;
 use lvm_num::{Memory, Name};
 use lvm_rec::Homes;
@@ -37,8 +36,8 @@ pub struct Asked {
 
 /// What the session of a group that was made starts with: its parts, and the slots that come next.
 #[derive(Drop)]
-pub struct Standing {
-    pub parts: Parts,
+pub struct Standing<P> {
+    pub parts: P,
     pub homes: Homes,
 }
 
@@ -51,7 +50,7 @@ pub fn make<S: Shelf>(
     disks: &[u16],
     moment: u64,
     patience: &mut Patience,
-) -> Result<Standing, Cause>
+) -> Result<Standing<Parts>, Cause>
     requires ready { IsReady (S.device shelf.old) }
     requires landed { HaveAllLanded history.old.facts }
     requires asked { IsWellFormed (asked_group asked.now disks.now moment) }
@@ -69,14 +68,25 @@ pub fn make<S: Shelf>(
 }
 
 // What the session of a plan starts with, where its records were written.
-fn start_with(plan: Plan, brought: Result<Homes, Cause>) -> Result<Standing, Cause>
+fn start_with(plan: Plan, brought: Result<Homes, Cause>) -> Result<Standing<Parts>, Cause>
     ensures { result ≡ standing_of plan.parts brought }
 {
-    match brought {
-        Ok(homes) => Ok(Standing {
-            parts: plan.parts,
-            homes,
-        }),
+    with_homes(parts_of(plan), brought)
+}
+
+// The parts of its session alone.
+fn parts_of(plan: Plan) -> Parts
+    ensures { result ≡ plan.parts }
+{
+    plan.parts
+}
+
+// What starts with these parts and these homes, where there are some.
+fn with_homes<P: Drop>(parts: P, homes: Result<Homes, Cause>) -> Result<Standing<P>, Cause>
+    ensures { result ≡ standing_of parts homes }
+{
+    match homes {
+        Ok(homes) => Ok(Standing { parts, homes }),
         Err(why) => Err(why),
     }
 }

@@ -7,7 +7,7 @@ ghost use Rattle.lvm_core.specs.Starting.{IsRoom};
 ghost use Rattle.lvm_core.specs.State.{state_of};
 ghost use Rattle.lvm_core.specs.Coming.{BringsOn, IsStarted, shelf_left, history_left};
 ghost use Rattle.lvm_group.specs.Made.{MkvgGives};
-ghost use Rattle.lvm_group.specs.NewGroup.{IsWellFormed};
+ghost use Rattle.lvm_group_plan.specs.NewGroup.{IsWellFormed};
 
 use crate::make::{Asked, make};
 use lvm_core::{Driver, Refused, Room};

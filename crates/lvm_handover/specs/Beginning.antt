@@ -13,7 +13,7 @@ use Rattle.lvm_core.specs.Settled.{IsSettled}
 use Rattle.lvm_core.specs.Sound.{IsSoundBetween}
 use Rattle.lvm_varyon.specs.Varied.{ComesOn}
 use Rattle.lvm_group.specs.Made.{IsMade}
-use Rattle.lvm_group.specs.NewGroup.{NewGroup}
+use Rattle.lvm_group.specs.passed.GroupPlan.{NewGroup}
 use Rattle.lvm_earlier.specs.passed.Tie.{IsStamped}
 
 -- what each history is that was made: its entries are in their order, and their numbers are of four bytes

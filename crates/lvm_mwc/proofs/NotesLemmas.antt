@@ -15,8 +15,8 @@ use Rattle.lvm_mwc.specs.Firsts.{with_first}
 use Rattle.lvm_mwc.specs.Entries.{note_of}
 use Rattle.std.proofs.lemmas.List.{length-take, reverse-append}
 use Rattle.std.proofs.lemmas.List.Sums.{length-filter, count_by-le-length}
-use Rattle.lvm_mwc.specs.Notes.{is_on, both_name, names_group, common, disks_of}
-use Rattle.lvm_mwc.specs.Cache.{Cached, flight_on, is_named, after_start, after_end, started, ended, ended_as, no_notes, IsNew}
+use Rattle.lvm_mwc.specs.Notes.{is_on, is_in_flight, both_name, names_group, common, disks_of}
+use Rattle.lvm_mwc.specs.Cache.{Cached, has_disk, flight_on, flight_names, is_named, after_start, after_end, started, ended, ended_as, no_notes, IsNew}
 use Rattle.lvm_mwc.proofs.FirstsLemmas.{first_at, none_at}
 
 abbrev pub cached : List CacheEntry → List DiskNotes → Cached
@@ -56,6 +56,12 @@ any_from_end p [] = refl
 any_from_end p (e ∷ note) =
     ap (list_any p) (reverse-append (e ∷ []) note) ∙ list_any-append p (reverse note) (e ∷ []) ∙ ap (λ (b : Bool). b || (p e || false)) (any_from_end p note) ∙ either_way (list_any p note) (p e)
 
+-- ---- whether a disk has notes
+
+pub there_on : (s : Cached) (disk : ℕ) (place : Option ℕ) → position (is_on disk) s.notes ≡ place → is_some place ≡ has_disk s disk
+there_on s disk None at = sym (ap (λ (o : Option DiskNotes). is_some o) (none_at (is_on disk) s.notes at).found)
+there_on s disk (Some k) at = sym (ap (λ (o : Option DiskNotes). is_some o) (first_at (is_on disk) s.notes (no_notes 0) k at).found)
+
 -- ---- what is in flight
 
 pub no_flight : (s : Cached) (disk : ℕ) → position (is_on disk) s.notes ≡ None → is_some (flight_on s disk) ≡ false
@@ -63,6 +69,16 @@ no_flight s disk at = ap (λ (o : Option DiskNotes). is_some (option_and_then (�
 
 pub flight_at : (s : Cached) (disk k : ℕ) (d : DiskNotes) → position (is_on disk) s.notes ≡ Some k → is_some (flight_on s disk) ≡ is_some (get_or s.notes k d).flight
 flight_at s disk k d at = ap (λ (o : Option DiskNotes). is_some (option_and_then (λ (n : DiskNotes). n.flight) o)) (first_at (is_on disk) s.notes d k at).found
+
+-- whether the note in flight on a disk names a track group
+abbrev names_in_flight : ℕ → ℕ → Option DiskNotes → Bool
+names_in_flight lv group o = option_map_or (λ (note : ArrayVec NoteEntry). names_group note.items lv group) (option_and_then (λ (n : DiskNotes). n.flight) o) false
+
+pub not_flying : (s : Cached) (disk lv group : ℕ) → position (is_on disk) s.notes ≡ None → flight_names s disk lv group ≡ false
+not_flying s disk lv group at = ap (names_in_flight lv group) (none_at (is_on disk) s.notes at).found
+
+pub flying_at : (s : Cached) (disk lv group k : ℕ) (d : DiskNotes) → position (is_on disk) s.notes ≡ Some k → flight_names s disk lv group ≡ is_in_flight lv group (get_or s.notes k d)
+flying_at s disk lv group k d at = ap (names_in_flight lv group) (first_at (is_on disk) s.notes d k at).found
 
 -- ---- what is named
 

@@ -16,7 +16,7 @@ use Rattle.lvm_steps.proofs.Entering.{quiet_goes_on, calm_goes_on}
 use Rattle.lvm_steps.proofs.Writing.{still_shows_none}
 use Rattle.lvm_stamps.proofs.Shelves.{unwritten_stays_behind}
 use Rattle.lvm_transfer.specs.Transfer.{Relights}
-use Rattle.lvm_area.specs.Reading.{OnlyReads, IsCutOff}
+use Rattle.lvm_transfer.specs.Reading.{OnlyReads, IsCutOff}
 use Rattle.lvm_area.specs.Reading.{descriptor_shown}
 use Rattle.lvm_raw.specs.declared.fault.RawFault.{RawFault}
 use Rattle.lvm_raw.specs.declared.fault.RawFault.TheVariants as fault

@@ -3,13 +3,13 @@ use Rattle.std.proofs.Common.{◌≡◌, inl, inr, ◌≤◌, ◌+◌, ◌++◌,
 use Rattle.std.proofs.lemmas.List.{length-append}
 use Rattle.lvm_disk.specs.Counts.{Rose}
 use Rattle.lvm_disk.specs.Device.{Media, Device, IsReady, image_of}
-use Rattle.lvm_area.specs.declared.area.Stop.{Stop}
+use Rattle.lvm_transfer.specs.declared.reading.Stop.{Stop}
 use Rattle.lvm_survey.specs.declared.row.SurveyRow.{SurveyRow}
 use Rattle.lvm_survey.specs.Surveyed.{IsRead}
-use Rattle.lvm_area.specs.Reading.{IsUntouched, OnlyReads, IsRested, StopGives}
+use Rattle.lvm_transfer.specs.Reading.{IsUntouched, OnlyReads, IsRested, StopGives}
 use Rattle.lvm_survey.specs.Surveying.{IsSmall, IsSurveyed}
-use Rattle.lvm_area.proofs.Following.{only_none, untouched_none, rested_none, only_more, untouched_more, rested_more, stop_more}
-use Rattle.lvm_area.proofs.Joining.{got_within}
+use Rattle.lvm_transfer.proofs.Following.{only_none, untouched_none, rested_none, only_more, untouched_more, rested_more, stop_more}
+use Rattle.lvm_transfer.proofs.Joining.{got_within}
 use Rattle.lvm_survey.proofs.DiskRows.{got_one_more}
 
 -- the disks below so many have their rows, and no other was read

@@ -15,7 +15,7 @@ use Rattle.lvm_survey.specs.declared.row.SurveyRow.{SurveyRow}
 use Rattle.lvm_area.specs.Reading.{home_of, under, IsArea}
 use Rattle.lvm_survey.specs.Surveyed.{home_on, IsEmpty, IsRead}
 use Rattle.lvm_survey.specs.Surveying.{IsRowOfArea, IsSmall}
-use Rattle.lvm_area.proofs.Joining.{or_got}
+use Rattle.lvm_transfer.proofs.Joining.{or_got}
 use Rattle.lvm_area.proofs.Shown.{is_there, where_it_has}
 
 -- ---- whether a disk has records

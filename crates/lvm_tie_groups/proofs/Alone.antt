@@ -23,9 +23,9 @@ use Rattle.lvm_session.specs.State.{Core, State, is_there}
 use Rattle.lvm_begin.specs.Beginning.{Beginning, IsOfParts, Part, TheDescriptor, TheNotes, TheStatus, new_order}
 use Rattle.lvm_core.specs.declared.parts.Room.{Room}
 use Rattle.lvm_group.specs.Made.{IsMade, beginning_for}
-use Rattle.lvm_group.specs.NewGroup.{NewGroup, among, new_group, size_for}
+use Rattle.lvm_group.specs.passed.GroupPlan.{NewGroup, among, new_group, size_for}
 use Rattle.lvm_group.specs.Shown.{HasGroup}
-use Rattle.lvm_group.proofs.Groups.{member_among, nothing_missing}
+use Rattle.lvm_group.proofs.passed.GroupPlan.{member_among, nothing_missing}
 use Rattle.lvm_tie_groups.specs.Coming.{MadeAlone}
 
 -- what the parts of a beginning bring goes to its targets

@@ -47,7 +47,7 @@ use Rattle.lvm_kept.proofs.Finding.{images_within}
 use Rattle.lvm_recover.proofs.Equalling.{quiet_is_even}
 use Rattle.lvm_core.specs.Sound.{HaveAllLanded, IsFitting}
 use Rattle.lvm_core.specs.Starting.{IsRoom, room_of}
-use Rattle.lvm_group.specs.NewGroup.{given_up, new_group, new_status}
+use Rattle.lvm_group.specs.passed.GroupPlan.{given_up, new_group, new_status}
 use Rattle.lvm_rest.specs.Rest.{NoneIsBehind}
 use Rattle.lvm_rest.proofs.Marking.{none_is_left_behind}
 use Rattle.lvm_tie.specs.Tied.{IsGood, moment_of}

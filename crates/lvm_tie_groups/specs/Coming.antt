@@ -19,7 +19,7 @@ use Rattle.lvm_core.specs.Sound.{IsSoundBetween}
 use Rattle.lvm_core.specs.Starting.{IsRoom}
 use Rattle.lvm_varyon.specs.Varied.{ComesOn}
 use Rattle.lvm_group.specs.Made.{IsMade}
-use Rattle.lvm_group.specs.NewGroup.{NewGroup}
+use Rattle.lvm_group.specs.passed.GroupPlan.{NewGroup}
 use Rattle.lvm_rest.specs.Rest.{IsEven}
 use Rattle.lvm_recover.specs.Recovered.{HasNoPassive}
 use Rattle.lvm_tie.specs.Tied.{IsGood}

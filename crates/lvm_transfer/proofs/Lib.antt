@@ -1,3 +1,7 @@
 pub mod Waiting
 pub mod Ending
 pub mod Effects
+pub mod Joining
+pub mod Transferring
+pub mod Following
+pub mod Fronts

@@ -38,7 +38,7 @@ use Rattle.lvm_next.specs.Restated.{Restated}
 use Rattle.lvm_recovery.specs.Copying.{LogsOnly}
 use Rattle.lvm_recovery.proofs.Logged.{only_planned}
 use Rattle.lvm_varyon.specs.Found.{records_on}
-use Rattle.lvm_varyon.specs.Chosen.{answering}
+use Rattle.lvm_varyon_plan.specs.Chosen.{answering}
 use Rattle.lvm_varyon.specs.Varied.{HasWritten}
 use Rattle.lvm_varyon.specs.Writing.{beginning, AllWritten}
 use Rattle.lvm_varyon.proofs.Grouping.{same_voters}

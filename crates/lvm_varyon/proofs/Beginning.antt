@@ -41,10 +41,11 @@ use Rattle.lvm_core.specs.declared.parts.Room.{Room}
 use Rattle.lvm_begin.specs.Beginning.{Beginning, describes, states, MayBeginAgain}
 use Rattle.lvm_next.specs.Next.{IsNextStatus, is_passive, has_passive}
 use Rattle.lvm_next.proofs.Building.{copy_is_placed, is_member_of}
-use Rattle.lvm_varyon.specs.declared.plan.Plan.{Plan}
+use Rattle.lvm_varyon_plan.specs.declared.plan.Plan.{Plan}
 use Rattle.lvm_varyon.specs.Found.{records_on}
-use Rattle.lvm_varyon.specs.Chosen.{MayComeOn}
-use Rattle.lvm_varyon.specs.Parts.{IsSurveyOf, IsPlan}
+use Rattle.lvm_varyon_plan.specs.Chosen.{MayComeOn}
+use Rattle.lvm_varyon_plan.specs.Planned.{IsPlan}
+use Rattle.lvm_varyon.specs.Parts.{IsSurveyOf}
 use Rattle.lvm_varyon.specs.Writing.{beginning}
 use Rattle.lvm_varyon.proofs.Seeing.{answered_by, read_row, shows_records, row_answers}
 use Rattle.lvm_varyon.proofs.Grouping.{same_voters, same_status, holds_finds}

@@ -4,7 +4,7 @@ use Rattle.lvm_num.specs.Buffer.{Buffer}
 use Rattle.lvm_num.specs.Disks.{Disks}
 use Rattle.lvm_disk.specs.Counts.{Rose}
 use Rattle.lvm_disk.specs.Device.{Device}
-use Rattle.lvm_area.specs.Reading.{IsCutOff}
+use Rattle.lvm_transfer.specs.Reading.{IsCutOff}
 use Rattle.lvm_write.specs.Parts.{Spends}
 use Rattle.lvm_write.proofs.Transfers.{spends_then, spent_then}
 use Rattle.lvm_begin.specs.declared.begin.Begun.{Begun}

@@ -35,7 +35,7 @@ use Rattle.lvm_recovery.specs.Ending.{ShowsEqualised}
 use Rattle.lvm_recovery.specs.Equalising.{MayEqualise}
 use Rattle.lvm_recovery.specs.Planned.{ArePlanned}
 use Rattle.lvm_recovery.proofs.Ending.{equalised_ends, next_same_plan, restated_may_equalise, same_notes_same_plan}
-use Rattle.lvm_varyon.specs.Chosen.{answering}
+use Rattle.lvm_varyon_plan.specs.Chosen.{answering}
 use Rattle.lvm_varyon.specs.Equal.{MakesEqual}
 use Rattle.lvm_varyon.proofs.Beside.{IsBesideSlots, beside_keeps_before, beside_spares, copies_beside, notes_beside}
 use Rattle.lvm_varyon.proofs.After.{HasRecords, MayHaveRecords, restated, same_names, shown_is, shows, spares}

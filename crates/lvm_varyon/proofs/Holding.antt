@@ -29,7 +29,7 @@ use Rattle.lvm_core.specs.Held.{NotesAreHome}
 use Rattle.lvm_core.proofs.Held.{empty_names_none}
 use Rattle.lvm_next.specs.Restated.{Restated}
 use Rattle.lvm_recover.specs.Recovered.{HasNoPassive}
-use Rattle.lvm_varyon.specs.Chosen.{answering}
+use Rattle.lvm_varyon_plan.specs.Chosen.{answering}
 use Rattle.lvm_varyon.specs.Equal.{MakesEqual}
 use Rattle.lvm_varyon.specs.Found.{HaveAnswered}
 use Rattle.lvm_varyon.specs.Varied.{IsAheadOfDisks, IsBrought, last_stamp}

@@ -16,8 +16,9 @@ use Rattle.lvm_write.proofs.Writing.{both_from}
 use Rattle.lvm_begin.specs.Beginning.{Beginning, again_beginning, again_order, IsOfParts, MayBeginAgain}
 use Rattle.lvm_recovery.specs.Equalising.{MayEqualise}
 use Rattle.lvm_begin.proofs.Keeping.{kept_then}
-use Rattle.lvm_varyon.specs.declared.plan.Plan.{Plan}
-use Rattle.lvm_varyon.specs.Parts.{IsSurveyOf, IsPlan}
+use Rattle.lvm_varyon_plan.specs.declared.plan.Plan.{Plan}
+use Rattle.lvm_varyon_plan.specs.Planned.{IsPlan}
+use Rattle.lvm_varyon.specs.Parts.{IsSurveyOf}
 use Rattle.lvm_varyon.specs.Varied.{IsAheadOfDisks}
 use Rattle.lvm_varyon.specs.Equal.{AllWritesKeep}
 use Rattle.lvm_varyon.specs.Writing.{beginning, AllWritten}

@@ -4,7 +4,6 @@ pub mod Placing
 pub mod Sizes
 pub mod Beginning
 pub mod Placed
-pub mod Choosing
 pub mod After
 pub mod Beside
 pub mod Equalled

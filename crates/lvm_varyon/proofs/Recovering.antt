@@ -27,7 +27,7 @@ use Rattle.lvm_recovery.specs.Planned.{ArePlanned}
 use Rattle.lvm_recovery.proofs.Ending.{same_notes_same_plan}
 use Rattle.lvm_recovery.proofs.Logged.{only_planned, only_then, only_told, only_wider}
 use Rattle.lvm_recovery.proofs.Runs.{runs_are_of_copies}
-use Rattle.lvm_varyon.specs.Chosen.{answering}
+use Rattle.lvm_varyon_plan.specs.Chosen.{answering}
 use Rattle.lvm_varyon.specs.Equal.{MakesEqual}
 use Rattle.lvm_varyon.proofs.After.{HasRecords, MayHaveRecords, found, record_ranges, records_keep, restated, same_data, same_names, shows, voters}
 use Rattle.lvm_varyon.proofs.Equalled.{ends, enough, names_as_found, none_named}

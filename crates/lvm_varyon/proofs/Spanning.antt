@@ -32,7 +32,7 @@ use Rattle.lvm_session_start.specs.declared.parts.Parts.{Parts}
 use Rattle.lvm_session_start.specs.Beginning.{first_core}
 use Rattle.lvm_session.specs.State.{Core, is_there}
 use Rattle.lvm_varyon.specs.Varied.{IsRecovered, ComesOn, IsRestated, IsAheadOfDisks, IsBrought, last_stamp, log_after}
-use Rattle.lvm_varyon.specs.Chosen.{answering}
+use Rattle.lvm_varyon_plan.specs.Chosen.{answering}
 use Rattle.lvm_recover.specs.Recovered.{HasNoPassive}
 use Rattle.lvm_varyon.proofs.Left.{next_leaves_none}
 use Rattle.lvm_varyon.proofs.Seeing.{if_told}

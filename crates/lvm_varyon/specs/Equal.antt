@@ -11,7 +11,7 @@ use Rattle.lvm_disk.specs.Paths.{DeviceStep, Path}
 use Rattle.lvm_kept.specs.Group.{IsOneOf}
 use Rattle.lvm_kept.specs.Torn.{IsOfNote}
 use Rattle.lvm_steps.specs.Moments.{StaysKept}
-use Rattle.lvm_area.specs.Reading.{IsRested, IsCutOff}
+use Rattle.lvm_transfer.specs.Reading.{IsRested, IsCutOff}
 use Rattle.lvm_write.specs.Notes.{empty_note_sector, NoteTold}
 use Rattle.lvm_write.specs.Written.{HaveRoom, KeepsShelf}
 use Rattle.lvm_rec.specs.declared.homes.Homes.{Homes}
@@ -22,7 +22,7 @@ use Rattle.lvm_recovery.specs.Copying.{AreApart, IsCopied, IsInOneRun, IsOfCopie
 use Rattle.lvm_recovery.specs.Equalising.{MayEqualise}
 use Rattle.lvm_core.specs.declared.refused.Cause.{Cause}
 use Rattle.lvm_core.specs.declared.refused.Cause.TheVariants as cause
-use Rattle.lvm_varyon.specs.declared.plan.Plan.{Plan}
+use Rattle.lvm_varyon_plan.specs.declared.plan.Plan.{Plan}
 use Rattle.lvm_varyon.specs.Writing.{AllWritten, OneWriteFailed, WasBrokenOff, IsStillOut}
 
 -- ---- copies, and then notes

@@ -13,7 +13,7 @@ use Rattle.lvm_kept.specs.Recovered.{Recovered}
 use Rattle.lvm_stamps.specs.Behind.{ClockIsAhead, IsBehind}
 use Rattle.lvm_rec.specs.declared.homes.Homes.{Homes}
 use Rattle.lvm_quorum.specs.Choosing.{HasNoRecord, HasRecord, IsAmbiguous, LacksQuorum}
-use Rattle.lvm_area.specs.Reading.{IsUnwritten, IsRested, IsCutOff}
+use Rattle.lvm_transfer.specs.Reading.{IsUnwritten, IsRested, IsCutOff}
 use Rattle.lvm_core.specs.declared.parts.Room.{Room}
 use Rattle.lvm_core.specs.declared.refused.Cause.{Cause}
 use Rattle.lvm_core.specs.declared.refused.Refused.{Refused}
@@ -26,7 +26,7 @@ use Rattle.lvm_session.specs.State.{Core}
 use Rattle.lvm_begin.specs.Beginning.{Beginning, MayBeginAgain}
 use Rattle.lvm_varyon.specs.Found.{Found, HaveAnswered}
 use Rattle.lvm_next.specs.Next.{IsNextStatus}
-use Rattle.lvm_varyon.specs.Chosen.{answering, MayComeOn, IsClockBehindGroup}
+use Rattle.lvm_varyon_plan.specs.Chosen.{answering, MayComeOn, IsClockBehindGroup}
 use Rattle.lvm_next.specs.Restated.{Restated}
 use Rattle.lvm_recover.specs.Recovered.{HasNoPassive}
 use Rattle.lvm_recovery.specs.declared.copying.Recopy.{Recopy}
@@ -151,6 +151,6 @@ BringGives old new name moment patience room (Ok got) = IsBrought old new name m
 BringGives old new name moment patience room (Err why) = VaryonStops old new name moment patience why
 
 -- what the session of these parts begins with, where its records were written
-abbrev pub brought_of : Parts → Result Homes Cause → Result (Parts × Homes) Cause
+abbrev pub brought_of : {T : Type 0} → T → Result Homes Cause → Result (T × Homes) Cause
 brought_of parts (Ok homes) = Ok (parts, homes)
 brought_of parts (Err why) = Err why

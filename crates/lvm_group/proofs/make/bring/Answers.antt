@@ -7,10 +7,10 @@ use Rattle.lvm_core.specs.Coming.{BringsOn}
 use Rattle.lvm_core.specs.Held.{StartsHeld}
 use Rattle.lvm_session_start.specs.Beginning.{first_core}
 use Rattle.lvm_core.specs.declared.refused.Cause.{Cause}
-use Rattle.lvm_group.specs.NewGroup.{NewGroup}
-use Rattle.lvm_group.specs.Planned.{asked_group, IsPlannedFor}
+use Rattle.lvm_group_plan.specs.NewGroup.{NewGroup}
+use Rattle.lvm_group_plan.specs.Planned.{IsPlannedFor}
 use Rattle.lvm_group.specs.Made.{Refuses}
-use Rattle.lvm_group.specs.Steps.{cut_at, Stands}
+use Rattle.lvm_group.specs.Steps.{asked_group, cut_at, Stands}
 use Rattle.lvm_group.proofs.Composing.{refuses_reading}
 use Rattle.lvm_group.proofs.Midst.{read_leaves, descriptor_long, status_long, have_room, refuses_written, stands_written, written_leaves, written_held}
 use Rattle.lvm_group.proofs.make.bring.Goals as goal

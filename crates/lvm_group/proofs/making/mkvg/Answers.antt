@@ -5,7 +5,7 @@ use Rattle.lvm_session.specs.State.{Core}
 use Rattle.lvm_session_start.specs.Beginning.{AreFaults}
 use Rattle.lvm_core.specs.Held.{StartsHeld}
 use Rattle.lvm_core.specs.Coming.{BringsOn}
-use Rattle.lvm_group.specs.NewGroup.{NewGroup}
+use Rattle.lvm_group_plan.specs.NewGroup.{NewGroup}
 use Rattle.lvm_group.specs.Made.{IsMade}
 use Rattle.lvm_group.specs.Steps.{Stands}
 use Rattle.lvm_group.proofs.Starting.{spare_left, still_landed, placed, made, settles, keeps_on, calm_on, none_left}

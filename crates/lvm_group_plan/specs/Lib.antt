@@ -1,0 +1,2 @@
+pub mod NewGroup
+pub mod Planned
