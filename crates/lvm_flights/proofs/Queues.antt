@@ -11,7 +11,7 @@ use Rattle.std.proofs.lemmas.List.Folds.{list_any_more}
 use Rattle.std.proofs.lemmas.Grind.{common_steps}
 use Rattle.std.proofs.Math.Seq.{map-set_same}
 use Rattle.lvm_flights.specs.Tickets.{has_ticket, IsLeastFree, AreBitsOf, AllTaken}
-use Rattle.lvm_flights.specs.Flights.{flight_of, flights_of, delays_of}
+use Rattle.lvm_flights.specs.Flights.{flight_of, flights_of, delays_of, passed, NoDelays}
 use Rattle.lvm_flights.specs.declared.flying.Flying.{Flying}
 
 -- ---- delays
@@ -34,6 +34,27 @@ one_lowered (x ∷ l) (suc i) n within is = ap (λ (m : List ℕ). (x - 1) ∷ m
 pub length-delays : (l : List Flying) → length (delays_of l) ≡ length l
 length-delays [] = refl
 length-delays (f ∷ l) = ap suc (length-delays l)
+
+pub none_passed : (delays : List ℕ) → NoDelays delays → NoDelays (passed delays)
+none_passed [] none = tt
+none_passed (n ∷ delays) none = (let e = none.0 in omega arith, none_passed delays none.1)
+
+pub passed_none : (delays : List ℕ) → NoDelays delays → passed delays ≡ delays
+passed_none [] none = refl
+passed_none (n ∷ delays) none =
+    let zero_is = none.0 in
+    let same : n - 1 ≡ n = omega arith in
+    ap (λ (l : List ℕ). (n - 1) ∷ l) (passed_none delays none.1) ∙ ap (λ (k : ℕ). k ∷ delays) same
+
+pub none_removed : (delays : List ℕ) (i : ℕ) → NoDelays delays → NoDelays (remove delays i)
+none_removed [] zero none = tt
+none_removed [] (suc i) none = tt
+none_removed (n ∷ delays) zero none = none.1
+none_removed (n ∷ delays) (suc i) none = (none.0, none_removed delays i none.1)
+
+pub none_more : (delays : List ℕ) (n : ℕ) → NoDelays delays → n ≡ 0 → NoDelays (delays ++ n ∷ [])
+none_more [] n none is = (is, tt)
+none_more (m ∷ delays) n none is = (none.0, none_more delays n none.1 is)
 
 -- ---- the first that is due
 

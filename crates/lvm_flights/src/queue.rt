@@ -1,7 +1,7 @@
 //! Which transfer in memory is next.
-ghost use Rattle.std.specs.Prelude.{◌≡◌, ◌≤◌, ◌<◌, ◌==◌, length, Some, slice_get, vec_capacity};
+ghost use Rattle.std.specs.Prelude.{◌≡◌, ◌≤◌, ◌<◌, ◌==◌, false, length, Some, slice_get, vec_capacity};
 ghost use Rattle.std.specs.List.{position, list_any, remove};
-ghost use Rattle.lvm_flights.specs.Flights.{passed};
+ghost use Rattle.lvm_flights.specs.Flights.{passed, NoDelays};
 ghost use Rattle.lvm_flights.specs.Tickets.{IsLeastFree, AreBitsOf, AllTaken};
 ghost use Rattle.lvm_flights.specs.Flights.{flight_of, flights_of, delays_of};
 
@@ -72,8 +72,8 @@ pub fn pass_over(flights: &mut [Flying])
     }
 }
 
-/// Takes a transfer out, and counts the reap that does so as one that passed over the others.
-pub fn take_flight(flights: &mut Vec<Flying>, place: usize) -> Flying
+// Takes a transfer out, and passes over the others.
+fn take_from_delayed(flights: &mut Vec<Flying>, place: usize) -> Flying
     requires { place < length flights.old.items }
     ensures there { slice_get (flights_of flights.old.items) place ≡ Some (flight_of result) }
     ensures flights { flights_of flights.new.items ≡ remove (flights_of flights.old.items) place }
@@ -83,4 +83,21 @@ pub fn take_flight(flights: &mut Vec<Flying>, place: usize) -> Flying
     let flying = flights.remove(place);
     pass_over(flights);
     flying
+}
+
+/// Takes a transfer out, and counts the reap that does so as one that passed over the others. `delayed` is
+/// false only where none is to be passed over.
+pub fn take_flight(flights: &mut Vec<Flying>, place: usize, delayed: bool) -> Flying
+    requires there { place < length flights.old.items }
+    requires delayed { delayed ≡ false → NoDelays (delays_of flights.old.items) }
+    ensures there { slice_get (flights_of flights.old.items) place ≡ Some (flight_of result) }
+    ensures flights { flights_of flights.new.items ≡ remove (flights_of flights.old.items) place }
+    ensures delays { delays_of flights.new.items ≡ passed (remove (delays_of flights.old.items) place) }
+    ensures capacity { vec_capacity flights.new ≡ vec_capacity flights.old }
+{
+    if delayed {
+        take_from_delayed(flights, place)
+    } else {
+        flights.remove(place)
+    }
 }
