@@ -1,6 +1,6 @@
 //! A shelf of disks in memory, with faults by plan.
 ghost use Rattle.std.specs.Prelude.{◌≡◌, false, length, replicate, vec_capacity, IfOk};
-ghost use Rattle.lvm_flights.specs.Flights.{flights_of};
+ghost use Rattle.lvm_flights.specs.Flights.{flights_of, delays_of, NoDelays};
 ghost use Rattle.lvm_faults.specs.Injection.{NamesDisks};
 ghost use Rattle.lvm_memory.specs.Sound.{IsSound};
 
@@ -22,12 +22,15 @@ pub struct MemShelf {
     flights: Vec<Flying>,
     freed: Vec<Pbuf>,
     power: bool,
+    // Whether some transfer may be passed over.
+    delayed: bool,
     tally: Tally,
     injector: Injector,
     log: WriteLog,
     orders: u64,
     last: Option<Arrange>,
     ghost sound: { IsSound disks.items (flights_of flights.items) (length freed.items) (vec_capacity flights) (vec_capacity freed) power tally injector },
+    ghost delays: { delayed ≡ false → NoDelays (delays_of flights.items) },
 }
 
 impl MemShelf {
@@ -92,6 +95,7 @@ impl MemShelf {
             flights,
             freed,
             power: true,
+            delayed: false,
             tally,
             injector,
             log,
@@ -164,6 +168,7 @@ impl MemShelf {
     {
         let ticket = free_ticket(&self.flights);
         let delay = self.injector.take_delay();
+        self.delayed |= delay > 0;
         match self.flights.push(Flying {
             ticket,
             disk,
@@ -201,7 +206,7 @@ impl MemShelf {
         ensures gives { ReapGives (device_of self.old) (device_of self.new) result }
         ensures planned { ReapsThen (bench_of self.old) (bench_of self.new) result }
     {
-        let mut flying = take_flight(&mut self.flights, place);
+        let mut flying = take_flight(&mut self.flights, place, self.delayed);
         if self.injector.fails(flying.disk) {
             tear_flight(&mut self.disks, &flying, self.injector.pick(), 0);
             self.tally.count_failure(&flying);
@@ -225,6 +230,7 @@ impl MemShelf {
         ensures waits { Waits (device_of self.old) (device_of self.new) }
         ensures passes { Passes (bench_of self.old) (bench_of self.new) }
     {
+        self.delayed = true;
         pass_over(&mut self.flights);
         self.tally.count_wait();
     }
