@@ -20,7 +20,7 @@ use Rattle.lvm_stage.specs.Ends.{EndsUnasked}
 use Rattle.lvm_stage.specs.Moments.{Aside, GoesOn}
 use Rattle.lvm_stage.specs.Replies.{IsStuck, Shows, InFull, WithoutMemory, most_refusals}
 use Rattle.lvm_stage.specs.Stages.{Between, HaveRooms, IsBetweenStage, IsFitting}
-use Rattle.lvm_stage.specs.State.{State, without_facts}
+use Rattle.lvm_stage.specs.State.{ScriptState, without_facts}
 use Rattle.lvm_stage.specs.declared.holder.Holder.TheVariants as holder
 use Rattle.lvm_stage.specs.declared.reply.Reply.{Reply}
 use Rattle.lvm_stage.specs.declared.reply.Reply.TheVariants as reply
@@ -114,6 +114,6 @@ module _ {S X : Type 0} (device : S → Device) (old new : S) (log is : Log) (po
     rooms = subst (λ (l : Log). HaveRooms l.room posts bytes) (sym rooms) fits.rooms;
   }
 
-  pub range_ends : (Does : Log → State → State → Reply → Type 0) → Between device (off old log posts bytes) (off new is posts bytes) (λ a b. Does (without_facts log) a b answer)
+  pub range_ends : (Does : Log → ScriptState → ScriptState → Reply → Type 0) → Between device (off old log posts bytes) (off new is posts bytes) (λ a b. Does (without_facts log) a b answer)
       → EndsUnasked device Does ⊥ Aside (off old log posts bytes) (off new is posts bytes) answer
   range_ends Does does = λ last. record { does = does last; goes = goes_on last; rooms = ap without_facts rooms; fits = fits_then; orders = λ none. keeps.shelf.orders }

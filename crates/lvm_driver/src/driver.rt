@@ -12,7 +12,7 @@ ghost use Rattle.lvm_session.specs.Rooms.{HasRooms};
 ghost use Rattle.lvm_session.specs.State.{state, votes_there};
 ghost use Rattle.lvm_session.specs.declared.answers.CopyState.TheVariants as stage;
 ghost use Rattle.lvm_session.specs.Calls.{OpenGives, SubmitGives, TakeGives, closed, copy_state};
-ghost use Rattle.lvm_session.specs.Turns.{Arranges, TurnMakes};
+ghost use Rattle.lvm_session.specs.Turns.{ArrangesSession, TurnMakes};
 ghost use Rattle.lvm_session.specs.Asking.{IsAsking};
 ghost use Rattle.lvm_session.specs.Left.{left_of};
 ghost use Rattle.lvm_session.specs.Sound.{IsSound, waits};
@@ -204,7 +204,7 @@ impl<S: Shelf> Driver<S> {
     /// whether the shelf takes such orders; one that doesn't changes nothing.
     pub fn arrange(&mut self, what: Arrange) -> bool
         requires { MayArrange (S.device self.old.0) what }
-        ensures gives { Arranges (state_of S.device self.old) (state_of S.device self.new) what result }
+        ensures gives { ArrangesSession (state_of S.device self.old) (state_of S.device self.new) what result }
         ensures leaves { LeavesSession (state_of S.device self.old) (state_of S.device self.new) }
     {
         let done = arrange(&mut self.session, &mut self.shelf, what);

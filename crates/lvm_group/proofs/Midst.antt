@@ -38,7 +38,7 @@ use Rattle.lvm_session_start.specs.Beginning.{first_core}
 use Rattle.lvm_group_plan.specs.NewGroup.{NewGroup, among, sectors_on, size_for, new_group, new_status, given_up, first_absent, first_too_small, MayBegin}
 use Rattle.lvm_group.specs.Shown.{IfShown, HasGroup, ShowsEarlier, SparesTold}
 use Rattle.lvm_group_plan.specs.Planned.{IsPlanned}
-use Rattle.lvm_group.specs.Made.{beginning_for, Refuses}
+use Rattle.lvm_group.specs.Made.{beginning_for, MkvgRefuses}
 use Rattle.lvm_group.specs.Steps.{LetsMake, AreWritten, WritingFails, NewWritesGive, Stands, cuts_power, cut_at, standing_of}
 use Rattle.lvm_group.specs.declared.look.Free.{Free}
 use Rattle.lvm_group_plan.specs.declared.plan.Plan.{Plan}
@@ -147,7 +147,7 @@ module _ (w : NewGroup) (room : Room) (was : Log) (old mid : Device) (free : Fre
     keeps_mid : KeepsShelf (among w.disks) (IsOfParts (beginning_for mid.sizes w free.homes) new_order) mid new
     keeps_mid = subst (λ (b : Beginning). KeepsShelf b.targets (IsOfParts b new_order) mid new) as_mid leaves.keeps
 
-    pub refuses_written : (r : Result Homes Cause) → NewWritesGive bytes_written left mid new r → IfErr r (Refuses w before was (cut_at r (given_up was w.disks)) old new)
+    pub refuses_written : (r : Result Homes Cause) → NewWritesGive bytes_written left mid new r → IfErr r (MkvgRefuses w before was (cut_at r (given_up was w.disks)) old new)
     refuses_written (Ok next) gives = tt
     refuses_written (Err why) off = refuses_writing w was old mid new free may found keeps_old before left why (record { falls = only.falls; waits = only.waited }) (subst (λ (b : Beginning). WritingFails b left mid new why) as_old off)
 
@@ -185,9 +185,9 @@ module _ (w : NewGroup) (room : Room) (before after : ℕ) (was mid is : Log) (o
   made_then (Ok next) same stands = subst (λ (l : Log). Stands w room was l old new (record { parts = parts; homes = next })) (sym same) stands
   made_then (Err why) same stands = tt
 
-  pub refused_then : (r : Result Homes Cause) → is ≡ cut_at r mid → IfErr r (Refuses w before was (cut_at r mid) old new) → IfErr (standing_of parts r) (Refuses w before was is old new)
+  pub refused_then : (r : Result Homes Cause) → is ≡ cut_at r mid → IfErr r (MkvgRefuses w before was (cut_at r mid) old new) → IfErr (standing_of parts r) (MkvgRefuses w before was is old new)
   refused_then (Ok next) same refuses = tt
-  refused_then (Err why) same refuses = subst (λ (l : Log). Refuses w before was l old new why) (sym same) refuses
+  refused_then (Err why) same refuses = subst (λ (l : Log). MkvgRefuses w before was l old new why) (sym same) refuses
 
   pub held_then : (stamp : Stamp) (r : Result Homes Cause) → is ≡ cut_at r mid → IfOk r (λ next. StartsHeld new (first_core parts mid stamp next [])) → IfOk (standing_of parts r) (λ standing. StartsHeld new (first_core standing.parts is stamp standing.homes []))
   held_then stamp (Ok next) same held = subst (λ (l : Log). StartsHeld new (first_core parts l stamp next [])) (sym same) held

@@ -10,7 +10,7 @@ ghost use Rattle.lvm_core.specs.Starting.{IsRoom};
 ghost use Rattle.lvm_session_start.specs.Beginning.{first_core};
 ghost use Rattle.lvm_group_plan.specs.NewGroup.{IsWellFormed, given_up};
 ghost use Rattle.lvm_group_plan.specs.Planned.{IsPlannedFor, RefusesPlan};
-ghost use Rattle.lvm_group.specs.Made.{Refuses};
+ghost use Rattle.lvm_group.specs.Made.{MkvgRefuses};
 ghost use Rattle.lvm_group.specs.Steps.{asked_group, cut_at, standing_of, Stands};
 
 use crate::look::look;
@@ -56,7 +56,7 @@ pub fn make<S: Shelf>(
     requires asked { IsWellFormed (asked_group asked.now disks.now moment) }
     requires room { IsRoom asked.now.room }
     ensures made { IfOk result (Stands (asked_group asked.now disks.now moment) asked.now.room history.old history.new (S.device shelf.old) (S.device shelf.new)) }
-    ensures refused { IfErr result (Refuses (asked_group asked.now disks.now moment) patience.old.left history.old history.new (S.device shelf.old) (S.device shelf.new)) }
+    ensures refused { IfErr result (MkvgRefuses (asked_group asked.now disks.now moment) patience.old.left history.old history.new (S.device shelf.old) (S.device shelf.new)) }
     ensures held { ClockIsAhead history.old.run moment (S.device shelf.old) history.old.facts → IfOk result (λ standing. StartsHeld (S.device shelf.new) (first_core standing.parts history.new (record { epoch = moment; seq = 2 }) standing.homes [])) }
     // whatever the answer
     ensures leaves { BringsOn history.old.run moment patience.old.left patience.new.left (S.device shelf.old) (S.device shelf.new) history.old history.new }
@@ -127,7 +127,7 @@ fn bring<S: Shelf>(
     requires moment { moment ≢ 0 }
     requires planned { IsPlannedFor (asked_group asked.now disks.now moment) asked.now.room (spare_entries history.old) (S.device shelf.old).sizes plan.now }
     ensures made { IfOk result (λ homes. Stands (asked_group asked.now disks.now moment) asked.now.room history.old history.new (S.device shelf.old) (S.device shelf.new) (record { parts = plan.now.parts; homes = homes })) }
-    ensures refused { IfErr result (Refuses (asked_group asked.now disks.now moment) patience.old.left history.old (cut_at result history.new) (S.device shelf.old) (S.device shelf.new)) }
+    ensures refused { IfErr result (MkvgRefuses (asked_group asked.now disks.now moment) patience.old.left history.old (cut_at result history.new) (S.device shelf.old) (S.device shelf.new)) }
     ensures held { ClockIsAhead history.old.run moment (S.device shelf.old) history.old.facts → IfOk result (λ homes. StartsHeld (S.device shelf.new) (first_core plan.now.parts history.new (record { epoch = moment; seq = 2 }) homes [])) }
     // whatever the answer
     ensures leaves { BringsOn history.old.run moment patience.old.left patience.new.left (S.device shelf.old) (S.device shelf.new) history.old history.new }

@@ -29,7 +29,7 @@ use Rattle.lvm_session.specs.declared.origin.Origin.{Origin}
 use Rattle.lvm_session.specs.State.{Core, State, is_there, state}
 use Rattle.lvm_session.specs.Judging.{copies_in, is_missing, is_settled, is_stale, is_wanted_stale}
 use Rattle.lvm_session.specs.Bringing.{end_of, has_row, is_out, step_row}
-use Rattle.lvm_session.specs.Causes.{AreCaused, AreCounted, FailedSince, IsAnswered, IsChosenSince, IsCopyCaused, IsTrueToOrigin, faults_at_first, is_held_stale, is_over}
+use Rattle.lvm_session.specs.Causes.{AreCaused, AreCounted, FailedSince, IsAnswered, IsChosenSince, IsCausedAmong, IsTrueToOrigin, faults_at_first, is_held_stale, is_over}
 use Rattle.lvm_session.specs.Dark.{AreTold, hand_of_copy}
 use Rattle.lvm_session.specs.Marks.{is_among, is_entailed}
 use Rattle.lvm_session.specs.Owners.{AreOwned, AreRows, HaveTickets, flies, same_owner, target_flies}
@@ -353,7 +353,7 @@ module _ (added : List Pp) (old new : State) (sound : IsSound old) (began : IsSe
       stuck = λ e. absurd (let no : power.On ≡ power.Stuck = sym is.settled.power ∙ e in cc no);
       counted = none_of (AreCounted s) core.requests requests;
       answered = none_of (IsAnswered s) core.requests requests;
-      copy = nobody (λ (c : OpenCopy). IsCopyCaused s (copies_in core.descriptor c.lv c.lp) c) core.copy copy;
+      copy = nobody (λ (c : OpenCopy). IsCausedAmong s (copies_in core.descriptor c.lv c.lp) c) core.copy copy;
       origin = true_to_origin;
     }
 

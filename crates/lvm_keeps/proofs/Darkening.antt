@@ -29,7 +29,7 @@ use Rattle.lvm_session.specs.Judging.{copies_in, is_stale, is_waiting, is_wanted
 use Rattle.lvm_session.specs.Dark.{all_dark, ended_as, ended_copy, hand_of_copy}
 use Rattle.lvm_session.specs.Turns.{SaysTheSame}
 use Rattle.lvm_session.specs.Requests.{IsLanded, IsOpenOne}
-use Rattle.lvm_session.specs.Causes.{AreCounted, HaveSourcesFailed, IsAnswered, IsCopyCaused, IsCounted, IsLandedFor, IsTrueToOrigin, is_held_stale, is_over}
+use Rattle.lvm_session.specs.Causes.{AreCounted, HaveSourcesFailed, IsAnswered, IsCausedAmong, IsCounted, IsLandedFor, IsTrueToOrigin, is_held_stale, is_over}
 use Rattle.lvm_session.specs.Sound.{IsAsked, IsFitting, IsSound, IsTold, count_if, has_number, is_dark, is_hand}
 use Rattle.lvm_keeps.specs.Keeps.{CutKeeps}
 use Rattle.lvm_keeps.proofs.Fitting.{still_fits}
@@ -162,7 +162,7 @@ module _ (s : State) (sound : IsSound s) where
         by true = each
         by false = each
 
-    copy_caused : (m : Option OpenCopy) → IfSome m (λ (c : OpenCopy). IsCopyCaused s (copies_in core.descriptor c.lv c.lp) c) → IfSome (option_map ended_copy m) (λ (c : OpenCopy). IsCopyCaused now (copies_in core.descriptor c.lv c.lp) c)
+    copy_caused : (m : Option OpenCopy) → IfSome m (λ (c : OpenCopy). IsCausedAmong s (copies_in core.descriptor c.lv c.lp) c) → IfSome (option_map ended_copy m) (λ (c : OpenCopy). IsCausedAmong now (copies_in core.descriptor c.lv c.lp) c)
     copy_caused None its = tt
     copy_caused (Some c) its = record { began = its.began; since = its.since; tried = its.tried; failed = λ e. sources_on (its.failed (failed_before c.end e)) }
       where

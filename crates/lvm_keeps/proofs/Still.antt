@@ -29,7 +29,7 @@ use Rattle.lvm_session.specs.Bringing.{groups_of, hand_of, is_idle, is_whole}
 use Rattle.lvm_session.specs.Enabled.{is_free_step}
 use Rattle.lvm_session.specs.Marks.{is_among}
 use Rattle.lvm_session.specs.Requests.{IsTarget, IsShaped, IsReady, IsJudged, IsLaid, IsOpenOne, is_failed_and_sure, may_lack, will_be_kept}
-use Rattle.lvm_session.specs.Causes.{IsCounted, IsLandedFor, IsCopyCaused, IsTrueToOrigin, HaveSourcesFailed}
+use Rattle.lvm_session.specs.Causes.{IsCounted, IsLandedFor, IsCausedAmong, IsTrueToOrigin, HaveSourcesFailed}
 use Rattle.lvm_session.specs.Sound.{IsCopy, IsReadFrom}
 use Rattle.lvm_keeps.proofs.Lists.{all_on}
 use Rattle.lvm_keeps.proofs.Small.{and_on, left_on, most_on, none_on}
@@ -158,7 +158,7 @@ module _ (s : State) (history : Log) (requests : List Open) (queue : Waiting) (c
   pub origin_on : IsTrueToOrigin s → IsTrueToOrigin moved
   origin_on its = record { since = its.since; votes = its.votes; still_missing = its.still_missing; missing = its.missing; stale = its.stale }
 
-  pub copy_on : (copies : List Pp) (c : OpenCopy) → IsCopyCaused s copies c → IsCopyCaused moved copies c
+  pub copy_on : (copies : List Pp) (c : OpenCopy) → IsCausedAmong s copies c → IsCausedAmong moved copies c
   copy_on copies c its = record { began = its.began; since = its.since; tried = its.tried; failed = λ e. sources_on (its.failed e) }
     where
       sources_on : {own : Type 0} → own ⊎ HaveSourcesFailed s copies c → own ⊎ HaveSourcesFailed moved copies c

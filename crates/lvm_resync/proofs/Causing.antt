@@ -27,7 +27,7 @@ use Rattle.lvm_session.specs.declared.open.Power.TheVariants as power
 use Rattle.lvm_session.specs.declared.origin.Origin.{Origin}
 use Rattle.lvm_session.specs.Bringing.{is_out}
 use Rattle.lvm_session.specs.Calls.{copy_at, has_numbers, state_at_end, state_of_copy}
-use Rattle.lvm_session.specs.Causes.{FailedSinceOpening, HaveSourcesFailed, IsCopyCaused as IsCausedAmong, faults_at_first, faults_at_opening}
+use Rattle.lvm_session.specs.Causes.{FailedSinceOpening, HaveSourcesFailed, IsCausedAmong, faults_at_first, faults_at_opening}
 use Rattle.lvm_session.specs.Ends.{Ends, EndsAs}
 use Rattle.lvm_session.specs.Judging.{copies_in}
 use Rattle.lvm_session.specs.State.{Core, State}

@@ -38,7 +38,7 @@ use Rattle.lvm_vol.specs.declared.entry.Outcome.TheVariants as outcome
 use Rattle.lvm_session.specs.Owners.{AreOwned, IsDataOf, target_flies}
 use Rattle.lvm_session.specs.Left.{updates_left}
 use Rattle.lvm_session.specs.Requests.{IsOpenOne}
-use Rattle.lvm_session.specs.Causes.{AreCaused, AreCounted, IsChosenSince, IsCopyCaused, faults_at_opening}
+use Rattle.lvm_session.specs.Causes.{AreCaused, AreCounted, IsChosenSince, IsCausedAmong, faults_at_opening}
 use Rattle.lvm_session.specs.Sound.{count_if, may_be_fresh, out_with, stays_fresh, IsAsked, IsCopy, IsFitting, IsTold, IsGoing, IsOn, IsSound}
 use Rattle.lvm_session.specs.Worked.{behind, begun_write, second_copy, status_of}
 use Rattle.lvm_session.specs.Busy.{BusyIsSound, begun_read, busy_core, busy_device, data_flight, got_read, group_of_three, half_written, other_part, part, target_at, wide, writing}
@@ -341,7 +341,7 @@ copy = record {
   clearing = λ runs whole. not_so whole;
 }
 
-copy_caused : IsCopyCaused (state busy_device busy_core) (first_pp ∷ second_copy ∷ []) writing
+copy_caused : IsCausedAmong (state busy_device busy_core) (first_pp ∷ second_copy ∷ []) writing
 copy_caused = record {
   began = λ number p is. let none = zeros_at 128 p.disk in omega (arith, none);
   since = λ number p is. let none = zeros_at 3 (number - 1) in omega (arith, none);

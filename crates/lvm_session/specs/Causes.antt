@@ -115,7 +115,7 @@ pub record HaveSourcesFailed (s : State) (copies : List Pp) (c : OpenCopy) : Typ
   pub one : FailedSinceOpening s.device c number source
 
 -- The disks of the copies that were tried in vain have failed since the copy was opened; so has its own, or that of each source, where it ended as failed.
-pub record IsCopyCaused (s : State) (copies : List Pp) (c : OpenCopy) : Type 0 where
+pub record IsCausedAmong (s : State) (copies : List Pp) (c : OpenCopy) : Type 0 where
   pub began : (number : ℕ) (p : Pp) → copy_at copies number ≡ Some p → faults_at_first s.core p.disk ≤ faults_at_opening c number
   pub since : (number : ℕ) (p : Pp) → copy_at copies number ≡ Some p → faults_at_opening c number ≤ s.device.counts.faults p.disk
   pub tried : (number : ℕ) (p : Pp) → copy_at copies number ≡ Some p → has c.tried p.disk ≡ true → FailedSinceOpening s.device c number p

@@ -34,7 +34,7 @@ use Rattle.lvm_session.specs.Enabled.{is_lost, is_free_step}
 use Rattle.lvm_session.specs.Dark.{AreTold, hand_of_copy}
 use Rattle.lvm_session.specs.Calls.{copy_at}
 use Rattle.lvm_session.specs.Marks.{is_among, is_entailed}
-use Rattle.lvm_session.specs.Causes.{AreCaused, AreCounted, IsAnswered, IsChosenSince, IsCopyCaused, IsTrueToOrigin, is_held_stale, is_over, was_fresh}
+use Rattle.lvm_session.specs.Causes.{AreCaused, AreCounted, IsAnswered, IsChosenSince, IsCausedAmong, IsTrueToOrigin, is_held_stale, is_over, was_fresh}
 use Rattle.lvm_session.specs.Left.{updates_left}
 use Rattle.lvm_session.specs.Owners.{AreOwned, AreRows, HaveTickets}
 use Rattle.lvm_session.specs.Placed.{ArePlaced}
@@ -279,5 +279,5 @@ pub record IsSound (s : State) : Type 0 where
   -- why each request that has landed did so, why the copy ended, and why disks are missing and copies stale
   pub counted : AllByRecursion (AreCounted s) s.core.requests
   pub answered : AllByRecursion (IsAnswered s) s.core.requests
-  pub copy : IfSome s.core.copy (λ (c : OpenCopy). IsCopyCaused s (copies_in s.core.descriptor c.lv c.lp) c)
+  pub copy : IfSome s.core.copy (λ (c : OpenCopy). IsCausedAmong s (copies_in s.core.descriptor c.lv c.lp) c)
   pub origin : IsTrueToOrigin s

@@ -61,7 +61,7 @@ pub record GoesOff (old new : State) : Type 0 where
   pub is : new ≡ state old.device (all_off old.core)
 
 -- A client gives an order to the shelf; a power cut ends the session.
-pub record Arranges (old new : State) (what : Arrange) (done : Bool) : Type 0 where
+pub record ArrangesSession (old new : State) (what : Arrange) (done : Bool) : Type 0 where
   pub device : ArrangeGives old.device new.device what done
   pub is : new.core ≡ after_arrange what done old.core
 

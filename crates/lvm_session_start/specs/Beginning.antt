@@ -17,7 +17,7 @@ use Rattle.lvm_session.specs.Left.{updates_left}
 use Rattle.lvm_session.specs.Placed.{ArePlaced}
 use Rattle.lvm_session.specs.Sound.{IsLit}
 use Rattle.lvm_session_start.specs.declared.parts.Parts.{Parts}
-use Rattle.lvm_session_start.specs.Parts.{IsOneGroup, IsReserved, IsRoom}
+use Rattle.lvm_session_start.specs.Parts.{IsOneGroup, IsReserved, IsSessionRoom}
 
 -- how many transfers of each of 128 disks have failed; of those that aren't on the shelf none
 pub record AreFaults (device : Device) (faults : List ℕ) : Type 0 where
@@ -51,7 +51,7 @@ first_core p history stamp homes faults = with_parts (record p { updater = recor
 -- requests have landed, nothing that missing disks would entail, and numbers for the updates that may follow.
 pub record MayBegin (device : Device) (history : Log) (stamp : Stamp) (homes : Homes) (p : Parts) : Type 0 where
   pub reserved : IsReserved p.descriptor p.table p.room p
-  pub room : IsRoom p.room
+  pub room : IsSessionRoom p.room
   pub valid : IsValid p.descriptor
   pub group : IsOneGroup p.descriptor p.table
   pub ordered : Ordered history.run [] history.facts

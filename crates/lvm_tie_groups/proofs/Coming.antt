@@ -32,7 +32,7 @@ use Rattle.lvm_session.specs.State.{Core, State, state, is_there}
 use Rattle.lvm_session_start.specs.declared.parts.Parts.{Parts}
 use Rattle.lvm_session_start.specs.declared.parts.Room.{Room as SessionRoom}
 use Rattle.lvm_session_start.specs.Beginning.{MayBegin, first_core}
-use Rattle.lvm_session_start.specs.Parts.{IsReserved, IsRoom as IsSessionRoom}
+use Rattle.lvm_session_start.specs.Parts.{IsReserved, IsSessionRoom}
 use Rattle.lvm_keeps.specs.Begins.{Begins as Beginning, IsCalm, IsUnused}
 use Rattle.lvm_keeps.proofs.Begin.{beginning_is_sound}
 use Rattle.lvm_keeps.proofs.Telling.{open_still}

@@ -110,9 +110,9 @@ module _ (old new : Device) (name : List ℕ) (moment patience : ℕ) where
   VaryonStops _ = ⊥
 
   -- Why none came on: the history is full, or it isn't and this.
-  abbrev pub Refuses : Log → Cause → Type 0
-  Refuses log cause.HistoryFull = (spare_entries log ≡ 0) × (new ≡ old)
-  Refuses log why = (1 ≤ spare_entries log) × VaryonStops why
+  abbrev pub VaryonRefuses : Log → Cause → Type 0
+  VaryonRefuses log cause.HistoryFull = (spare_entries log ≡ 0) × (new ≡ old)
+  VaryonRefuses log why = (1 ≤ spare_entries log) × VaryonStops why
 
 -- the history after a refusal: a cut of the power is entered
 abbrev pub log_after : Cause → Log → Log
@@ -122,7 +122,7 @@ log_after _ log = log
 -- The group on its shelf, or the shelf and the history again, and why.
 abbrev pub VaryonGives : {S : Type 0} → (S → Device) → Device → Log → List ℕ → ℕ → Room → ℕ → Result (S × Core) (Refused S) → Type 0
 VaryonGives device old log name moment room patience (Ok driver) = ComesOn old (device driver.0) log name moment room driver.1
-VaryonGives device old log name moment room patience (Err refused) = Refuses old (device refused.shelf) name moment patience log refused.cause × (refused.history ≡ log_after refused.cause log)
+VaryonGives device old log name moment room patience (Err refused) = VaryonRefuses old (device refused.shelf) name moment patience log refused.cause × (refused.history ≡ log_after refused.cause log)
 
 -- So it is, and where the clock's moments rise the disks show what the session says: the group is restated, and without volumes in mode passive recovered.
 pub record VariesOnAt {S : Type 0} (device : S → Device) (log : Log) (name : List ℕ) (moment : ℕ) (room : Room) (patience : ℕ) (old : Device) (outcome : Result (S × Core) (Refused S)) : Type 0 where

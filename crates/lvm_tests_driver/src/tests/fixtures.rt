@@ -8,7 +8,7 @@ ghost use Rattle.lvm_kept.specs.Examples.{row_of};
 ghost use Rattle.lvm_media.specs.Media.{blank_disks_of, sizes_of};
 ghost use Rattle.lvm_memory.specs.Memory.{device_of};
 ghost use Rattle.lvm_session.specs.declared.open.Power.TheVariants as power;
-ghost use Rattle.lvm_session_start.specs.Parts.{IsRoom};
+ghost use Rattle.lvm_session_start.specs.Parts.{IsSessionRoom};
 ghost use Rattle.lvm_session.specs.Sound.{IsLit};
 ghost use Rattle.lvm_session.specs.Worked.{status_of};
 ghost use Rattle.lvm_vol.specs.Log.{empty_log, spare_entries};
@@ -209,7 +209,7 @@ fn shelf(rt: &(impl Abort + AllocGlobal), mib: u16, plan: &[Planned]) -> MemShel
 }
 
 fn room(rt: &impl Abort, setup: &Setup) -> Room
-    ensures { IsRoom result }
+    ensures { IsSessionRoom result }
 {
     assert!(rt; setup.table <= 1024);
     assert!(rt; 1 <= setup.pool && setup.pool <= 1024);

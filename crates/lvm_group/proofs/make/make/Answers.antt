@@ -13,7 +13,7 @@ use Rattle.lvm_session_start.specs.Beginning.{first_core}
 use Rattle.lvm_group.specs.declared.make.Standing.{Standing}
 use Rattle.lvm_group_plan.specs.NewGroup.{NewGroup}
 use Rattle.lvm_group_plan.specs.Planned.{IsPlannedFor, RefusesPlan}
-use Rattle.lvm_group.specs.Made.{Refuses}
+use Rattle.lvm_group.specs.Made.{MkvgRefuses}
 use Rattle.lvm_group.specs.Steps.{asked_group, Stands}
 use Rattle.lvm_group.proofs.Composing.{refuses_plan}
 use Rattle.lvm_group.proofs.Midst.{made_then, refused_then, held_then, leaves_then}
@@ -65,7 +65,7 @@ returns g c =
     let started = sym c.start_with.ensures in
     record {
       made = subst (λ (s : Result (Standing Parts) Cause). IfOk s (Stands w room was is old new)) started (made_then w room before after was mid is old new parts r c.enter_cut.ensures says.made);
-      refused = subst (λ (s : Result (Standing Parts) Cause). IfErr s (Refuses w before was is old new)) started (refused_then w room before after was mid is old new parts r c.enter_cut.ensures says.refused);
+      refused = subst (λ (s : Result (Standing Parts) Cause). IfErr s (MkvgRefuses w before was is old new)) started (refused_then w room before after was mid is old new parts r c.enter_cut.ensures says.refused);
       held = λ clock.
           subst (λ (s : Result (Standing Parts) Cause). IfOk s (λ (standing : Standing Parts). StartsHeld new (first_core standing.parts is (record { epoch = c.args.moment; seq = 2 }) standing.homes []))) started
           (held_then w room before after was mid is old new parts (record { epoch = c.args.moment; seq = 2 }) r c.enter_cut.ensures (says.held clock));
