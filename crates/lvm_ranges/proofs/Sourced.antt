@@ -7,7 +7,7 @@ use Rattle.lvm_session.specs.Calls.{is_asked}
 use Rattle.lvm_session.specs.Causes.{AnyFailedSince, faults_at_first, was_usable}
 use Rattle.lvm_session.specs.Judging.{copies_for}
 use Rattle.lvm_session.specs.State.{state}
-use Rattle.lvm_session.specs.Worked.{a_read, faultless, fresh}
+use Rattle.lvm_session.specs.Worked.{faultless, fresh}
 use Rattle.lvm_posts.specs.declared.fault.RangeFault.TheVariants as fault
 use Rattle.lvm_ranges.specs.Finishing.{GoingCause, PieceLacksSource}
 use Rattle.lvm_ranges.specs.Worked.{SourcesAreJudged, begun_as, neither, one_block, unread}

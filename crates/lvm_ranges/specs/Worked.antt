@@ -1,5 +1,5 @@
 -- A range of one block that landed for want of a source, written out.
-use Rattle.std.specs.Prelude.{ℕ, true, [], ◌∷◌, Some}
+use Rattle.std.specs.Prelude.{true, [], ◌∷◌, Some}
 use Rattle.lvm_num.specs.declared.descriptor.Mode.TheVariants as mode
 use Rattle.lvm_vol.specs.declared.entry.Outcome.TheVariants as outcome
 use Rattle.lvm_path.specs.declared.request.Phase.TheVariants as phase

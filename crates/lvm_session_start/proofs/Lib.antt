@@ -1,1 +1,1 @@
-mod Beginning
+pub mod Beginning
