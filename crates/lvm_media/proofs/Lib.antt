@@ -3,4 +3,4 @@ mod Putting
 mod Pieces
 pub mod Laying
 mod GivingUp
-mod Making
+mod MadeSoFar

@@ -5,20 +5,13 @@ use Rattle.lvm_num.specs.StatusBytes.{status_of}
 use Rattle.lvm_num.specs.Record.{joined}
 use Rattle.lvm_rec.specs.Slots.{held}
 use Rattle.lvm_disk.specs.Device.{Media}
-use Rattle.lvm_transfer.proofs.Following.{reads_then, still_inside, told_before}
+use Rattle.lvm_transfer.proofs.Following.{reads_then, told_before}
 use Rattle.lvm_area.specs.Reading.{stamped_found}
 use Rattle.lvm_area.proofs.Areas.{latest_is}
 use Rattle.lvm_area.proofs.area.read_statuses.Goals as goal
 
 pub read_status_slot-requires-clause-inside : goal.read_status_slot-requires-clause-inside
 read_status_slot-requires-clause-inside g c = record { there = c.requires.there; within = omega (arith, c.requires.large); below = omega arith }
-
-pub read_status_slot-2-requires-clause-ready : goal.read_status_slot-2-requires-clause-ready
-read_status_slot-2-requires-clause-ready g c = c.in_ok-first.ensures.reads.gives.0.rested.ready
-
-pub read_status_slot-2-requires-clause-inside : goal.read_status_slot-2-requires-clause-inside
-read_status_slot-2-requires-clause-inside g c =
-    still_inside (g.S.Shelf.device c.args.shelf.now) (g.S.Shelf.device c.read_status_slot.new.shelf) c.args.disk 128 64 c.in_ok-first.ensures.reads.only.unwritten.sizes (record { there = c.requires.there; within = omega (arith, c.requires.large); below = omega arith })
 
 pub returns-in_err-second-clause-reads : goal.returns-in_err-second-clause-reads
 returns-in_err-second-clause-reads g c =
