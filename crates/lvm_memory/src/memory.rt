@@ -4,6 +4,7 @@ ghost use Rattle.lvm_disk.specs.Device.{AreSectors};
 ghost use Rattle.lvm_media.specs.Media.{AllSectors, media_of, sizes_of, blank_disks_of, sectors_in};
 ghost use Rattle.lvm_flights.specs.Flights.{flights_of, delays_of, NoDelays};
 ghost use Rattle.lvm_memory.specs.Sound.{IsSound};
+ghost use Rattle.std.proofs.Props.{props};
 
 use lvm_disk::{Arrange, Reaped, Shelf, Started};
 use lvm_faults::{Injector, Planned};
@@ -31,7 +32,7 @@ pub struct MemShelf {
     orders: u64,
     last: Option<Arrange>,
     ghost sound: { IsSound disks.items (flights_of flights.items) (length freed.items) (vec_capacity flights) (vec_capacity freed) power tally injector },
-    ghost delays: { delayed ≡ false → NoDelays (delays_of flights.items) },
+    ghost delays: { delayed ≡ false → NoDelays (delays_of flights.items) } by { Prim.hlevel props },
 }
 
 impl MemShelf {
