@@ -1,5 +1,5 @@
 -- Shelves in memory that delay nothing.
-use Rattle.std.proofs.Common.{◌≡◌, ◌<◌, ◌==◌, [], ◌∷◌, ◌++◌, ℕ, zero, suc, List, Bool, true, false, cond, map, length, Option, Some, None, MatchOption, nat_lt, refl, sym, ◌∙◌, ap, subst, arith}
+use Rattle.std.proofs.Common.{◌≡◌, ◌<◌, ◌==◌, [], ◌∷◌, ℕ, zero, suc, List, Bool, true, false, cond, map, length, Option, Some, None, MatchOption, nat_lt, refl, sym, ◌∙◌, ap, subst, arith}
 use Rattle.std.proofs.lemmas.Bool.Decides.{nat_tests}
 use Rattle.std.specs.List.{filter, position, remove, AllByRecursion}
 use Rattle.lvm_disk.specs.Device.{Range}

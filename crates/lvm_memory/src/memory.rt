@@ -3,6 +3,7 @@ ghost use Rattle.std.specs.Prelude.{◌≡◌, false, length, replicate, vec_cap
 ghost use Rattle.lvm_flights.specs.Flights.{flights_of, delays_of, NoDelays};
 ghost use Rattle.lvm_faults.specs.Injection.{NamesDisks};
 ghost use Rattle.lvm_memory.specs.Sound.{IsSound};
+ghost use Rattle.std.proofs.Props.{props};
 
 use lvm_disk::{Arrange, Reaped, Shelf, Started};
 use lvm_faults::{Injector, Planned};
@@ -30,7 +31,7 @@ pub struct MemShelf {
     orders: u64,
     last: Option<Arrange>,
     ghost sound: { IsSound disks.items (flights_of flights.items) (length freed.items) (vec_capacity flights) (vec_capacity freed) power tally injector },
-    ghost delays: { delayed ≡ false → NoDelays (delays_of flights.items) },
+    ghost delays: { delayed ≡ false → NoDelays (delays_of flights.items) } by { Prim.hlevel props },
 }
 
 impl MemShelf {

@@ -1,9 +1,10 @@
-use Rattle.std.proofs.Common.{ℕ, length, refl, sym, ap, ◌∙◌}
+use Rattle.std.proofs.Common.{ℕ, length, refl, sym, ap, subst, ◌∙◌}
 use Rattle.lvm_media.specs.Media.{media_of, sizes_of, written_by}
 use Rattle.lvm_flights.specs.Tally.{counts_of}
-use Rattle.lvm_flights.specs.Flights.{flight_of, flights_of}
+use Rattle.lvm_flights.specs.Flights.{flight_of, flights_of, NoDelays}
 use Rattle.lvm_memory.specs.Memory.{device_of}
 use Rattle.lvm_flights.specs.declared.flying.Flying.{Flying}
+use Rattle.lvm_flights.proofs.Queues.{none_passed, none_removed}
 use Rattle.lvm_memory.proofs.Arriving.{sound_arrived, failed, done}
 use Rattle.lvm_memory.proofs.memory.MemShelf.arrive.Goals as goal
 
@@ -14,6 +15,7 @@ pub invariant_of-self : goal.invariant_of-self
 invariant_of-self c = record {
   sound = sound_arrived _ _ _ _ _ _ _ _ _ _ _ _ c.args.place c.args.self.now.sound c.tear_flight.ensures.disks.sizes c.tear_flight.ensures.disks.sectors c.take_flight-flying.ensures.flights
       c.take_flight-flying.ensures.capacity (ap (λ l. length {A = ℕ} l) c.count_failure.ensures.starts) c.count_failure.ensures.misses c.count_failure.ensures.faults;
+  delays = λ off. subst NoDelays (sym c.take_flight-flying.ensures.delays) (none_passed _ (none_removed _ c.args.place (c.args.self.now.delays off)));
 }
 
 pub returns-then-fails-clause-gives : goal.returns-then-fails-clause-gives
@@ -49,6 +51,7 @@ pub invariant_of-self-2 : goal.invariant_of-self-2
 invariant_of-self-2 c = record {
   sound = sound_arrived _ _ _ _ _ _ _ _ _ _ _ _ c.args.place c.args.self.now.sound c.finish_flight.ensures.disks.sizes c.finish_flight.ensures.disks.sectors c.take_flight-flying.ensures.flights
       c.take_flight-flying.ensures.capacity refl refl refl;
+  delays = λ off. subst NoDelays (sym c.take_flight-flying.ensures.delays) (none_passed _ (none_removed _ c.args.place (c.args.self.now.delays off)));
 }
 
 pub returns-clause-gives : goal.returns-clause-gives
