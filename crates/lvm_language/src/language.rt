@@ -79,29 +79,29 @@ fn with_script<'a>(program: Command<'a>, alloc: Global) -> Result<Command<'a>, A
     program.subcommand(Command::new(alloc, "script"))
 }
 
-// The program, with one job more besides, if there was memory for it.
+// The program, with one job more besides, if there was memory for both.
 fn with_job<'a>(
-    program: Command<'a>,
+    program: Result<Command<'a>, AllocError>,
     job: Result<Command<'a>, AllocError>,
 ) -> Result<Command<'a>, AllocError>
     requires local { IfOk job (λ job. (out-Command job).has_globals ≡ false) }
-    ensures { (app : App) → IfOk job.entry (λ job. app_of job ≡ app) → IfOk result (λ more. app_of more ≡ with_subcommand (app_of program.entry) app.top) }
+    ensures { (base app : App) → IfOk program.entry (λ program. app_of program ≡ base) → IfOk job.entry (λ job. app_of job ≡ app) → IfOk result (λ more. app_of more ≡ with_subcommand base app.top) }
 {
-    program.subcommand(job?)
+    program?.subcommand(job?)
 }
 
 // The program, which is asked for one of its jobs.
 fn command_line<'a>(alloc: Global) -> Result<Command<'a>, AllocError>
     ensures { IfOk result (λ line. app_of line ≡ lvm_app) }
 {
-    let program = with_script(without_jobs(alloc), alloc)?;
+    let program = with_script(without_jobs(alloc), alloc);
     // `sim DISKS MIB`
     let sim = with_numbers(alloc, "sim", ("DISKS", 1, 32), ("MIB", 1, 64));
-    let program = with_job(program, sim)?;
+    let program = with_job(program, sim);
     // `gen SEED COUNT`
     let generate = with_numbers(alloc, "gen", ("SEED", 0, u64::MAX), ("COUNT", 0, 100_000));
-    let program = with_job(program, generate)?;
-    let program = with_job(program, weave(alloc))?;
+    let program = with_job(program, generate);
+    let program = with_job(program, weave(alloc));
     // `image N MIB`
     let image = with_numbers(alloc, "image", ("N", 0, 127), ("MIB", 1, 4_096));
     with_job(program, image)
