@@ -1,9 +1,28 @@
-use Rattle.std.proofs.Common.{◌≡◌, ◌≤◌, ◌<◌, ◌↔◌, ℕ, List, [], inl, inr, ⊎_elim, refl, length, ap, arith}
-use Rattle.std.proofs.lemmas.Bool.{cases_lt}
+use Rattle.std.proofs.Common.{◌≡◌, ◌≤◌, ◌<◌, ◌↔◌, ℕ, List, [], Option, Some, None, inl, inr, ⊎_elim, refl, length, ap, arith}
+use Rattle.std.proofs.lemmas.Bool.{cases_lt, eqb-false}
 use Rattle.lvm_io.specs.Reading.{to_come}
 use Rattle.lvm_io.proofs.Told.{told_more}
+use Rattle.lvm_io.specs.declared.lines.NextLine.{NextLine}
 use Rattle.lvm_io.specs.declared.lines.NextLine.TheVariants as next
+use Rattle.lvm_top.specs.declared.script.Stop.{Stop}
+use Rattle.lvm_top.specs.declared.script.Stop.TheVariants as stop
 use Rattle.lvm_top.proofs.script.read_line.Goals as goal
+
+-- by these numbers no two ways of stopping are one, and no two answers of the source
+abbrev way : Option Stop → ℕ
+way None = 0
+way (Some stop.SourceFault) = 1
+way (Some stop.SinkFault) = 2
+way (Some stop.Memory) = 3
+way (Some stop.Stuck) = 4
+way (Some stop.TooLong) = 5
+
+abbrev answer : NextLine → ℕ
+answer (next.Line line) = 0
+answer next.End = 1
+answer next.Failed = 2
+answer next.TooLong = 3
+answer next.Memory = 4
 
 -- the limit isn't passed where a line is given out
 within : (line : List ℕ) (given : ℕ) → (next.Line line ≡ next.TooLong) ↔ (16777216 < given) → given ≤ 16777216
@@ -18,33 +37,33 @@ returns-in-Line-clause-line g c = record {
   fewer = c.in-Line.ensures.fewer;
   given = c.in-Line.ensures.given;
   within = within c.in-Line.line c.next_line.new.self.given c.in-Line.ensures.too_long;
-  well = c.in-Line.ensures.well (λ is. cc (is));
+  well = c.in-Line.ensures.well (λ is. eqb-false 0 2 refl (ap answer is));
 }
 
 pub returns-in-End-clause-none : goal.returns-in-End-clause-none
 returns-in-End-clause-none g c = record {
   given = c.in-End.ensures.given;
-  long = (λ is. absurd (cc (is)), λ over. absurd (let no = c.in-End.ensures.too_long.1 over in cc (no)));
-  unwritten = λ is. cc (is);
-  unstuck = λ is. cc (is);
+  long = (λ is. absurd (eqb-false 0 5 refl (ap way is)), λ over. absurd (eqb-false 1 3 refl (ap answer (c.in-End.ensures.too_long.1 over))));
+  unwritten = λ is. eqb-false 0 2 refl (ap way is);
+  unstuck = λ is. eqb-false 0 4 refl (ap way is);
   ends = λ is. c.in-End.ensures.line;
-  wanting = λ is. absurd (cc (is));
-  behind = λ is. absurd (cc (is));
-  beyond = λ cause. absurd (⊎_elim (λ is. cc (is)) (λ is. cc (is)) cause);
-  failed = λ is. absurd (cc (is));
-  well = λ no. c.in-End.ensures.well (λ is. cc (is));
+  wanting = λ is. absurd (eqb-false 0 3 refl (ap way is));
+  behind = λ is. absurd (eqb-false 0 1 refl (ap way is));
+  beyond = λ cause. absurd (⊎_elim (λ is. eqb-false 0 5 refl (ap way is)) (λ is. eqb-false 0 3 refl (ap way is)) cause);
+  failed = λ is. absurd (eqb-false 0 1 refl (ap way is));
+  well = λ no. c.in-End.ensures.well (λ is. eqb-false 1 2 refl (ap answer is));
 }
 
 pub returns-in-Failed-clause-none : goal.returns-in-Failed-clause-none
 returns-in-Failed-clause-none g c = record {
   given = c.in-Failed.ensures.given;
-  long = (λ is. absurd (cc (is)), λ over. absurd (let no = c.in-Failed.ensures.too_long.1 over in cc (no)));
-  unwritten = λ is. cc (is);
-  unstuck = λ is. cc (is);
-  ends = λ is. absurd (cc (is));
-  wanting = λ is. absurd (cc (is));
+  long = (λ is. absurd (eqb-false 1 5 refl (ap way is)), λ over. absurd (eqb-false 2 3 refl (ap answer (c.in-Failed.ensures.too_long.1 over))));
+  unwritten = λ is. eqb-false 1 2 refl (ap way is);
+  unstuck = λ is. eqb-false 1 4 refl (ap way is);
+  ends = λ is. absurd (eqb-false 1 0 refl (ap way is));
+  wanting = λ is. absurd (eqb-false 1 3 refl (ap way is));
   behind = λ is. record { same = c.in-Failed.ensures.line; clean = c.in-Failed.ensures.front.0; few = none_few c.next_line.new.self.block c.in-Failed.ensures.front.1 };
-  beyond = λ cause. absurd (⊎_elim (λ is. cc (is)) (λ is. cc (is)) cause);
+  beyond = λ cause. absurd (⊎_elim (λ is. eqb-false 1 5 refl (ap way is)) (λ is. eqb-false 1 3 refl (ap way is)) cause);
   failed = λ is. c.in-Failed.ensures.cause refl;
   well = λ no. absurd (no refl);
 }
@@ -53,26 +72,26 @@ pub returns-in-TooLong-clause-none : goal.returns-in-TooLong-clause-none
 returns-in-TooLong-clause-none g c = record {
   given = c.in-TooLong.ensures.given;
   long = (λ is. c.in-TooLong.ensures.too_long.0 refl, λ over. refl);
-  unwritten = λ is. cc (is);
-  unstuck = λ is. cc (is);
-  ends = λ is. absurd (cc (is));
-  wanting = λ is. absurd (cc (is));
-  behind = λ is. absurd (cc (is));
+  unwritten = λ is. eqb-false 5 2 refl (ap way is);
+  unstuck = λ is. eqb-false 5 4 refl (ap way is);
+  ends = λ is. absurd (eqb-false 5 0 refl (ap way is));
+  wanting = λ is. absurd (eqb-false 5 3 refl (ap way is));
+  behind = λ is. absurd (eqb-false 5 1 refl (ap way is));
   beyond = λ cause. record { same = c.in-TooLong.ensures.line; clean = c.in-TooLong.ensures.front.0; few = c.in-TooLong.ensures.front.1 };
-  failed = λ is. absurd (cc (is));
-  well = λ no. c.in-TooLong.ensures.well (λ is. cc (is));
+  failed = λ is. absurd (eqb-false 5 1 refl (ap way is));
+  well = λ no. c.in-TooLong.ensures.well (λ is. eqb-false 3 2 refl (ap answer is));
 }
 
 pub returns-in-Memory-clause-none : goal.returns-in-Memory-clause-none
 returns-in-Memory-clause-none g c = record {
   given = c.in-Memory.ensures.given;
-  long = (λ is. absurd (cc (is)), λ over. absurd (let no = c.in-Memory.ensures.too_long.1 over in cc (no)));
-  unwritten = λ is. cc (is);
-  unstuck = λ is. cc (is);
-  ends = λ is. absurd (cc (is));
+  long = (λ is. absurd (eqb-false 3 5 refl (ap way is)), λ over. absurd (eqb-false 4 3 refl (ap answer (c.in-Memory.ensures.too_long.1 over))));
+  unwritten = λ is. eqb-false 3 2 refl (ap way is);
+  unstuck = λ is. eqb-false 3 4 refl (ap way is);
+  ends = λ is. absurd (eqb-false 3 0 refl (ap way is));
   wanting = λ is. c.in-Memory.ensures.line;
-  behind = λ is. absurd (cc (is));
+  behind = λ is. absurd (eqb-false 3 1 refl (ap way is));
   beyond = λ cause. record { same = told_more (to_come c.args.lines.now (g.I.Source.left c.args.input.now)) (to_come c.next_line.new.self (g.I.Source.left c.next_line.new.input)) (λ a b. (b ≡ a) × (a ≡ [] → ⊥)) (λ a b. b ≡ a) (λ a b left. left.0) c.in-Memory.ensures.line; clean = c.in-Memory.ensures.front.0; few = c.in-Memory.ensures.front.1 };
-  failed = λ is. absurd (cc (is));
-  well = λ no. c.in-Memory.ensures.well (λ is. cc (is));
+  failed = λ is. absurd (eqb-false 3 1 refl (ap way is));
+  well = λ no. c.in-Memory.ensures.well (λ is. eqb-false 4 2 refl (ap answer is));
 }
