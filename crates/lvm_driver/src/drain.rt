@@ -16,7 +16,7 @@ use lvm_session::Turned;
 use lvm_transfer::Patience;
 
 /// Why the turns ended before nothing was left to be made.
-#[derive(Clone, Copy, Debug, PartialEq, Eq)]
+#[derive(Clone, Copy, PartialEq, Eq)]
 pub enum DrainFault {
     /// The power is off, and the session is over.
     Dark,
