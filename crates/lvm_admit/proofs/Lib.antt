@@ -1,2 +1,0 @@
-mod Copies
-mod Admitting

@@ -1,3 +1,0 @@
-pub mod Rows
-pub mod Seen
-pub mod Fitting

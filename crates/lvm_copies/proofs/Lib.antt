@@ -1,3 +1,0 @@
-mod Aiming
-pub mod Laid
-pub mod Members

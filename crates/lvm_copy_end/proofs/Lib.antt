@@ -1,5 +1,0 @@
-mod Leaving
-pub mod Marks
-mod Entailing
-pub mod Left
-pub mod Reviewing

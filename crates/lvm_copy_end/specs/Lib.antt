@@ -1,4 +1,0 @@
-pub mod Ending
-pub mod Losing
-pub mod Left
-pub mod Reviewing

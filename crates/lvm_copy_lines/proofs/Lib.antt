@@ -1,5 +1,0 @@
-pub mod passed
-pub mod Giving
-pub mod Carrying
-pub mod Lines
-pub mod Synced

@@ -1,5 +1,0 @@
-pub mod Parts
-pub mod Rows
-pub mod More
-pub mod Fewer
-pub mod Finding

@@ -1,5 +1,0 @@
-pub mod Paths
-pub mod CrashImages
-pub mod Rising
-pub mod Stepping
-mod WholeImages

@@ -1,5 +1,0 @@
-pub mod Counts
-pub mod Device
-pub mod Steps
-pub mod Paths
-pub mod Images

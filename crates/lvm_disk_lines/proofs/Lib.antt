@@ -1,6 +1,0 @@
-pub mod passed
-pub mod Cutting
-pub mod Darkness
-pub mod Ordering
-pub mod Ranging
-pub mod Untaken

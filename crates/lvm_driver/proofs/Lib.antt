@@ -1,7 +1,0 @@
-mod Rooms
-mod Driven
-mod Draining
-mod Causes
-pub mod Beginnings
-mod Closing
-mod Due

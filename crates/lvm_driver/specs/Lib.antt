@@ -1,4 +1,0 @@
-pub mod Answers
-pub mod Beginnings
-pub mod Drains
-pub mod Showing

@@ -1,3 +1,0 @@
-pub mod Due
-pub mod Making
-pub mod Worked

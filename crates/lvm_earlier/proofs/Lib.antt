@@ -1,5 +1,0 @@
-pub mod passed
-pub mod Sound
-pub mod Tying
-pub mod Running
-pub mod Resting

@@ -1,6 +1,0 @@
-pub mod AskRangeFaultVariants
-pub mod DrainFaultVariants
-pub mod Driver
-pub mod Ranges
-pub mod Running
-pub mod Tie

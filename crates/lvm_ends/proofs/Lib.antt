@@ -1,3 +1,0 @@
-mod Requested
-pub mod Ended
-mod Owning

@@ -1,6 +1,0 @@
-mod Parts
-mod Missing
-mod Losing
-mod Failing
-mod Copies
-mod Unread

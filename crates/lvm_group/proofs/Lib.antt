@@ -1,9 +1,0 @@
-pub mod Searches
-pub mod Groups
-pub mod Rows
-pub mod Seeing
-pub mod Entries
-pub mod Composing
-pub mod Keeping
-pub mod Midst
-pub mod Starting

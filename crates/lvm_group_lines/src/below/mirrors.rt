@@ -1,3 +1,0 @@
-//! Passed on from `lvm_mirrors`.
-
-pub use lvm_disk_lines::below::mirrors::{mklvcopy, rmlvcopy};

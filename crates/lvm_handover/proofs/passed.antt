@@ -1,7 +1,0 @@
-pub mod Earlier
-pub mod Group
-pub mod Ranges
-pub mod Running
-pub mod TieBegins
-pub mod Varyon
-pub mod Volumes

@@ -1,4 +1,0 @@
-pub mod passed
-pub mod Settling
-pub mod Serving
-pub mod Beginning

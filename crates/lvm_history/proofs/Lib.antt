@@ -1,4 +1,0 @@
-pub mod Keeping
-pub mod Counting
-pub mod Entering
-pub mod Staying

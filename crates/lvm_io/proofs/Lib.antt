@@ -1,5 +1,0 @@
-pub mod Told
-pub mod Feeds
-mod Texts
-mod Coming
-mod Making

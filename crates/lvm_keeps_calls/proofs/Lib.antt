@@ -1,5 +1,0 @@
-pub mod Places
-pub mod Growing
-pub mod Submit
-mod Aging
-pub mod Opening

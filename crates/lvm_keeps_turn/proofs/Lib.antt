@@ -1,6 +1,0 @@
-pub mod Ends
-pub mod Turning
-pub mod Frames
-pub mod Telling
-pub mod Stepping
-pub mod Reading

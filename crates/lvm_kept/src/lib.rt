@@ -1,9 +1,0 @@
-//! What crash images keep of a history, and the moments of a run at which they keep it.
-#![tactic(auto)]
-
-mod laws;
-
-pub use laws::{
-    blank_is_kept, changes_keep, entries_keep, groups_are_alike, parts_stand, places, quorums_find,
-    record_writes, records_are_committed, stamps_rise, worked_groups, writes_show, writing,
-};

@@ -1,2 +1,0 @@
-mod Queueing
-mod Ending

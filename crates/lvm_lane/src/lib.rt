@@ -1,6 +1,0 @@
-//! Image files of the current folder as a shelf of disks.
-#![tactic(auto)]
-
-mod shelf;
-
-pub use shelf::FileShelf;

@@ -1,3 +1,0 @@
-mod Blocks
-pub mod Hands
-mod Starting

@@ -1,2 +1,0 @@
--- Passed on from `lvm_varyon`.
-pub use Rattle.lvm_copy_lines.specs.passed.Varyon.{HasWritten, IsRecovered, MayComeOn, Recopy, Refuses, answering, beginning, records_on}

@@ -1,7 +1,0 @@
-pub mod Causes
-pub mod Counting
-pub mod Gaining
-pub mod Going
-pub mod Others
-pub mod Waiting
-pub mod Weaving

@@ -1,5 +1,0 @@
-pub mod Ends
-pub mod Requests
-pub mod Totals
-pub mod Waiting
-pub mod Weaving

@@ -1,3 +1,0 @@
-pub mod Marking
-mod Places
-mod Sures

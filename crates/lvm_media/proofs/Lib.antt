@@ -1,5 +1,0 @@
-mod Filling
-mod Putting
-mod Pieces
-pub mod Laying
-mod GivingUp

@@ -1,6 +1,0 @@
-mod Beginning
-mod Darkening
-mod Departing
-mod Arriving
-mod Making
-mod Prompt

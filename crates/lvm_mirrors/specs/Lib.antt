@@ -1,3 +1,0 @@
-pub mod Mirrors
-pub mod Stages
-pub mod Laws

@@ -1,3 +1,0 @@
-pub mod ManyWords
-pub mod NextWord
-pub mod Scanning

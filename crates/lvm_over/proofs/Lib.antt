@@ -1,3 +1,0 @@
-mod Hands
-mod Landing
-mod Telling

@@ -1,4 +1,0 @@
-pub mod Fronts
-pub mod Logs
-pub mod Moving
-pub mod Spanning

@@ -1,5 +1,0 @@
-mod Blanks
-mod Commanding
-mod Making
-mod Sim
-mod Woven

@@ -1,4 +1,0 @@
-pub mod Ending
-pub mod Behind
-pub mod Coming
-pub mod Ranging

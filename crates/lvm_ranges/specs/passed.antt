@@ -1,3 +1,0 @@
-pub mod DrainFaultVariants
-pub mod Driver
-pub mod Running

@@ -1,4 +1,0 @@
-pub mod Turning
-pub mod Passing
-pub mod Syncing
-pub mod Causes

@@ -1,5 +1,0 @@
-pub mod Shapes
-pub mod Shelves
-pub mod Running
-pub mod Turning
-pub mod Calls

@@ -1,8 +1,0 @@
-//! A session begins.
-#![tactic(auto)]
-
-mod begin;
-mod parts;
-
-pub use begin::{begin_session, first_session};
-pub use parts::{Parts, Room, take_parts};

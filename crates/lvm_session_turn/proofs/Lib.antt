@@ -1,3 +1,0 @@
-mod Turning
-mod Finishing
-pub mod Cutting

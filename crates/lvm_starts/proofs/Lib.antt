@@ -1,5 +1,0 @@
-pub mod Firsts
-mod Within
-mod Writes
-mod Buffers
-pub mod Ready

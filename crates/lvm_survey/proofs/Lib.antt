@@ -1,5 +1,0 @@
-pub mod DiskRows
-pub mod DiskByDisk
-pub mod ShownValid
-pub mod SurveyRows
-pub mod Passing

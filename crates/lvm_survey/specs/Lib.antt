@@ -1,4 +1,0 @@
-pub mod Surveyed
-pub mod Rows
-pub mod Surveying
-pub mod Laws

@@ -1,9 +1,0 @@
-pub mod Earlier
-pub mod Even
-pub mod Group
-pub mod Handover
-pub mod Ranges
-pub mod Running
-pub mod TieGroups
-pub mod Varyon
-pub mod Volumes

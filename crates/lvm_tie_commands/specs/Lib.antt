@@ -1,4 +1,0 @@
-pub mod passed
-pub mod Standing
-pub mod Commands
-pub mod Beginning

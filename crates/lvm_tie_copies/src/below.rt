@@ -1,8 +1,0 @@
-//! What is passed on from the crates below.
-
-pub mod driver;
-pub mod earlier;
-pub mod handover;
-pub mod mirrors;
-pub mod ranges;
-pub mod volumes;

@@ -1,7 +1,0 @@
-pub mod Found
-pub mod Chosen
-pub mod Writing
-pub mod Restated
-pub mod Varied
-pub mod Parts
-pub mod Equal

@@ -1,8 +1,0 @@
-//! The varying on of a volume group: which group a name chooses, its next status, its records under a new moment, and its copies made equal.
-#![tactic(auto)]
-
-mod plan;
-mod vary;
-mod writes;
-
-pub use vary::varyon;

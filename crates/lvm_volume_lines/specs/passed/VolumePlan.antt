@@ -1,2 +1,0 @@
--- Passed on from `lvm_volume_plan`.
-pub use Rattle.lvm_volume_plan.specs.declared.fault.GroupFault.{GroupFault}

@@ -1,5 +1,0 @@
-pub mod Numbers
-pub mod Sublists
-pub mod NewDescriptor
-pub mod OldDescriptor
-pub mod Refusals

@@ -1,3 +1,0 @@
-pub mod NewVolume
-pub mod Faults
-pub mod PlannedVolume

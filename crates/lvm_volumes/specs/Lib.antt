@@ -1,3 +1,0 @@
-pub mod Endings
-pub mod Volumes
-pub mod Stages

@@ -1,0 +1,24 @@
+import os,subprocess,sys
+ROOT='/work/s/dr'
+os.chdir(ROOT)
+src=open('/work/shared/tools/libs').read().rsplit('sys.exit(main',1)[0]
+ns={'__name__':'libs'}; exec(compile(src,'libs','exec'),ns)
+os.environ['RT_LIBS']='/work/libs'
+L=ns['Libs'](); KIT=ns['KIT']
+name='lvm_due'; flags=sys.argv[1:]
+below=L.below(name)
+unb=[x for x in below if not L.is_built(x)]
+print('source:',sorted(unb),flush=True)
+direct=set(L.deps[name])
+for x in unb: direct|=set(L.deps[x])
+said=["--crate-name",name,"src/lib.rt","--extern",f"std={KIT}/rlibs/std.rlib"]
+for d in sorted(direct):
+    if d in unb: continue
+    said+=["--extern",f"{d}={L.place(d) if d in L.deps else f'{KIT}/rlibs/{d}.rlib'}"]
+for x in unb:
+    said+=["--lib",f"{x}:std,{','.join(L.deps[x])}={ROOT}/crates/{x}/src/lib.rt"]
+for d in sorted(below):
+    if d not in unb: said+=["-L",f"dependency={os.path.dirname(L.place(d))}"]
+said+=["-L",f"dependency={KIT}/rlibs","--antt-project",f"{KIT}/rattle/logic/antt-project.json","--logic-built",f"{KIT}/logic_built"]
+inc="/work/s/inc_due"; os.makedirs(inc,exist_ok=True)
+sys.exit(subprocess.run(["nice","-n","10",ns['RATTLE'],"check",*said,"--incremental",inc,*flags],cwd=f"{ROOT}/crates/{name}").returncode)

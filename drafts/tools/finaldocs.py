@@ -1,0 +1,16 @@
+import re,os
+os.chdir('/work/train')
+s=open('README.md').read()
+s=s.replace("The driver of requests, which no run uses yet, makes one event at a time,","The driver of requests makes one event at a time,")
+s=s.replace("(clause `goes_on` of the calls of `Driver`, in `lvm_driver`)","(clauses `runs` and `leaves` of the calls of `Driver`, in `lvm_driver`)")
+s=s.replace("the driver of requests: a run has its session, and submits no request to it yet |","the driver of requests |")
+s=re.sub(r"\| Commands \| what lines ask for; [^|]*\|","| Commands | what lines ask for; `lvm_copy_plan` and `lvm_mirrors` are for lines that are to come |",s)
+n=len([l for l in open('crates.txt') if l.startswith('lvm') and ':' in l])
+s=re.sub(r"The \d+ crates stand in eight rooms","The %d crates stand in eight rooms"%n,s)
+s=s.replace("and at most one group has a quorum among all disks when a line begins that enters a volume's making or removal, as is so by itself","and, when a line begins that enters a volume's making or removal, at most one group has a quorum among all disks; so too when a line begins that reads, writes or changes volumes of the group that is on, which are all in mode `n` then. Both are so by themselves") if "so too when a line begins that reads" not in s else s
+open('README.md','w').write(s)
+s=open('docs/MODEL.md').read()
+s=s.replace("A run has such a session, and submits no request to it yet: it has none under way. With requests under way it has, in the same record:","With requests under way a session has, in the same record:")
+open('docs/MODEL.md','w').write(s)
+s=open('docs/PROVED.md').read()
+i=s.index("| `lvm_session` |"); j=s.index("\n",i); print(s[i:j][:900])

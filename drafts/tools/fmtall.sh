@@ -1,0 +1,1 @@
+cd /work/land; for c in $(git diff --name-only 97ad352c..HEAD | grep ^crates/ | cut -d/ -f2 | sort -u); do (cd crates/$c && timeout 60 rt fmt >/tmp/fmt.out 2>&1 || { echo "FMT $c"; head -3 /tmp/fmt.out; }); done; git status --short | head

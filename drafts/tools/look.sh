@@ -1,0 +1,1 @@
+echo -18 > /proc/self/autogroup; date; grep -v warning ${G:-/work/gate6.log} | grep -E "^rt:|error|FAILED|failed|not proved" | tail -${1:-12}; wc -l < /work/harvest.log; cat /work/MENDS.md /work/FOUND.md; uptime; ps aux --sort=-%cpu | grep "bin/rattle" | grep -v grep | awk '{print $3,$10,$12,$14}' | head

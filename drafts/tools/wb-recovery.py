@@ -1,0 +1,15 @@
+CASES=[
+("made_from_the_one_before","src/plan.rt","                Some(from) => {\n","                Some(from) => {\n                    first = Some(*pp);\n",["push_further"]),
+("disk_zero_never_fails","src/forgetting.rt","    for disk in 0..128 {","    for disk in 1..128 {",["lowest"]),
+("a_failed_note_is_ignored","src/forgetting.rt","Some(disk) => Begun::DiskFailed { disk, buf },","Some(_) => Begun::Ended { buf },",["all_or_lowest"]),
+("a_failed_copy_is_told_as_a_cut","src/equal.rt","        return copied;","        return Begun::Dark;",["equalise"]),
+("notes_of_all_disks_count","src/plan.rt","        if disks.has(row.disk) {","        if disks.has(row.disk) || true {",["named_by"]),
+("groups_are_named_twice","src/plan.rt","    groups.dedup();\n","",["named_by"]),
+("the_first_track_group_alone","src/plan.rt","            group: entry.group,","            group: 0,",["push_groups"]),
+("stuck_is_told_as_dark","src/copying.rt","        Moved::Stuck => Begun::Stuck,","        Moved::Stuck => Begun::Dark,",["step"]),
+("another_disk_is_told","src/copying.rt","            disk: place.disk,","            disk: place.disk / 2,",["step"]),
+("read_and_not_written","src/copying.rt","    step(shelf, true, one.into, buf, patience)\n","    Begun::Ended { buf }\n",["make_copy"]),
+("copying_goes_on_behind_a_failure","src/copying.rt","            stopped => return stopped,","            Begun::DiskFailed { disk: _, buf: back } => buf = back,\n            stopped => return stopped,",["copy_all"]),
+("a_block_of_the_volume","src/plan.rt","+ block % partition,","+ block,",["place_on"]),
+("copied_in_the_last_partition_too","src/plan.rt","lp < u64::from(row.lps) {","lp <= u64::from(row.lps) {",["push_named"]),
+]
