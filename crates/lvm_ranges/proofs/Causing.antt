@@ -298,7 +298,7 @@ module _ (faults : ℕ → ℕ) (asked : Asked) (old new : State) (why : RangeFa
   piece_going k outcome.NoFresh w less is it =
       let same : fault.NoFresh (piece_lp asked k) ≡ w = cc is in
       subst (GoingCause faults asked old.core new.device) same
-      (record { piece = k; below = less; lp_is = refl; request = it.request; found = it.found; lacks = lacks_at_end it.request it.cause })
+      (record { piece = k; below = less; lp_is = refl; request = it.request; found = it.found; landed = it.landed; lacks = lacks_at_end it.request it.cause })
   piece_going k outcome.Off w less is it = not_so (sym (ap is_over on) ∙ it.cause.0)
   piece_going k outcome.Dark w less is it = absurd (let e : power.On ≡ power.Dark = sym on ∙ it.cause in cc e)
 

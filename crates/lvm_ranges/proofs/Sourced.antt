@@ -14,7 +14,7 @@ use Rattle.lvm_ranges.specs.Worked.{SourcesAreJudged, begun_as, neither, one_blo
 
 lacks : GoingCause (faults_at_first (begun_as neither)) one_block (begun_as neither) faultless (fault.NoFresh 0)
 unfolding has_bit
-lacks = record { piece = 0; below = omega arith; lp_is = refl; request = unread; found = refl; lacks = inr refl }
+lacks = record { piece = 0; below = omega arith; lp_is = refl; request = unread; found = refl; landed = refl; lacks = inr refl }
 
 -- nothing has failed, and both copies could be used
 sourced : (o : Open) → unread ≡ o → AnyFailedSince (state faultless (begun_as fresh)) ⊎ (list_any (was_usable (begun_as fresh)) (copies_for (begun_as fresh) o.request.ask) ≡ false) → ⊥

@@ -6,6 +6,7 @@ use Rattle.lvm_disk.specs.Device.{Device}
 use Rattle.lvm_disk.specs.Paths.{Path}
 use Rattle.lvm_num.specs.Votes.{total_votes}
 use Rattle.lvm_vol.specs.declared.entry.Outcome.{Outcome}
+use Rattle.lvm_vol.specs.declared.entry.Outcome.TheVariants as outcome
 use Rattle.lvm_session.specs.declared.open.Open.{Open}
 use Rattle.lvm_session.specs.declared.open.Power.TheVariants as power
 use Rattle.lvm_session.specs.Calls.{is_asked}
@@ -74,14 +75,15 @@ RangeCause lv left first end fault.Lost = AnyFailed first.device end.device
 RangeCause lv left first end fault.ReadFailed = AnyFailed first.device end.device
 RangeCause lv left first end (fault.NoFresh lp) = LacksSource first.core end.device lv lp
 
--- The table has the request of a piece of the range that lies in this logical partition, and a transfer has failed since the session began, or no copy of the
--- partition that it is for could be used then.
+-- The table has the request of a piece of the range that lies in this logical partition, which landed so, and a transfer has failed since the session began, or no
+-- copy of the partition that it is for could be used then.
 pub record PieceLacksSource (asked : Asked) (core : Core) (device : Device) (lp : ℕ) : Type 0 where
   pub piece : ℕ
   pub below : piece < asked.pieces
   pub lp_is : lp ≡ piece_lp asked piece
   pub request : Open
   pub found : find (is_asked 1 (asked.first + piece)) core.requests ≡ Some request
+  pub landed : request.landed ≡ Some outcome.NoFresh
   pub lacks : AnyFailedSince (state device core) ⊎ (list_any (was_usable core) (copies_for core request.request.ask) ≡ false)
 
 -- What a range of a session that goes on ended for, whose targets were chosen once their disks had at least these faults, and whose answers were taken from this
