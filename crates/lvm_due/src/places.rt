@@ -34,7 +34,7 @@ fn waits_entry(open: &Open) -> bool
     matches!(open.request.phase, Phase::WantEntry)
 }
 
-/// All places of those that wait for an entry of the cache, and others between them.
+/// All places of those that wait for an entry of the cache. Others may be among them.
 pub fn entries(session: &Session) -> Span
     ensures { Covers waits_entry session.now.requests.items (length session.now.requests.items) result }
 {
@@ -53,7 +53,7 @@ pub fn holds_pin(session: &Session, place: usize) -> bool
     session.requests[place].request.pinned
 }
 
-/// So it is, where the request that has changed held a pin; else no place need be there.
+/// These places, where the request that has changed held a pin; else none has to be there.
 pub fn entries_if(session: &Session, pinned: bool) -> Span
     ensures { Covers (waits_entry_if pinned) session.now.requests.items (length session.now.requests.items) result }
 {
@@ -80,7 +80,7 @@ fn is_freed(ask: &Ask, open: &Open) -> bool
     matches!(open.request.phase, Phase::Held) && overlap(ask, &open.request.ask)
 }
 
-/// All places of those that aren't admitted, and that a request for these blocks may have held back, and others between
+/// All places of those that aren't admitted, and that a request for these blocks may have held back. Others may be among
 /// them.
 pub fn freed_by(session: &Session, ask: &Ask) -> Span
     ensures { Covers (is_freed ask.now) session.now.requests.items (length session.now.requests.items) result }

@@ -65,7 +65,7 @@ fn has_asked(client: &Client, id: u64) -> bool
     }
 }
 
-// The first client, from one on, that has this request open, or how many there are.
+// From one client on, a place up to which none has this request open.
 fn next_asker(clients: &[Client], from: u32, id: u64) -> u32
     requires few { length clients.now ≤ 64 }
     requires from { from ≤ length clients.now }
