@@ -40,6 +40,6 @@ pub struct Session {
     pub last: [u8; 512],
     pub origin: Origin,
     pub power: Power,
-    /// Room for the blocks of a read, and for the bytes of a status.
+    /// Room for the bytes of a status.
     pub bytes: Vec<u8>,
 }

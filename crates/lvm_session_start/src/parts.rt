@@ -149,7 +149,7 @@ fn room_of_blocks(alloc: Global) -> Result<Vec<u8>, Memory>
     }
 }
 
-// The transfer buffers, and the room for the blocks of a read.
+// The transfer buffers, and the room for the bytes of a status.
 fn of_blocks(alloc: Global, room: Room) -> Result<(Pool, Vec<u8>), Memory>
     requires { IsSessionRoom room }
     ensures pool { IfOk result (λ made. made.0 ≡ replicate room.pool false) }

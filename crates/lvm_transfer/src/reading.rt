@@ -166,8 +166,7 @@ fn append(bytes: &mut Vec<u8>, buf: &Pbuf, count: u32) -> Result<(), AllocError>
     Ok(())
 }
 
-/// Reads all sectors of a slot of descriptors, and keeps those of the first read and all of the record that the first
-/// sector announces: of a slot of zeros nearly nothing is copied.
+/// Reads a slot of descriptors, and answers bytes in which the same record is found as in all its sectors.
 pub fn read_front<S: Shelf>(
     alloc: Global,
     shelf: &mut S,
@@ -181,6 +180,8 @@ pub fn read_front<S: Shelf>(
     ensures reads { ReadsEnd disk buf.number patience.old.left patience.new.left (S.device shelf.old) (S.device shelf.new) (only_buffer result) }
     ensures record { IfOk result (λ got. IfSome (S.device shelf.old).media (λ media. record_in kind_is.Descriptor got.0.items ≡ record_in kind_is.Descriptor (joined (media disk) first 1152))) }
 {
+    // All sectors are read. Kept are those of the first read, and all of the record that the first sector announces: of a
+    // slot of zeros nearly nothing is copied.
     let front = Extent {
         disk,
         first,
