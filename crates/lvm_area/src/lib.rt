@@ -3,5 +3,6 @@
 
 mod area;
 mod found;
+pub mod lower;
 
 pub use area::{RecordArea, read_area, read_descriptor};

@@ -21,10 +21,10 @@ use Rattle.lvm_keeps.proofs.Close.{close_keeps}
 use Rattle.lvm_keeps.proofs.Orders.{order_keeps}
 use Rattle.lvm_keeps.proofs.Take.{take_keeps}
 use Rattle.lvm_keeps_calls.proofs.Submit.{submit_keeps}
-use Rattle.lvm_keeps_turn.proofs.Turning.{turn_keeps}
+use Rattle.lvm_running.proofs.handed.Names.{turn_keeps}
 use Rattle.lvm_keeps_calls.proofs.Opening.{seen_open_keeps}
-use Rattle.lvm_calls.specs.Opening.{counts_seen}
-use Rattle.lvm_tie.specs.Stamps.{AreValid}
+use Rattle.lvm_keeps_calls.specs.handed.Names.{counts_seen}
+use Rattle.lvm_running.specs.handed.Names.{AreValid}
 use Rattle.lvm_running.specs.Running.{LeavesSession, RunsOn}
 use Rattle.lvm_running.proofs.Calls.{calls_run_on}
 use Rattle.lvm_running.proofs.Turning.{turn_runs_on}

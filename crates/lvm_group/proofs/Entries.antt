@@ -12,8 +12,8 @@ use Rattle.lvm_kept.specs.Moments.{Moment, StaysCalm}
 use Rattle.lvm_steps.specs.Moments.{Keeps}
 use Rattle.lvm_steps.specs.Requests.{at}
 use Rattle.lvm_steps.proofs.Entering.{quiet_goes_on, calm_goes_on}
-use Rattle.lvm_core.specs.Sound.{HaveAllLanded}
-use Rattle.lvm_core.proofs.Dark.{landed_still}
+use Rattle.lvm_group_plan.specs.handed.Names.{HaveAllLanded}
+use Rattle.lvm_group_plan.proofs.handed.Names.{landed_still}
 use Rattle.lvm_stamps.proofs.Clock.{later_joins}
 use Rattle.lvm_group_plan.specs.NewGroup.{given_up}
 

@@ -2,6 +2,7 @@
 #![tactic(auto)]
 
 mod checks;
+pub mod lower;
 mod plan;
 
 pub use checks::size_to_begin;

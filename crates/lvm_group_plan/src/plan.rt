@@ -7,17 +7,17 @@ ghost use Rattle.lvm_num.specs.Disks.{has};
 ghost use Rattle.lvm_num.specs.Status.{IsValidStatus};
 ghost use Rattle.lvm_num.specs.StatusBytes.{status_bytes};
 ghost use Rattle.lvm_core.specs.Starting.{IsRoom};
-ghost use Rattle.lvm_session_start.specs.Parts.{IsOneGroup};
+ghost use Rattle.lvm_core.specs.handed.Names.{IsOneGroup};
 ghost use Rattle.lvm_group_plan.specs.NewGroup.{among, member_for, clear_row, disks_in_order, descriptor_for, first_absent};
 ghost use Rattle.lvm_group_plan.specs.Planned.{CanBeMade, IsChoiceFor, IsPlanOf, IsPlanned};
 
 use crate::checks::partitions_of;
+use lvm_core::lower::Choice;
 use lvm_core::{Parts, Room};
 use lvm_disk::Shelf;
 use lvm_num::{
     DISKS, Descriptor, DiskSet, Memory, Name, PvRow, Rows, Status, StatusRow, VolumeNumbers,
 };
-use lvm_quorum::Choice;
 use std::alloc::Global;
 
 /// All that a new group takes memory for: the bytes of its two records, to which disks they go, and the parts of its

@@ -1,3 +1,4 @@
+pub mod handed
 pub mod Waiting
 pub mod Ending
 pub mod Effects

@@ -1,3 +1,4 @@
+pub mod handed
 pub mod Seeing
 pub mod Grouping
 pub mod Placing

@@ -2,10 +2,8 @@
 use Rattle.std.proofs.Common.{◌≡◌, ◌≤◌, ℕ, List, Err, sym, subst}
 use Rattle.lvm_disk.specs.Device.{Device}
 use Rattle.lvm_vol.specs.Log.{Log, spare_entries}
-use Rattle.lvm_core.specs.declared.parts.Room.{Room}
-use Rattle.lvm_core.specs.declared.refused.Cause.{Cause}
-use Rattle.lvm_core.specs.declared.refused.Cause.TheVariants as cause
-use Rattle.lvm_core.specs.declared.refused.Refused.{Refused}
+use Rattle.lvm_varyon_plan.specs.handed.Names.{Room, Cause, Refused}
+use Rattle.lvm_varyon_plan.specs.handed.CoreRefusedCause as cause
 use Rattle.lvm_varyon.specs.Varied.{VaryonRefuses, VaryonStops, VariesOnAt, log_after}
 
 -- where the history has room it is refused for what stops it

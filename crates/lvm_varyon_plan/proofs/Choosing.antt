@@ -14,7 +14,7 @@ use Rattle.lvm_kept.proofs.Finding.{is_offered, offered}
 use Rattle.lvm_quorum.specs.declared.choice.Choice.{Choice}
 use Rattle.lvm_rec.specs.declared.homes.Homes.{Homes}
 use Rattle.lvm_quorum.specs.Choosing.{IsChosenGroup, IsOnly, IsGreatestEpoch}
-use Rattle.lvm_write.specs.Homes.{SpareNewest}
+use Rattle.lvm_core.specs.handed.Names.{SpareNewest}
 use Rattle.lvm_quorum.proofs.Chosen.{found_valid, row_valid}
 use Rattle.lvm_quorum.proofs.Epochs.{found_on}
 use Rattle.lvm_survey.specs.declared.row.Survey.{Survey}

@@ -2,6 +2,7 @@
 //! equal.
 #![tactic(auto)]
 
+pub mod lower;
 mod plan;
 
 pub use plan::{Plan, plan_of};

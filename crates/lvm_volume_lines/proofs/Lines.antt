@@ -2,8 +2,7 @@
 use Rattle.std.proofs.Common.{◌≡◌, ℕ, List, Option, Some, IfSome, Result, Ok, Err, refl, subst}
 use Rattle.lvm_session.specs.State.{Core, State as Session}
 use Rattle.lvm_core.specs.Looking.{IsNumberOf}
-use Rattle.lvm_volume_plan.specs.declared.fault.GroupFault.{GroupFault}
-use Rattle.lvm_volume_plan.specs.declared.new_volume.NewVolume.{NewVolume}
+use Rattle.lvm_range_lines.specs.handed.Names.{GroupFault, NewVolume}
 use Rattle.lvm_range_lines.specs.passed.Stage.{IsOn, ScriptState}
 use Rattle.lvm_volume_lines.specs.Volumes.{Drains, MklvDoes, MklvEnds, MakesVolume, MklvFails, RmlvDoes, RmlvEnds, RemovesVolume, RmlvFails, is_over, volume_reply}
 

@@ -14,8 +14,6 @@ ghost use Rattle.lvm_session.specs.Worked.{status_of};
 ghost use Rattle.lvm_vol.specs.Log.{empty_log, spare_entries};
 
 use lvm_disk::{Arrange, Shelf};
-use lvm_driver::laws::whole_groups_begin;
-use lvm_driver::{Closed, DrainFault, Driver};
 use lvm_faults::{Planned, names_disks};
 use lvm_history::History;
 use lvm_memory::MemShelf;
@@ -25,6 +23,7 @@ use lvm_num::{
 };
 use lvm_path::Ask;
 use lvm_rec::Homes;
+use lvm_resync::lower::{Closed, DrainFault, Driver, whole_groups_begin};
 use lvm_resync::{SyncFault, sync_volume};
 use lvm_session::{AskFault, CopyFault, CopyState, Power, Taken, Turned};
 use lvm_session_start::{Room, take_parts};

@@ -1,7 +1,7 @@
 use Rattle.std.proofs.Common.{◌≡◌, ◌+◌, ◌++◌, ℕ, IfSome, Ok, Err, append-nil, min, sym, ◌∙◌, ap, subst, arith}
 use Rattle.std.proofs.lemmas.Result.{err_from_is_err_and}
-use Rattle.lvm_num.specs.Record.{joined}
-use Rattle.lvm_rec.proofs.SlotLemmas.{joined-none}
+use Rattle.lvm_disk.specs.handed.Names.{joined}
+use Rattle.lvm_kept.proofs.handed.Names.{joined-none}
 use Rattle.lvm_disk.specs.Device.{Media}
 use Rattle.lvm_transfer.proofs.Joining.{kept-so-far, told-both, told-always}
 use Rattle.lvm_transfer.proofs.Following.{in_range, reads_none, reads_then}
