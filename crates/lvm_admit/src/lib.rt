@@ -3,6 +3,7 @@
 
 mod admit;
 mod aiming;
+pub mod lower;
 mod reading;
 
 pub use admit::admit_at;

@@ -1,6 +1,3 @@
-pub mod Joining
-pub mod Fronts
-pub mod Transferring
-pub mod Following
+pub mod handed
 pub mod Areas
 pub mod Shown

@@ -3,6 +3,6 @@
 
 mod area;
 mod found;
+pub mod lower;
 
-pub use area::{RecordArea, Stop, Unread, read_area, read_descriptor};
-pub use found::Latest;
+pub use area::{RecordArea, read_area, read_descriptor};

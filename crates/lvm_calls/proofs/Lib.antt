@@ -1,3 +1,4 @@
+pub mod handed
 mod Places
 pub mod Numbered
 pub mod Rows

@@ -1,5 +1,5 @@
 //! The calls of a client of a session: requests that are submitted and answers that are taken, copies that
-//! are opened, told and closed.
+//! are opened and closed, and how far the one that is open is.
 #![tactic(auto)]
 
 mod answer;

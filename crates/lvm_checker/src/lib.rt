@@ -3,6 +3,7 @@
 #![tactic(auto)]
 
 mod fits;
+pub mod lower;
 mod row;
 mod values;
 

@@ -1,3 +1,4 @@
+pub mod handed
 pub mod Found
 pub mod Copies
 pub mod Leaving

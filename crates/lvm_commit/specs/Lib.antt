@@ -1,3 +1,4 @@
+pub mod handed
 pub mod Committed
 pub mod Laws
 pub mod LawsOfWrites

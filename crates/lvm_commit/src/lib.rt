@@ -3,6 +3,7 @@
 
 mod commit;
 mod laws;
+pub mod lower;
 mod write;
 
 pub use commit::{CommitEnd, commit_descriptor, commit_status};

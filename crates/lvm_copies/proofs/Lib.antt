@@ -1,3 +1,4 @@
+pub mod handed
 mod Aiming
 pub mod Laid
 pub mod Members

@@ -3,7 +3,7 @@ ghost use Rattle.std.specs.Prelude.{◌≡◌};
 ghost use Rattle.std.specs.Option.{option_copied};
 ghost use Rattle.lvm_num.specs.Descriptor.{volume_of};
 ghost use Rattle.lvm_num.specs.Geometry.{partition_blocks};
-ghost use Rattle.lvm_stale.specs.Table.{is_pp};
+ghost use Rattle.lvm_session.specs.handed.Names.{is_pp};
 
 use lvm_num::{Descriptor, LvRow, Pp};
 

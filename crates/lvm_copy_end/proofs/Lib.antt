@@ -1,3 +1,4 @@
+pub mod handed
 mod Leaving
 pub mod Marks
 mod Entailing

@@ -1,3 +1,4 @@
+pub mod handed
 pub mod Ending
 pub mod Losing
 pub mod Left

@@ -3,6 +3,7 @@
 
 mod cases;
 mod learn;
+pub mod lower;
 mod next;
 mod step;
 

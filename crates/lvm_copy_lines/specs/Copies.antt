@@ -8,7 +8,7 @@ use Rattle.lvm_volume_lines.specs.passed.VolumePlan.{GroupFault}
 use Rattle.lvm_volume_lines.specs.passed.Mirrors.{MklvcopyGives, RmlvcopyGives, to_add, to_take}
 use Rattle.lvm_volume_lines.specs.passed.Stage.{IsRefused}
 use Rattle.lvm_volume_lines.specs.passed.Stage.{open_in}
-use Rattle.lvm_volume_lines.specs.passed.Stage.{State}
+use Rattle.lvm_volume_lines.specs.passed.Stage.{ScriptState}
 use Rattle.lvm_volume_lines.specs.passed.RefusalVariants as refusal
 use Rattle.lvm_volume_lines.specs.passed.Stage.{Reply}
 use Rattle.lvm_volume_lines.specs.passed.ReplyVariants as reply
@@ -17,17 +17,17 @@ use Rattle.lvm_volume_lines.specs.Volumes.{Drains, IsDone, IsUndrained, StaysOn,
 -- ---- a command
 
 -- `mklvcopy` on the session, at which nothing was under way, was answered so, with so much patience,
-abbrev pub MklvcopyEnds : ℕ → ℕ → Result (List Pp) GroupFault → Bool → ℕ → Session → State → State → Type 0
+abbrev pub MklvcopyEnds : ℕ → ℕ → Result (List Pp) GroupFault → Bool → ℕ → Session → ScriptState → ScriptState → Type 0
 MklvcopyEnds lv copies given over patience mid old new = IsDone (λ was is. MklvcopyGives lv copies patience was is given) (to_add lv copies) over mid old new
 
 -- so was `rmlvcopy`
-abbrev pub RmlvcopyEnds : ℕ → ℕ → Result (Unit {0}) GroupFault → Bool → ℕ → Session → State → State → Type 0
+abbrev pub RmlvcopyEnds : ℕ → ℕ → Result (Unit {0}) GroupFault → Bool → ℕ → Session → ScriptState → ScriptState → Type 0
 RmlvcopyEnds lv copies given over patience mid old new = IsDone (λ was is. RmlvcopyGives lv copies patience was is given) (to_take lv copies) over mid old new
 
 -- ---- the lines
 
 -- `mklvcopy`, of the volume that has the name
-pub data MklvcopyDoes (name : List ℕ) (copies : ℕ) (old new : State) (answer : Reply) : Type 0 where
+pub data MklvcopyDoes (name : List ℕ) (copies : ℕ) (old new : ScriptState) (answer : Reply) : Type 0 where
   NoGroupForMklvcopy : old.session ≡ None → IsRefused refusal.NoGroup answer old new → MklvcopyDoes name copies old new answer
   BusyMklvcopy : 1 ≤ open_in old.session → IsRefused refusal.Busy answer old new → MklvcopyDoes name copies old new answer
   UndrainedMklvcopy : (core : Core) (why : DrainFault) → old.session ≡ Some core → IsUndrained core old new why answer → MklvcopyDoes name copies old new answer
@@ -39,7 +39,7 @@ pub data MklvcopyDoes (name : List ℕ) (copies : ℕ) (old new : State) (answer
       → MklvcopyEnds lv copies (Err why) (ends_session why) left mid old new → answer ≡ reply.Refused (refusal_for why) → MklvcopyDoes name copies old new answer
 
 -- `rmlvcopy`, of the volume that has the name
-pub data RmlvcopyDoes (name : List ℕ) (copies : ℕ) (old new : State) (answer : Reply) : Type 0 where
+pub data RmlvcopyDoes (name : List ℕ) (copies : ℕ) (old new : ScriptState) (answer : Reply) : Type 0 where
   NoGroupForRmlvcopy : old.session ≡ None → IsRefused refusal.NoGroup answer old new → RmlvcopyDoes name copies old new answer
   BusyRmlvcopy : 1 ≤ open_in old.session → IsRefused refusal.Busy answer old new → RmlvcopyDoes name copies old new answer
   UndrainedRmlvcopy : (core : Core) (why : DrainFault) → old.session ≡ Some core → IsUndrained core old new why answer → RmlvcopyDoes name copies old new answer

@@ -12,7 +12,7 @@ use Rattle.lvm_resync.specs.Passing.{Copy}
 use Rattle.lvm_resync.specs.Syncing.{SyncGives, group_copies, group_fault, volume_copies, volume_fault}
 use Rattle.lvm_resync.specs.Turning.{GoesBeside}
 use Rattle.lvm_volume_lines.specs.passed.RangeLines.{FailsIf, session_over}
-use Rattle.lvm_volume_lines.specs.passed.Stage.{IsNotOn, IsRefused, Refusal, Reply, State, is_unheard, patience_of_line}
+use Rattle.lvm_volume_lines.specs.passed.Stage.{IsNotOn, IsRefused, Refusal, Reply, ScriptState, is_unheard, patience_of_line}
 use Rattle.lvm_volume_lines.specs.passed.RefusalVariants as refusal
 use Rattle.lvm_volume_lines.specs.passed.ReplyVariants as reply
 
@@ -49,7 +49,7 @@ numbers_reply core = if has_numbers core then reply.Synced 0 else reply.Refused 
 -- ---- the lines
 
 -- Copies of the session that is on are passed, with the patience of a line; and so it goes on, or is closed.
-pub record IsSynced (refused : Core → Option SyncFault) (copies : List Copy) (core : Core) (old new : State) (answer : Reply) : Type 0 where
+pub record IsSynced (refused : Core → Option SyncFault) (copies : List Copy) (core : Core) (old new : ScriptState) (answer : Reply) : Type 0 where
   pub end : Session
   pub left : ℕ
   pub result : Result ℕ SyncFault
@@ -61,14 +61,14 @@ pub record IsSynced (refused : Core → Option SyncFault) (copies : List Copy) (
   pub caused : IfErr result (SyncCause left (session_over old core) end)
 
 -- It is refused while no group is on, and where the group has no volume of the name. Else the volume's copies are brought up.
-pub data SyncVolumeDoes (name : List ℕ) (old new : State) (answer : Reply) : Type 0 where
+pub data SyncVolumeDoes (name : List ℕ) (old new : ScriptState) (answer : Reply) : Type 0 where
   NoGroupForSync : old.session ≡ None → IsRefused refusal.NoGroup answer old new → SyncVolumeDoes name old new answer
   NoVolumeForSync : (core : Core) → old.session ≡ Some core → HasNoVolumeNamed core.descriptor.lvs name → IsRefused refusal.NoVolume answer old new → SyncVolumeDoes name old new answer
   SyncsVolume : (core : Core) (lv : ℕ) → old.session ≡ Some core → IsNumberOf core.descriptor.lvs name lv → IsSynced (λ c. volume_fault c lv) (volume_copies core.descriptor lv) core old new answer
       → SyncVolumeDoes name old new answer
 
 -- It is refused while the group of the name isn't on. In a group without volumes nothing is brought up; else the copies of all its volumes are.
-pub data SyncGroupDoes (name : List ℕ) (old new : State) (answer : Reply) : Type 0 where
+pub data SyncGroupDoes (name : List ℕ) (old new : ScriptState) (answer : Reply) : Type 0 where
   OtherGroupForSync : IsNotOn name old.session → IsRefused refusal.NoGroup answer old new → SyncGroupDoes name old new answer
   NothingSyncs : (core : Core) → old.session ≡ Some core → core.descriptor.name ≡ name → core.descriptor.lvs ≡ [] → answer ≡ numbers_reply core → new ≡ old → SyncGroupDoes name old new answer
   SyncsGroup : (core : Core) → old.session ≡ Some core → core.descriptor.name ≡ name → core.descriptor.lvs ≢ [] → IsSynced group_fault (group_copies core.descriptor) core old new answer

@@ -4,21 +4,18 @@ ghost use Rattle.lvm_session.specs.Sound.{IsSound};
 ghost use Rattle.lvm_core.specs.Settled.{IsSettled};
 ghost use Rattle.lvm_core.specs.State.{state_of};
 ghost use Rattle.lvm_volume_lines.specs.passed.Mirrors.{MklvcopyGives, RmlvcopyGives, to_add, to_take};
-ghost use Rattle.lvm_volume_lines.specs.passed.TieCopies.{KeepsShownOf};
-ghost use Rattle.lvm_volume_lines.specs.passed.TieCopies.{added_by};
-ghost use Rattle.lvm_volume_lines.specs.passed.Stage.{EndsUnasked};
-ghost use Rattle.lvm_volume_lines.specs.passed.Stage.{OfGroup, OfGroupWhere};
-ghost use Rattle.lvm_volume_lines.specs.passed.Stage.{IsBetweenStage, IsFitting};
+ghost use Rattle.lvm_volume_lines.specs.passed.TieCopies.{KeepsShownOf, added_by};
+ghost use Rattle.lvm_volume_lines.specs.passed.Stage.{EndsUnasked, OfGroup, OfGroupWhere, IsBetweenStage, IsFitting};
 ghost use Rattle.lvm_volume_lines.specs.Commands.{IsCarriedOut, none_added};
 ghost use Rattle.lvm_copy_lines.specs.Copies.{MklvcopyDoes, RmlvcopyDoes};
 
 use lvm_core::Driver;
 use lvm_disk::Shelf;
 use lvm_num::Name;
-use lvm_posts::Post;
 use lvm_transfer::Patience;
 use lvm_volume_lines::below::mirrors::{mklvcopy, rmlvcopy};
 use lvm_volume_lines::below::stage::{Answered, Refusal, Reply, Stage};
+use lvm_volume_lines::lower::Post;
 use lvm_volume_lines::{after_fault, come_to_rest, drain_refusal, go_on};
 use std::alloc::Global;
 

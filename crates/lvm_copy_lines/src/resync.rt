@@ -9,11 +9,11 @@ ghost use Rattle.lvm_copy_lines.specs.Resyncing.{MayCome, SyncGroupDoes, SyncVol
 
 use lvm_disk::Shelf;
 use lvm_num::Name;
-use lvm_posts::Post;
 use lvm_resync::{SyncFault, sync_group, sync_volume};
 use lvm_transfer::Patience;
 use lvm_volume_lines::below::driver::Driver;
 use lvm_volume_lines::below::stage::{Answered, Holder, Refusal, Reply, Stage, number_of};
+use lvm_volume_lines::lower::Post;
 
 // A fault of a resync, as the refusal of its line. No copy is open between lines, and whole volumes are asked for.
 fn sync_refusal<S: Shelf>(driver: &Driver<S>, why: SyncFault) -> Refusal
@@ -107,12 +107,9 @@ pub fn do_sync_volume<S: Shelf>(stage: Stage<S>, name: Name) -> Answered<S>
         bytes,
     } = stage;
     match holder {
-        Holder::Off { shelf, history } => Stage {
-            holder: Holder::Off { shelf, history },
-            posts,
-            bytes,
+        Holder::Off { shelf, history } => {
+            Stage::off(shelf, history, posts, bytes).refused(Refusal::NoGroup)
         }
-        .refused(Refusal::NoGroup),
         Holder::Empty { driver } => Stage {
             holder: Holder::Empty { driver },
             posts,

@@ -1,3 +1,4 @@
+pub mod handed
 pub mod Parts
 pub mod Rows
 pub mod More

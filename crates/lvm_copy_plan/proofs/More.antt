@@ -19,7 +19,7 @@ use Rattle.lvm_map.proofs.NewPlaces.{new_place}
 use Rattle.lvm_map.proofs.PlaceLemmas.{volume_at, laid_out}
 use Rattle.lvm_map.proofs.Validity.{more_are_valid, copies_stay}
 use Rattle.lvm_kept.specs.Group.{IsOneOf}
-use Rattle.lvm_commit.proofs.Copies.{contains}
+use Rattle.lvm_volume_plan.proofs.handed.Names.{contains}
 use Rattle.lvm_copy_plan.specs.Copies.{with_map, with_copies, further_copies}
 use Rattle.lvm_copy_plan.proofs.Parts.{IsPart, all_of, one_part}
 use Rattle.lvm_copy_plan.proofs.Rows.{is_set}

@@ -1,3 +1,4 @@
+pub mod handed
 pub mod Copies
 pub mod Faults
 pub mod PlannedCopies

@@ -2,6 +2,7 @@
 #![tactic(auto)]
 
 mod copies;
+pub mod lower;
 mod next;
 
 pub use copies::{MoreCopies, prepare_fewer};

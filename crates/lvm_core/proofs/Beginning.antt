@@ -1,43 +1,27 @@
 -- A session that starts is sound.
-use Rattle.std.proofs.Common.{◌≡◌, ◌≤◌, ℕ, Bool, true, false, cond, List, [], Option, Some, None, length, replicate, refl, sym, ◌∙◌, ap, subst, arith}
-use Rattle.std.specs.Prelude.{is_some}
+use Rattle.std.proofs.Common.{◌≡◌, ◌≤◌, ℕ, false, List, length, replicate, refl, sym, ◌∙◌, ap, subst}
 use Rattle.std.proofs.lemmas.List.{length-replicate}
-use Rattle.std.proofs.lemmas.List.Elements.{All-nil}
-use Rattle.lvm_num.specs.declared.descriptor.Descriptor.{Descriptor}
 use Rattle.lvm_num.specs.declared.record.Stamp.{Stamp}
 use Rattle.lvm_num.specs.declared.status.Status.{Status}
-use Rattle.lvm_num.specs.Descriptor.{is_member}
 use Rattle.lvm_disk.specs.Device.{Device, IsReady}
 use Rattle.lvm_vol.specs.Facts.{On}
 use Rattle.lvm_vol.specs.Log.{Log}
 use Rattle.lvm_stale.specs.Table.{has_row}
-use Rattle.lvm_hold.specs.Waiting.{Waiting}
-use Rattle.lvm_mwc.specs.declared.notes.DiskNotes.{DiskNotes}
-use Rattle.lvm_mwc.specs.Cache.{Cached, has_disk, no_notes}
+use Rattle.lvm_session_start.specs.handed.Names.{Waiting}
 use Rattle.lvm_mwc.specs.Entries.{AreEntries}
 use Rattle.lvm_status.specs.Update.{Updates}
 use Rattle.lvm_rec.specs.declared.homes.Homes.{Homes}
-use Rattle.lvm_session.specs.declared.open.Power.TheVariants as power
-use Rattle.lvm_session.specs.State.{Core, state}
-use Rattle.lvm_session.specs.Placed.{ArePlaced}
+use Rattle.lvm_over.specs.handed.SessionOpenPower as power
+use Rattle.lvm_over.specs.handed.Names.{Core, state, ArePlaced}
 use Rattle.lvm_session_start.specs.declared.parts.Parts.{Parts}
-use Rattle.lvm_session_start.specs.Parts.{IsEmptyCache, IsReserved}
+use Rattle.lvm_session_start.specs.Parts.{IsReserved}
 use Rattle.lvm_session_start.specs.Beginning.{first_core}
+use Rattle.lvm_session_start.proofs.Beginning.{notes_fit, pool_size}
+pub use Rattle.lvm_session_start.proofs.Beginning.{no_entries}
 use Rattle.lvm_core.specs.Sound.{HaveAllLanded, IsFitting, IsSoundBetween}
 use Rattle.lvm_core.specs.Starting.{AreReserved}
 use Rattle.lvm_core.proofs.Dark.{landed_still}
 use Rattle.lvm_core.proofs.Own.{sound_ready}
-
--- the notes of a cache that is empty
-notes_fit : (d : Descriptor) (c : Cached) → IsEmptyCache d c → (disk : ℕ) → has_disk c disk ≡ is_member d disk
-notes_fit d c empty disk = ap (λ (o : Option DiskNotes). is_some o) (empty.notes disk) ∙ by_test (is_member d disk)
-  where
-    by_test : (b : Bool) → is_some (cond b (Some (no_notes disk)) None) ≡ b
-    by_test true = refl
-    by_test false = refl
-
-pub no_entries : AreEntries []
-no_entries = record { most = omega arith; differ = tt; counting = All-nil _ }
 
 module _ (device : Device) (p : Parts) (history : Log) (stamp : Stamp) (homes : Homes) (faults : List ℕ) (are : AreReserved p) where
   abbrev core : Core
@@ -47,7 +31,7 @@ module _ (device : Device) (p : Parts) (history : Log) (stamp : Stamp) (homes : 
   its = are.reserved
 
   buffers : length p.pool ≡ p.room.pool
-  buffers = ap length its.pool ∙ length-replicate p.room.pool false
+  buffers = pool_size p its
 
   fits_first : IsFitting core
   fits_first = record {

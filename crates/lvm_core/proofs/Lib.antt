@@ -1,3 +1,4 @@
+pub mod handed
 pub mod Dark
 pub mod Beginning
 pub mod Arranging

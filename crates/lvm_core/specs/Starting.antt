@@ -5,7 +5,7 @@ use Rattle.lvm_num.specs.declared.status.Status.{Status}
 use Rattle.lvm_num.specs.Descriptor.{IsValid}
 use Rattle.lvm_session_start.specs.declared.parts.Parts.{Parts}
 use Rattle.lvm_session_start.specs.declared.parts.Room.{Room as SessionRoom}
-use Rattle.lvm_session_start.specs.Parts.{IsOneGroup, IsReserved, IsRoom as IsSessionRoom}
+use Rattle.lvm_session_start.specs.Parts.{IsOneGroup, IsReserved, IsSessionRoom}
 use Rattle.lvm_core.specs.declared.parts.Room.{Room}
 
 -- the numbers that a room may have

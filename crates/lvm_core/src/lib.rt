@@ -5,6 +5,7 @@ mod commit;
 mod driver;
 mod fault;
 mod look;
+pub mod lower;
 mod marks;
 mod orders;
 mod parts;

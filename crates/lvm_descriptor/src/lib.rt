@@ -2,6 +2,7 @@
 #![tactic(auto)]
 
 mod head;
+pub mod lower;
 mod rows;
 
 pub use head::{begin_at, counts_at, name_at, rules_at};

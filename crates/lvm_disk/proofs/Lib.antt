@@ -1,3 +1,4 @@
+pub mod handed
 pub mod Paths
 pub mod CrashImages
 pub mod Rising

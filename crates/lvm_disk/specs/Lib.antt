@@ -1,3 +1,4 @@
+pub mod handed
 pub mod Counts
 pub mod Device
 pub mod Steps

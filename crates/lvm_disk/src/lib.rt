@@ -3,6 +3,7 @@
 #![tactic(auto)]
 
 pub mod laws;
+pub mod lower;
 mod shelf;
 
 pub use shelf::{Arrange, Reaped, Shelf, Started};

@@ -23,15 +23,11 @@ use Rattle.lvm_session.specs.declared.open.Open.{Open}
 use Rattle.lvm_session.specs.Dark.{after_arrange, all_dark}
 use Rattle.lvm_session.specs.Sound.{IsSound, waits}
 use Rattle.lvm_session.specs.State.{Core, State as Session, state, votes_there}
-use Rattle.lvm_session.specs.Turns.{Arranges as ArrangesSession}
+use Rattle.lvm_session.specs.Turns.{ArrangesSession}
 use Rattle.lvm_keeps.proofs.Orders.{order_keeps}
-use Rattle.lvm_core.specs.Sound.{HaveAllLanded}
-use Rattle.lvm_core.specs.Settled.{IsSettled as IsSettledCore}
-use Rattle.lvm_core.proofs.Dark.{cut_landed}
+use Rattle.lvm_stage.specs.handed.Names.{HaveAllLanded, IsSettled as IsSettledCore, Post, AreAnswered, ended_with}
+use Rattle.lvm_stage.proofs.handed.Names.{cut_landed, over_answered}
 use Rattle.lvm_stage.proofs.passed.Running.{calls_run_on}
-use Rattle.lvm_posts.specs.declared.posts.Post.{Post}
-use Rattle.lvm_posts.specs.Posts.{AreAnswered, ended_with}
-use Rattle.lvm_posts.proofs.Closed.{over_answered}
 use Rattle.lvm_stage.specs.passed.Quiesce.{IsAheadEach}
 use Rattle.lvm_stage.proofs.passed.Quiesce.{fewer_stay_behind}
 use Rattle.lvm_stage.specs.passed.TieCommands.{StandsAfter}
@@ -40,7 +36,7 @@ use Rattle.lvm_stage.specs.Moments.{Aside, GoesOn, HasBegunHeld}
 use Rattle.lvm_disk_lines.specs.Shelves.{IsCut, CutDoes, PowerIsCut}
 use Rattle.lvm_stage.specs.Replies.{most_refusals}
 use Rattle.lvm_stage.specs.Stages.{GivesBack, HaveRooms, IsBetweenStage, IsFitting, history_after, history_in, history_of, posts_ended, session_in, session_of, shelf_in, shelf_of, state_in}
-use Rattle.lvm_stage.specs.State.{ArePosted, IsBetween, IsOnBetween, IsTimely, StandsAlone, State, log_with, without_facts}
+use Rattle.lvm_stage.specs.State.{ArePosted, IsBetween, IsOnBetween, IsTimely, StandsAlone, ScriptState, log_with, without_facts}
 use Rattle.lvm_stage.specs.declared.holder.Holder.{Holder}
 use Rattle.lvm_stage.specs.declared.reply.Reply.{Reply}
 use Rattle.lvm_stage.specs.declared.reply.Reply.TheVariants as reply
@@ -61,7 +57,7 @@ gone_dark : (old dark : Device) → old.power ≡ true → GoesDark old dark →
 gone_dark old dark on (inl off) = absurd (let e = off.0 in cc (e, on))
 gone_dark old dark on (inr cuts) = cuts
 
-module _ (log : Log) (word : ℕ) (old new : State) (between : IsBetween old.moment old.session old.posts) (cut : IsCut log word old new) where
+module _ (log : Log) (word : ℕ) (old new : ScriptState) (between : IsBetween old.moment old.session old.posts) (cut : IsCut log word old new) where
   abbrev first_device : Device
   first_device = old.moment.device
 

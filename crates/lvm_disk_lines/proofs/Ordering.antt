@@ -17,7 +17,7 @@ use Rattle.lvm_steps.proofs.Spans.{keeps_steps}
 use Rattle.lvm_session.specs.Dark.{after_arrange}
 use Rattle.lvm_session.specs.Sound.{IsSound}
 use Rattle.lvm_session.specs.State.{Core, state}
-use Rattle.lvm_session.specs.Turns.{Arranges as ArrangesSession}
+use Rattle.lvm_session.specs.Turns.{ArrangesSession}
 use Rattle.lvm_keeps.proofs.Orders.{order_keeps}
 use Rattle.lvm_stage.specs.passed.Running.{LeavesSession}
 use Rattle.lvm_stage.proofs.passed.Running.{calls_run_on}
@@ -28,7 +28,7 @@ use Rattle.lvm_stage.specs.Moments.{Aside, GoesOn}
 use Rattle.lvm_disk_lines.specs.Shelves.{ArrangeDoes, IsArranged, over}
 use Rattle.lvm_stage.specs.Replies.{most_refusals}
 use Rattle.lvm_stage.specs.Stages.{HaveRooms, IsBetweenStage, IsFitting, IsOfKind, history_after, history_in, history_of, session_in, session_of, shelf_in, shelf_of, state_in}
-use Rattle.lvm_stage.specs.State.{IsBetween, IsOnBetween, State, StandsAlone, without_facts}
+use Rattle.lvm_stage.specs.State.{IsBetween, IsOnBetween, ScriptState, StandsAlone, without_facts}
 use Rattle.lvm_stage.specs.declared.holder.Holder.{Holder}
 use Rattle.lvm_stage.specs.declared.holder.Holder.TheVariants as holder
 use Rattle.lvm_stage.specs.declared.reply.Reply.{Reply}
@@ -67,7 +67,7 @@ order_is disk what old new (inr is) arranges = subst (λ (w : Arrange). Arranges
 
 -- ---- the state then
 
-module _ (s : State) (disk : ℕ) (what : Arrange) (of_disk : IsOfDisk disk what) (takes : s.moment.device.arranges ≡ true) (order : Arranges s.moment.device (with_order s.moment.device what) what) where
+module _ (s : ScriptState) (disk : ℕ) (what : Arrange) (of_disk : IsOfDisk disk what) (takes : s.moment.device.arranges ≡ true) (order : Arranges s.moment.device (with_order s.moment.device what) what) where
   abbrev device : Device
   device = s.moment.device
 
@@ -176,7 +176,7 @@ module _ {S : Type 0} (device : S → Device) (old : Stage S) (by : Holder S) (d
   pub arranged_ends : (it : Stage S) (answer : Reply) → it ≡ held_by old by → answer ≡ reply.Ok → disk < length (device (shelf_in old)).sizes → IsFitting old → IsBetweenStage device old → EndsUnasked device (λ log. ArrangeDoes disk what) (Unit {0}) Aside old it answer
   arranged_ends it answer is says there fits between = unasked_as device (λ log. ArrangeDoes disk what) (Unit {0}) Aside old old it (held_by old by) answer answer refl is refl (λ last. record {
     does = IsArranged there shelf.0 says (arranged_is last);
-    goes = subst (λ (s : State). GoesOn (history_in old).run Aside answer (state_in device old last) s) (sym (arranged_is last))
+    goes = subst (λ (s : ScriptState). GoesOn (history_in old).run Aside answer (state_in device old last) s) (sym (arranged_is last))
         (ordered_goes (state_in device old last) disk what of_disk shelf.0 order (history_in old).run answer (runs_of old.holder) between (subst (λ (a : Reply). most_refusals a ≤ 1) (sym says) (omega arith)));
     rooms = ap without_facts same_history;
     fits = fits_by old by fits kind (ap without_facts same_history);
@@ -207,7 +207,7 @@ module _ {S : Type 0} (device : S → Device) (old : Stage S) (by : Holder S) (w
       ∙ ap (λ (x : Log). record { moment = record { device = device (shelf_in old); facts = x.facts }; session = session_of by; posts = old.posts.items; last = last }) kept_history
       ∙ ap (λ (x : Option Core). record { moment = record { device = device (shelf_in old); facts = (history_in old).facts }; session = x; posts = old.posts.items; last = last }) (session ∙ nothing_happens what (session_in old))
 
-  pub unarranged_ends : (Does : Log → State → State → Reply → Type 0) (it : Stage S) (answer : Reply) → it ≡ held_by old by → IsFitting old → IsBetweenStage device old → most_refusals answer ≤ 1
+  pub unarranged_ends : (Does : Log → ScriptState → ScriptState → Reply → Type 0) (it : Stage S) (answer : Reply) → it ≡ held_by old by → IsFitting old → IsBetweenStage device old → most_refusals answer ≤ 1
       → ((last : ℕ) → state_in device (held_by old by) last ≡ state_in device old last → Does (without_facts (history_in old)) (state_in device old last) (state_in device (held_by old by) last) answer)
       → EndsUnasked device Does (Unit {0}) Aside old it answer
   unarranged_ends Does it answer is fits between one does = unasked_as device Does (Unit {0}) Aside old old it (held_by old by) answer answer refl is refl (λ last. record {

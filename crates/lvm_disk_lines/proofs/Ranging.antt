@@ -1,6 +1,6 @@
 -- Lines that read or write ranges of disks.
-use Rattle.std.proofs.Common.{◌≡◌, ◌⊎◌, inl, inr, ◌+◌, ◌≤◌, [], ℕ, List, Result, Ok, Err, IfOk, IfErr, refl, ◌∙◌, sym, ap, subst, arith}
-use Rattle.std.specs.Prelude.{◌^◌, ◌<◌, IsSome}
+use Rattle.std.proofs.Common.{◌≡◌, ◌⊎◌, inl, inr, ◌+◌, ◌≤◌, [], ℕ, List, Result, Ok, Err, IfOk, IfErr, ◌∙◌, sym, ap, subst, arith}
+use Rattle.std.specs.Prelude.{◌^◌, ◌<◌}
 use Rattle.std.specs.Global.{Vec}
 use Rattle.lvm_num.specs.Buffer.{Sector}
 use Rattle.lvm_disk.specs.Device.{Device, IsReady}
@@ -14,14 +14,13 @@ use Rattle.lvm_raw.specs.declared.fault.RawFault.{RawFault}
 use Rattle.lvm_raw.specs.declared.fault.RawFault.TheVariants as fault
 use Rattle.lvm_stage.specs.passed.Quiesce.{IsBehindEach, RangeKeepsEach}
 use Rattle.lvm_stage.proofs.passed.Quiesce.{still_is_behind_each}
-use Rattle.lvm_posts.specs.declared.posts.Post.{Post}
+use Rattle.lvm_stage.specs.handed.Names.{Post}
 use Rattle.lvm_disk_lines.specs.Disks.{ShowsRead, blocks_text, refusal_by, write_reply}
 use Rattle.lvm_stage.specs.Ends.{EndsUnasked}
 use Rattle.lvm_stage.specs.Moments.{Aside, GoesOn}
 use Rattle.lvm_stage.specs.Replies.{IsStuck, Shows, InFull, WithoutMemory, most_refusals}
-use Rattle.lvm_stage.specs.Stages.{Between, HaveRooms, IsBetweenStage, IsFitting, session_of}
-use Rattle.lvm_stage.specs.State.{State, without_facts}
-use Rattle.lvm_stage.specs.declared.holder.Holder.{Holder}
+use Rattle.lvm_stage.specs.Stages.{Between, HaveRooms, IsBetweenStage, IsFitting}
+use Rattle.lvm_stage.specs.State.{ScriptState, without_facts}
 use Rattle.lvm_stage.specs.declared.holder.Holder.TheVariants as holder
 use Rattle.lvm_stage.specs.declared.reply.Reply.{Reply}
 use Rattle.lvm_stage.specs.declared.reply.Reply.TheVariants as reply
@@ -60,12 +59,6 @@ read_once from (Err why) answer says = one_of answer (reply.Refused (refusal_by 
 -- the stage at which no group is on
 abbrev pub off : {S : Type 0} → S → Log → Vec Post → Vec ℕ → Stage S
 off shelf log posts bytes = record { holder = holder.Off shelf log; posts = posts; bytes = bytes }
-
--- a group is on unless none is
-pub on_unless : {S : Type 0} (it : Holder S) → ((shelf : S) (log : Log) → it ≡ holder.Off shelf log → ⊥) → IsSome (session_of it)
-on_unless (holder.Off shelf log) other = absurd (other shelf log refl)
-on_unless (holder.Empty driver) other = refl
-on_unless (holder.Serving driver) other = refl
 
 module _ {S X : Type 0} (device : S → Device) (old new : S) (log is : Log) (posts : Vec Post) (bytes : Vec ℕ) (fits : IsFitting (off old log posts bytes)) (between : IsBetweenStage device (off old log posts bytes))
     (ordered : Ordered log.run [] log.facts) (disk before after : ℕ) (given : Result X RawFault)
@@ -121,6 +114,6 @@ module _ {S X : Type 0} (device : S → Device) (old new : S) (log is : Log) (po
     rooms = subst (λ (l : Log). HaveRooms l.room posts bytes) (sym rooms) fits.rooms;
   }
 
-  pub range_ends : (Does : Log → State → State → Reply → Type 0) → Between device (off old log posts bytes) (off new is posts bytes) (λ a b. Does (without_facts log) a b answer)
+  pub range_ends : (Does : Log → ScriptState → ScriptState → Reply → Type 0) → Between device (off old log posts bytes) (off new is posts bytes) (λ a b. Does (without_facts log) a b answer)
       → EndsUnasked device Does ⊥ Aside (off old log posts bytes) (off new is posts bytes) answer
   range_ends Does does = λ last. record { does = does last; goes = goes_on last; rooms = ap without_facts rooms; fits = fits_then; orders = λ none. keeps.shelf.orders }

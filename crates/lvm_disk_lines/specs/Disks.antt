@@ -8,7 +8,7 @@ use Rattle.lvm_replies.specs.Blocks.{block_text}
 use Rattle.lvm_raw.specs.declared.fault.RawFault.{RawFault}
 use Rattle.lvm_raw.specs.declared.fault.RawFault.TheVariants as fault
 use Rattle.lvm_raw.specs.Keeping.{AnswerHasCause}
-use Rattle.lvm_stage.specs.State.{State}
+use Rattle.lvm_stage.specs.State.{ScriptState}
 use Rattle.lvm_stage.specs.Replies.{IsRefused, Shows}
 use Rattle.lvm_stage.specs.declared.reply.Refusal.{Refusal}
 use Rattle.lvm_stage.specs.declared.reply.Refusal.TheVariants as refusal
@@ -49,18 +49,18 @@ abbrev pub HasRisen : {X : Type 0} → ℕ → Moment → Moment → Result X Ra
 HasRisen disk old new given = AnswerHasCause disk patience_of_line old.device.counts new.device.counts given
 
 -- no group is on, nor afterwards, the posts stay, and the clock wasn't asked
-pub record StaysOff (old new : State) : Type 0 where
+pub record StaysOff (old new : ScriptState) : Type 0 where
   pub before : old.session ≡ None
   pub after : new.session ≡ None
   pub posts : new.posts ≡ old.posts
   pub clock : new.last ≡ old.last
 
 -- `wr` on a disk, while no group is on
-pub data WriteDoes (log : Log) (disk at count word : ℕ) (old new : State) (answer : Reply) : Type 0 where
+pub data WriteDoes (log : Log) (disk at count word : ℕ) (old new : ScriptState) (answer : Reply) : Type 0 where
   NoWriteWhileOn : IsSome old.session → IsRefused refusal.GroupOn answer old new → WriteDoes log disk at count word old new answer
   WriteGoes : (given : Result (Unit {0}) RawFault) → StaysOff old new → WriteOnceQuiet log disk at count word patience_of_line old.moment new.moment given → HasRisen disk old.moment new.moment given → answer ≡ write_reply given → WriteDoes log disk at count word old new answer
 
 -- `rd` on a disk
-pub data ReadDoes (log : Log) (disk at count : ℕ) (old new : State) (answer : Reply) : Type 0 where
+pub data ReadDoes (log : Log) (disk at count : ℕ) (old new : ScriptState) (answer : Reply) : Type 0 where
   NoReadWhileOn : IsSome old.session → IsRefused refusal.GroupOn answer old new → ReadDoes log disk at count old new answer
   ReadGoes : (given : Result (List Sector) RawFault) → StaysOff old new → ReadOnceQuiet log disk at count patience_of_line old.moment new.moment given → HasRisen disk old.moment new.moment given → ShowsRead at given answer → ReadDoes log disk at count old new answer

@@ -11,7 +11,8 @@ use lvm_num::{Memory, Rows, Text};
 use lvm_raw::RawFault;
 use lvm_replies::show_block;
 use lvm_stage::below::quiesce::{read_disk, write_disk};
-use lvm_stage::{Answered, Holder, Refusal, Reply, Stage};
+use lvm_stage::lower::Closed;
+use lvm_stage::{Answered, Refusal, Reply, Stage};
 use lvm_transfer::Patience;
 use std::alloc::Global;
 
@@ -95,17 +96,12 @@ pub fn do_write<S: Shelf>(
     requires most { count ≤ 4096 }
     ensures { EndsUnasked S.device (λ log. WriteDoes log disk at count word) ⊥ Aside stage result.stage result.reply }
 {
-    let Stage {
-        holder,
-        posts,
-        bytes,
-    } = stage;
-    match holder {
-        Holder::Off {
-            mut shelf,
-            mut history,
-        } => {
-            let _ = history.run();
+    match stage.into_off() {
+        Ok((closed, posts, bytes)) => {
+            let Closed {
+                mut shelf,
+                mut history,
+            } = closed;
             let mut patience = Patience::whole();
             let done = write_disk(
                 alloc,
@@ -117,20 +113,9 @@ pub fn do_write<S: Shelf>(
                 word,
                 &mut patience,
             );
-            let holder = Holder::Off { shelf, history };
-            Stage {
-                holder,
-                posts,
-                bytes,
-            }
-            .answered(write_reply(done))
+            Stage::off(shelf, history, posts, bytes).answered(write_reply(done))
         }
-        holder => Stage {
-            holder,
-            posts,
-            bytes,
-        }
-        .refused(Refusal::GroupOn),
+        Err(stage) => stage.refused(Refusal::GroupOn),
     }
 }
 
@@ -148,17 +133,12 @@ pub fn do_read<S: Shelf>(
     requires most { count ≤ 4096 }
     ensures { EndsUnasked S.device (λ log. ReadDoes log disk at count) ⊥ Aside stage result.stage result.reply }
 {
-    let Stage {
-        holder,
-        posts,
-        bytes,
-    } = stage;
-    match holder {
-        Holder::Off {
-            mut shelf,
-            mut history,
-        } => {
-            let _ = history.run();
+    match stage.into_off() {
+        Ok((closed, posts, bytes)) => {
+            let Closed {
+                mut shelf,
+                mut history,
+            } = closed;
             let mut patience = Patience::whole();
             let read = read_disk(
                 alloc,
@@ -169,19 +149,8 @@ pub fn do_read<S: Shelf>(
                 count,
                 &mut patience,
             );
-            let holder = Holder::Off { shelf, history };
-            Stage {
-                holder,
-                posts,
-                bytes,
-            }
-            .answered(read_reply(alloc, at, read))
+            Stage::off(shelf, history, posts, bytes).answered(read_reply(alloc, at, read))
         }
-        holder => Stage {
-            holder,
-            posts,
-            bytes,
-        }
-        .refused(Refusal::GroupOn),
+        Err(stage) => stage.refused(Refusal::GroupOn),
     }
 }

@@ -28,7 +28,7 @@ use Rattle.lvm_keeps_calls.proofs.Submit.{few_updates}
 use Rattle.lvm_session_start.specs.declared.parts.Parts.{Parts}
 use Rattle.lvm_session_start.specs.declared.parts.Room.{Room}
 use Rattle.lvm_session_start.specs.Beginning.{MayBegin, first_core}
-use Rattle.lvm_session_start.specs.Parts.{IsReserved, IsRoom}
+use Rattle.lvm_session_start.specs.Parts.{IsReserved, IsSessionRoom}
 use Rattle.lvm_driver.specs.Beginnings.{EachModeBegins, IsClosedLog, IsShelfOf, IsWholeGroup, WholeGroupsBegin, no_log, third_stamp}
 
 -- ---- nothing that missing disks would entail
@@ -64,7 +64,7 @@ enough d s it = more_is_enough.write d (total_votes d) (votes_in d (members_ther
 -- ---- its parts
 
 module _ (device : Device) (history : Log) (stamp : Stamp) (homes : Homes) (room : Room) (d : Descriptor) (s : Status) (p : Parts)
-    (fits : IsRoom room) (its : IsReserved d s room p) (whole : IsWholeGroup d s) (shelf : IsShelfOf device d s) (log : IsClosedLog history) (few : stamp.seq < 2 ^ 31) where
+    (fits : IsSessionRoom room) (its : IsReserved d s room p) (whole : IsWholeGroup d s) (shelf : IsShelfOf device d s) (log : IsClosedLog history) (few : stamp.seq < 2 ^ 31) where
   abbrev core : Core
   core = first_core p history stamp homes []
 
@@ -94,7 +94,7 @@ module _ (device : Device) (history : Log) (stamp : Stamp) (homes : Homes) (room
   pub may_begin : MayBegin device history stamp homes p
   may_begin = record {
     reserved = its_own;
-    room = subst IsRoom (sym its.room_is) fits;
+    room = subst IsSessionRoom (sym its.room_is) fits;
     valid = group.valid;
     group = group.group;
     ordered = log.ordered;

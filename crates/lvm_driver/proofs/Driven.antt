@@ -14,17 +14,17 @@ use Rattle.lvm_session.specs.declared.answers.CopyFault.{CopyFault}
 use Rattle.lvm_session.specs.declared.answers.Taken.{Taken}
 use Rattle.lvm_session.specs.declared.answers.Turned.{Turned}
 use Rattle.lvm_session.specs.Calls.{Closes, OpenGives, SubmitGives, TakeGives}
-use Rattle.lvm_session.specs.Turns.{Arranges, TurnMakes}
+use Rattle.lvm_session.specs.Turns.{ArrangesSession, TurnMakes}
 use Rattle.lvm_session.specs.Asking.{IsAsking, IsAwake}
 use Rattle.lvm_session.specs.Sound.{IsSound}
 use Rattle.lvm_keeps.proofs.Close.{close_keeps}
 use Rattle.lvm_keeps.proofs.Orders.{order_keeps}
 use Rattle.lvm_keeps.proofs.Take.{take_keeps}
 use Rattle.lvm_keeps_calls.proofs.Submit.{submit_keeps}
-use Rattle.lvm_keeps_turn.proofs.Turning.{turn_keeps}
+use Rattle.lvm_running.proofs.handed.Names.{turn_keeps}
 use Rattle.lvm_keeps_calls.proofs.Opening.{seen_open_keeps}
-use Rattle.lvm_calls.specs.Opening.{counts_seen}
-use Rattle.lvm_tie.specs.Stamps.{AreValid}
+use Rattle.lvm_keeps_calls.specs.handed.Names.{counts_seen}
+use Rattle.lvm_running.specs.handed.Names.{AreValid}
 use Rattle.lvm_running.specs.Running.{LeavesSession, RunsOn}
 use Rattle.lvm_running.proofs.Calls.{calls_run_on}
 use Rattle.lvm_running.proofs.Turning.{turn_runs_on}
@@ -59,7 +59,7 @@ module _ (device now : Device) (old new : Session) (it : AreSound device old) (s
   pub turn_on : (answer : Turned) → HasSectors now → AreValid old.updater → TurnMakes was is answer → Stay RunsOn device now old new
   turn_on answer sectors valid made = let sound = turn_keeps was is answer it.1 made in run sound (turn_runs_on was is answer it.1 sound sectors valid made)
 
-  pub order_on : (what : Arrange) (done : Bool) → Arranges was is what done → Stay LeavesSession device now old new
+  pub order_on : (what : Arrange) (done : Bool) → ArrangesSession was is what done → Stay LeavesSession device now old new
   order_on what done order = let sound = order_keeps was is what done it.1 order in leave sound (calls_run_on.arrange was is what done it.1 sound order)
 
 module _ (device : Device) (old new : Session) (it : AreSound device old) (same : SameRooms old new) where

@@ -1,3 +1,4 @@
+pub mod handed
 mod Rooms
 mod Driven
 mod Draining

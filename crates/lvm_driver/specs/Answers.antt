@@ -7,7 +7,7 @@ use Rattle.lvm_session.specs.Enabled.{is_lost}
 use Rattle.lvm_session.specs.Judging.{copies_in}
 use Rattle.lvm_session.specs.State.{Core, State, state}
 use Rattle.lvm_session.specs.Calls.{is_asked}
-use Rattle.lvm_session.specs.Causes.{AnyFailedSince, IsAnswered, IsCopyCaused as IsCausedAmong}
+use Rattle.lvm_session.specs.Causes.{AnyFailedSince, IsAnswered, IsCausedAmong}
 
 -- the state of a driver, by the device that its shelf is
 abbrev pub state_of : {S : Type 0} → (S → Device) → S × Core → State

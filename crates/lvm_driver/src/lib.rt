@@ -6,6 +6,7 @@ mod drain;
 mod driver;
 mod dues;
 pub mod laws;
+pub mod lower;
 mod shown;
 mod sound;
 

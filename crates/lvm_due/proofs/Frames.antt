@@ -25,7 +25,7 @@ use Rattle.lvm_firsts.specs.declared.span.Span.{Span}
 use Rattle.lvm_firsts.specs.Spans.{is_in, Spans}
 use Rattle.lvm_due.specs.declared.due.Due.{Due}
 use Rattle.lvm_due.specs.Due.{is_held, AddsMaking, Covers, IsDue, Joins, Moves}
-use Rattle.lvm_due.specs.Making.{may_admit, may_land, may_note, may_start}
+use Rattle.lvm_due.specs.Making.{might_make_admission, might_make_data, might_make_landing, might_make_note}
 use Rattle.lvm_due.proofs.Unmade.{admit_none, land_none, note_none, pin_none, start_none}
 use Rattle.lvm_due.proofs.Telling.{facts_but, failing_read, fails_beside, is_unsettled, note_same, pending_read}
 use Rattle.lvm_due.proofs.Spanning.{Keeps, adds_keep, joins_keep, not_both, out_of}
@@ -178,16 +178,16 @@ pub moved_due : (frees pins : Open → Bool) (old new : Core) (place : ℕ) (was
     → Joins freed each.admission now.admission → Joins entries each.pinning now.pinning → now.note ≡ each.note → now.data ≡ each.data → Moves frees pins old new place → IsDue old was → IsDue new now
 moved_due frees pins old new place was each now freed entries low free enter making lands admits pinned notes datas moves due = record {
   landing = landing_keeps frees pins old new place moves was.landing now.landing (λ k o there is. lands.has k (free.has k o (slice_get_within new.requests k o there) there is))
-      (joins_keep (landing_at new) moves.is place n freed was.landing each.landing now.landing free.within (adds_keep (landing_at new) moves.is place n was.landing each.landing (may_land moves.is.request) low (land_none new place moves.is) adds.landing) lands) due.landing;
+      (joins_keep (landing_at new) moves.is place n freed was.landing each.landing now.landing free.within (adds_keep (landing_at new) moves.is place n was.landing each.landing (might_make_landing moves.is.request) low (land_none new place moves.is) adds.landing) lands) due.landing;
   admission = admission_keeps frees pins old new place moves was.admission now.admission (λ k o there is. admits.has k (free.has k o (slice_get_within new.requests k o there) there is))
       (joins_keep (admission_at new) moves.is place n freed was.admission each.admission now.admission free.within
-      (adds_keep (admission_at new) moves.is place n was.admission each.admission (may_admit moves.is.request) low (admit_none new place moves.is) adds.admission) admits) due.admission;
+      (adds_keep (admission_at new) moves.is place n was.admission each.admission (might_make_admission moves.is.request) low (admit_none new place moves.is) adds.admission) admits) due.admission;
   pinning = pinning_keeps frees pins old new place moves was.pinning now.pinning (λ k o there is. pinned.has k (enter.has k o (slice_get_within new.requests k o there) there is))
       (joins_keep (pinning_at new) moves.is place n entries was.pinning each.pinning now.pinning enter.within (adds_keep (pinning_at new) moves.is place n was.pinning each.pinning (might_pin moves.is.request) low (pin_none new place moves.is) adds.pinning) pinned) due.pinning;
   note = subst (Spans (note_at new) new.requests) (sym notes)
-      (note_keeps frees pins old new place moves was.note each.note (adds_keep (note_at new) moves.is place n was.note each.note (may_note moves.is.request) low (note_none new place moves.is) adds.note) due.note);
+      (note_keeps frees pins old new place moves was.note each.note (adds_keep (note_at new) moves.is place n was.note each.note (might_make_note moves.is.request) low (note_none new place moves.is) adds.note) due.note);
   «data» = subst (Spans (data_at new) new.requests) (sym datas)
-      (data_keeps frees pins old new place moves was.data each.data (adds_keep (data_at new) moves.is place n was.data each.data (may_start moves.is.request) low (start_none new place moves.is) adds.data) due.data);
+      (data_keeps frees pins old new place moves was.data each.data (adds_keep (data_at new) moves.is place n was.data each.data (might_make_data moves.is.request) low (start_none new place moves.is) adds.data) due.data);
 }
   where
     n : ℕ

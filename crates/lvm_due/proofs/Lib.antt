@@ -1,3 +1,4 @@
+pub mod handed
 mod Alike
 mod Calm
 mod Frames

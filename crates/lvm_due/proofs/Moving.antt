@@ -30,8 +30,8 @@ use Rattle.lvm_session.specs.Events.{Admits, Lands, Pins, StartsData, admitted_a
 use Rattle.lvm_session.specs.Judging.{facts_of, group_of, held_of, is_failing, is_held_back, is_waiting, mode_of, place_of, policy_of}
 use Rattle.lvm_session.specs.Marks.{WantsDirtyIf, hits_copy}
 use Rattle.lvm_session.specs.Sound.{IsGoing, rows_of, waiting_rows}
-use Rattle.lvm_due.specs.Due.{any_fails, enters, is_freed, none, overlap, waits_entry, HoldsPin, IsCalm, IsQuiet, IsQuietFor, Moves, ReadsSame}
-use Rattle.lvm_due.specs.Making.{may_land}
+use Rattle.lvm_due.specs.Due.{any_fails, is_freed, none, overlap, waits_entry, waits_entry_if, HoldsPin, IsCalm, IsQuiet, IsQuietFor, Moves, ReadsSame}
+use Rattle.lvm_due.specs.Making.{might_make_landing}
 use Rattle.lvm_due.proofs.Frames.{get_set}
 use Rattle.lvm_due.proofs.Telling.{fails_read, failing_read}
 use Rattle.lvm_due.proofs.Starting.{start_fails, start_waits}
@@ -76,7 +76,7 @@ calm_reads old new descriptor committed was is = record {
 }
 
 -- where no pin was given up all can pin that could
-unheld_pins : (cache : Cached) (r : Request) (o : Open) (pinned : Bool) → r.pinned ≡ pinned → waits_entry o ≡ true → enters pinned o ≡ false → can_pin (without_pin cache r) o.request.ask ≡ can_pin cache o.request.ask
+unheld_pins : (cache : Cached) (r : Request) (o : Open) (pinned : Bool) → r.pinned ≡ pinned → waits_entry o ≡ true → waits_entry_if pinned o ≡ false → can_pin (without_pin cache r) o.request.ask ≡ can_pin cache o.request.ask
 unheld_pins cache r o true held waits kept = not_both waits kept
 unheld_pins cache r o false held waits kept = ap (λ (b : Bool). can_pin (if b then after_unpin cache (lv_of r.ask) (group_of r.ask) else cache) o.request.ask) held
 
@@ -123,7 +123,7 @@ module _ (old : State) (new : Core) (place : ℕ) (how : Outcome) (going : IsGoi
           let its = one_numbered old.core.requests k place o lands.request going.told.table.ascending there lands.there is in
           and_right (nat_lt (place_of o.request.id) (place_of r.id)) (conflicts (held_of o.request.ask) (held_of r.ask)) (ap (λ (x : Open). conflicts (held_of x.request.ask) (held_of r.ask)) its ∙ apart)
 
-  landed_moves : Moves (is_freed lands.request.request.ask) (enters pinned) old.core new place
+  landed_moves : Moves (is_freed lands.request.request.ask) (waits_entry_if pinned) old.core new place
   landed_moves = record {
     reads = landed_reads;
     notes = ap (λ (c : Core). c.cache.notes) landed_is ∙ unpin_notes lands.request.request.pinned old.core.cache (lv_of lands.request.request.ask) (group_of lands.request.request.ask);
@@ -140,22 +140,22 @@ module _ (old : State) (new : Core) (place : ℕ) (how : Outcome) (going : IsGoi
   }
 
   -- by what stands at the place now
-  pub landing_moves : (o : Open) → slice_get new.requests place ≡ Some o → Moves (is_freed o.request.ask) (enters pinned) old.core new place
+  pub landing_moves : (o : Open) → slice_get new.requests place ≡ Some o → Moves (is_freed o.request.ask) (waits_entry_if pinned) old.core new place
   landing_moves o there =
       let its : o ≡ landed_as how lands.request = cc (there, landed_there) in
-      subst (λ (ask : Ask). Moves (is_freed ask) (enters pinned) old.core new place) (sym (ap (λ (x : Open). x.request.ask) its)) landed_moves
+      subst (λ (ask : Ask). Moves (is_freed ask) (waits_entry_if pinned) old.core new place) (sym (ap (λ (x : Open). x.request.ask) its)) landed_moves
 
 -- it lands once
-pub landed_may_not : (old : State) (new : Core) (place : ℕ) (how : Outcome) → Lands old (state old.device new) place how → (o : Open) → slice_get new.requests place ≡ Some o → may_land o.request ≡ false
-landed_may_not old new place how lands o there =
+pub landed_might_not : (old : State) (new : Core) (place : ℕ) (how : Outcome) → Lands old (state old.device new) place how → (o : Open) → slice_get new.requests place ≡ Some o → might_make_landing o.request ≡ false
+landed_might_not old new place how lands o there =
     let requests : new.requests ≡ slice_set old.core.requests place (landed_as how lands.request) = ap (λ (s : State). s.core.requests) lands.is in
     let its : landed_as how lands.request ≡ o = cc (sym (ap (λ (os : List Open). slice_get os place) requests ∙ get_set old.core.requests place lands.request (landed_as how lands.request) lands.there) ∙ there) in
-    ap (λ (x : Open). may_land x.request) (sym its)
+    ap (λ (x : Open). might_make_landing x.request) (sym its)
 
 -- ---- Admit
 
 pub admission_moves : (old : State) (new : Core) (place : ℕ) → Admits old (state old.device new) place → IsQuiet old.core place → IsQuiet new place → (pinned : Bool) → HoldsPin old.core place pinned
-    → Moves none (enters pinned) old.core new place
+    → Moves none (waits_entry_if pinned) old.core new place
 admission_moves old new place admits was is pinned holds = record {
   reads = calm_reads old.core new (ap (λ (c : Core). c.descriptor) core_is) (dirty_commits (makes_dirty old.core admits.request.request.ask admits.targets) (lv_of admits.request.request.ask) old.core.status new.status admits.dirty) was.calm is.calm;
   notes = ap (λ (c : Core). c.cache.notes) core_is ∙ unpin_notes admits.request.request.pinned old.core.cache (lv_of admits.request.request.ask) (group_of admits.request.request.ask);

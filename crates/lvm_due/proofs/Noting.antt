@@ -15,7 +15,7 @@ use Rattle.lvm_hold.specs.Waiting.{is_blocked}
 use Rattle.lvm_mwc.specs.declared.entries.CacheEntry.{CacheEntry}
 use Rattle.lvm_mwc.specs.declared.notes.DiskNotes.{DiskNotes}
 use Rattle.lvm_mwc.specs.Entries.{note_of}
-use Rattle.lvm_mwc.specs.Notes.{both_name, is_on, names_group}
+use Rattle.lvm_mwc.specs.Notes.{both_name, is_of_disk, names_group}
 use Rattle.lvm_mwc.specs.Cache.{Cached, after_start, flight_on, is_named, notes_on, started}
 use Rattle.lvm_mwc.proofs.FirstsLemmas.{find-with, find-with_other}
 use Rattle.lvm_path.specs.declared.ask.Ask.{Ask}
@@ -117,13 +117,13 @@ module _ (old new : Core) (reads : ReadsSame old new) (requests : new.requests �
 
 module _ (cache : Cached) (disk : ℕ) (none : flight_on cache disk ≡ None) where
   on_other : (other : ℕ) → (disk == other) ≡ false → notes_on (after_start cache disk) other ≡ notes_on cache other
-  on_other other apart = find-with_other (is_on other) (is_on disk) (started cache.entries) cache.notes (λ n on. let it = not_there n on in (it, it))
+  on_other other apart = find-with_other (is_of_disk other) (is_of_disk disk) (started cache.entries) cache.notes (λ n on. let it = not_there n on in (it, it))
     where
-      not_there : (n : DiskNotes) → is_on disk n ≡ true → is_on other n ≡ false
+      not_there : (n : DiskNotes) → is_of_disk disk n ≡ true → is_of_disk other n ≡ false
       not_there n on = ap (λ (d : ℕ). d == other) (eqb-true n.disk disk on) ∙ apart
 
   on_same : notes_on (after_start cache disk) disk ≡ option_map (started cache.entries) (notes_on cache disk)
-  on_same = find-with (is_on disk) (started cache.entries) cache.notes (λ n on. on)
+  on_same = find-with (is_of_disk disk) (started cache.entries) cache.notes (λ n on. on)
 
   fewer_in : (o : Option DiskNotes) (lv group : ℕ) → option_and_then (λ (n : DiskNotes). n.flight) o ≡ None → option_map_or (both_name lv group) (option_map (started cache.entries) o) false ≡ true → option_map_or (both_name lv group) o false ≡ true
   fewer_in None lv group flies is = is

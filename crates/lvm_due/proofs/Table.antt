@@ -31,7 +31,7 @@ use Rattle.lvm_firsts.specs.Might.{might_pin}
 use Rattle.lvm_firsts.specs.Spans.{is_in, Leaves, Spans}
 use Rattle.lvm_due.specs.declared.due.Due.{Due}
 use Rattle.lvm_due.specs.Due.{AddsMaking, IsDue, ReadsSame}
-use Rattle.lvm_due.specs.Making.{may_admit, may_land, may_note, may_start}
+use Rattle.lvm_due.specs.Making.{might_make_admission, might_make_data, might_make_landing, might_make_note}
 use Rattle.lvm_due.proofs.Alike.{admission_alike, data_alike, landing_alike, note_alike, pinning_alike}
 use Rattle.lvm_due.proofs.Telling.{facts_but, fails_beside, is_unsettled, note_same, pending_read}
 use Rattle.lvm_due.proofs.Unmade.{admit_none, land_none, note_none, pin_none, start_none}
@@ -139,15 +139,15 @@ module _ (old new : Core) (client : ℕ) (ask : Ask) (bytes : Option (List ℕ))
 
   pub begun_due : (place : ℕ) (was now : Due) → place + 1 ≡ length new.requests → ((o : Open) → slice_get new.requests place ≡ Some o → AddsMaking o.request place was now) → IsDue old was → IsDue new now
   begun_due place was now is making due = record {
-    landing = begun_keeps was.landing now.landing (landing_at old) (landing_at new) (adds_keep (landing_at new) fresh at n was.landing now.landing (may_land fresh.request) low (land_none new at fresh) adds.landing)
+    landing = begun_keeps was.landing now.landing (landing_at old) (landing_at new) (adds_keep (landing_at new) fresh at n was.landing now.landing (might_make_landing fresh.request) low (land_none new at fresh) adds.landing)
         (λ k o there. landing_alike old new o (begun_facts k o there) k k) due.landing;
-    admission = begun_keeps was.admission now.admission (admission_at old) (admission_at new) (adds_keep (admission_at new) fresh at n was.admission now.admission (may_admit fresh.request) low (admit_none new at fresh) adds.admission)
+    admission = begun_keeps was.admission now.admission (admission_at old) (admission_at new) (adds_keep (admission_at new) fresh at n was.admission now.admission (might_make_admission fresh.request) low (admit_none new at fresh) adds.admission)
         (λ k o there. admission_alike old new o (begun_facts k o there) k k) due.admission;
     pinning = begun_keeps was.pinning now.pinning (pinning_at old) (pinning_at new) (adds_keep (pinning_at new) fresh at n was.pinning now.pinning (might_pin fresh.request) low (pin_none new at fresh) adds.pinning)
         (λ k o there. pinning_alike old new o (begun_facts k o there) k k (ap (λ (c : Cached). can_pin c o.request.ask) begun_cache)) due.pinning;
-    note = begun_keeps was.note now.note (note_at old) (note_at new) (adds_keep (note_at new) fresh at n was.note now.note (may_note fresh.request) low (note_none new at fresh) adds.note)
+    note = begun_keeps was.note now.note (note_at old) (note_at new) (adds_keep (note_at new) fresh at n was.note now.note (might_make_note fresh.request) low (note_none new at fresh) adds.note)
         (λ k o there. note_alike old new o (begun_facts k o there) k k (note_same old new begun_reads (ap (λ (c : Cached). c.notes) begun_cache) o)) due.note;
-    «data» = begun_keeps was.data now.data (data_at old) (data_at new) (adds_keep (data_at new) fresh at n was.data now.data (may_start fresh.request) low (start_none new at fresh) adds.data)
+    «data» = begun_keeps was.data now.data (data_at old) (data_at new) (adds_keep (data_at new) fresh at n was.data now.data (might_make_data fresh.request) low (start_none new at fresh) adds.data)
         (λ k o there. data_alike old new o (begun_facts k o there) k k) due.data;
   }
     where

@@ -17,7 +17,7 @@ use Rattle.lvm_firsts.specs.declared.span.Span.{Span}
 use Rattle.lvm_firsts.specs.Spans.{is_in, Adds, Spans}
 use Rattle.lvm_firsts.specs.Might.{might_pin}
 use Rattle.lvm_due.specs.declared.due.Due.{Due}
-use Rattle.lvm_due.specs.Making.{may_admit, may_land, may_note, may_start}
+use Rattle.lvm_due.specs.Making.{might_make_admission, might_make_data, might_make_landing, might_make_note}
 
 -- For each kind of event that a request makes none is due at another place.
 pub record IsDue (core : Core) (due : Due) : Type 0 where
@@ -78,9 +78,9 @@ none o = false
 abbrev pub waits_entry : Open → Bool
 waits_entry o = wants_entry o.request.phase
 
--- so it does, where a pin was given up
-abbrev pub enters : Bool → Open → Bool
-enters given_up o = given_up && waits_entry o
+-- so it does, where the request that has changed held a pin
+abbrev pub waits_entry_if : Bool → Open → Bool
+waits_entry_if pinned o = pinned && waits_entry o
 
 -- it isn't admitted, and some block is one of these
 abbrev pub is_freed : Ask → Open → Bool
@@ -102,13 +102,13 @@ pub record Joins (other old new : Span) : Type 0 where
   pub has : (k : ℕ) → is_in other k ≡ true → is_in new k ≡ true
   pub within : (n : ℕ) → old.to ≤ n → other.to ≤ n → new.to ≤ n
 
--- a place is added for each kind of event that the request at it may make
+-- a place is added for each kind of event that the request at it might make
 pub record AddsMaking (r : Request) (place : ℕ) (old new : Due) : Type 0 where
-  pub landing : AddsIf (may_land r) place old.landing new.landing
-  pub admission : AddsIf (may_admit r) place old.admission new.admission
+  pub landing : AddsIf (might_make_landing r) place old.landing new.landing
+  pub admission : AddsIf (might_make_admission r) place old.admission new.admission
   pub pinning : AddsIf (might_pin r) place old.pinning new.pinning
-  pub note : AddsIf (may_note r) place old.note new.note
-  pub «data» : AddsIf (may_start r) place old.data new.data
+  pub note : AddsIf (might_make_note r) place old.note new.note
+  pub «data» : AddsIf (might_make_data r) place old.data new.data
 
 -- ---- what has changed
 

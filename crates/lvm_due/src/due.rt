@@ -16,7 +16,7 @@ ghost use Rattle.lvm_session.specs.Turns.{is_start, Makes};
 ghost use Rattle.lvm_session.specs.Sound.{IsGoing, IsTold};
 ghost use Rattle.lvm_due.specs.Due.{none, AddsMaking, Covers, HoldsPin, IsDue, IsQuiet, IsQuietFor, Moves};
 
-use crate::making::{may_admit, may_land, may_note, may_start};
+use crate::making::{might_make_admission, might_make_data, might_make_landing, might_make_note};
 use crate::places::{add_if, entries, entries_if, freed_by, join};
 use crate::quiet::{any_fails, is_quiet, place_of, stays_quiet};
 use lvm_firsts::{Span, might_pin};
@@ -54,17 +54,17 @@ impl Due {
         *self = Due::all(session.requests.len());
     }
 
-    // The request at a place may make the events that it shows by itself.
+    // The request at a place might make the events that it shows by itself.
     fn add(&mut self, session: &Session, place: usize)
         requires { place < length session.now.requests.items }
         ensures { (o : Open) → slice_get session.now.requests.items place ≡ Some o → AddsMaking o.request place self.old self.new }
     {
         let request = &session.requests[place].request;
-        add_if(&mut self.landing, place, may_land(request));
-        add_if(&mut self.admission, place, may_admit(request));
+        add_if(&mut self.landing, place, might_make_landing(request));
+        add_if(&mut self.admission, place, might_make_admission(request));
         add_if(&mut self.pinning, place, might_pin(request));
-        add_if(&mut self.note, place, may_note(request));
-        add_if(&mut self.data, place, may_start(request));
+        add_if(&mut self.note, place, might_make_note(request));
+        add_if(&mut self.data, place, might_make_data(request));
     }
 
     // The request at a place has changed: those that are freed may land or be admitted, and those of the entries may pin.

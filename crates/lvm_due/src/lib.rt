@@ -3,6 +3,7 @@
 
 mod due;
 mod laws;
+pub mod lower;
 mod making;
 mod places;
 mod quiet;

@@ -1,14 +1,14 @@
-//! Which events a request may make, as far as it shows by itself.
+//! Which events a request might make, as far as it shows by itself.
 ghost use Rattle.std.specs.Prelude.{◌≡◌};
-ghost use Rattle.lvm_due.specs.Making.{may_admit, may_land, may_note, may_start};
+ghost use Rattle.lvm_due.specs.Making.{might_make_admission, might_make_data, might_make_landing, might_make_note};
 
-use lvm_facts::is_unbegun;
+use lvm_firsts::lower::is_unbegun;
 use lvm_firsts::{are_at_rest, might_transfer};
 use lvm_path::{Phase, Request};
 
-/// Whether it may land.
-pub fn may_land(request: &Request) -> bool
-    ensures { result ≡ may_land request.now }
+/// Whether it might land.
+pub fn might_make_landing(request: &Request) -> bool
+    ensures { result ≡ might_make_landing request.now }
 {
     match request.phase {
         Phase::Held | Phase::WantEntry | Phase::WantRecord | Phase::WantStatus => true,
@@ -23,9 +23,9 @@ pub fn may_land(request: &Request) -> bool
     }
 }
 
-/// Whether it may be admitted, or admitted again.
-pub fn may_admit(request: &Request) -> bool
-    ensures { result ≡ may_admit request.now }
+/// Whether it might be admitted, or admitted again.
+pub fn might_make_admission(request: &Request) -> bool
+    ensures { result ≡ might_make_admission request.now }
 {
     match request.phase {
         Phase::Held | Phase::WantEntry | Phase::WantRecord => true,
@@ -34,16 +34,16 @@ pub fn may_admit(request: &Request) -> bool
     }
 }
 
-/// Whether a note may be started for it.
-pub fn may_note(request: &Request) -> bool
-    ensures { result ≡ may_note request.now }
+/// Whether a note might be started for it.
+pub fn might_make_note(request: &Request) -> bool
+    ensures { result ≡ might_make_note request.now }
 {
     matches!(request.phase, Phase::WantRecord) && request.pinned
 }
 
-/// Whether a transfer of it may be started.
-pub fn may_start(request: &Request) -> bool
-    ensures { result ≡ may_start request.now }
+/// Whether a transfer of its data might be started.
+pub fn might_make_data(request: &Request) -> bool
+    ensures { result ≡ might_make_data request.now }
 {
     match request.phase {
         Phase::WantRecord => true,

@@ -1,6 +1,6 @@
 //! The places of requests at which events may have become due.
 ghost use Rattle.std.specs.Prelude.{◌≡◌, ◌<◌, ◌+◌, ◌^◌, length};
-ghost use Rattle.lvm_due.specs.Due.{enters, is_freed, overlap, waits_entry, AddsIf, Covers, HoldsPin, Joins};
+ghost use Rattle.lvm_due.specs.Due.{is_freed, overlap, waits_entry, waits_entry_if, AddsIf, Covers, HoldsPin, Joins};
 ghost use Rattle.lvm_session.specs.Fields.{core_of};
 
 use lvm_firsts::Span;
@@ -34,7 +34,7 @@ fn waits_entry(open: &Open) -> bool
     matches!(open.request.phase, Phase::WantEntry)
 }
 
-/// The places of those that wait for an entry of the cache.
+/// All places of those that wait for an entry of the cache. Others may be among them.
 pub fn entries(session: &Session) -> Span
     ensures { Covers waits_entry session.now.requests.items (length session.now.requests.items) result }
 {
@@ -53,11 +53,11 @@ pub fn holds_pin(session: &Session, place: usize) -> bool
     session.requests[place].request.pinned
 }
 
-/// The places of those that wait for an entry of the cache, where a pin was given up; else none.
-pub fn entries_if(session: &Session, given_up: bool) -> Span
-    ensures { Covers (enters given_up) session.now.requests.items (length session.now.requests.items) result }
+/// These places, where the request that has changed held a pin; else none has to be there.
+pub fn entries_if(session: &Session, pinned: bool) -> Span
+    ensures { Covers (waits_entry_if pinned) session.now.requests.items (length session.now.requests.items) result }
 {
-    if given_up {
+    if pinned {
         entries(session)
     } else {
         Span::all(0)
@@ -80,7 +80,8 @@ fn is_freed(ask: &Ask, open: &Open) -> bool
     matches!(open.request.phase, Phase::Held) && overlap(ask, &open.request.ask)
 }
 
-/// The places of those that aren't admitted, and that a request for these blocks may have held back.
+/// All places of those that aren't admitted, and that a request for these blocks may have held back. Others may be among
+/// them.
 pub fn freed_by(session: &Session, ask: &Ask) -> Span
     ensures { Covers (is_freed ask.now) session.now.requests.items (length session.now.requests.items) result }
 {

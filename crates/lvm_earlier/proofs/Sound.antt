@@ -19,7 +19,7 @@ use Rattle.lvm_session.specs.Judging.{copies_in, is_waiting}
 use Rattle.lvm_session.specs.Calls.{is_asked}
 use Rattle.lvm_session.specs.Owners.{AreOwned, IsDataOf, flies}
 use Rattle.lvm_session.specs.Requests.{IsOpenOne}
-use Rattle.lvm_session.specs.Causes.{AreCaused, AreCounted, IsAnswered, IsCaused, IsCopyCaused, IsCounted, IsLandedFor}
+use Rattle.lvm_session.specs.Causes.{AreCaused, AreCounted, IsAnswered, IsCaused, IsCausedAmong, IsCounted, IsLandedFor}
 use Rattle.lvm_session.specs.Sound.{IsAsked, IsCopy, IsFitting, IsGoing, IsOn, IsSound, IsTold}
 use Rattle.lvm_keeps.proofs.Fitting.{still_fits}
 use Rattle.lvm_keeps.proofs.Lists.{all_at, all_on}
@@ -168,6 +168,6 @@ module _ (s : State) (sound : IsSound s) (id : ℕ) (its : is_answered s.core.hi
     stuck = λ e. let was = sound.stuck e in record { requests = was.requests; copy = was.copy };
     counted = all_on (AreCounted s) (AreCounted now) counted core.requests sound.counted;
     answered = all_on (IsAnswered s) (IsAnswered now) answered_on core.requests sound.answered;
-    copy = if_on (λ (c : OpenCopy). IsCopyCaused s (copies_in core.descriptor c.lv c.lp) c) (λ (c : OpenCopy). IsCopyCaused now (copies_in core.descriptor c.lv c.lp) c) (λ c. copy_on s (with_fact core.history fact) core.requests core.queue core.copy core.pool core.flying core.cache.entries core.last (copies_in core.descriptor c.lv c.lp) c) core.copy sound.copy;
+    copy = if_on (λ (c : OpenCopy). IsCausedAmong s (copies_in core.descriptor c.lv c.lp) c) (λ (c : OpenCopy). IsCausedAmong now (copies_in core.descriptor c.lv c.lp) c) (λ c. copy_on s (with_fact core.history fact) core.requests core.queue core.copy core.pool core.flying core.cache.entries core.last (copies_in core.descriptor c.lv c.lp) c) core.copy sound.copy;
     origin = origin_on s (with_fact core.history fact) core.requests core.queue core.copy core.pool core.flying core.cache.entries core.last sound.origin;
   }

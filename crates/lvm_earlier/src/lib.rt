@@ -4,5 +4,6 @@
 pub mod below;
 mod earlier;
 pub mod laws;
+pub mod lower;
 
 pub use earlier::take_earlier;

@@ -1,2 +1,3 @@
+pub mod handed
 mod Statuses
 mod Steps

@@ -25,10 +25,10 @@ use Rattle.lvm_session.specs.Bringing.{hand_of}
 use Rattle.lvm_session.specs.Calls.{copy_at}
 use Rattle.lvm_session.specs.Dark.{hand_of_copy}
 use Rattle.lvm_session.specs.Marks.{is_among}
-use Rattle.lvm_over.specs.Hands.{IsOutIf}
+use Rattle.lvm_launch.specs.handed.Names.{IsOutIf}
 use Rattle.lvm_session.specs.Owners.{flies, same_owner}
 use Rattle.lvm_session.specs.Sound.{IsCopy, count_if, is_hand}
-use Rattle.lvm_copies.proofs.Members.{copies_in_are}
+use Rattle.lvm_launch.proofs.handed.Names.{copies_in_are}
 use Rattle.lvm_launch.proofs.Hands.{at_most_one, get_other, is_out as out_of}
 use Rattle.lvm_reap.specs.Learning.{MayReturn}
 use Rattle.lvm_copy_end.specs.Ending.{CanEnd}

@@ -1,3 +1,4 @@
+pub mod handed
 mod Requested
 pub mod Ended
 mod Owning

@@ -2,6 +2,7 @@
 #![tactic(auto)]
 
 mod data;
+pub mod lower;
 mod records;
 
 pub use data::end_data;

@@ -1,2 +1,3 @@
+pub mod handed
 pub mod Even
 pub mod passed

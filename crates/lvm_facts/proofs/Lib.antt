@@ -1,2 +1,3 @@
+pub mod handed
 mod Parting
 mod Reading

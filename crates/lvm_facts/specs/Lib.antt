@@ -1,2 +1,3 @@
+pub mod handed
 pub mod Queued
 pub mod Reading

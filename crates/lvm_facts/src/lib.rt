@@ -4,6 +4,7 @@
 mod facts;
 mod held;
 mod judged;
+pub mod lower;
 mod pending;
 
 pub use facts::{has_names, has_usable, is_changed, is_unbegun, next_of};

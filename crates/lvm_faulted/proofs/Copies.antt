@@ -29,7 +29,7 @@ use Rattle.lvm_session.specs.Calls.{Closes, closed}
 use Rattle.lvm_session.specs.Marks.{can_replace, is_among, is_entailed}
 use Rattle.lvm_session.specs.Owners.{AreOwned}
 use Rattle.lvm_session.specs.Left.{updates_left}
-use Rattle.lvm_session.specs.Causes.{FailedSince, IsCopyCaused}
+use Rattle.lvm_session.specs.Causes.{FailedSince, IsCausedAmong}
 use Rattle.lvm_session.specs.Sound.{IsCopy, IsFitting, IsGoing, IsSound, IsTold, stays_fresh}
 use Rattle.lvm_session.specs.Worked.{CopiesAreSound, behind, bringing_up, first_copy, fresh, second_copy, status_of}
 use Rattle.lvm_keeps.proofs.Close.{close_keeps}
@@ -130,7 +130,7 @@ whole_copy m = record {
   clearing = λ runs all. (refl, refl);
 }
 
-whole_caused : (m : Mode) → IsCopyCaused (whole m) (copies_of (mirror m) 0) (bringing_up 8 None)
+whole_caused : (m : Mode) → IsCausedAmong (whole m) (copies_of (mirror m) 0) (bringing_up 8 None)
 whole_caused m = record {
   began = λ number p is. let first = zeros_at 128 p.disk in omega (arith, first);
   since = λ number p is. let none = zeros_at 3 (number - 1) in omega (arith, none);
@@ -274,7 +274,7 @@ failed_copy m = record {
   clearing = λ runs all. not_so runs;
 }
 
-failed_caused : (m : Mode) → IsCopyCaused (failed m) (copies_of (mirror m) 0) (bringing_up 8 (Some ending.SyncFailed))
+failed_caused : (m : Mode) → IsCausedAmong (failed m) (copies_of (mirror m) 0) (bringing_up 8 (Some ending.SyncFailed))
 failed_caused m = record {
   began = λ number p is. let first = zeros_at 128 p.disk in omega (arith, first);
   since = λ number p is. let none = zeros_at 3 (number - 1) in omega (arith, none);

@@ -14,7 +14,7 @@ use Rattle.lvm_disk.specs.declared.shelf.Arrange.TheVariants as arrange
 use Rattle.lvm_status.specs.Update.{is_there, seen}
 use Rattle.lvm_status.specs.Runs.{IsSoundStatus}
 use Rattle.lvm_session.specs.Enabled.{first_event, is_lost}
-use Rattle.lvm_session.specs.Turns.{Arranges, GoesOff}
+use Rattle.lvm_session.specs.Turns.{ArrangesSession, GoesOff}
 use Rattle.lvm_session.specs.Left.{updates_left}
 use Rattle.lvm_session.specs.Causes.{IsTrueToOrigin}
 use Rattle.lvm_session.specs.Sound.{IsFitting, IsGoing, IsSound, IsTold, stays_fresh}
@@ -158,7 +158,7 @@ module _ (held : HeldWritesAreSound) (m : Mode) where
   off_is_sound : IsSound (off m)
   off_is_sound = off_keeps (lost m) (off m) sound refl (ends m)
 
-cut : (m : Mode) → Arranges (off m) (dark m) (arrange.Cut 0) true
+cut : (m : Mode) → ArrangesSession (off m) (dark m) (arrange.Cut 0) true
 cut m = record { device = (refl, (refl, inr (record { power = refl; media = tt; cuts = record { later = omega arith; risen = omega arith }; new_is = refl }))); is = refl }
 
 pub lost_votes_are_sound : HeldWritesAreSound → LostVotesAreSound

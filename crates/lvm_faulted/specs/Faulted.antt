@@ -12,7 +12,7 @@ use Rattle.lvm_session.specs.declared.open.Open.{Open}
 use Rattle.lvm_session.specs.State.{Core, State, state}
 use Rattle.lvm_session.specs.Enabled.{first_event, is_lost}
 use Rattle.lvm_session.specs.Dark.{all_dark, all_off}
-use Rattle.lvm_session.specs.Turns.{Arranges, GoesOff}
+use Rattle.lvm_session.specs.Turns.{ArrangesSession, GoesOff}
 use Rattle.lvm_session.specs.Causes.{AnyFailedSince}
 use Rattle.lvm_session.specs.Sound.{IsSound}
 use Rattle.lvm_session.specs.Worked.{core_of, faultless, held_write}
@@ -90,6 +90,6 @@ dark m = state cut_shelf (all_dark (off m).core)
 pub record EndedSessionsAreSound : Type 0 where
   pub over : (m : Mode) → IsSound (off m)
   pub landed : (m : Mode) → outcomes (off m).core ≡ Some outcome.Off ∷ []
-  pub cut : (m : Mode) → Arranges (off m) (dark m) (arrange.Cut 0) true
+  pub cut : (m : Mode) → ArrangesSession (off m) (dark m) (arrange.Cut 0) true
   pub after : (m : Mode) → IsSound (dark m)
   pub still : (m : Mode) → outcomes (dark m).core ≡ Some outcome.Off ∷ []

@@ -1,3 +1,4 @@
+pub mod handed
 pub mod Nexts
 pub mod Places
 pub mod Queue

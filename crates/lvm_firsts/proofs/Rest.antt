@@ -8,7 +8,7 @@ use Rattle.lvm_num.specs.Descriptor.{is_member}
 use Rattle.lvm_num.specs.Status.{calls_missing}
 use Rattle.lvm_num.specs.Votes.{all_disks, total_votes, votes_in}
 use Rattle.lvm_num.proofs.VotesLemmas.{more_have_more}
-use Rattle.lvm_status.specs.Update.{members_there}
+use Rattle.lvm_facts.specs.handed.Names.{members_there}
 
 neither : (a b : Bool) → (a || b) ≡ false → (a ≡ false) × (b ≡ false)
 neither false false is = (refl, refl)

@@ -2,6 +2,7 @@
 #![tactic(auto)]
 
 mod firsts;
+pub mod lower;
 mod next;
 mod notes;
 mod phases;

@@ -1,14 +1,17 @@
 -- Which flight is next, and which ticket is free.
-use Rattle.std.proofs.Common.{◌≡◌, ◌+◌, ◌-◌, ◌≤◌, ◌<◌, ◌==◌, ◌||◌, [], ◌∷◌, ℕ, zero, suc, List, Bool, true, false, cond, not, Some, None, nat_le, nat_lt, slice_set, get_or, length, map, refl, sym, ◌∙◌, ap, arith, below_more, take, drop, ◌++◌}
+use Rattle.std.proofs.Common.{◌≡◌, ◌+◌, ◌-◌, ◌*◌, ◌%◌, ◌^◌, ◌≤◌, ◌<◌, ◌==◌, ◌||◌, [], ◌∷◌, ℕ, zero, suc, List, Bool, true, false, cond, not, Some, None, nat_le, nat_lt, slice_set, get_or, length, map, refl, sym, ◌∙◌, ap, subst, arith, below_more, take, drop, ◌++◌}
+use Rattle.std.specs.Prelude.{bit_or}
+use Rattle.std.specs.Int.{w64, bit_at, trailing_ones}
 use Rattle.std.specs.List.{list_any, position, prefix_len, remove}
 use Rattle.std.proofs.lemmas.Bool.{eqb-false, eqb-true, ne_eqb, or_right}
 use Rattle.std.proofs.lemmas.Bool.Decides.{nat_tests}
-use Rattle.std.proofs.lemmas.List.{get_or-set_other, map-set}
+use Rattle.std.proofs.lemmas.Nat.Bits.{bit_at-zero, bit_at_ones, bit_at_set_same, bit_at_set_other, bit_at-trailing_ones}
+use Rattle.std.proofs.lemmas.List.{map-set}
 use Rattle.std.proofs.lemmas.List.Folds.{list_any_more}
-use Rattle.std.proofs.lemmas.Grind.{common_steps, get_or-set_at}
+use Rattle.std.proofs.lemmas.Grind.{common_steps}
 use Rattle.std.proofs.Math.Seq.{map-set_same}
-use Rattle.lvm_flights.specs.Tickets.{has_ticket, IsLeastFree, IsTableOf}
-use Rattle.lvm_flights.specs.Flights.{flight_of, flights_of, delays_of}
+use Rattle.lvm_flights.specs.Tickets.{has_ticket, IsLeastFree, AreBitsOf, AllTaken}
+use Rattle.lvm_flights.specs.Flights.{flight_of, flights_of, delays_of, passed, NoDelays}
 use Rattle.lvm_flights.specs.declared.flying.Flying.{Flying}
 
 -- ---- delays
@@ -31,6 +34,27 @@ one_lowered (x ∷ l) (suc i) n within is = ap (λ (m : List ℕ). (x - 1) ∷ m
 pub length-delays : (l : List Flying) → length (delays_of l) ≡ length l
 length-delays [] = refl
 length-delays (f ∷ l) = ap suc (length-delays l)
+
+pub none_passed : (delays : List ℕ) → NoDelays delays → NoDelays (passed delays)
+none_passed [] none = tt
+none_passed (n ∷ delays) none = (let e = none.0 in omega arith, none_passed delays none.1)
+
+pub passed_none : (delays : List ℕ) → NoDelays delays → passed delays ≡ delays
+passed_none [] none = refl
+passed_none (n ∷ delays) none =
+    let zero_is = none.0 in
+    let same : n - 1 ≡ n = omega arith in
+    ap (λ (l : List ℕ). (n - 1) ∷ l) (passed_none delays none.1) ∙ ap (λ (k : ℕ). k ∷ delays) same
+
+pub none_removed : (delays : List ℕ) (i : ℕ) → NoDelays delays → NoDelays (remove delays i)
+none_removed [] zero none = tt
+none_removed [] (suc i) none = tt
+none_removed (n ∷ delays) zero none = none.1
+none_removed (n ∷ delays) (suc i) none = (none.0, none_removed delays i none.1)
+
+pub none_more : (delays : List ℕ) (n : ℕ) → NoDelays delays → n ≡ 0 → NoDelays (delays ++ n ∷ [])
+none_more [] n none is = (is, tt)
+none_more (m ∷ delays) n none is = (none.0, none_more delays n none.1 is)
 
 -- ---- the first that is due
 
@@ -94,7 +118,7 @@ taken_more l t taken some = record {
 pub least_free : (l : List Flying) (t : ℕ) → TakenBelow l t → list_any (λ (f : Flying). f.ticket == t) l ≡ false → IsLeastFree t (flights_of l)
 least_free l t taken none = record { free = sym (taken-list l t) ∙ none; least = taken.below }
 
--- ---- the table of tickets
+-- ---- the bits of tickets
 
 any_more : (l : List Flying) (i t : ℕ) (f : Flying) → i < length l → f ≡ get_or l i f → list_any (λ (g : Flying). g.ticket == t) (take (i + 1) l) ≡ (list_any (λ (g : Flying). g.ticket == t) (take i l) || (f.ticket == t))
 any_more l i t f within is = list_any_more (λ (g : Flying). g.ticket == t) l i f within ∙ ap (λ (g : Flying). list_any (λ (h : Flying). h.ticket == t) (take i l) || (g.ticket == t)) (sym is)
@@ -103,19 +127,29 @@ or_false : (b : Bool) → (b || false) ≡ b
 or_false true = refl
 or_false false = refl
 
-told_by : (b : Bool) (table : List Bool) (t u : ℕ) (some : Bool) → (u == t) ≡ b → u < length table → get_or table t false ≡ some → get_or (slice_set table u true) t false ≡ (some || b)
-told_by true table t u some is within was = get_or-set_at table u t true false (sym (eqb-true u t is)) within ∙ sym (or_right some true refl)
-told_by false table t u some is within was = get_or-set_other table u t true false (λ e. eqb-false u t is (sym e)) ∙ was ∙ sym (or_false some)
+told_by : (b : Bool) (word t u : ℕ) (some : Bool) → (u == t) ≡ b → u < 64 → some ≡ (bit_at word t == 1) → (some || b) ≡ (bit_at (bit_or word (1 * 2 ^ u % 2 ^ 64)) t == 1)
+told_by true word t u some is there was =
+    or_right some true refl ∙ sym (ap (λ (k : ℕ). bit_at (bit_or word (1 * 2 ^ u % 2 ^ 64)) k == 1) (sym (eqb-true u t is)) ∙ ap (λ (n : ℕ). n == 1) (bit_at_set_same w64 word u there))
+told_by false word t u some is there was = or_false some ∙ was ∙ ap (λ (n : ℕ). n == 1) (sym (bit_at_set_other w64 word u there t (λ e. eqb-false u t is (sym e))))
 
 -- one flight more is told of
-pub one_told : (n : ℕ) (l : List Flying) (table : List Bool) (i : ℕ) (f : Flying) → IsTableOf n (take i l) table → i < length l → f ≡ get_or l i f → f.ticket < length table → IsTableOf n (take (i + 1) l) (slice_set table f.ticket true)
-one_told n l table i f told within is there t below =
-    told_by (f.ticket == t) table t f.ticket (list_any (λ (g : Flying). g.ticket == t) (take i l)) refl there (told t below) ∙ sym (any_more l i t f within is)
+pub one_told : (l : List Flying) (word i : ℕ) (f : Flying) → AreBitsOf (take i l) word → i < length l → f ≡ get_or l i f → f.ticket < 64 → AreBitsOf (take (i + 1) l) (bit_or word (1 * 2 ^ f.ticket % 2 ^ 64))
+one_told l word i f told within is there t below =
+    any_more l i t f within is ∙ told_by (f.ticket == t) word t f.ticket (list_any (λ (g : Flying). g.ticket == t) (take i l)) refl there (told t below)
 
 -- one that has a later ticket tells nothing
-pub none_told : (n : ℕ) (l : List Flying) (table : List Bool) (i : ℕ) (f : Flying) → IsTableOf n (take i l) table → i < length l → f ≡ get_or l i f → n ≤ f.ticket → IsTableOf n (take (i + 1) l) table
-none_told n l table i f told within is past t below =
-    told t below ∙ sym (any_more l i t f within is ∙ ap (λ (b : Bool). list_any (λ (g : Flying). g.ticket == t) (take i l) || b) (ne_eqb f.ticket t (λ e. absurd (omega arith))) ∙ or_false (list_any (λ (g : Flying). g.ticket == t) (take i l)))
+pub none_told : (l : List Flying) (word i : ℕ) (f : Flying) → AreBitsOf (take i l) word → i < length l → f ≡ get_or l i f → 64 ≤ f.ticket → AreBitsOf (take (i + 1) l) word
+none_told l word i f told within is past t below =
+    any_more l i t f within is ∙ ap (λ (b : Bool). list_any (λ (g : Flying). g.ticket == t) (take i l) || b) (ne_eqb f.ticket t (λ e. absurd (omega arith))) ∙ or_false (list_any (λ (g : Flying). g.ticket == t) (take i l))
+    ∙ told t below
+
+-- no bit of a word of zeros tells of a flight
+pub zeros_tell : AreBitsOf [] 0
+zeros_tell t below = sym (ap (λ (n : ℕ). n == 1) (bit_at-zero t))
+
+-- where all bits are set, all tickets below 64 are taken
+pub all_by_ones : (l : List Flying) (word : ℕ) → AreBitsOf l word → word ≡ 2 ^ 64 - 1 → AllTaken 64 l
+all_by_ones l word told ones t below = told t below ∙ ap (λ (w : ℕ). bit_at w t == 1) ones ∙ ap (λ (n : ℕ). n == 1) (bit_at_ones 64 t below)
 
 -- one is passed over once more
 pub one_passed :
@@ -149,6 +183,26 @@ at_most (f ∷ l) t = one_at_most (nat_le t f.ticket) (from_on t l) (length l) (
 
 pub none_taken : (l : List Flying) → TakenBelow l 0
 none_taken l = record { below = λ t less. absurd (omega arith); apart = omega (arith, at_most l 0) }
+
+pub taken_all : (l : List Flying) (n : ℕ) → AllTaken n l → TakenBelow l n
+taken_all l zero all = none_taken l
+taken_all l (suc n) all =
+    let more : n + 1 ≡ suc n = omega arith in
+    subst (TakenBelow l) more (taken_more l n (taken_all l n (λ t less. all t (omega arith))) (all n (omega arith)))
+
+-- the place of the lowest bit that isn't set is the least free ticket
+module _ (l : List Flying) (word : ℕ) (told : AreBitsOf l word) (some : word + 1 < 2 ^ 64) where
+  place : (trailing_ones w64 word < 64) × (bit_at word (trailing_ones w64 word) ≡ 0) × ((i : ℕ) → i < trailing_ones w64 word → bit_at word i ≡ 1)
+  place = bit_at-trailing_ones w64 word some
+
+  below : TakenBelow l (trailing_ones w64 word)
+  below = taken_all l (trailing_ones w64 word) (λ t less. told t (omega (arith, less, place.0)) ∙ ap (λ (n : ℕ). n == 1) (place.2 t less))
+
+  pub least_by_word : IsLeastFree (trailing_ones w64 word) (flights_of l)
+  least_by_word = least_free l (trailing_ones w64 word) below (told (trailing_ones w64 word) place.0 ∙ ap (λ (n : ℕ). n == 1) place.1)
+
+  pub few_by_word : trailing_ones w64 word ≤ length l
+  few_by_word = let apart = below.apart in omega arith
 
 -- ---- taking out
 

@@ -5,7 +5,7 @@ use Rattle.std.proofs.lemmas.Bool.Decides.{nat_tests}
 use Rattle.lvm_disk.specs.Device.{Flight, Range, Device}
 use Rattle.lvm_disk.specs.Counts.{Counts, RoseAt}
 use Rattle.lvm_disk.specs.Steps.{IsRange, IsFresh, Logs, Starts}
-use Rattle.lvm_flights.specs.Flights.{Lies, AllLie, flight_of, flights_of}
+use Rattle.lvm_flights.specs.Flights.{Lies, AllLie, flight_of, flights_of, delays_of}
 use Rattle.lvm_flights.specs.Tickets.{has_ticket}
 use Rattle.lvm_flights.specs.Log.{logged}
 use Rattle.lvm_flights.specs.declared.flying.Flying.{Flying}
@@ -41,6 +41,10 @@ logs false room old new range is = is
 pub flights_more : (l : List Flying) (f : Flying) → flights_of (l ++ f ∷ []) ≡ flights_of l ++ flight_of f ∷ []
 flights_more [] f = refl
 flights_more (g ∷ l) f = ap (λ (m : List Flight). flight_of g ∷ m) (flights_more l f)
+
+pub delays_more : (l : List Flying) (f : Flying) → delays_of (l ++ f ∷ []) ≡ delays_of l ++ f.delay ∷ []
+delays_more [] f = refl
+delays_more (g ∷ l) f = ap (λ (m : List ℕ). g.delay ∷ m) (delays_more l f)
 
 pub started :
     (old : Device) (f : Flight) (room : ℕ) (flights : List Flight) (counts : Counts) (wrote : Option (List Range)) → old.power ≡ true → has_ticket f.ticket old.flights ≡ false

@@ -1,5 +1,6 @@
 -- Transfers that are under way, as flights.
 use Rattle.std.specs.Prelude.{◌≡◌, ℕ, ◌+◌, ◌-◌, ◌<◌, ◌≤◌, List, map, length, Some, if◌then◌else◌, slice_get, slice_index_or}
+use Rattle.std.specs.List.{AllByRecursion}
 use Rattle.lvm_disk.specs.Device.{Flight}
 use Rattle.lvm_flights.specs.declared.flying.Flying.{Flying}
 
@@ -18,6 +19,10 @@ delays_of flying = map (λ f. f.delay) flying
 -- each flight that is left was passed over once more
 abbrev pub passed : List ℕ → List ℕ
 passed delays = map (λ n. n - 1) delays
+
+-- none is passed over
+abbrev pub NoDelays : List ℕ → Type 0
+NoDelays delays = AllByRecursion (λ n. n ≡ 0) delays
 
 -- how many sectors a flight writes
 abbrev pub writes : Flight → ℕ

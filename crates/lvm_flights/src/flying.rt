@@ -7,13 +7,13 @@ use lvm_num::Pbuf;
 #[derive(Drop)]
 pub struct Flying {
     pub ticket: u64,
-    pub disk: u16,
     pub first: u64,
-    pub count: u32,
-    pub write: bool,
     pub buf: Pbuf,
+    pub count: u32,
     /// How many reaps still pass it over.
     pub delay: u32,
+    pub disk: u16,
+    pub write: bool,
 }
 
 impl Flying {

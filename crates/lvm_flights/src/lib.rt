@@ -4,10 +4,12 @@
 
 mod flying;
 mod queue;
+mod room;
 mod tally;
 mod write_log;
 
 pub use flying::Flying;
 pub use queue::{first_due, free_ticket, pass_over, take_flight};
+pub use room::rooms;
 pub use tally::Tally;
 pub use write_log::WriteLog;

@@ -1,38 +1,44 @@
 //! Which transfer in memory is next.
-ghost use Rattle.std.specs.Prelude.{◌≡◌, ◌≤◌, ◌<◌, ◌==◌, length, Some, slice_get, vec_capacity};
+ghost use Rattle.std.specs.Prelude.{◌≡◌, ◌≤◌, ◌<◌, ◌==◌, false, length, Some, slice_get, vec_capacity};
 ghost use Rattle.std.specs.List.{position, list_any, remove};
-ghost use Rattle.lvm_flights.specs.Flights.{passed};
-ghost use Rattle.lvm_flights.specs.Tickets.{IsLeastFree, IsTableOf};
+ghost use Rattle.lvm_flights.specs.Flights.{passed, NoDelays};
+ghost use Rattle.lvm_flights.specs.Tickets.{IsLeastFree, AreBitsOf, AllTaken};
 ghost use Rattle.lvm_flights.specs.Flights.{flight_of, flights_of, delays_of};
 
 use crate::flying::Flying;
 
-// The tickets below are looked up in a table.
-const TABLE: usize = 64;
-
-// Which of the tickets in the table some transfer has.
-fn taken_of(flights: &[Flying]) -> [bool; TABLE]
-    ensures { IsTableOf 64 flights.now result }
+// Which of the tickets below 64 some transfer has, as the bits of a word.
+fn taken_of(flights: &[Flying]) -> u64
+    ensures { AreBitsOf flights.now result }
 {
-    let mut taken = [false; TABLE];
+    let mut taken = 0;
     for flying in flights {
-        if flying.ticket < TABLE as u64 {
-            taken[flying.ticket as usize] = true;
+        if flying.ticket < 64 {
+            taken |= 1 << flying.ticket;
         }
     }
     taken
 }
 
 // Whether some transfer has the ticket.
-fn is_taken(flights: &[Flying], ticket: u64, taken: &[bool; TABLE]) -> bool
-    requires { IsTableOf 64 flights.now taken.now }
+fn is_taken(flights: &[Flying], ticket: u64) -> bool
     ensures { result ≡ list_any (λ flying. flying.ticket == ticket) flights.now }
 {
-    if ticket < TABLE as u64 {
-        taken[ticket as usize]
-    } else {
-        flights.iter().any(|flying| flying.ticket == ticket)
+    flights.iter().any(|flying| flying.ticket == ticket)
+}
+
+// The least ticket that no transfer has, where those below 64 are taken.
+fn later_ticket(flights: &[Flying]) -> u64
+    requires taken { AllTaken 64 flights.now }
+    requires few { length flights.now < 1024 }
+    ensures least { IsLeastFree result (flights_of flights.now) }
+    ensures few { result ≤ length flights.now }
+{
+    let mut ticket = 64;
+    while is_taken(flights, ticket) {
+        ticket += 1;
     }
+    ticket
 }
 
 /// The least ticket that no transfer has.
@@ -42,11 +48,11 @@ pub fn free_ticket(flights: &[Flying]) -> u64
     ensures few { result ≤ length flights.now }
 {
     let taken = taken_of(flights);
-    let mut ticket = 0;
-    while is_taken(flights, ticket, &taken) {
-        ticket += 1;
+    if taken == u64::MAX {
+        later_ticket(flights)
+    } else {
+        taken.trailing_ones() as u64
     }
-    ticket
 }
 
 /// The place of the oldest transfer that isn't passed over.
@@ -66,8 +72,8 @@ pub fn pass_over(flights: &mut [Flying])
     }
 }
 
-/// Takes a transfer out, and counts the reap that does so as one that passed over the others.
-pub fn take_flight(flights: &mut Vec<Flying>, place: usize) -> Flying
+// Takes a transfer out, and passes over the others.
+fn take_from_delayed(flights: &mut Vec<Flying>, place: usize) -> Flying
     requires { place < length flights.old.items }
     ensures there { slice_get (flights_of flights.old.items) place ≡ Some (flight_of result) }
     ensures flights { flights_of flights.new.items ≡ remove (flights_of flights.old.items) place }
@@ -77,4 +83,21 @@ pub fn take_flight(flights: &mut Vec<Flying>, place: usize) -> Flying
     let flying = flights.remove(place);
     pass_over(flights);
     flying
+}
+
+/// Takes a transfer out, and counts the reap that does so as one that passed over the others. `delayed` is
+/// false only where none is to be passed over.
+pub fn take_flight(flights: &mut Vec<Flying>, place: usize, delayed: bool) -> Flying
+    requires there { place < length flights.old.items }
+    requires delayed { delayed ≡ false → NoDelays (delays_of flights.old.items) }
+    ensures there { slice_get (flights_of flights.old.items) place ≡ Some (flight_of result) }
+    ensures flights { flights_of flights.new.items ≡ remove (flights_of flights.old.items) place }
+    ensures delays { delays_of flights.new.items ≡ passed (remove (delays_of flights.old.items) place) }
+    ensures capacity { vec_capacity flights.new ≡ vec_capacity flights.old }
+{
+    if delayed {
+        take_from_delayed(flights, place)
+    } else {
+        flights.remove(place)
+    }
 }

@@ -11,19 +11,18 @@ use Rattle.lvm_rec.specs.declared.homes.Homes.{Homes}
 use Rattle.lvm_write.specs.Parts.{Spends}
 use Rattle.lvm_write.specs.Written.{LogsPlan, KeepsShelf, IsDarkened, IsGivenUp}
 use Rattle.lvm_write.proofs.Transfers.{darkened_then, given_up_then}
-use Rattle.lvm_area.specs.Reading.{IsUnwritten, IsRested}
+use Rattle.lvm_transfer.specs.Reading.{IsUnwritten, IsRested}
 use Rattle.lvm_begin.specs.Beginning.{Beginning, Part, new_beginning, new_order, IsOfParts, Stands as PartStands}
 use Rattle.lvm_begin.specs.Ends.{BothFlip, HasNoFault, StopsAt, IsLowestFailed, WasTriedOnTargets}
-use Rattle.lvm_core.specs.declared.parts.Room.{Room}
-use Rattle.lvm_core.specs.declared.refused.Cause.{Cause}
-use Rattle.lvm_core.specs.declared.refused.Cause.TheVariants as cause
-use Rattle.lvm_group.specs.NewGroup.{NewGroup, among, size_for, given_up, MayBegin, RefusesFirst}
+use Rattle.lvm_group_plan.specs.handed.Names.{Room, Cause}
+use Rattle.lvm_group_plan.specs.handed.CoreRefusedCause as cause
+use Rattle.lvm_group_plan.specs.NewGroup.{NewGroup, among, size_for, given_up, MayBegin, RefusesFirst}
 use Rattle.lvm_group.specs.Shown.{IsClear}
-use Rattle.lvm_group.specs.Planned.{IsPlanned, RefusesPlan}
-use Rattle.lvm_group.specs.Made.{beginning_for, IsAsBefore, StopsAtWrite, Breaks, HasRead, Refuses}
+use Rattle.lvm_group_plan.specs.Planned.{IsPlanned, RefusesPlan}
+use Rattle.lvm_group.specs.Made.{beginning_for, IsAsBefore, StopsAtWrite, Breaks, HasRead, MkvgRefuses}
 use Rattle.lvm_group.specs.Steps.{HasOnlyRead, LetsMake, RefusesFound, AreWritten, WritingFails, Stands, cuts_power}
 use Rattle.lvm_group.specs.declared.look.Free.{Free}
-use Rattle.lvm_group.specs.declared.plan.Plan.{Plan}
+use Rattle.lvm_group_plan.specs.declared.plan.Plan.{Plan}
 
 -- ---- refusals before the first write
 
@@ -34,7 +33,7 @@ cut_where why log = if cuts_power why then cut_log log else log
 has_read : (was : Log) (old new : Device) → HasOnlyRead old new → HasRead was was old new
 has_read was old new reads = record { unwritten = reads.unwritten; rested = reads.rested; history = refl }
 
-refuses_first : (w : NewGroup) (patience : ℕ) (log : Log) (device : Device) (why : Cause) → RefusesFirst device.sizes (spare_entries log) w.disks w.mib why → Refuses w patience log log device device why
+refuses_first : (w : NewGroup) (patience : ℕ) (log : Log) (device : Device) (why : Cause) → RefusesFirst device.sizes (spare_entries log) w.disks w.mib why → MkvgRefuses w patience log log device device why
 refuses_first w patience log device (cause.NoDisk disk) refuses = (record { shelf = refl; history = refl }, refuses)
 refuses_first w patience log device (cause.TooMany limit) refuses = (record { shelf = refl; history = refl }, refuses)
 refuses_first w patience log device (cause.TooSmall disk) refuses = (record { shelf = refl; history = refl }, refuses)
@@ -44,8 +43,8 @@ refuses_first w patience log device cause.Ambiguous refuses = refuses
 refuses_first w patience log device (cause.NoQuorum have total) refuses = refuses
 refuses_first w patience log device _ refuses = absurd refuses
 
-pub refuses_plan : (w : NewGroup) (patience : ℕ) (log : Log) (device : Device) (why : Cause) → IsReady device → RefusesPlan w (spare_entries log) device.sizes why → Refuses w patience log log device device why
-refuses_plan w patience log device why ready (inl memory) = subst (Refuses w patience log log device device) (sym memory.0) (record {
+pub refuses_plan : (w : NewGroup) (patience : ℕ) (log : Log) (device : Device) (why : Cause) → IsReady device → RefusesPlan w (spare_entries log) device.sizes why → MkvgRefuses w patience log log device device why
+refuses_plan w patience log device why ready (inl memory) = subst (MkvgRefuses w patience log log device device) (sym memory.0) (record {
   may = memory.1;
   unwritten = record { sizes = refl; media = refl; wrote = refl; arranges = refl; orders = refl; faults = refl };
   rested = record { ready = ready; cuts = refl };
@@ -54,7 +53,7 @@ refuses_plan w patience log device why ready (inl memory) = subst (Refuses w pat
 refuses_plan w patience log device why ready (inr refuses) = refuses_first w patience log device why refuses
 
 pub refuses_reading : (w : NewGroup) (patience : ℕ) (was : Log) (old new : Device) (why : Cause) → MayBegin old.sizes (spare_entries was) w.disks w.mib → RefusesFound w.force w.moment patience old new why
-    → Refuses w patience was (cut_where why was) old new why
+    → MkvgRefuses w patience was (cut_where why was) old new why
 refuses_reading w patience was old new (cause.DiskFailed disk) may refuses = inl (record { may = may; read = has_read was old new refuses.0; unread = refuses.1 })
 refuses_reading w patience was old new cause.GroupExists may refuses = (has_read was old new refuses.0, may, refuses.1, refuses.2)
 refuses_reading w patience was old new (cause.ClockBack seen) may refuses = (has_read was old new refuses.0, record { may = may; read = refuses.1; free = refuses.2 }, refuses.3)
@@ -161,7 +160,7 @@ module _ (w : NewGroup) (was : Log) (old mid new : Device) (free : Free) (may : 
   }
 
   pub refuses_writing : (before left : ℕ) (why : Cause) → Spends before left old mid → WritingFails writes left mid new why
-      → Refuses w before was (cut_where why (given_up was w.disks)) old new why
+      → MkvgRefuses w before was (cut_where why (given_up was w.disks)) old new why
   refuses_writing before left (cause.DiskFailed disk) spends off = inr (record {
     breaks = breaks (λ b. WasTriedOnTargets b mid new) (λ b. WasTriedOnTargets b old new) (λ part tried. tried_before w old mid new un writes part tried) off.stops;
     failed = failed_before w old mid new un disk off.first;

@@ -12,10 +12,10 @@ use Rattle.lvm_kept.specs.Moments.{Moment, StaysCalm}
 use Rattle.lvm_steps.specs.Moments.{Keeps}
 use Rattle.lvm_steps.specs.Requests.{at}
 use Rattle.lvm_steps.proofs.Entering.{quiet_goes_on, calm_goes_on}
-use Rattle.lvm_core.specs.Sound.{HaveAllLanded}
-use Rattle.lvm_core.proofs.Dark.{landed_still}
+use Rattle.lvm_group_plan.specs.handed.Names.{HaveAllLanded}
+use Rattle.lvm_group_plan.proofs.handed.Names.{landed_still}
 use Rattle.lvm_stamps.proofs.Clock.{later_joins}
-use Rattle.lvm_group.specs.NewGroup.{given_up}
+use Rattle.lvm_group_plan.specs.NewGroup.{given_up}
 
 -- the entries by which the contents of disks are given up
 abbrev pub out : List ℕ → List Fact

@@ -1,5 +1,4 @@
-pub mod Searches
-pub mod Groups
+pub mod passed
 pub mod Rows
 pub mod Seeing
 pub mod Entries

@@ -19,7 +19,7 @@ use Rattle.lvm_steps.proofs.Spans.{keeps_still, keeps_steps, steps_go_on, disks_
 use Rattle.lvm_stamps.specs.Behind.{IsBehind, IsAhead, ClockIsAhead}
 use Rattle.lvm_stamps.proofs.Clock.{all_is_behind_next}
 use Rattle.lvm_stamps.proofs.Shelves.{unwritten_stays_behind}
-use Rattle.lvm_area.specs.Reading.{IsUnwritten, OnlyReads}
+use Rattle.lvm_transfer.specs.Reading.{IsUnwritten, OnlyReads}
 use Rattle.lvm_rec.specs.declared.homes.Homes.{Homes}
 use Rattle.lvm_write.specs.Homes.{SparesNewest}
 use Rattle.lvm_write.specs.Writes.{DiskWritesLeave}
@@ -28,23 +28,17 @@ use Rattle.lvm_write.proofs.Transfers.{spends_then}
 use Rattle.lvm_begin.specs.Beginning.{Beginning, new_beginning, new_order, IsOfParts, AllStand}
 use Rattle.lvm_begin.specs.Ends.{BothFlip}
 use Rattle.lvm_begin.specs.Kept.{NewStaysKept}
-use Rattle.lvm_core.specs.declared.parts.Room.{Room}
-use Rattle.lvm_core.specs.declared.refused.Cause.{Cause}
-use Rattle.lvm_core.specs.Coming.{BringsOn}
-use Rattle.lvm_core.specs.Held.{StartsHeld}
-use Rattle.lvm_session_start.specs.declared.parts.Parts.{Parts}
-use Rattle.lvm_core.specs.Starting.{IsReservedFor}
-use Rattle.lvm_session_start.specs.Beginning.{first_core}
-use Rattle.lvm_group.specs.NewGroup.{NewGroup, among, sectors_on, size_for, new_group, new_status, given_up, first_absent, first_too_small, MayBegin}
+use Rattle.lvm_group_plan.specs.handed.Names.{Room, Cause, BringsOn, StartsHeld, Parts, IsReservedFor, first_core}
+use Rattle.lvm_group_plan.specs.NewGroup.{NewGroup, among, sectors_on, size_for, new_group, new_status, given_up, first_absent, first_too_small, MayBegin}
 use Rattle.lvm_group.specs.Shown.{IfShown, HasGroup, ShowsEarlier, SparesTold}
-use Rattle.lvm_group.specs.Planned.{IsPlanned}
-use Rattle.lvm_group.specs.Made.{beginning_for, Refuses}
+use Rattle.lvm_group_plan.specs.Planned.{IsPlanned}
+use Rattle.lvm_group.specs.Made.{beginning_for, MkvgRefuses}
 use Rattle.lvm_group.specs.Steps.{LetsMake, AreWritten, WritingFails, NewWritesGive, Stands, cuts_power, cut_at, standing_of}
 use Rattle.lvm_group.specs.declared.look.Free.{Free}
-use Rattle.lvm_group.specs.declared.plan.Plan.{Plan}
+use Rattle.lvm_group_plan.specs.declared.plan.Plan.{Plan}
 use Rattle.lvm_group.proofs.Composing.{cut_where, same_beginning, refuses_writing, stands}
 use Rattle.lvm_group.proofs.Entries.{keeps_cut, calm_cut, calm_given}
-use Rattle.lvm_group.proofs.Groups.{room_among}
+use Rattle.lvm_group_plan.proofs.Groups.{room_among}
 use Rattle.lvm_group.proofs.Keeping.{IsBeginning, descriptor_fits, status_fits, path_kept, then_behind, starts_held}
 
 -- ---- entries after a cut
@@ -147,7 +141,7 @@ module _ (w : NewGroup) (room : Room) (was : Log) (old mid : Device) (free : Fre
     keeps_mid : KeepsShelf (among w.disks) (IsOfParts (beginning_for mid.sizes w free.homes) new_order) mid new
     keeps_mid = subst (λ (b : Beginning). KeepsShelf b.targets (IsOfParts b new_order) mid new) as_mid leaves.keeps
 
-    pub refuses_written : (r : Result Homes Cause) → NewWritesGive bytes_written left mid new r → IfErr r (Refuses w before was (cut_at r (given_up was w.disks)) old new)
+    pub refuses_written : (r : Result Homes Cause) → NewWritesGive bytes_written left mid new r → IfErr r (MkvgRefuses w before was (cut_at r (given_up was w.disks)) old new)
     refuses_written (Ok next) gives = tt
     refuses_written (Err why) off = refuses_writing w was old mid new free may found keeps_old before left why (record { falls = only.falls; waits = only.waited }) (subst (λ (b : Beginning). WritingFails b left mid new why) as_old off)
 
@@ -185,9 +179,9 @@ module _ (w : NewGroup) (room : Room) (before after : ℕ) (was mid is : Log) (o
   made_then (Ok next) same stands = subst (λ (l : Log). Stands w room was l old new (record { parts = parts; homes = next })) (sym same) stands
   made_then (Err why) same stands = tt
 
-  pub refused_then : (r : Result Homes Cause) → is ≡ cut_at r mid → IfErr r (Refuses w before was (cut_at r mid) old new) → IfErr (standing_of parts r) (Refuses w before was is old new)
+  pub refused_then : (r : Result Homes Cause) → is ≡ cut_at r mid → IfErr r (MkvgRefuses w before was (cut_at r mid) old new) → IfErr (standing_of parts r) (MkvgRefuses w before was is old new)
   refused_then (Ok next) same refuses = tt
-  refused_then (Err why) same refuses = subst (λ (l : Log). Refuses w before was l old new why) (sym same) refuses
+  refused_then (Err why) same refuses = subst (λ (l : Log). MkvgRefuses w before was l old new why) (sym same) refuses
 
   pub held_then : (stamp : Stamp) (r : Result Homes Cause) → is ≡ cut_at r mid → IfOk r (λ next. StartsHeld new (first_core parts mid stamp next [])) → IfOk (standing_of parts r) (λ standing. StartsHeld new (first_core standing.parts is stamp standing.homes []))
   held_then stamp (Ok next) same held = subst (λ (l : Log). StartsHeld new (first_core parts l stamp next [])) (sym same) held

@@ -20,26 +20,20 @@ use Rattle.lvm_steps.proofs.Spans.{group_goes_on}
 use Rattle.lvm_kept.specs.Group.{IsOneOf}
 use Rattle.lvm_status.specs.Update.{Updates, Stored, members_there}
 use Rattle.lvm_stamps.specs.Behind.{IsAhead, ClockIsAhead}
-use Rattle.lvm_commit.specs.Settling.{NoneIsLeft}
-use Rattle.lvm_core.specs.declared.parts.Room.{Room}
-use Rattle.lvm_core.specs.Sound.{HaveAllLanded}
-use Rattle.lvm_core.specs.Settled.{IsSettled, HasSpareNumbers}
-use Rattle.lvm_core.proofs.Settling.{starts_settled, starts_numbered}
-use Rattle.lvm_session.specs.Placed.{ArePlaced}
-use Rattle.lvm_session_start.specs.Beginning.{first_core}
-use Rattle.lvm_session.specs.State.{Core}
-use Rattle.lvm_group.specs.NewGroup.{NewGroup, size_for, new_group, new_status}
+use Rattle.lvm_group_plan.specs.handed.Names.{NoneIsLeft, Room, HaveAllLanded, IsSettled, HasSpareNumbers, ArePlaced, first_core, Core, Parts}
+use Rattle.lvm_group_plan.proofs.handed.Names.{starts_settled, starts_numbered}
+use Rattle.lvm_group_plan.specs.NewGroup.{NewGroup, size_for, new_group, new_status}
 use Rattle.lvm_group.specs.Made.{IsMade}
 use Rattle.lvm_group.specs.Steps.{Stands}
 use Rattle.lvm_group.specs.declared.make.Standing.{Standing}
 use Rattle.lvm_group.proofs.Entries.{spare_given, landed_given, later_given}
-use Rattle.lvm_group.proofs.Groups.{are_placed, nothing_missing}
+use Rattle.lvm_group_plan.proofs.Groups.{are_placed, nothing_missing}
 
 -- where there is no volume no copy is left behind
 none_left_of_none : (d : Descriptor) (u : Stored) → d.lvs ≡ [] → NoneIsLeft d u
 none_left_of_none d u empty p is = absurd (subst (λ (rows : List LvRow). IsOneOf rows is.row) empty is.volume)
 
-module _ (w : NewGroup) (room : Room) (was is : Log) (old new : Device) (standing : Standing) (stands : Stands w room was is old new standing) where
+module _ (w : NewGroup) (room : Room) (was is : Log) (old new : Device) (standing : Standing Parts) (stands : Stands w room was is old new standing) where
   pub spare_left : 1 ≤ spare_entries is
   spare_left = subst (λ (l : Log). 1 ≤ spare_entries l) (sym stands.entered) (let e = spare_given was w.disks in let room_for = stands.clear.free.may.entries in omega (arith, e, room_for))
 

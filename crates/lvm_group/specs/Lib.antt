@@ -1,6 +1,5 @@
-pub mod NewGroup
+pub mod passed
 pub mod Shown
 pub mod Judged
-pub mod Planned
 pub mod Made
 pub mod Steps

@@ -8,18 +8,12 @@ use Rattle.lvm_vol.specs.Log.{Log, cut_log, spare_entries}
 use Rattle.lvm_kept.specs.Plans.{Plan, ChangesBy}
 use Rattle.lvm_rec.specs.declared.homes.Homes.{Homes}
 use Rattle.lvm_write.specs.Written.{LogsPlan, IsDarkened, IsGivenUp}
-use Rattle.lvm_area.specs.Reading.{IsUnwritten, IsRested, IsCutOff, IsReadStuck}
+use Rattle.lvm_transfer.specs.Reading.{IsUnwritten, IsRested, IsCutOff, IsReadStuck}
 use Rattle.lvm_begin.specs.Beginning.{Beginning, Part, new_beginning, new_order, IsOfParts, AllStand}
 use Rattle.lvm_begin.specs.Ends.{BothFlip, HasNoFault, IsLowestFailed, WasTriedOnTargets}
-use Rattle.lvm_core.specs.declared.parts.Room.{Room}
-use Rattle.lvm_core.specs.declared.refused.Cause.{Cause}
-use Rattle.lvm_core.specs.declared.refused.Cause.TheVariants as cause
-use Rattle.lvm_core.specs.declared.refused.Refused.{Refused}
-use Rattle.lvm_session_start.specs.declared.parts.Parts.{Parts}
-use Rattle.lvm_core.specs.Starting.{IsReservedFor}
-use Rattle.lvm_session_start.specs.Beginning.{first_core}
-use Rattle.lvm_session.specs.State.{Core}
-use Rattle.lvm_group.specs.NewGroup.{NewGroup, among, new_group, new_status, given_up, MayBegin, RefusesFirst}
+use Rattle.lvm_group_plan.specs.handed.Names.{Room, Cause, Refused, Parts, IsReservedFor, first_core, Core}
+use Rattle.lvm_group_plan.specs.handed.CoreRefusedCause as cause
+use Rattle.lvm_group_plan.specs.NewGroup.{NewGroup, among, new_group, new_status, given_up, MayBegin, RefusesFirst}
 use Rattle.lvm_group.specs.Shown.{IfShown, HasGroup, IsClockBehindDisks, IsUnread, AllRead, AreFree, IsClear, SparesTold}
 
 -- ---- what is written
@@ -129,20 +123,20 @@ pub record HasUnwritten (w : NewGroup) (was is : Log) (old new : Device) (disk :
   pub rested : IsRested old new
 
 -- Why no group was made: each cause that a clause of its own gives comes exactly where it holds and those before it don't; want of memory, which is free, only where none holds that is judged before any disk is read.
-abbrev pub Refuses : NewGroup → ℕ → Log → Log → Device → Device → Cause → Type 0
-Refuses w patience was is old new (cause.NoDisk disk) = IsIdle was is old new × RefusesFirst old.sizes (spare_entries was) w.disks w.mib (cause.NoDisk disk)
-Refuses w patience was is old new (cause.TooMany limit) = IsIdle was is old new × RefusesFirst old.sizes (spare_entries was) w.disks w.mib (cause.TooMany limit)
-Refuses w patience was is old new (cause.TooSmall disk) = IsIdle was is old new × RefusesFirst old.sizes (spare_entries was) w.disks w.mib (cause.TooSmall disk)
-Refuses w patience was is old new cause.HistoryFull = IsIdle was is old new × RefusesFirst old.sizes (spare_entries was) w.disks w.mib cause.HistoryFull
-Refuses w patience was is old new (cause.DiskFailed disk) = HasUnread w was is old new disk ⊎ HasUnwritten w was is old new disk
-Refuses w patience was is old new cause.GroupExists = HasRead was is old new × MayBegin old.sizes (spare_entries was) w.disks w.mib × AllRead old new × IfShown old (λ c. HasGroup c w.force)
-Refuses w patience was is old new (cause.ClockBack seen) = HasRead was is old new × AreFree w was old new × IsClockBehindDisks old w.moment seen
-Refuses w patience was is old new cause.Dark = IsCutReading w was is old new ⊎ IsCutWriting w was is old new
-Refuses w patience was is old new cause.Stuck = IsStuckReading w patience was is old new ⊎ IsStuckWriting w patience was is old new
-Refuses w patience was is old new cause.Memory = LacksMemory w was is old new
-Refuses w patience was is old new _ = ⊥
+abbrev pub MkvgRefuses : NewGroup → ℕ → Log → Log → Device → Device → Cause → Type 0
+MkvgRefuses w patience was is old new (cause.NoDisk disk) = IsIdle was is old new × RefusesFirst old.sizes (spare_entries was) w.disks w.mib (cause.NoDisk disk)
+MkvgRefuses w patience was is old new (cause.TooMany limit) = IsIdle was is old new × RefusesFirst old.sizes (spare_entries was) w.disks w.mib (cause.TooMany limit)
+MkvgRefuses w patience was is old new (cause.TooSmall disk) = IsIdle was is old new × RefusesFirst old.sizes (spare_entries was) w.disks w.mib (cause.TooSmall disk)
+MkvgRefuses w patience was is old new cause.HistoryFull = IsIdle was is old new × RefusesFirst old.sizes (spare_entries was) w.disks w.mib cause.HistoryFull
+MkvgRefuses w patience was is old new (cause.DiskFailed disk) = HasUnread w was is old new disk ⊎ HasUnwritten w was is old new disk
+MkvgRefuses w patience was is old new cause.GroupExists = HasRead was is old new × MayBegin old.sizes (spare_entries was) w.disks w.mib × AllRead old new × IfShown old (λ c. HasGroup c w.force)
+MkvgRefuses w patience was is old new (cause.ClockBack seen) = HasRead was is old new × AreFree w was old new × IsClockBehindDisks old w.moment seen
+MkvgRefuses w patience was is old new cause.Dark = IsCutReading w was is old new ⊎ IsCutWriting w was is old new
+MkvgRefuses w patience was is old new cause.Stuck = IsStuckReading w patience was is old new ⊎ IsStuckWriting w patience was is old new
+MkvgRefuses w patience was is old new cause.Memory = LacksMemory w was is old new
+MkvgRefuses w patience was is old new _ = ⊥
 
 -- The group on its shelf, or the shelf and the history again, and why.
 abbrev pub MkvgGives : {S : Type 0} → (S → Device) → NewGroup → Room → ℕ → Log → Device → Result (S × Core) (Refused S) → Type 0
 MkvgGives device w room patience was old (Ok driver) = IsMade w room was old (device driver.0) driver.1
-MkvgGives device w room patience was old (Err refused) = Refuses w patience was refused.history old (device refused.shelf) refused.cause
+MkvgGives device w room patience was old (Err refused) = MkvgRefuses w patience was refused.history old (device refused.shelf) refused.cause

@@ -1,24 +1,26 @@
 -- The two steps in which a group is made on a shelf: its disks are read, and its records are written.
-use Rattle.std.specs.Prelude.{◌≡◌, ℕ, ◌<◌, ◌≤◌, Bool, true, false, if◌then◌else◌, Result, Ok, Err}
+use Rattle.std.specs.Prelude.{◌≡◌, ℕ, ◌<◌, ◌≤◌, Bool, true, false, if◌then◌else◌, List, Result, Ok, Err}
 use Rattle.lvm_num.specs.Record.{last_moment}
 use Rattle.lvm_num.specs.Descriptor.{IsValid}
 use Rattle.lvm_disk.specs.Device.{Device}
 use Rattle.lvm_vol.specs.Log.{Log, cut_log}
 use Rattle.lvm_rec.specs.declared.homes.Homes.{Homes}
 use Rattle.lvm_write.specs.Written.{IsDarkened, IsGivenUp}
-use Rattle.lvm_area.specs.Reading.{IsUnwritten, IsRested, IsCutOff, IsReadStuck}
+use Rattle.lvm_transfer.specs.Reading.{IsUnwritten, IsRested, IsCutOff, IsReadStuck}
 use Rattle.lvm_begin.specs.Beginning.{Beginning, new_order, IsOfParts, AllStand}
 use Rattle.lvm_begin.specs.Ends.{BothFlip, HasNoFault, StopsAt, IsLowestFailed, WasTriedOnTargets}
-use Rattle.lvm_core.specs.declared.refused.Cause.{Cause}
-use Rattle.lvm_core.specs.declared.refused.Cause.TheVariants as cause
-use Rattle.lvm_core.specs.declared.parts.Room.{Room}
-use Rattle.lvm_session_start.specs.declared.parts.Parts.{Parts}
-use Rattle.lvm_core.specs.Starting.{IsReservedFor}
+use Rattle.lvm_group_plan.specs.handed.Names.{Cause, Room, Parts, IsReservedFor}
+use Rattle.lvm_group_plan.specs.handed.CoreRefusedCause as cause
 use Rattle.lvm_group.specs.declared.look.Free.{Free}
+use Rattle.lvm_group.specs.declared.make.Asked.{Asked}
 use Rattle.lvm_group.specs.declared.make.Standing.{Standing}
-use Rattle.lvm_group.specs.NewGroup.{NewGroup, among, size_for, new_group, new_status, given_up}
+use Rattle.lvm_group_plan.specs.NewGroup.{NewGroup, among, size_for, new_group, new_status, given_up}
 use Rattle.lvm_group.specs.Made.{beginning_for, IsAsBefore}
 use Rattle.lvm_group.specs.Shown.{IfShown, HasGroup, ShowsEarlier, IsClockBehindDisks, IsUnread, AllRead, IsClear, SparesTold}
+
+-- the group that is asked for
+abbrev pub asked_group : Asked → List ℕ → ℕ → NewGroup
+asked_group asked disks moment = record { name = asked.name; mib = asked.mib; disks = disks; force = asked.force; moment = moment }
 
 -- ---- the disks are read
 
@@ -91,12 +93,12 @@ cut_at (Err why) log = if cuts_power why then cut_log log else log
 -- ---- all of it
 
 -- what the session of these parts starts with, where its records were written
-abbrev pub standing_of : Parts → Result Homes Cause → Result Standing Cause
+abbrev pub standing_of : {P : Type 0} → P → Result Homes Cause → Result (Standing P) Cause
 standing_of parts (Ok homes) = Ok (record { parts = parts; homes = homes })
 standing_of parts (Err why) = Err why
 
 -- The records of the new group stand on each disk named, and its session may start, with these parts and slots.
-pub record Stands (w : NewGroup) (room : Room) (was is : Log) (old new : Device) (standing : Standing) : Type 0 where
+pub record Stands (w : NewGroup) (room : Room) (was is : Log) (old new : Device) (standing : Standing Parts) : Type 0 where
   pub clear : IsClear w was old new
   pub homes : Homes
   pub spares : SparesTold homes old

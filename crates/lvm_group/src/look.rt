@@ -1,12 +1,12 @@
 //! The disks are read, and what they show is judged.
 ghost use Rattle.std.specs.Prelude.{◌≢◌};
 ghost use Rattle.lvm_disk.specs.Device.{IsReady};
-ghost use Rattle.lvm_area.specs.Reading.{OnlyReads};
+ghost use Rattle.lvm_transfer.specs.Reading.{OnlyReads};
 ghost use Rattle.lvm_group.specs.Steps.{LookGives};
 
 use crate::judge::judge;
-use lvm_core::Cause;
 use lvm_disk::Shelf;
+use lvm_group_plan::lower::Cause;
 use lvm_num::Pbuf;
 use lvm_rec::Homes;
 use lvm_survey::{Surveyed, survey_disks};

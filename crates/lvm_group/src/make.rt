@@ -3,22 +3,17 @@ ghost use Rattle.std.specs.Prelude.{◌≡◌, ◌≢◌, ◌≤◌, length, IfO
 ghost use Rattle.lvm_disk.specs.Device.{IsReady};
 ghost use Rattle.lvm_vol.specs.Log.{spare_entries};
 ghost use Rattle.lvm_stamps.specs.Behind.{ClockIsAhead};
-ghost use Rattle.lvm_core.specs.Coming.{BringsOn};
-ghost use Rattle.lvm_core.specs.Held.{StartsHeld};
-ghost use Rattle.lvm_core.specs.Sound.{HaveAllLanded};
-ghost use Rattle.lvm_core.specs.Starting.{IsRoom};
-ghost use Rattle.lvm_session_start.specs.Beginning.{first_core};
-ghost use Rattle.lvm_group.specs.NewGroup.{IsWellFormed, given_up};
-ghost use Rattle.lvm_group.specs.Planned.{asked_group, IsPlannedFor, RefusesPlan};
-ghost use Rattle.lvm_group.specs.Made.{Refuses};
-ghost use Rattle.lvm_group.specs.Steps.{cut_at, standing_of, Stands};
+ghost use Rattle.lvm_group_plan.specs.handed.Names.{BringsOn, StartsHeld, HaveAllLanded, IsRoom, first_core};
+ghost use Rattle.lvm_group_plan.specs.NewGroup.{IsWellFormed, given_up};
+ghost use Rattle.lvm_group_plan.specs.Planned.{IsPlannedFor, RefusesPlan};
+ghost use Rattle.lvm_group.specs.Made.{MkvgRefuses};
+ghost use Rattle.lvm_group.specs.Steps.{asked_group, cut_at, standing_of, Stands};
 
-use crate::checks::size_to_begin;
 use crate::look::look;
-use crate::plan::Plan;
 use crate::write::write;
-use lvm_core::{Cause, Parts, Room};
 use lvm_disk::Shelf;
+use lvm_group_plan::lower::{Cause, Parts, Room};
+use lvm_group_plan::{Plan, size_to_begin};
 use lvm_history::History;
 use lvm_num::{Memory, Name};
 use lvm_rec::Homes;
@@ -37,8 +32,8 @@ pub struct Asked {
 
 /// What the session of a group that was made starts with: its parts, and the slots that come next.
 #[derive(Drop)]
-pub struct Standing {
-    pub parts: Parts,
+pub struct Standing<P> {
+    pub parts: P,
     pub homes: Homes,
 }
 
@@ -51,13 +46,13 @@ pub fn make<S: Shelf>(
     disks: &[u16],
     moment: u64,
     patience: &mut Patience,
-) -> Result<Standing, Cause>
+) -> Result<Standing<Parts>, Cause>
     requires ready { IsReady (S.device shelf.old) }
     requires landed { HaveAllLanded history.old.facts }
     requires asked { IsWellFormed (asked_group asked.now disks.now moment) }
     requires room { IsRoom asked.now.room }
     ensures made { IfOk result (Stands (asked_group asked.now disks.now moment) asked.now.room history.old history.new (S.device shelf.old) (S.device shelf.new)) }
-    ensures refused { IfErr result (Refuses (asked_group asked.now disks.now moment) patience.old.left history.old history.new (S.device shelf.old) (S.device shelf.new)) }
+    ensures refused { IfErr result (MkvgRefuses (asked_group asked.now disks.now moment) patience.old.left history.old history.new (S.device shelf.old) (S.device shelf.new)) }
     ensures held { ClockIsAhead history.old.run moment (S.device shelf.old) history.old.facts → IfOk result (λ standing. StartsHeld (S.device shelf.new) (first_core standing.parts history.new (record { epoch = moment; seq = 2 }) standing.homes [])) }
     // whatever the answer
     ensures leaves { BringsOn history.old.run moment patience.old.left patience.new.left (S.device shelf.old) (S.device shelf.new) history.old history.new }
@@ -69,14 +64,25 @@ pub fn make<S: Shelf>(
 }
 
 // What the session of a plan starts with, where its records were written.
-fn start_with(plan: Plan, brought: Result<Homes, Cause>) -> Result<Standing, Cause>
+fn start_with(plan: Plan, brought: Result<Homes, Cause>) -> Result<Standing<Parts>, Cause>
     ensures { result ≡ standing_of plan.parts brought }
 {
-    match brought {
-        Ok(homes) => Ok(Standing {
-            parts: plan.parts,
-            homes,
-        }),
+    with_homes(parts_of(plan), brought)
+}
+
+// The parts of its session alone.
+fn parts_of(plan: Plan) -> Parts
+    ensures { result ≡ plan.parts }
+{
+    plan.parts
+}
+
+// What starts with these parts and these homes, where there are some.
+fn with_homes<P: Drop>(parts: P, homes: Result<Homes, Cause>) -> Result<Standing<P>, Cause>
+    ensures { result ≡ standing_of parts homes }
+{
+    match homes {
+        Ok(homes) => Ok(Standing { parts, homes }),
         Err(why) => Err(why),
     }
 }
@@ -117,7 +123,7 @@ fn bring<S: Shelf>(
     requires moment { moment ≢ 0 }
     requires planned { IsPlannedFor (asked_group asked.now disks.now moment) asked.now.room (spare_entries history.old) (S.device shelf.old).sizes plan.now }
     ensures made { IfOk result (λ homes. Stands (asked_group asked.now disks.now moment) asked.now.room history.old history.new (S.device shelf.old) (S.device shelf.new) (record { parts = plan.now.parts; homes = homes })) }
-    ensures refused { IfErr result (Refuses (asked_group asked.now disks.now moment) patience.old.left history.old (cut_at result history.new) (S.device shelf.old) (S.device shelf.new)) }
+    ensures refused { IfErr result (MkvgRefuses (asked_group asked.now disks.now moment) patience.old.left history.old (cut_at result history.new) (S.device shelf.old) (S.device shelf.new)) }
     ensures held { ClockIsAhead history.old.run moment (S.device shelf.old) history.old.facts → IfOk result (λ homes. StartsHeld (S.device shelf.new) (first_core plan.now.parts history.new (record { epoch = moment; seq = 2 }) homes [])) }
     // whatever the answer
     ensures leaves { BringsOn history.old.run moment patience.old.left patience.new.left (S.device shelf.old) (S.device shelf.new) history.old history.new }

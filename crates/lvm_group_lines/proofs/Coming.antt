@@ -1,6 +1,6 @@
 -- How a group comes on, or doesn't.
 use Rattle.std.proofs.Common.{◌≡◌, ◌+◌, ◌<◌, ◌≤◌, [], ◌∷◌, ◌++◌, ℕ, List, Option, Some, None, Result, Ok, Err, IfOk, IfErr, false, refl, sym, ◌∙◌, ap, subst, arith}
-use Rattle.std.specs.Prelude.{◌^◌, IfNone, IsSome}
+use Rattle.std.specs.Prelude.{◌^◌, IfNone}
 use Rattle.std.specs.Global.{Vec}
 use Rattle.lvm_disk.specs.Device.{Device, IsReady}
 use Rattle.lvm_io.specs.Count.{Rose}
@@ -25,18 +25,14 @@ use Rattle.lvm_session.specs.State.{Core, state}
 use Rattle.lvm_disk_lines.specs.passed.Handover.{Serves}
 use Rattle.lvm_disk_lines.specs.passed.TieCommands.{StandsAfter}
 use Rattle.lvm_disk_lines.proofs.passed.TieCommands.{spans_follow}
-use Rattle.lvm_posts.specs.declared.posts.Post.{Post}
-use Rattle.lvm_posts.specs.Posts.{AreAnswered}
+use Rattle.lvm_disk_lines.specs.handed.Names.{Post, AreAnswered}
 use Rattle.lvm_disk_lines.specs.passed.Quiesce.{ClockIsAheadEach, IsAheadEach, BringsOnEach, IsStartedEach}
 use Rattle.lvm_disk_lines.proofs.passed.Quiesce.{still_is_behind_each}
 use Rattle.lvm_group_lines.specs.Groups.{IsHeldBy, IsLeftBy}
-use Rattle.lvm_disk_lines.specs.passed.Stage.{CommandEnds, IsRelit, refusal_of, Aside, GoesOn, HasBegunHeld, HaveRooms, IsBetweenStage, IsFitting}
-use Rattle.lvm_disk_lines.specs.passed.Stage.{IsOfKind, history_of, session_of, shelf_of, state_in, ArePosted, IsBetween, StandsAlone, State}
-use Rattle.lvm_disk_lines.specs.passed.Stage.{without_facts, Holder, Reply, Stage}
+use Rattle.lvm_disk_lines.specs.passed.Stage.{CommandEnds, IsRelit, refusal_of, Aside, GoesOn, HasBegunHeld, HaveRooms, IsBetweenStage, IsFitting, IsOfKind, history_of, session_of, shelf_of, state_in, ArePosted, IsBetween, StandsAlone, ScriptState, without_facts, Holder, Reply, Stage}
 use Rattle.lvm_disk_lines.specs.passed.HolderVariants as holder
 use Rattle.lvm_disk_lines.specs.passed.ReplyVariants as reply
-use Rattle.lvm_disk_lines.proofs.passed.Stage.{ahead_later, Leaves, Rests, lit_up, ready_is_lit, still_leaves_descriptors, Bears, landed_bears}
-use Rattle.lvm_disk_lines.proofs.passed.Stage.{later_bears, open_more, LeavesAnswers, answered_bears, answered_on, off_posts, on_posts}
+use Rattle.lvm_disk_lines.proofs.passed.Stage.{ahead_later, Leaves, Rests, lit_up, ready_is_lit, still_leaves_descriptors, Bears, landed_bears, later_bears, open_more, LeavesAnswers, answered_bears, answered_on, off_posts, on_posts}
 
 -- ---- the clock
 
@@ -90,7 +86,7 @@ pub record Promises (run moment : ℕ) (old left : Moment) : Type 0 where
   pub behind : ClockIsAheadEach run moment old.device old.facts → IsBehind (moment + 1) left.device
   pub waits : old.device.counts.waits ≤ left.device.counts.waits
 
-module _ (run : ℕ) (old : State) (off : old.session ≡ None) (between : IsBetween old.moment old.session old.posts) (ordered : Ordered run [] old.moment.facts) (moment : ℕ) (rose : Rose old.last moment) where
+module _ (run : ℕ) (old : ScriptState) (off : old.session ≡ None) (between : IsBetween old.moment old.session old.posts) (ordered : Ordered run [] old.moment.facts) (moment : ℕ) (rose : Rose old.last moment) where
   landed : HaveAllLanded old.moment.facts
   landed = subst (λ (s : Option Core). IfNone s (HaveAllLanded old.moment.facts)) off between.landed
 
@@ -187,12 +183,6 @@ module _ (run : ℕ) (old : State) (off : old.session ≡ None) (between : IsBet
 abbrev pub held : {S : Type 0} → Holder S → Vec Post → Vec ℕ → Stage S
 held by posts bytes = record { holder = by; posts = posts; bytes = bytes }
 
--- a group is on unless none is
-pub on_unless : {S : Type 0} (it : Holder S) → ((shelf : S) (log : Log) → it ≡ holder.Off shelf log → ⊥) → IsSome (session_of it)
-on_unless (holder.Off shelf log) other = absurd (other shelf log refl)
-on_unless (holder.Empty driver) other = refl
-on_unless (holder.Serving driver) other = refl
-
 -- who holds the shelf and the history then, and the answer
 pub record Left {S : Type 0} (device : S → Device) (outcome : Result (S × Core) (Refused S)) (by : Holder S) (answer : Reply) : Type 0 where
   pub on : IfOk outcome (IsHeldBy device by answer)
@@ -211,7 +201,7 @@ pub record Outcome {S : Type 0} (device : S → Device) (shelf : S) (log : Log) 
 
 module _ {S : Type 0} (device : S → Device) (shelf : S) (log : Log) (posts : Vec Post) (bytes : Vec ℕ) (moment last before after : ℕ) (by : Holder S) (answer : Reply) (rose : Rose last moment)
     (fits : IsFitting (held (holder.Off shelf log) posts bytes)) (between : IsBetweenStage device (held (holder.Off shelf log) posts bytes)) (ordered : Ordered log.run [] log.facts) where
-  abbrev first_state : State
+  abbrev first_state : ScriptState
   first_state = state_in device (held (holder.Off shelf log) posts bytes) last
 
   abbrev Ended : Result (S × Core) (Refused S) → Type 0
@@ -237,13 +227,13 @@ module _ {S : Type 0} (device : S → Device) (shelf : S) (log : Log) (posts : V
   goes : (outcome : Result (S × Core) (Refused S)) → Ended outcome → GoesOn log.run Aside answer first_state (state_in device (held by posts bytes) moment)
   goes (Ok driver) ended =
       let on = ended.left.on in
-      subst (λ (s : State). GoesOn log.run Aside answer first_state s) (sym (on_is driver on.shelf on.history on.session))
+      subst (λ (s : ScriptState). GoesOn log.run Aside answer first_state s) (sym (on_is driver on.shelf on.history on.session))
       (subst (λ (a : Reply). GoesOn log.run Aside a first_state (record { moment = at (device driver.0) driver.1.history.facts; session = Some driver.1; posts = posts.items; last = moment })) (sym on.answered)
       (left_on log.run first_state refl between ordered moment rose driver.1 (device driver.0) (promises (Ok driver) ended.brings) ended.serves
       ended.came.entered ended.came.facts ended.came.stays ended.came.ready ended.came.epoch ended.starts.settled ended.starts.held ended.stands))
   goes (Err refused) ended =
       let off = ended.left.off in
-      subst (λ (s : State). GoesOn log.run Aside answer first_state s) (sym (off_is refused.history off.history off.session))
+      subst (λ (s : ScriptState). GoesOn log.run Aside answer first_state s) (sym (off_is refused.history off.history off.session))
       (subst (λ (a : Reply). GoesOn log.run Aside a first_state (record { moment = at (device (shelf_of by)) refused.history.facts; session = None; posts = posts.items; last = moment })) (sym off.answered)
       (left_off log.run first_state refl between ordered moment rose refused.cause (at (device refused.shelf) refused.history.facts) (device (shelf_of by)) (promises (Err refused) ended.brings) ended.stayed.leaves off.lit ended.stayed.stays))
 
@@ -266,6 +256,6 @@ module _ {S : Type 0} (device : S → Device) (shelf : S) (log : Log) (posts : V
       let room = ap (λ (l : Log). l.room) (rooms outcome ended) in
       record { kind = kind outcome ended; few = subst (λ (n : ℕ). n < 2 ^ 32) (sym room) fits.few; rooms = subst (λ (n : ℕ). HaveRooms n posts bytes) (sym room) fits.rooms }
 
-  pub outcome_ends : (Does : Log → State → State → Reply → Type 0) (outcome : Result (S × Core) (Refused S)) → Ended outcome → Does (without_facts log) first_state (state_in device (held by posts bytes) moment) answer
+  pub outcome_ends : (Does : Log → ScriptState → ScriptState → Reply → Type 0) (outcome : Result (S × Core) (Refused S)) → Ended outcome → Does (without_facts log) first_state (state_in device (held by posts bytes) moment) answer
       → CommandEnds device Does ⊥ Aside (held (holder.Off shelf log) posts bytes) (held by posts bytes) answer last moment
   outcome_ends Does outcome ended does = record { does = does; goes = goes outcome ended; rooms = rooms outcome ended; fits = fits_then outcome ended; orders = λ none. orders outcome ended }

@@ -17,7 +17,7 @@ use Rattle.lvm_disk_lines.specs.passed.Handover.{HasJustBegun, IsHistory, Serves
 use Rattle.lvm_disk_lines.proofs.passed.Handover.{made_begins}
 use Rattle.lvm_disk_lines.specs.passed.TieCommands.{StandsAfter}
 use Rattle.lvm_disk_lines.proofs.passed.TieCommands.{made_stands}
-use Rattle.lvm_disk_lines.specs.passed.Group.{IsMade, Refuses, MkvgGives, MayBegin, NewGroup, RefusesFirst, given_up}
+use Rattle.lvm_disk_lines.specs.passed.Group.{IsMade, MkvgRefuses, MkvgGives, MayBegin, NewGroup, RefusesFirst, given_up}
 use Rattle.lvm_disk_lines.specs.passed.Quiesce.{Quiesces, MkvgOnceQuiet}
 use Rattle.lvm_group_lines.specs.Groups.{itself}
 use Rattle.lvm_disk_lines.specs.passed.Stage.{StandsAlone, without_facts}
@@ -29,7 +29,7 @@ use Rattle.lvm_group_lines.proofs.Quieting.{device_outcome, itself_once, on_once
 
 -- what a refusal leaves of a shelf that was at rest
 module _ (before : Device) (w : NewGroup) (patience : ℕ) (was is : Log) (old left : Device) (ready : IsReady old) (same : old.orders ≡ before.orders) where
-  leaves : (why : Cause) → Refuses w patience was is old left why → Leaves why before left
+  leaves : (why : Cause) → MkvgRefuses w patience was is old left why → Leaves why before left
   leaves (cause.NoDisk disk) refuses = record { rests = inr (subst IsReady (sym refuses.0.shelf) ready); orders = ap (λ (d : Device). d.orders) refuses.0.shelf ∙ same }
   leaves (cause.TooMany limit) refuses = record { rests = inr (subst IsReady (sym refuses.0.shelf) ready); orders = ap (λ (d : Device). d.orders) refuses.0.shelf ∙ same }
   leaves (cause.TooSmall disk) refuses = record { rests = inr (subst IsReady (sym refuses.0.shelf) ready); orders = ap (λ (d : Device). d.orders) refuses.0.shelf ∙ same }
@@ -50,7 +50,7 @@ module _ (before : Device) (w : NewGroup) (patience : ℕ) (was is : Log) (old l
     as_is : is ≡ was → P is.facts
     as_is same = subst (λ (l : Log). P l.facts) (sym same) holds
 
-    entries_bear : (why : Cause) → Refuses w patience was is old left why → P is.facts
+    entries_bear : (why : Cause) → MkvgRefuses w patience was is old left why → P is.facts
     entries_bear (cause.NoDisk disk) refuses = as_is refuses.0.history
     entries_bear (cause.TooMany limit) refuses = as_is refuses.0.history
     entries_bear (cause.TooSmall disk) refuses = as_is refuses.0.history
@@ -66,7 +66,7 @@ module _ (before : Device) (w : NewGroup) (patience : ℕ) (was is : Log) (old l
     entries_bear cause.Memory refuses = as_is refuses.history
     entries_bear _ refuses = absurd refuses
 
-  same_rooms : (why : Cause) → Refuses w patience was is old left why → without_facts is ≡ without_facts was
+  same_rooms : (why : Cause) → MkvgRefuses w patience was is old left why → without_facts is ≡ without_facts was
   same_rooms (cause.NoDisk disk) refuses = ap without_facts refuses.0.history
   same_rooms (cause.TooMany limit) refuses = ap without_facts refuses.0.history
   same_rooms (cause.TooSmall disk) refuses = ap without_facts refuses.0.history

@@ -12,7 +12,7 @@ use Rattle.lvm_session.specs.State.{Core}
 use Rattle.lvm_disk_lines.specs.passed.Group.{NewGroup}
 use Rattle.lvm_disk_lines.specs.passed.Quiesce.{CauseRose, MkvgOnceQuiet, VaryonOnceQuiet}
 use Rattle.lvm_disk_lines.specs.passed.Stage.{Asks, IsAsked, EndsSession, patience_of_line, IsRelit, refusal_of, IsRefused, IsNotOn, IsOfKind, IsOn}
-use Rattle.lvm_disk_lines.specs.passed.Stage.{history_of, open_in, session_of, shelf_of, State, log_with, Holder, Reply}
+use Rattle.lvm_disk_lines.specs.passed.Stage.{history_of, open_in, session_of, shelf_of, ScriptState, log_with, Holder, Reply}
 use Rattle.lvm_disk_lines.specs.passed.RefusalVariants as refusal
 use Rattle.lvm_disk_lines.specs.passed.ReplyVariants as reply
 
@@ -39,7 +39,7 @@ pub record IsLeftBy {S : Type 0} (device : S → Device) (by : Holder S) (answer
 -- ---- what the line does
 
 -- the line was refused for this, and no group is on
-pub record IsLeftOff (why : Cause) (left : Device) (is : Log) (old new : State) (answer : Reply) : Type 0 where
+pub record IsLeftOff (why : Cause) (left : Device) (is : Log) (old new : ScriptState) (answer : Reply) : Type 0 where
   pub lit : IsRelit why left new.moment.device
   pub facts : new.moment.facts ≡ is.facts
   pub after : new.session ≡ None
@@ -47,14 +47,14 @@ pub record IsLeftOff (why : Cause) (left : Device) (is : Log) (old new : State) 
   pub answered : answer ≡ reply.Refused (refusal_of why)
 
 -- a group is on, with this session
-pub record IsLeftOn (core : Core) (old new : State) (answer : Reply) : Type 0 where
+pub record IsLeftOn (core : Core) (old new : ScriptState) (answer : Reply) : Type 0 where
   pub facts : new.moment.facts ≡ core.history.facts
   pub after : new.session ≡ Some core
   pub posts : new.posts ≡ old.posts
   pub answered : answer ≡ reply.Ok
 
 -- What the line leaves of the call: the group is on, or isn't, and why, with the shelf and the history that the call has left.
-abbrev pub IsLeft : Device → Log → State → State → Reply → Result Core Cause → Type 0
+abbrev pub IsLeft : Device → Log → ScriptState → ScriptState → Reply → Result Core Cause → Type 0
 IsLeft left is old new answer (Ok core) = (left ≡ new.moment.device) × (is ≡ core.history) × IsLeftOn core old new answer
 IsLeft left is old new answer (Err why) = IsLeftOff why left is old new answer
 
@@ -64,7 +64,7 @@ outcome_of left is (Ok core) = Ok (left, core)
 outcome_of left is (Err why) = Err (record { shelf = left; history = is; cause = why })
 
 -- The call that is to bring a group on, at the moment that the clock has answered, gives this, and leaves a shelf, a history, and a session or why none is on.
-pub record Brings (Gives : ℕ → Result (Device × Core) (Refused Device) → Type 0) (old new : State) (answer : Reply) : Type 0 where
+pub record Brings (Gives : ℕ → Result (Device × Core) (Refused Device) → Type 0) (old new : ScriptState) (answer : Reply) : Type 0 where
   pub asks : Asks old new
   pub off : old.session ≡ None
   pub shelf : Device
@@ -79,7 +79,7 @@ abbrev pub itself : Device → Device
 itself device = device
 
 -- `varyonvg`, at the moment that the clock has answered
-pub data VaryonDoes (log : Log) (room : Room) (name : List ℕ) (old new : State) (answer : Reply) : Type 0 where
+pub data VaryonDoes (log : Log) (room : Room) (name : List ℕ) (old new : ScriptState) (answer : Reply) : Type 0 where
   NoVaryonWhileOn : IsSome old.session → answer ≡ reply.Refused refusal.GroupOn → IsAsked old new → VaryonDoes log room name old new answer
   Varies : Brings (λ moment outcome. VaryonOnceQuiet itself (log_with log old.moment.facts) name moment room patience_of_line old.moment.device outcome) old new answer → VaryonDoes log room name old new answer
 
@@ -88,14 +88,14 @@ abbrev pub asked_for : List ℕ → Option ℕ → List ℕ → Bool → ℕ →
 asked_for name mib disks force moment = record { name = name; mib = mib; disks = disks; force = force; moment = moment }
 
 -- `mkvg`, at the moment that the clock has answered; where no group is on and the line itself finds no memory, that is answered
-pub data MkvgDoes (log : Log) (room : Room) (force : Bool) (name : List ℕ) (mib : Option ℕ) (disks : List ℕ) (old new : State) (answer : Reply) : Type 0 where
+pub data MkvgDoes (log : Log) (room : Room) (force : Bool) (name : List ℕ) (mib : Option ℕ) (disks : List ℕ) (old new : ScriptState) (answer : Reply) : Type 0 where
   NoMemoryForLine : old.session ≡ None → answer ≡ reply.Refused refusal.Memory → IsAsked old new → MkvgDoes log room force name mib disks old new answer
   NoMkvgWhileOn : IsSome old.session → answer ≡ reply.Refused refusal.GroupOn → IsAsked old new → MkvgDoes log room force name mib disks old new answer
   Makes : Brings (λ moment outcome. MkvgOnceQuiet itself (asked_for name mib disks force moment) room patience_of_line (log_with log old.moment.facts) old.moment.device outcome) old new answer
       → MkvgDoes log room force name mib disks old new answer
 
 -- `varyoffvg`, which leaves transfers out
-pub data VaryoffDoes (name : List ℕ) (old new : State) (answer : Reply) : Type 0 where
+pub data VaryoffDoes (name : List ℕ) (old new : ScriptState) (answer : Reply) : Type 0 where
   NoVaryoff : IsNotOn name old.session → IsRefused refusal.NoGroup answer old new → VaryoffDoes name old new answer
   BusyVaryoff : IfSome old.session (IsOn name) → 1 ≤ open_in old.session → IsRefused refusal.Busy answer old new → VaryoffDoes name old new answer
   VariesOff : (core : Core) → old.session ≡ Some core → IsOn name core → core.requests ≡ [] → EndsSession old new → answer ≡ reply.Ok → VaryoffDoes name old new answer

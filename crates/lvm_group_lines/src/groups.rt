@@ -119,14 +119,9 @@ pub fn do_mkvg<S: Shelf, C: Clock>(
     ensures ends { CommandEnds S.device (λ log. MkvgDoes log room force name mib disks.now) ⊥ Aside stage result.stage result.reply (C.last clock.old) (C.last clock.new) }
 {
     let moment = clock.now();
-    let Stage {
-        holder,
-        posts,
-        bytes,
-    } = stage;
-    match holder {
-        Holder::Off { shelf, history } => {
-            let _ = history.run();
+    match stage.into_off() {
+        Ok((closed, posts, bytes)) => {
+            let Closed { shelf, history } = closed;
             let mut patience = Patience::whole();
             let (holder, reply) = left(mkvg(
                 alloc,
@@ -147,12 +142,7 @@ pub fn do_mkvg<S: Shelf, C: Clock>(
             }
             .answered(reply)
         }
-        holder => Stage {
-            holder,
-            posts,
-            bytes,
-        }
-        .refused(Refusal::GroupOn),
+        Err(stage) => stage.refused(Refusal::GroupOn),
     }
 }
 
@@ -171,14 +161,9 @@ pub fn do_varyon<S: Shelf, C: Clock>(
     ensures ends { CommandEnds S.device (λ log. VaryonDoes log room name) ⊥ Aside stage result.stage result.reply (C.last clock.old) (C.last clock.new) }
 {
     let moment = clock.now();
-    let Stage {
-        holder,
-        posts,
-        bytes,
-    } = stage;
-    match holder {
-        Holder::Off { shelf, history } => {
-            let _ = history.run();
+    match stage.into_off() {
+        Ok((closed, posts, bytes)) => {
+            let Closed { shelf, history } = closed;
             let mut patience = Patience::whole();
             let (holder, reply) = left(varyon(
                 alloc,
@@ -196,12 +181,7 @@ pub fn do_varyon<S: Shelf, C: Clock>(
             }
             .answered(reply)
         }
-        holder => Stage {
-            holder,
-            posts,
-            bytes,
-        }
-        .refused(Refusal::GroupOn),
+        Err(stage) => stage.refused(Refusal::GroupOn),
     }
 }
 

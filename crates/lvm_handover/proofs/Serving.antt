@@ -29,7 +29,7 @@ use Rattle.lvm_session.specs.declared.origin.Origin.{Origin}
 use Rattle.lvm_session.specs.State.{Core, State, is_there, state}
 use Rattle.lvm_session.specs.Judging.{copies_in, is_missing, is_settled, is_stale, is_wanted_stale}
 use Rattle.lvm_session.specs.Bringing.{end_of, has_row, is_out, step_row}
-use Rattle.lvm_session.specs.Causes.{AreCaused, AreCounted, FailedSince, IsAnswered, IsChosenSince, IsCopyCaused, IsTrueToOrigin, faults_at_first, is_held_stale, is_over}
+use Rattle.lvm_session.specs.Causes.{AreCaused, AreCounted, FailedSince, IsAnswered, IsChosenSince, IsCausedAmong, IsTrueToOrigin, faults_at_first, is_held_stale, is_over}
 use Rattle.lvm_session.specs.Dark.{AreTold, hand_of_copy}
 use Rattle.lvm_session.specs.Marks.{is_among, is_entailed}
 use Rattle.lvm_session.specs.Owners.{AreOwned, AreRows, HaveTickets, flies, same_owner, target_flies}
@@ -37,8 +37,7 @@ use Rattle.lvm_session.specs.Placed.{ArePlaced, IsPlaced}
 use Rattle.lvm_session.specs.Requests.{IsOpenOne}
 use Rattle.lvm_session.specs.Sound.{IsAsked, IsCopy, IsFitting, IsGoing, IsOn, IsSound, IsTold, count_if, hands_with, is_hand, may_be_fresh, pins, stays_fresh, waiting_rows, waits, with_row}
 use Rattle.lvm_session.proofs.Parts.{idle_is_sound}
-use Rattle.lvm_core.specs.Settled.{IsSettled}
-use Rattle.lvm_core.specs.Sound.{IsSoundBetween}
+use Rattle.lvm_earlier.specs.handed.Names.{IsSettled, IsSoundBetween}
 use Rattle.lvm_keeps.proofs.Lists.{count_cons}
 use Rattle.lvm_earlier.proofs.passed.Tie.{any_one, clash, or_true}
 use Rattle.lvm_volumes.specs.Endings.{HasFresh}
@@ -353,7 +352,7 @@ module _ (added : List Pp) (old new : State) (sound : IsSound old) (began : IsSe
       stuck = λ e. absurd (let no : power.On ≡ power.Stuck = sym is.settled.power ∙ e in cc no);
       counted = none_of (AreCounted s) core.requests requests;
       answered = none_of (IsAnswered s) core.requests requests;
-      copy = nobody (λ (c : OpenCopy). IsCopyCaused s (copies_in core.descriptor c.lv c.lp) c) core.copy copy;
+      copy = nobody (λ (c : OpenCopy). IsCausedAmong s (copies_in core.descriptor c.lv c.lp) c) core.copy copy;
       origin = true_to_origin;
     }
 

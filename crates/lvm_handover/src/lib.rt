@@ -4,5 +4,6 @@
 pub mod below;
 mod handover;
 pub mod laws;
+pub mod lower;
 
 pub use handover::{serve, settle};

@@ -14,7 +14,7 @@ use std::rt::Files;
 use std::{fs, io};
 
 /// A transfer to or from an image file failed.
-#[derive(Clone, Copy, Debug, PartialEq, Eq)]
+#[derive(Clone, Copy)]
 pub struct ImageFault;
 
 /// The image file of a disk. Contracts see how many sectors it has, which is settled when it is opened.
@@ -133,15 +133,12 @@ impl<F: Read + Write + Seek + OpenFile + Exclusive + Drop> Image<F> {
         let Some(mut file) = self.file.take() else {
             return Err(ImageFault);
         };
-        let written = put(&mut file, first, count, buf);
+        let written = put(&mut file, first, count, buf).is_ok();
         if file.sync_data().is_err() {
             return Err(ImageFault);
         }
         self.file = Some(file);
-        match written {
-            Ok(()) => Ok(()),
-            Err(_) => Err(ImageFault),
-        }
+        if written { Ok(()) } else { Err(ImageFault) }
     }
 
     /// Reads `count` sectors from sector `first` on to the buffer's first. After a fault the buffer's
@@ -169,21 +166,38 @@ impl<F: Read + Write + Seek + OpenFile + Exclusive + Drop> Image<F> {
 }
 
 // Opens an ordinary file, for reading and writing where that may be, and says how long it is. Anything
-// else of that name isn't opened: to open a pipe may wait for ever. What a program that was killed left
-// there is synced, since it may be read.
+// else of that name isn't opened: to open a pipe may wait for ever.
 fn open_file<R: Files>(rt: &R, name: &str) -> io::Result<(R::File, u64)>
 where
     R::File: Exclusive,
 {
-    if !fs::metadata(rt, name)?.is_file() {
-        return Err(io::Error::from(ErrorKind::InvalidInput));
+    see_ordinary(rt, name)?;
+    let file = open_either(rt, name)?;
+    let bytes = take_bytes(&file)?;
+    Ok((file, bytes))
+}
+
+// Fails where the name isn't that of an ordinary file.
+fn see_ordinary<R: Files>(rt: &R, name: &str) -> io::Result<()> {
+    if fs::metadata(rt, name)?.is_file() {
+        Ok(())
+    } else {
+        Err(io::Error::from(ErrorKind::InvalidInput))
     }
-    let file = match OpenOptions::new().read(true).write(true).open(rt, name) {
-        Ok(file) => file,
-        Err(_) => fs::open(rt, name)?,
-    };
+}
+
+// Opens a file for reading and writing, or else for reading alone.
+fn open_either<R: Files>(rt: &R, name: &str) -> io::Result<R::File> {
+    match OpenOptions::new().read(true).write(true).open(rt, name) {
+        Ok(file) => Ok(file),
+        Err(_) => fs::open(rt, name),
+    }
+}
+
+// Has a file for this program alone, and says how long it is. What a program that was killed left there is
+// synced, since it may be read.
+fn take_bytes<F: OpenFile + Exclusive>(file: &F) -> io::Result<u64> {
     file.try_exclusive()?;
     file.sync_data()?;
-    let bytes = file.metadata()?.len();
-    Ok((file, bytes))
+    Ok(file.metadata()?.len())
 }

@@ -95,8 +95,13 @@ where
 {
     let file = File::create_new(files, name)?;
     file.try_exclusive()?;
-    fs::open(files, ".")?.sync_all()?;
+    sync_folder(files)?;
     Ok(file)
+}
+
+// Sees that the current folder keeps its files.
+fn sync_folder<R: Files>(files: &R) -> io::Result<()> {
+    fs::open(files, ".")?.sync_all()
 }
 
 // Writes a front of the bytes, after so many that aren't synced. Answers how many it took, and how many

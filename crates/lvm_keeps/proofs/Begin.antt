@@ -6,7 +6,7 @@ use Rattle.std.specs.Option.{option_map_or}
 use Rattle.lvm_num.specs.declared.place.Pp.{Pp}
 use Rattle.lvm_num.specs.declared.status.Status.{Status}
 use Rattle.lvm_num.specs.Status.{calls_stale, calls_missing}
-use Rattle.lvm_disk.specs.Device.{Flight}
+use Rattle.lvm_session.specs.handed.Names.{Flight}
 use Rattle.lvm_mwc.specs.Entries.{pins_of}
 use Rattle.lvm_mwc.specs.declared.entries.CacheEntry.{CacheEntry}
 use Rattle.lvm_session.specs.declared.bringing.OpenCopy.{OpenCopy}
@@ -20,7 +20,7 @@ use Rattle.lvm_session.specs.Bringing.{end_of, has_row, is_out, step_row}
 use Rattle.lvm_session.specs.Dark.{AreTold, hand_of_copy}
 use Rattle.lvm_session.specs.Owners.{AreOwned, AreRows, HaveTickets, same_owner, target_flies}
 use Rattle.lvm_session.specs.Requests.{IsOpenOne}
-use Rattle.lvm_session.specs.Causes.{AreCaused, AreCounted, IsAnswered, IsChosenSince, IsCopyCaused, is_held_stale, is_over}
+use Rattle.lvm_session.specs.Causes.{AreCaused, AreCounted, IsAnswered, IsChosenSince, IsCausedAmong, is_held_stale, is_over}
 use Rattle.lvm_session.specs.Sound.{IsAsked, IsCopy, IsGoing, IsOn, IsSound, IsTold, count_if, hands_with, is_dark, is_hand, may_be_fresh, out_with, pins, stays_fresh, waiting_rows, waits, with_row, has_number}
 use Rattle.lvm_keeps.specs.Begins.{Begins, BeginningIsSound}
 use Rattle.lvm_keeps.proofs.Small.{not_so}
@@ -150,7 +150,7 @@ module _ (s : State) (first : Begins s) where
     stuck = λ e. not_stuck (sym first.power ∙ e);
     counted = none_of (AreCounted s) core.requests first.unused.requests;
     answered = none_of (IsAnswered s) core.requests first.unused.requests;
-    copy = nobody (λ (c : OpenCopy). IsCopyCaused s (copies_in core.descriptor c.lv c.lp) c) core.copy first.unused.copy;
+    copy = nobody (λ (c : OpenCopy). IsCausedAmong s (copies_in core.descriptor c.lv c.lp) c) core.copy first.unused.copy;
     origin = record {
       since = first.faults;
       votes = first.votes;

@@ -17,7 +17,7 @@ use Rattle.lvm_session.specs.declared.open.Power.TheVariants as power
 use Rattle.lvm_session.specs.declared.origin.Origin.{Origin}
 use Rattle.lvm_session.specs.Judging.{copies_in}
 use Rattle.lvm_session.specs.State.{State, state}
-use Rattle.lvm_session.specs.Causes.{AreCounted, HaveSourcesFailed, IsAnswered, IsCopyCaused, IsCounted, IsLandedFor, IsTrueToOrigin, is_over}
+use Rattle.lvm_session.specs.Causes.{AreCounted, HaveSourcesFailed, IsAnswered, IsCausedAmong, IsCounted, IsLandedFor, IsTrueToOrigin, is_over}
 use Rattle.lvm_keeps.proofs.Lists.{all_on}
 use Rattle.lvm_keeps.proofs.Small.{not_so}
 use Rattle.lvm_keeps.proofs.Still.{if_on}
@@ -63,16 +63,16 @@ module _ (s now : State) (same : grounds s ≡ grounds now) where
   counted_still o all = subst (λ (g : Grounds). AreCounted (on now g) o) same (all_on (IsCounted s) (IsCounted (on now (grounds s))) (λ t its. record { began = its.began; since = its.since }) o.request.targets.items all)
 
   -- a step of the copy changes nothing of it
-  pub copy_still : (copies : List Pp) (c : OpenCopy) (at : Step) → IsCopyCaused s copies c → IsCopyCaused now copies (record c { step = at })
-  copy_still copies c at its = subst (λ (g : Grounds). IsCopyCaused (on now g) copies (record c { step = at })) same (record { began = its.began; since = its.since; tried = its.tried; failed = λ e. sources_on (its.failed e) })
+  pub copy_still : (copies : List Pp) (c : OpenCopy) (at : Step) → IsCausedAmong s copies c → IsCausedAmong now copies (record c { step = at })
+  copy_still copies c at its = subst (λ (g : Grounds). IsCausedAmong (on now g) copies (record c { step = at })) same (record { began = its.began; since = its.since; tried = its.tried; failed = λ e. sources_on (its.failed e) })
     where
       sources_on : {own : Type 0} → own ⊎ HaveSourcesFailed s copies c → own ⊎ HaveSourcesFailed (on now (grounds s)) copies (record c { step = at })
       sources_on (inl own) = inl own
       sources_on (inr all) = inr (record { each = all.each; number = all.number; source = all.source; source_is = all.source_is; other = all.other; one = all.one })
 
-  pub copies_still : (m : Option OpenCopy) → IfSome m (λ (c : OpenCopy). IsCopyCaused s (copies_in s.core.descriptor c.lv c.lp) c) → IfSome m (λ (c : OpenCopy). IsCopyCaused now (copies_in now.core.descriptor c.lv c.lp) c)
-  copies_still m its = subst (λ (g : Grounds). IfSome m (λ (c : OpenCopy). IsCopyCaused now (copies_in g.1 c.lv c.lp) c)) same
-      (if_on (λ (c : OpenCopy). IsCopyCaused s (copies_in s.core.descriptor c.lv c.lp) c) (λ (c : OpenCopy). IsCopyCaused now (copies_in s.core.descriptor c.lv c.lp) c) (λ c. copy_still (copies_in s.core.descriptor c.lv c.lp) c c.step) m its)
+  pub copies_still : (m : Option OpenCopy) → IfSome m (λ (c : OpenCopy). IsCausedAmong s (copies_in s.core.descriptor c.lv c.lp) c) → IfSome m (λ (c : OpenCopy). IsCausedAmong now (copies_in now.core.descriptor c.lv c.lp) c)
+  copies_still m its = subst (λ (g : Grounds). IfSome m (λ (c : OpenCopy). IsCausedAmong now (copies_in g.1 c.lv c.lp) c)) same
+      (if_on (λ (c : OpenCopy). IsCausedAmong s (copies_in s.core.descriptor c.lv c.lp) c) (λ (c : OpenCopy). IsCausedAmong now (copies_in s.core.descriptor c.lv c.lp) c) (λ c. copy_still (copies_in s.core.descriptor c.lv c.lp) c c.step) m its)
 
   -- where the update in flight stays as well
   pub origin_still : s.core.status.in_flight ≡ now.core.status.in_flight → IsTrueToOrigin s → IsTrueToOrigin now

@@ -6,9 +6,7 @@ use Rattle.std.specs.Option.{option_map_or}
 use Rattle.std.proofs.lemmas.Bool.{eq-eqb}
 use Rattle.lvm_num.specs.declared.place.Pp.{Pp}
 use Rattle.lvm_num.specs.Disks.{has}
-use Rattle.lvm_stale.specs.Table.{is_pp}
-use Rattle.lvm_disk.specs.Device.{Device, Flight, Range}
-use Rattle.lvm_disk.specs.Steps.{IsFresh, Starts}
+use Rattle.lvm_session.specs.handed.Names.{is_pp, Device, Flight, Range, IsFresh, Starts}
 use Rattle.lvm_session.specs.declared.bringing.CopyEnd.{CopyEnd}
 use Rattle.lvm_session.specs.declared.bringing.CopyEnd.TheVariants as ending
 use Rattle.lvm_session.specs.declared.bringing.OpenCopy.{OpenCopy}
@@ -28,7 +26,7 @@ use Rattle.lvm_session.specs.Marks.{is_among}
 use Rattle.lvm_session.specs.Left.{copy_updates}
 use Rattle.lvm_session.specs.Owners.{AreOwned, flies, same_owner}
 use Rattle.lvm_session.specs.Requests.{IsOpenOne}
-use Rattle.lvm_session.specs.Causes.{AreCaused, IsCaused, IsChosenSince, IsCopyCaused}
+use Rattle.lvm_session.specs.Causes.{AreCaused, IsCaused, IsChosenSince, IsCausedAmong}
 use Rattle.lvm_session.specs.Sound.{IsCopy, IsFitting, IsGoing, IsOn, IsSound, IsTold, count_if, has_number, is_dark, is_hand, out_with, waiting_rows, with_row}
 use Rattle.lvm_keeps.specs.Keeps.{CopyReadKeeps}
 use Rattle.lvm_keeps.proofs.Causes.{copy_still, origin_still}
@@ -219,8 +217,8 @@ module _ (s : State) (sound : IsSound s) (on : s.core.power ≡ power.On) (c : O
       let one_more = flights_push (λ (g : Flight). has_number n g.buf) f s.device.flights in
       omega (arith, was, none, more, one_more)
 
-  copy_caused : IsCopyCaused now (copies_in core.descriptor c.lv c.lp) reading
-  copy_caused = copy_still s now refl (copies_in core.descriptor c.lv c.lp) c (step.Reading source) (subst (λ m. IfSome m (λ (k : OpenCopy). IsCopyCaused s (copies_in core.descriptor k.lv k.lp) k)) is sound.copy)
+  copy_caused : IsCausedAmong now (copies_in core.descriptor c.lv c.lp) reading
+  copy_caused = copy_still s now refl (copies_in core.descriptor c.lv c.lp) c (step.Reading source) (subst (λ m. IfSome m (λ (k : OpenCopy). IsCausedAmong s (copies_in core.descriptor k.lv k.lp) k)) is sound.copy)
 
   pub keeps : IsSound now
   keeps = sound_still s now refl refl sound on refl fitting told keeps_on out copy_caused (origin_still s now refl refl sound.origin)

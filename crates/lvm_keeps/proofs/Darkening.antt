@@ -8,8 +8,7 @@ use Rattle.lvm_num.specs.Buffer.{Buffer}
 use Rattle.lvm_num.specs.declared.place.Pp.{Pp}
 use Rattle.lvm_num.specs.Status.{calls_stale}
 use Rattle.lvm_num.specs.declared.status.Status.{Status}
-use Rattle.lvm_disk.specs.Device.{Device, Flight, Media}
-use Rattle.lvm_disk.specs.Steps.{GoesDark}
+use Rattle.lvm_session.specs.handed.Names.{Device, Flight, Media, GoesDark, Stored}
 use Rattle.lvm_vol.specs.declared.entry.Outcome.{Outcome}
 use Rattle.lvm_vol.specs.declared.entry.Outcome.TheVariants as outcome
 use Rattle.lvm_vol.specs.Facts.{Cut, Request}
@@ -18,7 +17,6 @@ use Rattle.lvm_vol.specs.Order.{IsGotOf}
 use Rattle.lvm_vol.proofs.Order.{ordered-push}
 use Rattle.lvm_mwc.specs.Cache.{Cached, has_disk}
 use Rattle.lvm_path.specs.Next.{with_landing}
-use Rattle.lvm_status.specs.Update.{Stored}
 use Rattle.lvm_session.specs.declared.bringing.OpenCopy.{OpenCopy}
 use Rattle.lvm_session.specs.declared.open.Open.{Open}
 use Rattle.lvm_session.specs.declared.open.Power.{Power}
@@ -29,7 +27,7 @@ use Rattle.lvm_session.specs.Judging.{copies_in, is_stale, is_waiting, is_wanted
 use Rattle.lvm_session.specs.Dark.{all_dark, ended_as, ended_copy, hand_of_copy}
 use Rattle.lvm_session.specs.Turns.{SaysTheSame}
 use Rattle.lvm_session.specs.Requests.{IsLanded, IsOpenOne}
-use Rattle.lvm_session.specs.Causes.{AreCounted, HaveSourcesFailed, IsAnswered, IsCopyCaused, IsCounted, IsLandedFor, IsTrueToOrigin, is_held_stale, is_over}
+use Rattle.lvm_session.specs.Causes.{AreCounted, HaveSourcesFailed, IsAnswered, IsCausedAmong, IsCounted, IsLandedFor, IsTrueToOrigin, is_held_stale, is_over}
 use Rattle.lvm_session.specs.Sound.{IsAsked, IsFitting, IsSound, IsTold, count_if, has_number, is_dark, is_hand}
 use Rattle.lvm_keeps.specs.Keeps.{CutKeeps}
 use Rattle.lvm_keeps.proofs.Fitting.{still_fits}
@@ -162,7 +160,7 @@ module _ (s : State) (sound : IsSound s) where
         by true = each
         by false = each
 
-    copy_caused : (m : Option OpenCopy) → IfSome m (λ (c : OpenCopy). IsCopyCaused s (copies_in core.descriptor c.lv c.lp) c) → IfSome (option_map ended_copy m) (λ (c : OpenCopy). IsCopyCaused now (copies_in core.descriptor c.lv c.lp) c)
+    copy_caused : (m : Option OpenCopy) → IfSome m (λ (c : OpenCopy). IsCausedAmong s (copies_in core.descriptor c.lv c.lp) c) → IfSome (option_map ended_copy m) (λ (c : OpenCopy). IsCausedAmong now (copies_in core.descriptor c.lv c.lp) c)
     copy_caused None its = tt
     copy_caused (Some c) its = record { began = its.began; since = its.since; tried = its.tried; failed = λ e. sources_on (its.failed (failed_before c.end e)) }
       where

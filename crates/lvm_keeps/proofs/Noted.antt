@@ -12,7 +12,7 @@ use Rattle.lvm_num.specs.Descriptor.{IsPartitionOf, IsValid, copies_of, is_membe
 use Rattle.lvm_mwc.specs.declared.notes.DiskNotes.{DiskNotes}
 use Rattle.lvm_mwc.specs.Cache.{Cached, after_start, flight_on, has_disk, is_named, notes_on, started}
 use Rattle.lvm_mwc.specs.Entries.{note_of, pins_of}
-use Rattle.lvm_mwc.specs.Notes.{is_on}
+use Rattle.lvm_mwc.specs.Notes.{is_of_disk}
 use Rattle.lvm_mwc.specs.Runs.{StartsNote as Starting}
 use Rattle.lvm_mwc.proofs.FirstsLemmas.{find-with, find-with_other}
 use Rattle.lvm_mwc.proofs.NamedLemmas.{named_after_all}
@@ -25,7 +25,7 @@ use Rattle.lvm_keeps.proofs.Small.{not_so}
 
 module _ (c : Cached) (disk : ℕ) where
   here : notes_on (after_start c disk) disk ≡ option_map (started c.entries) (notes_on c disk)
-  here = find-with (is_on disk) (started c.entries) c.notes (λ n e. e)
+  here = find-with (is_of_disk disk) (started c.entries) c.notes (λ n e. e)
 
   pub flight_here : has_disk c disk ≡ true → flight_on (after_start c disk) disk ≡ Some (record { items = note_of c.entries })
   flight_here has = ap (λ m. option_and_then (λ (n : DiskNotes). n.flight) m) here ∙ by (notes_on c disk) has
@@ -35,7 +35,7 @@ module _ (c : Cached) (disk : ℕ) where
       by (Some n) some = refl
 
   beside : (d : ℕ) → (d == disk) ≡ false → notes_on (after_start c disk) d ≡ notes_on c d
-  beside d other = find-with_other (is_on d) (is_on disk) (started c.entries) c.notes (λ n e. (apart n e, apart n e))
+  beside d other = find-with_other (is_of_disk d) (is_of_disk disk) (started c.entries) c.notes (λ n e. (apart n e, apart n e))
     where
       apart : (n : DiskNotes) → (n.disk == disk) ≡ true → (n.disk == d) ≡ false
       apart n e = ne_eqb n.disk d (λ same. eqb-false d disk other (sym same ∙ eqb-true n.disk disk e))

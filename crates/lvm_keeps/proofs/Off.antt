@@ -22,7 +22,7 @@ use Rattle.lvm_session.specs.Enabled.{is_lost}
 use Rattle.lvm_session.specs.Dark.{all_off, ended_as, ended_copy, hand_of_copy}
 use Rattle.lvm_session.specs.Owners.{AreRows}
 use Rattle.lvm_session.specs.Requests.{IsLanded, IsOpenOne}
-use Rattle.lvm_session.specs.Causes.{AreCounted, HaveSourcesFailed, IsAnswered, IsCopyCaused, IsCounted, IsLandedFor, IsTrueToOrigin, is_over}
+use Rattle.lvm_session.specs.Causes.{AreCounted, HaveSourcesFailed, IsAnswered, IsCausedAmong, IsCounted, IsLandedFor, IsTrueToOrigin, is_over}
 use Rattle.lvm_session.specs.Sound.{IsFitting, IsGoing, IsSound, IsTold, count_if, is_dark, is_hand, out_with}
 use Rattle.lvm_keeps.specs.Keeps.{OffKeeps}
 use Rattle.lvm_keeps.proofs.Fitting.{still_fits}
@@ -107,7 +107,7 @@ module _ (s : State) (sound : IsSound s) (on : s.core.power ≡ power.On) (lost 
       by true = same
       by false = same
 
-  copy_caused : (m : Option OpenCopy) → IfSome m (λ (c : OpenCopy). IsCopyCaused s (copies_in core.descriptor c.lv c.lp) c) → IfSome (option_map ended_copy m) (λ (c : OpenCopy). IsCopyCaused now (copies_in core.descriptor c.lv c.lp) c)
+  copy_caused : (m : Option OpenCopy) → IfSome m (λ (c : OpenCopy). IsCausedAmong s (copies_in core.descriptor c.lv c.lp) c) → IfSome (option_map ended_copy m) (λ (c : OpenCopy). IsCausedAmong now (copies_in core.descriptor c.lv c.lp) c)
   copy_caused None its = tt
   copy_caused (Some c) its = record { began = its.began; since = its.since; tried = its.tried; failed = λ e. sources_on (its.failed (failed_before c.end e)) }
     where

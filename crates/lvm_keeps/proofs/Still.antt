@@ -9,11 +9,10 @@ use Rattle.lvm_num.specs.Buffer.{Buffer}
 use Rattle.lvm_num.specs.Descriptor.{volume_of}
 use Rattle.lvm_session.specs.Calls.{copy_at}
 use Rattle.lvm_num.specs.Disks.{has}
-use Rattle.lvm_stale.specs.Table.{is_pp}
+use Rattle.lvm_session.specs.handed.Names.{is_pp, Waiting}
 use Rattle.lvm_vol.specs.declared.entry.Outcome.{Outcome}
 use Rattle.lvm_vol.specs.declared.entry.Outcome.TheVariants as outcome
 use Rattle.lvm_vol.specs.Log.{Log, next_id}
-use Rattle.lvm_hold.specs.Waiting.{Waiting}
 use Rattle.lvm_mwc.specs.declared.entries.CacheEntry.{CacheEntry}
 use Rattle.lvm_path.specs.declared.request.Request.{Request}
 use Rattle.lvm_path.specs.declared.target.Target.{Target}
@@ -29,7 +28,7 @@ use Rattle.lvm_session.specs.Bringing.{groups_of, hand_of, is_idle, is_whole}
 use Rattle.lvm_session.specs.Enabled.{is_free_step}
 use Rattle.lvm_session.specs.Marks.{is_among}
 use Rattle.lvm_session.specs.Requests.{IsTarget, IsShaped, IsReady, IsJudged, IsLaid, IsOpenOne, is_failed_and_sure, may_lack, will_be_kept}
-use Rattle.lvm_session.specs.Causes.{IsCounted, IsLandedFor, IsCopyCaused, IsTrueToOrigin, HaveSourcesFailed}
+use Rattle.lvm_session.specs.Causes.{IsCounted, IsLandedFor, IsCausedAmong, IsTrueToOrigin, HaveSourcesFailed}
 use Rattle.lvm_session.specs.Sound.{IsCopy, IsReadFrom}
 use Rattle.lvm_keeps.proofs.Lists.{all_on}
 use Rattle.lvm_keeps.proofs.Small.{and_on, left_on, most_on, none_on}
@@ -158,7 +157,7 @@ module _ (s : State) (history : Log) (requests : List Open) (queue : Waiting) (c
   pub origin_on : IsTrueToOrigin s → IsTrueToOrigin moved
   origin_on its = record { since = its.since; votes = its.votes; still_missing = its.still_missing; missing = its.missing; stale = its.stale }
 
-  pub copy_on : (copies : List Pp) (c : OpenCopy) → IsCopyCaused s copies c → IsCopyCaused moved copies c
+  pub copy_on : (copies : List Pp) (c : OpenCopy) → IsCausedAmong s copies c → IsCausedAmong moved copies c
   copy_on copies c its = record { began = its.began; since = its.since; tried = its.tried; failed = λ e. sources_on (its.failed e) }
     where
       sources_on : {own : Type 0} → own ⊎ HaveSourcesFailed s copies c → own ⊎ HaveSourcesFailed moved copies c

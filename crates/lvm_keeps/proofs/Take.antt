@@ -5,8 +5,8 @@ use Rattle.std.specs.List.{list_any, remove, AllByRecursion}
 use Rattle.std.specs.Option.{option_map_or}
 use Rattle.std.proofs.lemmas.Bool.{eqb-true, eqb-false, ne_eqb}
 use Rattle.lvm_num.specs.declared.place.Pp.{Pp}
-use Rattle.lvm_disk.specs.Device.{Flight}
-use Rattle.lvm_sched.specs.Writes.{is_flying}
+use Rattle.lvm_session.specs.handed.Names.{Flight, is_pp}
+use Rattle.lvm_path.specs.handed.Names.{is_flying}
 use Rattle.lvm_vol.specs.declared.entry.Outcome.{Outcome}
 use Rattle.lvm_vol.specs.Facts.{Fact}
 use Rattle.lvm_vol.specs.Legal.{begins_in}
@@ -17,7 +17,6 @@ use Rattle.lvm_vol.proofs.Order.{ordered-push}
 use Rattle.lvm_path.specs.declared.target.Target.{Target}
 use Rattle.lvm_path.specs.Asks.{is_write, lv_of}
 use Rattle.lvm_path.specs.Targets.{are_over, is_begun, is_failed}
-use Rattle.lvm_stale.specs.Table.{is_pp}
 use Rattle.lvm_session.specs.declared.answers.Taken.TheVariants as answer
 use Rattle.lvm_session.specs.declared.bringing.OpenCopy.{OpenCopy}
 use Rattle.lvm_session.specs.declared.flown.Owner.TheVariants as owner
@@ -32,7 +31,7 @@ use Rattle.lvm_session.specs.declared.answers.Taken.{Taken}
 use Rattle.lvm_session.specs.Left.{marks_later}
 use Rattle.lvm_session.specs.Owners.{AreOwned, IsDataOf, flies, target_flies}
 use Rattle.lvm_session.specs.Requests.{IsLanded, IsOpenOne}
-use Rattle.lvm_session.specs.Causes.{AreCaused, AreCounted, IsAnswered, IsCaused, IsChosenSince, IsCopyCaused, IsCounted, IsLandedFor, fails_on, is_held_stale, is_over}
+use Rattle.lvm_session.specs.Causes.{AreCaused, AreCounted, IsAnswered, IsCaused, IsChosenSince, IsCausedAmong, IsCounted, IsLandedFor, fails_on, is_held_stale, is_over}
 use Rattle.lvm_session.specs.Sound.{IsAsked, IsCopy, IsFitting, IsGoing, IsOn, IsSound, IsTold, count_if, is_hand, out_with, pins, with_row}
 use Rattle.lvm_keeps.specs.Keeps.{TakeKeeps}
 use Rattle.lvm_keeps.proofs.Fitting.{still_fits}
@@ -232,7 +231,7 @@ module _ (s : State) (sound : IsSound s) (place : ℕ) (o : Open) (there : slice
     stuck = λ e. absurd (let none : slice_get [] place ≡ Some o = sym (ap (λ (os : List Open). slice_get os place) (sound.stuck e).requests) ∙ there in cc none);
     counted = all_on (AreCounted s) (AreCounted now) counted left (all_removed (AreCounted s) core.requests place sound.counted);
     answered = all_on (IsAnswered s) (IsAnswered now) answered left (all_removed (IsAnswered s) core.requests place sound.answered);
-    copy = if_on (λ (c : OpenCopy). IsCopyCaused s (copies_in core.descriptor c.lv c.lp) c) (λ (c : OpenCopy). IsCopyCaused now (copies_in core.descriptor c.lv c.lp) c) (λ c. copy_on s (with_fact core.history fact) left core.queue core.copy core.pool core.flying core.cache.entries core.last (copies_in core.descriptor c.lv c.lp) c) core.copy sound.copy;
+    copy = if_on (λ (c : OpenCopy). IsCausedAmong s (copies_in core.descriptor c.lv c.lp) c) (λ (c : OpenCopy). IsCausedAmong now (copies_in core.descriptor c.lv c.lp) c) (λ c. copy_on s (with_fact core.history fact) left core.queue core.copy core.pool core.flying core.cache.entries core.last (copies_in core.descriptor c.lv c.lp) c) core.copy sound.copy;
     origin = origin_on s (with_fact core.history fact) left core.queue core.copy core.pool core.flying core.cache.entries core.last sound.origin;
   }
 

@@ -1,14 +1,14 @@
 -- No transfer has ended, or a client has given an order to the shelf.
 use Rattle.std.proofs.Common.{◌⊎◌, inl, inr, ℕ, List, sym, subst}
 use Rattle.lvm_num.specs.declared.place.Pp.{Pp}
-use Rattle.lvm_disk.specs.Device.{Device, Orders}
+use Rattle.lvm_session.specs.handed.Names.{Device, Orders}
 use Rattle.lvm_vol.specs.declared.entry.Outcome.{Outcome}
 use Rattle.lvm_vol.specs.declared.entry.Outcome.TheVariants as outcome
 use Rattle.lvm_session.specs.declared.bringing.OpenCopy.{OpenCopy}
 use Rattle.lvm_session.specs.declared.open.Open.{Open}
 use Rattle.lvm_session.specs.State.{Core, State, state}
 use Rattle.lvm_session.specs.Judging.{copies_in}
-use Rattle.lvm_session.specs.Causes.{AreCounted, HaveSourcesFailed, IsAnswered, IsCopyCaused, IsCounted, IsLandedFor}
+use Rattle.lvm_session.specs.Causes.{AreCounted, HaveSourcesFailed, IsAnswered, IsCausedAmong, IsCounted, IsLandedFor}
 use Rattle.lvm_session.specs.Sound.{IsSound}
 use Rattle.lvm_keeps.specs.Keeps.{WaitKeeps}
 use Rattle.lvm_keeps.proofs.Lists.{all_on}
@@ -28,7 +28,7 @@ module _ (s : State) (waits : ℕ) (orders : Orders) where
   landed_on o outcome.Off its = its
   landed_on o outcome.Dark its = its
 
-  copy_on : (copies : List Pp) (c : OpenCopy) → IsCopyCaused s copies c → IsCopyCaused waited copies c
+  copy_on : (copies : List Pp) (c : OpenCopy) → IsCausedAmong s copies c → IsCausedAmong waited copies c
   copy_on copies c its = record { began = its.began; since = its.since; tried = its.tried; failed = λ e. sources_on (its.failed e) }
     where
       sources_on : {own : Type 0} → own ⊎ HaveSourcesFailed s copies c → own ⊎ HaveSourcesFailed waited copies c
@@ -50,7 +50,7 @@ module _ (s : State) (waits : ℕ) (orders : Orders) where
     stuck = sound.stuck;
     counted = all_on (AreCounted s) (AreCounted waited) (λ o all. all_on (IsCounted s) (IsCounted waited) (λ t its. record { began = its.began; since = its.since }) o.request.targets.items all) s.core.requests sound.counted;
     answered = all_on (IsAnswered s) (IsAnswered waited) (λ o why. if_on (IsLandedFor s o) (IsLandedFor waited o) (landed_on o) o.landed why) s.core.requests sound.answered;
-    copy = if_on (λ (c : OpenCopy). IsCopyCaused s (copies_in s.core.descriptor c.lv c.lp) c) (λ (c : OpenCopy). IsCopyCaused waited (copies_in s.core.descriptor c.lv c.lp) c) (λ c. copy_on (copies_in s.core.descriptor c.lv c.lp) c) s.core.copy sound.copy;
+    copy = if_on (λ (c : OpenCopy). IsCausedAmong s (copies_in s.core.descriptor c.lv c.lp) c) (λ (c : OpenCopy). IsCausedAmong waited (copies_in s.core.descriptor c.lv c.lp) c) (λ c. copy_on (copies_in s.core.descriptor c.lv c.lp) c) s.core.copy sound.copy;
     origin = let was = sound.origin in record { since = was.since; votes = was.votes; still_missing = was.still_missing; missing = was.missing; stale = was.stale };
   }
 

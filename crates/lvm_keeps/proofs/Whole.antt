@@ -9,7 +9,7 @@ use Rattle.lvm_session.specs.declared.open.Open.{Open}
 use Rattle.lvm_session.specs.declared.open.Power.TheVariants as power
 use Rattle.lvm_session.specs.Judging.{copies_in}
 use Rattle.lvm_session.specs.State.{Core, State}
-use Rattle.lvm_session.specs.Causes.{AreCounted, IsAnswered, IsCopyCaused, IsTrueToOrigin, is_over}
+use Rattle.lvm_session.specs.Causes.{AreCounted, IsAnswered, IsCausedAmong, IsTrueToOrigin, is_over}
 use Rattle.lvm_session.specs.Placed.{ArePlaced}
 use Rattle.lvm_session.specs.Sound.{IsFitting, IsOn, IsSound, IsTold, is_dark, count_if, out_with}
 use Rattle.lvm_keeps.proofs.Causes.{Basis, Grounds, answered_still, basis_of, counted_still, grounds}
@@ -39,7 +39,7 @@ module _ (s now : State) (same : basis_of s ≡ basis_of now) (shelf : shelf_of 
 
   -- what is left to be shown is what has changed
   pub sound_when_on : IsFitting now.core → IsTold now.core → IsOn now → ((n : ℕ) → out_with now.device now.core n ≡ count_if (slice_index_or now.core.pool n false)) → AllByRecursion (AreCounted now) now.core.requests
-      → AllByRecursion (IsAnswered now) now.core.requests → IfSome now.core.copy (λ (c : OpenCopy). IsCopyCaused now (copies_in now.core.descriptor c.lv c.lp) c) → IsTrueToOrigin now → IsSound now
+      → AllByRecursion (IsAnswered now) now.core.requests → IfSome now.core.copy (λ (c : OpenCopy). IsCausedAmong now (copies_in now.core.descriptor c.lv c.lp) c) → IsTrueToOrigin now → IsSound now
   sound_when_on fitting told keeps_on out counted answered copy origin = record {
     fitting = fitting;
     told = told;
@@ -60,7 +60,7 @@ module _ (s now : State) (same : basis_of s ≡ basis_of now) (shelf : shelf_of 
 
 -- where its requests are the same, and the statuses
 pub sound_still : (s now : State) → grounds s ≡ grounds now → shelf_of s ≡ shelf_of now → IsSound s → s.core.power ≡ power.On → s.core.requests ≡ now.core.requests → IsFitting now.core → IsTold now.core → IsOn now
-    → ((n : ℕ) → out_with now.device now.core n ≡ count_if (slice_index_or now.core.pool n false)) → IfSome now.core.copy (λ (c : OpenCopy). IsCopyCaused now (copies_in now.core.descriptor c.lv c.lp) c) → IsTrueToOrigin now → IsSound now
+    → ((n : ℕ) → out_with now.device now.core n ≡ count_if (slice_index_or now.core.pool n false)) → IfSome now.core.copy (λ (c : OpenCopy). IsCausedAmong now (copies_in now.core.descriptor c.lv c.lp) c) → IsTrueToOrigin now → IsSound now
 sound_still s now same shelf sound on requests fitting told keeps_on out copy origin = sound_when_on s now (ap (λ (g : Grounds). (g.0, g.1, g.2, g.3)) same) shelf sound on fitting told keeps_on out
     (subst (λ (os : List Open). AllByRecursion (AreCounted now) os) requests (all_on (AreCounted s) (AreCounted now) (counted_still s now same) s.core.requests sound.counted))
     (subst (λ (os : List Open). AllByRecursion (IsAnswered now) os) requests (all_on (IsAnswered s) (IsAnswered now) (answered_still s now same) s.core.requests sound.answered)) copy origin

@@ -1,7 +1,7 @@
 -- Each event of a sound session leaves it sound.
 use Rattle.std.specs.Prelude.{◌≡◌, ◌≤◌, ◌||◌, true, false, ℕ, Bool, List, length, Option, Some, Result, slice_get}
 use Rattle.lvm_num.specs.declared.place.Pp.{Pp}
-use Rattle.lvm_disk.specs.declared.shelf.Arrange.{Arrange}
+use Rattle.lvm_session.specs.handed.Names.{Arrange}
 use Rattle.lvm_vol.specs.declared.entry.Outcome.{Outcome}
 use Rattle.lvm_session.specs.declared.open.Power.TheVariants as power
 use Rattle.lvm_session.specs.State.{Core, State, state}
@@ -12,7 +12,7 @@ use Rattle.lvm_session.specs.declared.answers.CopyFault.{CopyFault}
 use Rattle.lvm_session.specs.Calls.{Closes, OpenGives, SubmitGives, TakeGives}
 use Rattle.lvm_session.specs.Ends.{Ends}
 use Rattle.lvm_session.specs.Events.{Admits, Lands, Pins, ReadsCopy, StartsData, StartsNote, StartsStatus, WritesCopy}
-use Rattle.lvm_session.specs.Turns.{Arranges, Darkens, Finds, GoesOff}
+use Rattle.lvm_session.specs.Turns.{ArrangesSession, Darkens, Finds, GoesOff}
 use Rattle.lvm_path.specs.Asks.{is_write}
 use Rattle.lvm_path.specs.Targets.{is_begun}
 use Rattle.lvm_session.specs.declared.open.Open.{Open}
@@ -86,7 +86,7 @@ abbrev pub CloseKeeps : Type 0
 CloseKeeps = (s : State) (new : Core) → IsSound s → Closes s.core new → IsSound (state s.device new)
 
 abbrev pub OrderKeeps : Type 0
-OrderKeeps = (old new : State) (what : Arrange) (done : Bool) → IsSound old → Arranges old new what done → IsSound new
+OrderKeeps = (old new : State) (what : Arrange) (done : Bool) → IsSound old → ArrangesSession old new what done → IsSound new
 
 -- ---- why requests land so
 

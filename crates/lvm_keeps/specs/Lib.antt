@@ -1,3 +1,4 @@
+pub mod handed
 pub mod Keeps
 pub mod Falls
 pub mod Begins

@@ -2,6 +2,7 @@
 #![tactic(auto)]
 
 mod laws;
+pub mod lower;
 
 pub use laws::{
     beginning_is_sound, close_keeps, copy_read_falls, copy_read_keeps, cut_keeps,

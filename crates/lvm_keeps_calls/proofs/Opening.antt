@@ -42,7 +42,7 @@ use Rattle.lvm_session.specs.Dark.{hand_of_copy}
 use Rattle.lvm_session.specs.Events.{is_passive}
 use Rattle.lvm_session.specs.Marks.{is_among}
 use Rattle.lvm_session.specs.Asking.{IsAwake}
-use Rattle.lvm_session.specs.Causes.{AreCaused, AreCounted, IsAnswered, IsCaused, IsChosenSince, IsCopyCaused, IsLandedFor, fails_on, faults_at_first, faults_at_opening, is_held_stale}
+use Rattle.lvm_session.specs.Causes.{AreCaused, AreCounted, IsAnswered, IsCaused, IsChosenSince, IsCausedAmong, IsLandedFor, fails_on, faults_at_first, faults_at_opening, is_held_stale}
 use Rattle.lvm_session.specs.Left.{copy_updates, marks_later, updates_left}
 use Rattle.lvm_session.specs.Owners.{AreOwned, IsTransferOf, flies, target_flies}
 use Rattle.lvm_session.specs.Requests.{IsOpenOne, IsPhase, IsRequest, is_failed_and_sure, is_left_out, may_lack, will_be_kept}
@@ -51,7 +51,7 @@ use Rattle.lvm_calls.proofs.Numbered.{below_next}
 use Rattle.lvm_calls.specs.Opening.{counts_seen, faults_seen}
 use Rattle.lvm_calls.proofs.Finding.{IsTaken, copies_are, taken}
 use Rattle.lvm_calls.proofs.Tables.{queue_before, rows_are}
-use Rattle.lvm_copies.proofs.Members.{few_copies}
+use Rattle.lvm_calls.proofs.handed.Names.{few_copies}
 use Rattle.lvm_keeps.specs.Keeps.{OpenKeeps}
 use Rattle.lvm_keeps.proofs.Causes.{counted_still, landed_still, origin_still}
 use Rattle.lvm_keeps.proofs.Fitting.{still_fits}
@@ -412,7 +412,7 @@ module _ (s : State) (sound : IsSound s) (on : s.core.power ≡ power.On) (none 
   at_opening : (n : ℕ) (p : Pp) → copy_at (copies_in core.descriptor lv lp) n ≡ Some p → faults_at_opening c n ≡ counts.faults p.disk
   at_opening n p is = counted_at counts (copies_of row lp) (n - 1) p few (at_place (copies_of row lp) n p (ap (λ ps. copy_at ps n) (sym copies) ∙ is))
 
-  caused : IsCopyCaused now (copies_in core.descriptor lv lp) c
+  caused : IsCausedAmong now (copies_in core.descriptor lv lp) c
   caused = record {
     began = λ n p is. let same = at_opening n p is in let least = low p.disk in omega (arith, same, least);
     since = λ n p is. let same = at_opening n p is in let most = high p.disk in omega (arith, same, most);

@@ -2,6 +2,7 @@
 #![tactic(auto)]
 
 mod laws;
+pub mod lower;
 mod opens;
 
 pub use laws::submit_keeps;

@@ -37,7 +37,7 @@ use Rattle.lvm_session.specs.Marks.{WantsDirty, WantsDirtyIf}
 use Rattle.lvm_session.specs.Left.{marks_later}
 use Rattle.lvm_session.specs.Owners.{AreOwned, IsDataOf, flies, target_flies}
 use Rattle.lvm_session.specs.Requests.{IsOpenOne, IsPhase, IsRecorded, IsRequest, IsTarget, has_record, is_past_held, is_wanted_dirty, may_lack, mode_for, wants_status}
-use Rattle.lvm_session.specs.Causes.{AreCaused, AreCounted, IsAnswered, IsCaused, IsChosenSince, IsCopyCaused, IsCounted, IsLandedFor, fails_on, faults_at_opening, is_held_stale}
+use Rattle.lvm_session.specs.Causes.{AreCaused, AreCounted, IsAnswered, IsCaused, IsChosenSince, IsCausedAmong, IsCounted, IsLandedFor, fails_on, faults_at_opening, is_held_stale}
 use Rattle.lvm_session.specs.Sound.{IsAsked, IsCopy, IsFitting, IsGoing, IsOn, IsSound, IsTold, count_if, is_dark, is_hand, out_with, pins, with_row}
 use Rattle.lvm_keeps.specs.Keeps.{AdmissionKeeps}
 use Rattle.lvm_keeps.proofs.Causes.{answered_still, copies_still, counted_still, origin_still}
@@ -359,11 +359,11 @@ module _ (s : State) (sound : IsSound s) (on : s.core.power ≡ power.On) (place
   caused x all waiting = all_on (IsCaused s.device core) (IsCaused s.device now.core) target_caused x.request.targets.items (all waiting)
 
   -- its targets are new, and count the faults of now
-  its_chosen : (c : OpenCopy) → IsCopyCaused s (copies_in core.descriptor c.lv c.lp) c → IsChosenSince now.core c made
+  its_chosen : (c : OpenCopy) → IsCausedAmong s (copies_in core.descriptor c.lv c.lp) c → IsChosenSince now.core c made
   its_chosen c why waiting older number p at = all_on (λ (t : Target). t.faults ≡ s.device.counts.faults t.pp.disk) (λ (t : Target). t.pp ≡ p → faults_at_opening c number ≤ t.faults)
       (λ t now_is same. let low = why.since number p at in let here : s.device.counts.faults t.pp.disk ≡ s.device.counts.faults p.disk = ap (λ (q : Pp). s.device.counts.faults q.disk) same in omega (arith, now_is, low, here)) targets its_choice.faults
 
-  chosen_on : (m : Option OpenCopy) → IfSome m (λ (c : OpenCopy). IsCopyCaused s (copies_in core.descriptor c.lv c.lp) c) → IfSome m (λ (c : OpenCopy). AllByRecursion (IsChosenSince core c) core.requests) → IfSome m (λ (c : OpenCopy). AllByRecursion (IsChosenSince now.core c) requests)
+  chosen_on : (m : Option OpenCopy) → IfSome m (λ (c : OpenCopy). IsCausedAmong s (copies_in core.descriptor c.lv c.lp) c) → IfSome m (λ (c : OpenCopy). AllByRecursion (IsChosenSince core c) core.requests) → IfSome m (λ (c : OpenCopy). AllByRecursion (IsChosenSince now.core c) requests)
   chosen_on None why all = tt
   chosen_on (Some c) why all = all_set (IsChosenSince core c) (IsChosenSince now.core c) (λ x is. is) core.requests place made (its_chosen c why) all
 

@@ -20,7 +20,7 @@ use Rattle.lvm_session.specs.Bringing.{hand_of, end_of, has_row, is_idle, is_out
 use Rattle.lvm_session.specs.Dark.{hand_of_copy}
 use Rattle.lvm_session.specs.Left.{copy_updates}
 use Rattle.lvm_session.specs.Requests.{IsOpenOne}
-use Rattle.lvm_session.specs.Causes.{IsCopyCaused}
+use Rattle.lvm_session.specs.Causes.{IsCausedAmong}
 use Rattle.lvm_session.specs.Sound.{IsCopy, IsGoing, IsSound, count_if, is_hand, waiting_rows, with_row}
 use Rattle.lvm_keeps.proofs.Lists.{length_set}
 use Rattle.lvm_keeps.proofs.Small.{not_so}
@@ -32,7 +32,7 @@ use Rattle.lvm_keeps_events.proofs.Removal.{given_back}
 module _ (s : State) (sound : IsSound s) (on : s.core.power ≡ power.On) (c : OpenCopy) (is : s.core.copy ≡ Some c) (runs : is_running c ≡ true) (busy : is_idle c.step ≡ false) (none_in_hand : hand_of c.step ≡ None) (tried : ℕ)
     (still : end_of s.core (record c { step = step.Idle; tried = tried }) ≡ None)
     (tries : (disk : ℕ) → has tried disk ≡ true → list_any (λ (p : Pp). not (is_pp p c.pp) && p.disk == disk) (copies_in s.core.descriptor c.lv c.lp) ≡ true)
-    (why : IsCopyCaused s (copies_in s.core.descriptor c.lv c.lp) (record c { step = step.Idle; tried = tried }))
+    (why : IsCausedAmong s (copies_in s.core.descriptor c.lv c.lp) (record c { step = step.Idle; tried = tried }))
     (at : ℕ) (row : Flown) (there : slice_get s.core.flying at ≡ Some row) (own : row.owner ≡ owner.Copy) (f : Flight) (f_there : slice_get s.device.flights at ≡ Some f) (buf : Buffer) (number : buf.number ≡ f.buf.number) where
   abbrev core : Core
   core = s.core

@@ -19,7 +19,7 @@ use Rattle.lvm_session.specs.Bringing.{copy_ends, has_row, is_out, step_row}
 use Rattle.lvm_session.specs.Left.{updates_left}
 use Rattle.lvm_session.specs.Owners.{AreOwned, same_owner}
 use Rattle.lvm_session.specs.Requests.{IsOpenOne}
-use Rattle.lvm_session.specs.Causes.{AreCaused, IsCaused, IsChosenSince, IsCopyCaused, is_held_stale}
+use Rattle.lvm_session.specs.Causes.{AreCaused, IsCaused, IsChosenSince, IsCausedAmong, is_held_stale}
 use Rattle.lvm_session.specs.Sound.{IsCopy, IsFitting, IsGoing, IsOn, IsSound, IsTold, count_if, is_clearing, out_with, waiting_rows, with_row}
 use Rattle.lvm_keeps.proofs.Causes.{copy_still, origin_still}
 use Rattle.lvm_keeps.proofs.Fitting.{still_fits}
@@ -70,7 +70,7 @@ module _ (s : State) (sound : IsSound s) (on : s.core.power ≡ power.On) (c : O
   module _ (rests : is_out next ≡ false) (long : length pool ≡ length core.pool) (one : (o : Open) → IsOpenOne core o → IsOpenOne now.core o) (bring : IsCopy now.core after)
       (queue : rows ≡ (if has_row now.core after then with_row (step_row core c) (waiting_rows core.requests) else waiting_rows core.requests)) (reviewed : copy_ends now.core ≡ None)
       (clearings : (p : Pp) → is_held_stale core p ≡ true → is_wanted_stale core p ≡ false → is_clearing now.core p ≡ true) (numbers : core.status.stamp.seq + updates_left now.core < 2 ^ 32)
-      (out : (n : ℕ) → out_with device now.core n ≡ count_if (slice_index_or pool n false)) (why : IsCopyCaused s (copies_in core.descriptor c.lv c.lp) after) where
+      (out : (n : ℕ) → out_with device now.core n ≡ count_if (slice_index_or pool n false)) (why : IsCausedAmong s (copies_in core.descriptor c.lv c.lp) after) where
     keeps_going : IsGoing now.core
     keeps_going = record {
       fitting = fitting long;

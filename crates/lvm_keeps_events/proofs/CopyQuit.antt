@@ -33,7 +33,7 @@ use Rattle.lvm_session.specs.Ends.{EndsAs, after_quit}
 use Rattle.lvm_session.specs.Left.{copy_updates}
 use Rattle.lvm_session.specs.Owners.{AreOwned, AreRows, IsTransferOf, flies, same_owner}
 use Rattle.lvm_session.specs.Requests.{IsOpenOne}
-use Rattle.lvm_session.specs.Causes.{AreCaused, AreCounted, HaveSourcesFailed, IsAnswered, IsCaused, IsChosenSince, IsCopyCaused, IsCounted, IsLandedFor, IsTrueToOrigin, is_over}
+use Rattle.lvm_session.specs.Causes.{AreCaused, AreCounted, HaveSourcesFailed, IsAnswered, IsCaused, IsChosenSince, IsCausedAmong, IsCounted, IsLandedFor, IsTrueToOrigin, is_over}
 use Rattle.lvm_session.specs.Sound.{IsCopy, IsFitting, IsGoing, IsOn, IsSound, IsTold, count_if, has_number, is_clearing, is_dark, is_hand, out_with, waiting_rows, with_row}
 use Rattle.lvm_keeps.proofs.Ending.{back}
 use Rattle.lvm_keeps.proofs.Lists.{all_on, length_set}
@@ -97,8 +97,8 @@ copy_quit_keeps at ok old new sound on event =
     not_clearing : (p : Pp) → is_clearing old.core p ≡ false
     not_clearing p = ap (λ m. option_map_or (λ (k : OpenCopy). is_running k && is_whole old.core k && is_pp p k.pp) m false) event.is_open ∙ ap (λ b. b && is_whole old.core c && is_pp p c.pp) event.over
 
-    why : IsCopyCaused between (copies_in old.core.descriptor c.lv c.lp) (record c { step = step.Idle })
-    why = let was = subst (λ m. IfSome m (λ (k : OpenCopy). IsCopyCaused between (copies_in old.core.descriptor k.lv k.lp) k)) event.is_open sound_between.copy in
+    why : IsCausedAmong between (copies_in old.core.descriptor c.lv c.lp) (record c { step = step.Idle })
+    why = let was = subst (λ m. IfSome m (λ (k : OpenCopy). IsCausedAmong between (copies_in old.core.descriptor k.lv k.lp) k)) event.is_open sound_between.copy in
         record { began = was.began; since = was.since; tried = was.tried; failed = λ e. sources_on (was.failed e) }
       where
         sources_on : {x : Type 0} → x ⊎ HaveSourcesFailed between (copies_in old.core.descriptor c.lv c.lp) c → x ⊎ HaveSourcesFailed between (copies_in old.core.descriptor c.lv c.lp) (record c { step = step.Idle })

@@ -21,7 +21,7 @@ use Rattle.lvm_session.specs.Bringing.{copy_ends, end_of, has_row, is_idle, is_o
 use Rattle.lvm_session.specs.Dark.{hand_of_copy}
 use Rattle.lvm_session.specs.Left.{copy_updates}
 use Rattle.lvm_session.specs.Requests.{IsOpenOne}
-use Rattle.lvm_session.specs.Causes.{IsCopyCaused}
+use Rattle.lvm_session.specs.Causes.{IsCausedAmong}
 use Rattle.lvm_session.specs.Sound.{IsCopy, IsGoing, IsSound, count_if, has_number, is_dark, is_hand, out_with, waiting_rows, with_row}
 use Rattle.lvm_keeps.proofs.Causes.{copy_still}
 use Rattle.lvm_keeps.proofs.Small.{not_so}
@@ -95,8 +95,8 @@ module _ (s : State) (sound : IsSound s) (on : s.core.power ≡ power.On) (c : O
       let less = count_taken (λ (g : Flight). has_number n g.buf) s.device.flights at f f_there in
       omega (arith, was, none, hand, less)
 
-  caused : IsCopyCaused s (copies_in core.descriptor c.lv c.lp) c
-  caused = subst (λ m. IfSome m (λ (k : OpenCopy). IsCopyCaused s (copies_in core.descriptor k.lv k.lp) k)) is sound.copy
+  caused : IsCausedAmong s (copies_in core.descriptor c.lv c.lp) c
+  caused = subst (λ m. IfSome m (λ (k : OpenCopy). IsCausedAmong s (copies_in core.descriptor k.lv k.lp) k)) is sound.copy
 
   pub keeps : IsSound now
   keeps = session_still s sound on c is at row there own (step.Read buf) c.tried c.end core.queue.rows core.pool media refl refl one bring queue reviewed

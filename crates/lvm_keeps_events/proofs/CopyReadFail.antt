@@ -35,7 +35,7 @@ use Rattle.lvm_session.specs.Ends.{EndsAs, after_quit}
 use Rattle.lvm_session.specs.Left.{copy_updates}
 use Rattle.lvm_session.specs.Owners.{AreOwned, AreRows, IsCopyStepOf, IsRowOf, IsStepOf, IsTransferOf, flies, same_owner}
 use Rattle.lvm_session.specs.Requests.{IsOpenOne}
-use Rattle.lvm_session.specs.Causes.{AreCaused, AreCounted, HaveSourcesFailed, IsAnswered, IsCaused, IsChosenSince, IsCopyCaused, IsCounted, IsLandedFor, IsTrueToOrigin, faults_at_opening, is_over}
+use Rattle.lvm_session.specs.Causes.{AreCaused, AreCounted, HaveSourcesFailed, IsAnswered, IsCaused, IsChosenSince, IsCausedAmong, IsCounted, IsLandedFor, IsTrueToOrigin, faults_at_opening, is_over}
 use Rattle.lvm_session.specs.Sound.{IsCopy, IsFitting, IsGoing, IsOn, IsSound, IsTold, count_if, has_number, is_clearing, is_dark, is_hand, out_with, waiting_rows, with_row}
 use Rattle.lvm_keeps.proofs.Ending.{back}
 use Rattle.lvm_keeps.proofs.Lists.{all_on, length_set}
@@ -231,11 +231,11 @@ copy_read_fail_keeps at old new sound on event = by_end (copy_ends mid) refl new
     reading : IsReadFrom (step.Reading event.source) copies c
     reading = subst (λ (x : Step). IsReadFrom x copies c) event.reads its.source
 
-    was : IsCopyCaused between copies c
-    was = subst (λ m. IfSome m (λ (k : OpenCopy). IsCopyCaused between (copies_in old.core.descriptor k.lv k.lp) k)) event.is_open sound_between.copy
+    was : IsCausedAmong between copies c
+    was = subst (λ m. IfSome m (λ (k : OpenCopy). IsCausedAmong between (copies_in old.core.descriptor k.lv k.lp) k)) event.is_open sound_between.copy
 
-    before : IsCopyCaused old copies c
-    before = subst (λ m. IfSome m (λ (k : OpenCopy). IsCopyCaused old (copies_in old.core.descriptor k.lv k.lp) k)) event.is_open sound.copy
+    before : IsCausedAmong old copies c
+    before = subst (λ m. IfSome m (λ (k : OpenCopy). IsCausedAmong old (copies_in old.core.descriptor k.lv k.lp) k)) event.is_open sound.copy
 
     rose_of : (number : ℕ) (p : Pp) → copy_at copies number ≡ Some p → p.disk ≡ event.source.disk → FailedSinceOpening between.device c number p
     rose_of number p there same = rose_since (faults_at_opening c number) (old.device.counts.faults p.disk) (new.device.counts.faults p.disk) (before.since number p there) (subst (λ d. Rose (old.device.counts.faults d) (new.device.counts.faults d)) (sym same) rose)
@@ -265,7 +265,7 @@ copy_read_fail_keeps at old new sound on event = by_end (copy_ends mid) refl new
         ∙ ap (λ (fs : List Flight). state (record old.device { media = new.device.media; flights = fs; counts = new.device.counts }) mid) out.left_is))
         (keeps_on between sound_between on c event.is_open event.runs busy (ap hand_of event.reads) tried still tries why at event.row event.returns.there event.own ended.flight out.there event.buf ended.number)
       where
-        why : IsCopyCaused between copies resting
+        why : IsCausedAmong between copies resting
         why = record { began = was.began; since = was.since; tried = each_tried; failed = λ e. not_so (sym (ap is_none e) ∙ event.runs) }
     by_end (Some how) ends core_is =
         subst IsSound (sym (ap (λ (d : Device). state d new.core) ended.is ∙ ap (λ (k : Core). state (record old.device { media = new.device.media; flights = new.device.flights; counts = new.device.counts }) k) core_is
@@ -295,5 +295,5 @@ copy_read_fail_keeps at old new sound on event = by_end (copy_ends mid) refl new
                 to_tried true e = refl
                 to_tried false e = not_so (sym e)
 
-        why : IsCopyCaused between copies (record resting { end = Some how })
+        why : IsCausedAmong between copies (record resting { end = Some how })
         why = record { began = was.began; since = was.since; tried = each_tried; failed = λ e. inr (sources (ends ∙ e)) }

@@ -23,7 +23,7 @@ use Rattle.lvm_session.specs.Events.{IsCopyTransfer, flown}
 use Rattle.lvm_session.specs.Left.{copy_updates}
 use Rattle.lvm_session.specs.Owners.{AreOwned, flies, same_owner}
 use Rattle.lvm_session.specs.Requests.{IsOpenOne}
-use Rattle.lvm_session.specs.Causes.{AreCaused, IsCaused, IsChosenSince, IsCopyCaused}
+use Rattle.lvm_session.specs.Causes.{AreCaused, IsCaused, IsChosenSince, IsCausedAmong}
 use Rattle.lvm_session.specs.Sound.{IsCopy, IsGoing, IsOn, IsSound, IsTold, count_if, has_number, is_dark, is_hand, out_with, waiting_rows, with_row}
 use Rattle.lvm_keeps.specs.Keeps.{CopyWriteKeeps}
 use Rattle.lvm_keeps.proofs.Causes.{copy_still, origin_still}
@@ -149,8 +149,8 @@ module _ (s : State) (sound : IsSound s) (on : s.core.power ≡ power.On) (c : O
       let one_more = flights_push (λ (g : Flight). has_number n g.buf) f s.device.flights in
       omega (arith, was, given, one_more)
 
-  copy_caused : IsCopyCaused now (copies_in core.descriptor c.lv c.lp) writing
-  copy_caused = copy_still s now refl (copies_in core.descriptor c.lv c.lp) c step.Writing (subst (λ m. IfSome m (λ (k : OpenCopy). IsCopyCaused s (copies_in core.descriptor k.lv k.lp) k)) is sound.copy)
+  copy_caused : IsCausedAmong now (copies_in core.descriptor c.lv c.lp) writing
+  copy_caused = copy_still s now refl (copies_in core.descriptor c.lv c.lp) c step.Writing (subst (λ m. IfSome m (λ (k : OpenCopy). IsCausedAmong s (copies_in core.descriptor k.lv k.lp) k)) is sound.copy)
 
   pub keeps : IsSound now
   keeps = sound_still s now refl refl sound on refl keeps_going.fitting told keeps_on out copy_caused (origin_still s now refl refl sound.origin)

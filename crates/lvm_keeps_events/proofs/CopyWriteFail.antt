@@ -35,7 +35,7 @@ use Rattle.lvm_session.specs.Ends.{EndsAs, after_quit}
 use Rattle.lvm_session.specs.Left.{copy_updates}
 use Rattle.lvm_session.specs.Owners.{AreOwned, AreRows, IsCopyStepOf, IsRowOf, IsStepOf, IsTransferOf, flies, same_owner}
 use Rattle.lvm_session.specs.Requests.{IsOpenOne}
-use Rattle.lvm_session.specs.Causes.{AreCaused, AreCounted, HaveSourcesFailed, IsAnswered, IsCaused, IsChosenSince, IsCopyCaused, IsCounted, IsLandedFor, IsTrueToOrigin, faults_at_opening, is_over}
+use Rattle.lvm_session.specs.Causes.{AreCaused, AreCounted, HaveSourcesFailed, IsAnswered, IsCaused, IsChosenSince, IsCausedAmong, IsCounted, IsLandedFor, IsTrueToOrigin, faults_at_opening, is_over}
 use Rattle.lvm_session.specs.Sound.{IsCopy, IsFitting, IsGoing, IsOn, IsSound, IsTold, count_if, has_number, is_clearing, is_dark, is_hand, out_with, waiting_rows, with_row}
 use Rattle.lvm_keeps.proofs.Ending.{back}
 use Rattle.lvm_keeps.proofs.Lists.{all_on, length_set}
@@ -110,10 +110,10 @@ copy_write_fail_keeps at old new sound on event =
     rose : Rose (old.device.counts.faults c.pp.disk) (new.device.counts.faults c.pp.disk)
     rose = faulted old.core c c.pp true ended.flight old.device.counts new.device.counts transfer failure.counts
 
-    why : IsCopyCaused between (copies_in old.core.descriptor c.lv c.lp) (record c { step = step.Idle; end = Some ending.SyncFailed })
+    why : IsCausedAmong between (copies_in old.core.descriptor c.lv c.lp) (record c { step = step.Idle; end = Some ending.SyncFailed })
     why =
-        let was = subst (λ m. IfSome m (λ (k : OpenCopy). IsCopyCaused between (copies_in old.core.descriptor k.lv k.lp) k)) event.is_open sound_between.copy in
-        let before = subst (λ m. IfSome m (λ (k : OpenCopy). IsCopyCaused old (copies_in old.core.descriptor k.lv k.lp) k)) event.is_open sound.copy in
+        let was = subst (λ m. IfSome m (λ (k : OpenCopy). IsCausedAmong between (copies_in old.core.descriptor k.lv k.lp) k)) event.is_open sound_between.copy in
+        let before = subst (λ m. IfSome m (λ (k : OpenCopy). IsCausedAmong old (copies_in old.core.descriptor k.lv k.lp) k)) event.is_open sound.copy in
         record { began = was.began; since = was.since; tried = was.tried; failed = λ e. inl (rose_since (faults_at_opening c c.copy) (old.device.counts.faults c.pp.disk) (new.device.counts.faults c.pp.disk) (before.since c.copy c.pp its.its) rose) }
 
     made : Core

@@ -13,7 +13,7 @@ use Rattle.lvm_session.specs.declared.bringing.OpenCopy.{OpenCopy}
 use Rattle.lvm_session.specs.declared.open.Open.{Open}
 use Rattle.lvm_session.specs.State.{Core, State, state}
 use Rattle.lvm_session.specs.Judging.{copies_in}
-use Rattle.lvm_session.specs.Causes.{AreCaused, AreCounted, FailedSince, FailedSinceOpening, HasFailed, HaveSourcesFailed, IsAnswered, IsCaused, IsCopyCaused, IsCounted, IsLandedFor, IsTrueToOrigin, faults_at_first, faults_at_opening}
+use Rattle.lvm_session.specs.Causes.{AreCaused, AreCounted, FailedSince, FailedSinceOpening, HasFailed, HaveSourcesFailed, IsAnswered, IsCaused, IsCausedAmong, IsCounted, IsLandedFor, IsTrueToOrigin, faults_at_first, faults_at_opening}
 use Rattle.lvm_session.specs.Sound.{IsOn, IsSound}
 use Rattle.lvm_keeps.proofs.Lists.{all_on}
 use Rattle.lvm_keeps.proofs.Still.{if_on}
@@ -53,7 +53,7 @@ module _ (s : State) (media : Option Media) (counts : Counts) (sound : IsSound s
   counted_on : (t : Target) → IsCounted s t → IsCounted now t
   counted_on t its = let since = its.since in let rest = more t.pp.disk in record { began = its.began; since = omega (arith, since, rest) }
 
-  copy_on : (copies : List Pp) (c : OpenCopy) → IsCopyCaused s copies c → IsCopyCaused now copies c
+  copy_on : (copies : List Pp) (c : OpenCopy) → IsCausedAmong s copies c → IsCausedAmong now copies c
   copy_on copies c its = record {
     began = its.began;
     since = λ number p at. let since = its.since number p at in let rest = more p.disk in omega (arith, since, rest);
@@ -113,7 +113,7 @@ module _ (s : State) (media : Option Media) (counts : Counts) (sound : IsSound s
     stuck = sound.stuck;
     counted = all_on (AreCounted s) (AreCounted now) (λ x all. all_on (IsCounted s) (IsCounted now) counted_on x.request.targets.items all) core.requests sound.counted;
     answered = all_on (IsAnswered s) (IsAnswered now) (λ x why. if_on (IsLandedFor s x) (IsLandedFor now x) (landed_on x) x.landed why) core.requests sound.answered;
-    copy = if_on (λ (c : OpenCopy). IsCopyCaused s (copies_in core.descriptor c.lv c.lp) c) (λ (c : OpenCopy). IsCopyCaused now (copies_in core.descriptor c.lv c.lp) c) (λ c. copy_on (copies_in core.descriptor c.lv c.lp) c) core.copy sound.copy;
+    copy = if_on (λ (c : OpenCopy). IsCausedAmong s (copies_in core.descriptor c.lv c.lp) c) (λ (c : OpenCopy). IsCausedAmong now (copies_in core.descriptor c.lv c.lp) c) (λ c. copy_on (copies_in core.descriptor c.lv c.lp) c) core.copy sound.copy;
     origin = origin;
   }
 

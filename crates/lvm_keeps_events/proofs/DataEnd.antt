@@ -31,7 +31,7 @@ use Rattle.lvm_session.specs.Dark.{IsAscending}
 use Rattle.lvm_session.specs.Ends.{EndsAs, given_back}
 use Rattle.lvm_session.specs.Events.{IsDataTransfer}
 use Rattle.lvm_session.specs.Marks.{due_of, Entails, hits_copy, is_among, WantsStale}
-use Rattle.lvm_session.specs.Causes.{IsChosenSince, IsCopyCaused}
+use Rattle.lvm_session.specs.Causes.{IsChosenSince, IsCausedAmong}
 use Rattle.lvm_session.specs.Left.{copy_updates, if_so, marks_later}
 use Rattle.lvm_session.specs.Owners.{IsDataOf, IsTransferOf}
 use Rattle.lvm_session.specs.Requests.{IsShaped, IsTarget}
@@ -200,7 +200,7 @@ module _ (at id target : ℕ) (ok : Bool) (old new : State) (sound : IsSound old
       (keeps old sound on new.device.media new.device.counts end_so.back.more place target o there aim aim_is at event.row event.returns.there own ok event.buf long flight out.there end_so.back.number rose
       old.core.queue old.core.copy old.core.pool due_stays new.core.status.wanted new.core.status.writes stale.like stale.started (subst (λ (u : Stored). IsSoundStatus (seen u)) stale.is stale.sound)
       entailed (paid overs refl)
-      (if_on (λ (c : OpenCopy). IsCopyCaused (state (record old.device { media = new.device.media; counts = new.device.counts }) old.core) (copies_in old.core.descriptor c.lv c.lp) c) (λ (c : OpenCopy). IsCopyCaused now_so (copies_in old.core.descriptor c.lv c.lp) c)
+      (if_on (λ (c : OpenCopy). IsCausedAmong (state (record old.device { media = new.device.media; counts = new.device.counts }) old.core) (copies_in old.core.descriptor c.lv c.lp) c) (λ (c : OpenCopy). IsCausedAmong now_so (copies_in old.core.descriptor c.lv c.lp) c)
       (λ c. same_cause old sound on new.device.media new.device.counts end_so.back.more place target o there aim aim_is at event.row event.returns.there own ok event.buf long flight out.there end_so.back.number rose
       old.core.queue old.core.copy old.core.pool due_stays new.core.status.wanted new.core.status.writes stale.like stale.started (subst (λ (u : Stored). IsSoundStatus (seen u)) stale.is stale.sound) entailed (copies_in old.core.descriptor c.lv c.lp) c) old.core.copy (counts_keep old new.device.media new.device.counts sound end_so.back.more).copy))
     where

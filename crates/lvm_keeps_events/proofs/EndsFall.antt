@@ -14,7 +14,7 @@ use Rattle.lvm_num.specs.Status.{calls_missing}
 use Rattle.lvm_mwc.specs.declared.notes.DiskNotes.{DiskNotes}
 use Rattle.lvm_mwc.proofs.NamedLemmas.{named_after_all}
 use Rattle.lvm_mwc.specs.Notes.{both_name, names_group}
-use Rattle.lvm_mwc.specs.Runs.{EndsNote as Ending}
+use Rattle.lvm_mwc.specs.Runs.{Ending}
 use Rattle.lvm_mwc.specs.Cache.{after_end, ended, ended_as, flight_names, is_named, notes_on}
 use Rattle.lvm_mwc.specs.Entries.{pins_of}
 use Rattle.lvm_status.specs.Update.{Stored}

@@ -26,7 +26,7 @@ use Rattle.lvm_session.specs.State.{Core, State, state}
 use Rattle.lvm_session.specs.Judging.{copies_in, is_missing}
 use Rattle.lvm_session.specs.Bringing.{end_of}
 use Rattle.lvm_session.specs.Marks.{Reviews}
-use Rattle.lvm_session.specs.Causes.{IsCopyCaused}
+use Rattle.lvm_session.specs.Causes.{IsCausedAmong}
 use Rattle.lvm_session.specs.Owners.{AreOwned, AreRows, IsTransferOf, flies, same_owner}
 use Rattle.lvm_session.specs.Sound.{IsGoing, IsSound, count_if, has_number, is_dark, is_hand}
 use Rattle.lvm_keeps.proofs.Ending.{back}
@@ -129,7 +129,7 @@ module _ (old : State) (sound : IsSound old) (on : old.core.power ≡ power.On) 
 
     -- ---- the review
 
-    so_kept : (r : Reviewed ended) (brings : Brings ended r) → IfSome r.copy (λ (c : OpenCopy). IsCopyCaused (state (record old.device { media = media; flights = flights; counts = counts }) (now ended r)) (copies_in core.descriptor c.lv c.lp) c) → IsSound (state (record old.device { media = media; flights = flights; counts = counts }) (now ended r))
+    so_kept : (r : Reviewed ended) (brings : Brings ended r) → IfSome r.copy (λ (c : OpenCopy). IsCausedAmong (state (record old.device { media = media; flights = flights; counts = counts }) (now ended r)) (copies_in core.descriptor c.lv c.lp) c) → IsSound (state (record old.device { media = media; flights = flights; counts = counts }) (now ended r))
     so_kept r brings copy_caused = keeps old sound on disk next follows flying pool notes homes media counts flights more rise r brings names disks (owned r brings) (rows_after r brings) (tickets_left core.flying at going.tickets) (length_set core.pool buf.number false) given_back copy_caused
 
     module _ (new : Core) (reviews : Reviews (mid ended) new) where

@@ -35,7 +35,7 @@ use Rattle.lvm_session.specs.Enabled.{same_status}
 use Rattle.lvm_session.specs.Calls.{copy_at}
 use Rattle.lvm_session.specs.Events.{is_passive}
 use Rattle.lvm_session.specs.Marks.{is_entailed}
-use Rattle.lvm_session.specs.Causes.{AreCaused, AreCounted, FailedSince, FailedSinceOpening, HasFailed, HaveSourcesFailed, IsAnswered, IsCaused, IsCopyCaused, IsCounted, IsTrueToOrigin, fails_on, faults_at_first, faults_at_opening, is_blamed, is_held_stale}
+use Rattle.lvm_session.specs.Causes.{AreCaused, AreCounted, FailedSince, FailedSinceOpening, HasFailed, HaveSourcesFailed, IsAnswered, IsCaused, IsCausedAmong, IsCounted, IsTrueToOrigin, fails_on, faults_at_first, faults_at_opening, is_blamed, is_held_stale}
 use Rattle.lvm_session.specs.Left.{clean_volumes, if_so, updates_left}
 use Rattle.lvm_session.specs.Owners.{AreOwned, AreRows, HaveTickets}
 use Rattle.lvm_session.specs.Sound.{IsCopy, IsFitting, IsGoing, IsOn, IsSound, IsTold, count_if, has_number, is_dark, out_with}
@@ -260,13 +260,13 @@ module _ (old : State) (sound : IsSound old) (on : old.core.power ≡ power.On) 
       abbrev copies : List Pp
       copies = copies_in first.descriptor c.lv c.lp
 
-      was : IsCopyCaused between copies c
-      was = subst (λ m. IfSome m (λ (k : OpenCopy). IsCopyCaused between (copies_in first.descriptor k.lv k.lp) k)) is sound_between.copy
+      was : IsCausedAmong between copies c
+      was = subst (λ m. IfSome m (λ (k : OpenCopy). IsCausedAmong between (copies_in first.descriptor k.lv k.lp) k)) is sound_between.copy
 
-      before : IsCopyCaused old copies c
-      before = subst (λ m. IfSome m (λ (k : OpenCopy). IsCopyCaused old (copies_in first.descriptor k.lv k.lp) k)) is sound.copy
+      before : IsCausedAmong old copies c
+      before = subst (λ m. IfSome m (λ (k : OpenCopy). IsCausedAmong old (copies_in first.descriptor k.lv k.lp) k)) is sound.copy
 
-      one_still : IsCopyCaused done copies c
+      one_still : IsCausedAmong done copies c
       one_still = record { began = was.began; since = was.since; tried = was.tried; failed = λ i. of (was.failed i) (ap is_none i) }
         where
           of : FailedSinceOpening between.device c c.copy c.pp ⊎ HaveSourcesFailed between copies c → is_running c ≡ false → FailedSinceOpening device c c.copy c.pp ⊎ HaveSourcesFailed done copies c
@@ -287,7 +287,7 @@ module _ (old : State) (sound : IsSound old) (on : old.core.power ≡ power.On) 
                       (ap not (was_there e p.disk (sym (missing_is e r p.disk) ∙ is_false (is_missing last p.disk) outer.1))))
                   by (inr x) = let same : x.copy ≡ c = (let both_open : Some x.copy ≡ Some c = sym x.is_open ∙ is in cc both_open) in not_so (sym over ∙ sym (ap is_running same) ∙ x.runs)
 
-      pub one_over : (how : CopyEnd) (at : Step) → end_of (mid e) c ≡ Some how → IsCopyCaused done copies (record c { step = at; end = Some how })
+      pub one_over : (how : CopyEnd) (at : Step) → end_of (mid e) c ≡ Some how → IsCausedAmong done copies (record c { step = at; end = Some how })
       one_over how at ends = record { began = was.began; since = was.since; tried = was.tried; failed = λ i. by_missing (is_missing (mid e) c.pp.disk) (is_whole first c) refl refl (ends ∙ i) }
         where
           runs : is_running c ≡ true
@@ -339,10 +339,10 @@ module _ (old : State) (sound : IsSound old) (on : old.core.power ≡ power.On) 
               each : (number : ℕ) (p : Pp) → copy_at copies number ≡ Some p → not (is_pp p c.pp) && is_sure last p && not (is_missing last p.disk) ≡ true → FailedSinceOpening device c number p
               each number p at_number i = each_tried number p at_number (sym (ap (λ b. not (is_pp p c.pp) && b) (usable_is e r p)) ∙ usable_of (not (is_pp p c.pp)) (is_stale last p) (is_wanted_stale last p) (is_missing last p.disk) i)
 
-    pub still_caused : IfSome first.copy (λ (c : OpenCopy). IsCopyCaused done (copies_in first.descriptor c.lv c.lp) c)
+    pub still_caused : IfSome first.copy (λ (c : OpenCopy). IsCausedAmong done (copies_in first.descriptor c.lv c.lp) c)
     still_caused = by first.copy refl
       where
-        by : (m : Option OpenCopy) → first.copy ≡ m → IfSome m (λ (c : OpenCopy). IsCopyCaused done (copies_in first.descriptor c.lv c.lp) c)
+        by : (m : Option OpenCopy) → first.copy ≡ m → IfSome m (λ (c : OpenCopy). IsCausedAmong done (copies_in first.descriptor c.lv c.lp) c)
         by None is = tt
         by (Some c) is = one_still c is
 
@@ -350,7 +350,7 @@ module _ (old : State) (sound : IsSound old) (on : old.core.power ≡ power.On) 
 
     module _ (brings : Brings e r) (names : NamesStay e) (disks : (d : ℕ) → has_disk (mid e).cache d ≡ has_disk old.core.cache d) (owned : AreOwned last) (rows : AreRows last flying flights) (tickets : HaveTickets flying)
         (long : length pool ≡ length old.core.pool) (back : (n : ℕ) → (count_by (λ (f : Flight). has_number n f.buf) flights + count_if (slice_index_or old.core.pool n false) ≡ count_by (λ (f : Flight). has_number n f.buf) old.device.flights + count_if (slice_index_or pool n false)))
-        (copy_caused : IfSome r.copy (λ (c : OpenCopy). IsCopyCaused done (copies_in first.descriptor c.lv c.lp) c)) where
+        (copy_caused : IfSome r.copy (λ (c : OpenCopy). IsCausedAmong done (copies_in first.descriptor c.lv c.lp) c)) where
       fitting : IsFitting last
       fitting = let f = sound.fitting in record {
         valid = f.valid;

@@ -37,7 +37,7 @@ use Rattle.lvm_session.specs.Calls.{copy_at}
 use Rattle.lvm_session.specs.Ends.{given_back}
 use Rattle.lvm_session.specs.Events.{IsDataTransfer}
 use Rattle.lvm_session.specs.Marks.{due_of, due_targets, hits_copy, is_among}
-use Rattle.lvm_session.specs.Causes.{AreCaused, AreCounted, FailedSince, FailedSinceOpening, fails_on, faults_at_first, faults_at_opening, HasFailed, HaveSourcesFailed, is_blamed, is_held_stale, IsAnswered, IsCaused, IsChosenSince, IsCopyCaused, IsCounted, IsLandedFor, IsTrueToOrigin}
+use Rattle.lvm_session.specs.Causes.{AreCaused, AreCounted, FailedSince, FailedSinceOpening, fails_on, faults_at_first, faults_at_opening, HasFailed, HaveSourcesFailed, is_blamed, is_held_stale, IsAnswered, IsCaused, IsChosenSince, IsCausedAmong, IsCounted, IsLandedFor, IsTrueToOrigin}
 use Rattle.lvm_session.specs.Left.{copy_updates, if_so, marks_later}
 use Rattle.lvm_session.specs.Owners.{AreOwned, flies, IsDataOf, IsTransferOf, same_owner}
 use Rattle.lvm_session.specs.Requests.{is_left_out, is_wanted_due, IsJudged, IsOpenOne, IsRequest, IsShaped, IsTarget, may_lack, wants_status, will_be_kept}
@@ -614,7 +614,7 @@ module _ (old : State) (sound : IsSound old) (on : old.core.power ≡ power.On) 
             let more_parts = both b (is_sure after p) parts.0 in
             all_and (b && is_sure core p) (not (is_missing core p.disk)) (all_and b (is_sure core p) more_parts.0 (sure_less mid due wanted writes like p more_parts.1)) (ap not (sym (missing_same mid due wanted writes like p.disk)) ∙ parts.1)
 
-    pub same_cause : (copies : List Pp) (c : OpenCopy) → IsCopyCaused s copies c → IsCopyCaused now copies c
+    pub same_cause : (copies : List Pp) (c : OpenCopy) → IsCausedAmong s copies c → IsCausedAmong now copies c
     same_cause copies c its = record { began = its.began; since = its.since; tried = its.tried; failed = λ e. sources_on copies c (its.failed e) }
 
     module _ (c : OpenCopy) (is : core.copy ≡ Some c) (hit : hits_copy core x ok aim.pp c ≡ true) where
@@ -627,11 +627,11 @@ module _ (old : State) (sound : IsSound old) (on : old.core.power ≡ power.On) 
       bringing : IsCopy core c
       bringing = subst (λ m. IfSome m (IsCopy core)) is going.copy
 
-      before : IsCopyCaused old copies c
-      before = subst (λ m. IfSome m (λ (k : OpenCopy). IsCopyCaused old (copies_in core.descriptor k.lv k.lp) k)) is sound.copy
+      before : IsCausedAmong old copies c
+      before = subst (λ m. IfSome m (λ (k : OpenCopy). IsCausedAmong old (copies_in core.descriptor k.lv k.lp) k)) is sound.copy
 
-      before_s : IsCopyCaused s copies c
-      before_s = subst (λ m. IfSome m (λ (k : OpenCopy). IsCopyCaused s (copies_in core.descriptor k.lv k.lp) k)) is sound_so.copy
+      before_s : IsCausedAmong s copies c
+      before_s = subst (λ m. IfSome m (λ (k : OpenCopy). IsCausedAmong s (copies_in core.descriptor k.lv k.lp) k)) is sound_so.copy
 
       chosen_since : IsChosenSince after c x
       chosen_since = its_chosen c (all_at (IsChosenSince core c) core.requests place o (subst (λ m. IfSome m (λ (k : OpenCopy). AllByRecursion (IsChosenSince core k) core.requests)) is (sound.on on).chosen) there)
@@ -742,7 +742,7 @@ module _ (old : State) (sound : IsSound old) (on : old.core.power ≡ power.On) 
               let d = both (are_over now_targets) (not (is_kept core x.request)) b.0 in
               lost d.0 (is_false (is_kept core x.request) d.1) (is_false o.older b.1) a.1
 
-      pub cause : IsCopyCaused now copies failed_copy
+      pub cause : IsCausedAmong now copies failed_copy
       cause = record { began = before_s.began; since = before_s.since; tried = before_s.tried; failed = λ e. why_failed }
 
     -- ---- all of it, while it is on
@@ -752,7 +752,7 @@ module _ (old : State) (sound : IsSound old) (on : old.core.power ≡ power.On) 
     wants_more u = if_so (not (same_status u (unwrap_or core.status.in_flight core.status.committed))) 1
 
     module _ (paid : wants_more wanted + count_if (marks_later x) + option_map_or (copy_updates core) copy 0 ≤ wants_more core.status.wanted + count_if (marks_later o) + option_map_or (copy_updates core) core.copy 0)
-        (why : IfSome copy (λ (c : OpenCopy). IsCopyCaused now (copies_in core.descriptor c.lv c.lp) c)) where
+        (why : IfSome copy (λ (c : OpenCopy). IsCausedAmong now (copies_in core.descriptor c.lv c.lp) c)) where
       keeps_going : IsGoing after
       keeps_going = record {
         fitting = fitting;

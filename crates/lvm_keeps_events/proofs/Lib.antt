@@ -1,3 +1,4 @@
+pub mod handed
 pub mod Events
 pub mod Falls
 pub mod Standing

@@ -42,7 +42,7 @@ use Rattle.lvm_session.specs.Marks.{WantsDirty, can_replace, is_among, is_entail
 use Rattle.lvm_session.specs.Left.{clean_volumes, if_so}
 use Rattle.lvm_session.specs.Owners.{AreOwned}
 use Rattle.lvm_session.specs.Requests.{IsOpenOne, is_failed_and_sure, is_left_out, is_wanted_dirty, is_wanted_due, mode_for, will_be_kept}
-use Rattle.lvm_session.specs.Causes.{AreCaused, AreCounted, HaveSourcesFailed, IsAnswered, IsCaused, IsCopyCaused, IsTrueToOrigin, fails_on, is_blamed, is_held_stale, was_fresh}
+use Rattle.lvm_session.specs.Causes.{AreCaused, AreCounted, HaveSourcesFailed, IsAnswered, IsCaused, IsCausedAmong, IsTrueToOrigin, fails_on, is_blamed, is_held_stale, was_fresh}
 use Rattle.lvm_session.specs.Sound.{IsCopy, IsFitting, IsGoing, IsOn, IsSound, IsTold, count_if, is_dark, may_be_fresh, stays_fresh}
 use Rattle.lvm_keeps.proofs.Causes.{answered_when_on, counted_when_on}
 use Rattle.lvm_keeps.proofs.Lists.{all_on, count_cons}
@@ -326,7 +326,7 @@ module _ (s : State) (sound : IsSound s) (on : s.core.power ≡ power.On) (lv : 
     chosen = was.chosen;
   }
 
-  copy_caused : (c : OpenCopy) → IsCopyCaused s (copies_in core.descriptor c.lv c.lp) c → IsCopyCaused now (copies_in core.descriptor c.lv c.lp) c
+  copy_caused : (c : OpenCopy) → IsCausedAmong s (copies_in core.descriptor c.lv c.lp) c → IsCausedAmong now (copies_in core.descriptor c.lv c.lp) c
   copy_caused c its = record { began = its.began; since = its.since; tried = its.tried; failed = λ e. sources_on (its.failed e) }
     where
       sources_on : {own : Type 0} → own ⊎ HaveSourcesFailed s (copies_in core.descriptor c.lv c.lp) c → own ⊎ HaveSourcesFailed now (copies_in core.descriptor c.lv c.lp) c
@@ -357,7 +357,7 @@ module _ (s : State) (sound : IsSound s) (on : s.core.power ≡ power.On) (lv : 
   pub keeps : IsSound now
   keeps = sound_when_on s now refl refl sound on fitting told keeps_on (λ n. sound.none_lost (ap is_dark on) n) (all_on (AreCounted s) (AreCounted now) (counted_when_on s now refl) core.requests sound.counted)
       (all_on (IsAnswered s) (IsAnswered now) (answered_when_on s now refl on) core.requests sound.answered)
-      (if_on (λ (c : OpenCopy). IsCopyCaused s (copies_in core.descriptor c.lv c.lp) c) (λ (c : OpenCopy). IsCopyCaused now (copies_in core.descriptor c.lv c.lp) c) copy_caused core.copy sound.copy) origin
+      (if_on (λ (c : OpenCopy). IsCausedAmong s (copies_in core.descriptor c.lv c.lp) c) (λ (c : OpenCopy). IsCausedAmong now (copies_in core.descriptor c.lv c.lp) c) copy_caused core.copy sound.copy) origin
 
 -- ---- what is wanted so
 

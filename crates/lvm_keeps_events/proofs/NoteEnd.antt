@@ -11,8 +11,8 @@ use Rattle.lvm_num.specs.declared.record.NoteEntry.{NoteEntry}
 use Rattle.lvm_mwc.specs.declared.notes.DiskNotes.{DiskNotes}
 use Rattle.lvm_mwc.specs.Cache.{Cached, after_end, ended, ended_as, flight_on, has_disk, is_named, notes_on}
 use Rattle.lvm_mwc.specs.Entries.{pins_of}
-use Rattle.lvm_mwc.specs.Notes.{is_on}
-use Rattle.lvm_mwc.specs.Runs.{EndsNote as Ending}
+use Rattle.lvm_mwc.specs.Notes.{is_of_disk}
+use Rattle.lvm_mwc.specs.Runs.{Ending}
 use Rattle.lvm_mwc.proofs.FirstsLemmas.{find-with, find-with_other}
 use Rattle.lvm_mwc.proofs.NamedLemmas.{named_after_all}
 use Rattle.lvm_path.specs.declared.request.Phase.{Phase}
@@ -64,12 +64,12 @@ all_true t u on (x ∷ xs) all = let parts = both (t x) (list_all t xs) all in a
 
 module _ (c : Cached) (disk : ℕ) (ok : Bool) where
   pub here : notes_on (after_end c disk ok) disk ≡ option_map (ended ok) (notes_on c disk)
-  here = find-with (is_on disk) (ended ok) c.notes same
+  here = find-with (is_of_disk disk) (ended ok) c.notes same
     where
-      same : (d : DiskNotes) → is_on disk d ≡ true → is_on disk (ended ok d) ≡ true
+      same : (d : DiskNotes) → is_of_disk disk d ≡ true → is_of_disk disk (ended ok d) ≡ true
       same d e = by d.flight
         where
-          by : (m : Option (ArrayVec NoteEntry)) → is_on disk (option_map_or (λ (flight : ArrayVec NoteEntry). record d { written = record { items = ended_as ok d.written.items flight.items }; flight = None }) m d) ≡ true
+          by : (m : Option (ArrayVec NoteEntry)) → is_of_disk disk (option_map_or (λ (flight : ArrayVec NoteEntry). record d { written = record { items = ended_as ok d.written.items flight.items }; flight = None }) m d) ≡ true
           by None = e
           by (Some note) = e
 
@@ -88,7 +88,7 @@ module _ (c : Cached) (disk : ℕ) (ok : Bool) where
       by (Some d) = over d
 
   pub beside : (d : ℕ) → (d == disk) ≡ false → notes_on (after_end c disk ok) d ≡ notes_on c d
-  beside d other = find-with_other (is_on d) (is_on disk) (ended ok) c.notes (λ n e. (apart n e, apart_ended n e))
+  beside d other = find-with_other (is_of_disk d) (is_of_disk disk) (ended ok) c.notes (λ n e. (apart n e, apart_ended n e))
     where
       apart : (n : DiskNotes) → (n.disk == disk) ≡ true → (n.disk == d) ≡ false
       apart n e = ne_eqb n.disk d (λ same. eqb-false d disk other (sym same ∙ eqb-true n.disk disk e))

@@ -13,7 +13,7 @@ use Rattle.lvm_disk.specs.Steps.{CountsFailure, EndsFailed}
 use Rattle.lvm_mwc.specs.Cache.{after_end, flight_on, has_disk, is_named, notes_on}
 use Rattle.lvm_mwc.specs.Entries.{pins_of}
 use Rattle.lvm_mwc.specs.declared.notes.DiskNotes.{DiskNotes}
-use Rattle.lvm_mwc.specs.Runs.{EndsNote as Ending}
+use Rattle.lvm_mwc.specs.Runs.{Ending}
 use Rattle.lvm_mwc.proofs.NamedLemmas.{named_after_all}
 use Rattle.lvm_status.specs.declared.change.Change.TheVariants as change
 use Rattle.lvm_status.specs.Update.{Stored, Updates, seen, without_disk}

@@ -29,7 +29,7 @@ use Rattle.lvm_session.specs.Bringing.{copy_ends, hand_of, end_by_sources, ends_
 use Rattle.lvm_session.specs.Left.{copy_updates}
 use Rattle.lvm_session.specs.Owners.{flies}
 use Rattle.lvm_session.specs.Requests.{IsOpenOne}
-use Rattle.lvm_session.specs.Causes.{IsCopyCaused}
+use Rattle.lvm_session.specs.Causes.{IsCausedAmong}
 use Rattle.lvm_session.specs.Sound.{IsCopy, IsGoing, IsSound, count_if, is_clearing, is_hand, waiting_rows, with_row}
 use Rattle.lvm_keeps.proofs.Lists.{length_set}
 use Rattle.lvm_keeps.proofs.Small.{not_so}
@@ -82,7 +82,7 @@ out_no_hand step.Writing e = refl
 -- The copy has ended with it, or had: these were tried for its track group, and so it ended; and it isn't to be cleared.
 module _ (s : State) (sound : IsSound s) (on : s.core.power ≡ power.On) (c : OpenCopy) (is : s.core.copy ≡ Some c) (tried : ℕ) (end : Option CopyEnd) (over : is_none end ≡ false) (clear : (p : Pp) → is_clearing s.core p ≡ false)
     (tries : (disk : ℕ) → has tried disk ≡ true → list_any (λ (p : Pp). not (is_pp p c.pp) && p.disk == disk) (copies_in s.core.descriptor c.lv c.lp) ≡ true)
-    (why : IsCopyCaused s (copies_in s.core.descriptor c.lv c.lp) (record c { step = step.Idle; tried = tried; end = end }))
+    (why : IsCausedAmong s (copies_in s.core.descriptor c.lv c.lp) (record c { step = step.Idle; tried = tried; end = end }))
     (at : ℕ) (row : Flown) (there : slice_get s.core.flying at ≡ Some row) (own : row.owner ≡ owner.Copy) (f : Flight) (f_there : slice_get s.device.flights at ≡ Some f) (buf : Buffer) (number : buf.number ≡ f.buf.number) where
   abbrev core : Core
   core = s.core

@@ -48,7 +48,7 @@ use Rattle.lvm_session.specs.declared.open.Power.TheVariants as power
 use Rattle.lvm_session.specs.Dark.{hand_of_copy}
 use Rattle.lvm_session.specs.Events.{is_passive}
 use Rattle.lvm_session.specs.Marks.{can_replace, is_among, is_entailed, is_entailed_in, is_left_behind}
-use Rattle.lvm_session.specs.Causes.{AreCaused, AreCounted, fails_on, is_blamed, is_held_stale, IsAnswered, IsCaused, IsChosenSince, IsCopyCaused, IsTrueToOrigin, was_fresh}
+use Rattle.lvm_session.specs.Causes.{AreCaused, AreCounted, fails_on, is_blamed, is_held_stale, IsAnswered, IsCaused, IsChosenSince, IsCausedAmong, IsTrueToOrigin, was_fresh}
 use Rattle.lvm_session.specs.Left.{copy_updates, if_so, updates_left}
 use Rattle.lvm_session.specs.Owners.{AreOwned, same_owner}
 use Rattle.lvm_session.specs.Requests.{is_failed_and_sure, is_left_out, is_past_held, is_wanted_dirty, is_wanted_due, IsJudged, IsOpenOne, IsPhase, IsRequest, IsTarget, may_lack, mode_for, wants_status, will_be_kept}
@@ -752,8 +752,8 @@ module _ (s : State) (sound : IsSound s) (on : s.core.power ≡ power.On) (c : O
       chosen = all_on (IsChosenSince core c) (IsChosenSince after next) (λ x all. all) core.requests (subst (λ m. IfSome m (λ (k : OpenCopy). AllByRecursion (IsChosenSince core k) core.requests)) is was.chosen);
     }
 
-    copy_caused : IsCopyCaused now (copies_in core.descriptor c.lv c.lp) next
-    copy_caused = let was = subst (λ m. IfSome m (λ (k : OpenCopy). IsCopyCaused s (copies_in core.descriptor k.lv k.lp) k)) is sound.copy in
+    copy_caused : IsCausedAmong now (copies_in core.descriptor c.lv c.lp) next
+    copy_caused = let was = subst (λ m. IfSome m (λ (k : OpenCopy). IsCausedAmong s (copies_in core.descriptor k.lv k.lp) k)) is sound.copy in
         record { began = was.began; since = was.since; tried = λ n p n_at e. not_so (sym (nothing p.disk) ∙ e); failed = λ e. not_so (sym (ap is_none e) ∙ runs) }
 
     origin : IsTrueToOrigin now

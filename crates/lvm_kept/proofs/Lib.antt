@@ -1,3 +1,4 @@
+pub mod handed
 pub mod Values
 pub mod Carrying
 pub mod Keeping

@@ -1,3 +1,4 @@
+pub mod handed
 pub mod Contents
 pub mod Group
 pub mod Kept

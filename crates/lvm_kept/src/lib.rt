@@ -2,6 +2,7 @@
 #![tactic(auto)]
 
 mod laws;
+pub mod lower;
 
 pub use laws::{
     blank_is_kept, changes_keep, entries_keep, groups_are_alike, parts_stand, places, quorums_find,

@@ -1,5 +1,5 @@
 //! A request lands.
-ghost use Rattle.std.specs.Prelude.{◌≡◌, ◌≤◌, ◌<◌, ◌*◌, length, slice_get, take, true, Some};
+ghost use Rattle.std.specs.Prelude.{◌≡◌, ◌≤◌, ◌<◌, length, slice_get, take, true, Some};
 ghost use Rattle.lvm_disk.specs.Device.{Device};
 ghost use Rattle.lvm_vol.specs.Facts.{Landed};
 ghost use Rattle.lvm_vol.specs.Log.{awaited, is_open, request_of, with_fact};
@@ -14,8 +14,8 @@ ghost use Rattle.lvm_session.specs.Events.{Lands, got_blocks, landed_as};
 ghost use Rattle.lvm_session.specs.Sound.{IsGoing};
 ghost use Rattle.lvm_land.specs.Entered.{IsEntered};
 
-use crate::front::copy_front;
-use lvm_copies::unpin;
+use crate::front::front;
+use lvm_firsts::lower::unpin;
 use lvm_history::History;
 use lvm_num::Pbuf;
 use lvm_over::give_back;
@@ -33,21 +33,17 @@ fn land_open(open: &mut Open, how: Outcome) -> Option<Pbuf>
 }
 
 // Enters that a read has landed with the first blocks of a buffer.
-fn enter_read(history: &mut History, bytes: &mut [u8], id: u64, count: u32, buf: &Pbuf)
+fn enter_read(history: &mut History, id: u64, count: u32, buf: &Pbuf)
     requires count { count ≤ 256 }
     requires awaited { awaited history.old.facts id ≡ Some count }
-    requires room { 131072 ≤ length bytes.old }
-    ensures enters { history.new ≡ with_fact history.old (Landed (request_of history.old.facts id) outcome.Got true (take count buf.now.sectors)) }
-    ensures size { length bytes.new ≡ length bytes.old }
+    ensures { history.new ≡ with_fact history.old (Landed (request_of history.old.facts id) outcome.Got true (take count buf.now.sectors)) }
 {
-    copy_front(bytes, buf, count);
-    history.land_read(id, &bytes[..512 * count as usize]);
+    history.land_read(id, front(buf, count));
 }
 
 // Enters that a request has landed, with what it has got.
 fn enter_landing(
     history: &mut History,
-    bytes: &mut [u8],
     id: u64,
     count: u32,
     how: Outcome,
@@ -56,13 +52,11 @@ fn enter_landing(
 )
     requires open { is_open history.old.facts id ≡ true }
     requires entered { IsEntered history.old.facts id count how started got.now }
-    requires room { 131072 ≤ length bytes.old }
-    ensures enters { history.new ≡ with_fact history.old (Landed (request_of history.old.facts id) how started (got_blocks count got.now)) }
-    ensures size { length bytes.new ≡ length bytes.old }
+    ensures { history.new ≡ with_fact history.old (Landed (request_of history.old.facts id) how started (got_blocks count got.now)) }
 {
     match got {
         None => history.land(id, how, started),
-        Some(buf) => enter_read(history, bytes, id, count, buf),
+        Some(buf) => enter_read(history, id, count, buf),
     }
 }
 
@@ -72,7 +66,6 @@ pub fn land_at(session: &mut Session, place: usize, how: Outcome)
     requires going { IsGoing (core_of session.old) }
     requires there { place < length session.old.requests.items }
     requires lands { (o : Open) → slice_get session.old.requests.items place ≡ Some o → next_for (core_of session.old) o ≡ next.Land how }
-    requires room { 131072 ≤ length session.old.bytes.items }
     ensures lands { (device : Device) → Lands (state device (core_of session.old)) (state device (core_of session.new)) place how }
     ensures rooms { SameRooms session.old session.new }
 {
@@ -80,15 +73,7 @@ pub fn land_at(session: &mut Session, place: usize, how: Outcome)
     let (id, ask) = (open.request.id, open.request.ask);
     let (pinned, started) = (open.request.pinned, open.request.has_started());
     let got = land_open(&mut session.requests[place], how);
-    enter_landing(
-        &mut session.history,
-        &mut session.bytes,
-        id,
-        ask.count(),
-        how,
-        started,
-        &got,
-    );
+    enter_landing(&mut session.history, id, ask.count(), how, started, &got);
     give_back(&mut session.pool, got);
     unpin(&mut session.cache, pinned, &ask);
     session.queue.leave(2 * id);

@@ -247,7 +247,7 @@ impl<F: Read + Write + Seek + OpenFile + Exclusive + Drop> Shelf for FileShelf<F
         // It ends the oldest transfer, and so is never empty nor dark.
         ensures oldest { EndsOldest (device_of self.old) (device_of self.new) result }
     {
-        let mut flying = take_flight(&mut self.flights, 0);
+        let mut flying = take_flight(&mut self.flights, 0, true);
         match carry_out(&mut self.disks, &mut flying, &mut self.room) {
             Ok(()) => Reaped::Done {
                 ticket: flying.ticket,

@@ -1,7 +1,7 @@
 //! Why the words of the command line were not read.
 
 /// Why words were not read.
-#[derive(Clone, Copy, Debug, PartialEq, Eq)]
+#[derive(Clone, Copy, PartialEq, Eq)]
 pub enum WordsFault {
     /// They are not in the language of the command line.
     Usage,

@@ -3,7 +3,7 @@ ghost use Rattle.std.specs.Prelude.{◌≡◌, IfOk, Err, true, false, [], codes
 ghost use Rattle.clap.specs.Simple.{on_top};
 ghost use Rattle.clap.specs.Words.{App, app_of, rule_of, new_app, with_rule, with_subcommand, fault_of, subcommand_of, subcommand_rows_of};
 ghost use Rattle.clap.specs.declared.builder.Command.TheViews.{out-Command};
-ghost use Rattle.lvm_language.specs.CommandLine.{number_rule, script_app, sim_app, gen_app, image_app, weave_app, lvm_settings, lvm_app};
+ghost use Rattle.lvm_language.specs.CommandLine.{number_rule, with_numbers, script_app, weave_app, lvm_settings, lvm_app};
 
 use crate::fault::WordsFault;
 use clap::builder::ValueParser;
@@ -36,22 +36,18 @@ fn with_number<'a>(
     job.arg(number(alloc, id, low, high))
 }
 
-// `sim DISKS MIB`
-fn sim<'a>(alloc: Global) -> Result<Command<'a>, AllocError>
-    ensures app { IfOk result (λ job. app_of job ≡ sim_app) }
+// A job that has two numbers behind its name, each with its bounds.
+fn with_numbers<'a>(
+    alloc: Global,
+    name: &'a str,
+    first: (&'a str, u64, u64),
+    second: (&'a str, u64, u64),
+) -> Result<Command<'a>, AllocError>
+    ensures app { IfOk result (λ job. app_of job ≡ with_numbers name.entry.now (number_rule first.entry.0.now first.entry.1 first.entry.2) (number_rule second.entry.0.now second.entry.1 second.entry.2)) }
     ensures local { IfOk result (λ job. (out-Command job).has_globals ≡ false) }
 {
-    let job = with_number(Command::new(alloc, "sim"), alloc, "DISKS", 1, 32)?;
-    with_number(job, alloc, "MIB", 1, 64)
-}
-
-// `gen SEED COUNT`
-fn generate<'a>(alloc: Global) -> Result<Command<'a>, AllocError>
-    ensures app { IfOk result (λ job. app_of job ≡ gen_app) }
-    ensures local { IfOk result (λ job. (out-Command job).has_globals ≡ false) }
-{
-    let job = with_number(Command::new(alloc, "gen"), alloc, "SEED", 0, u64::MAX)?;
-    with_number(job, alloc, "COUNT", 0, 100_000)
+    let job = with_number(Command::new(alloc, name), alloc, first.0, first.1, first.2)?;
+    with_number(job, alloc, second.0, second.1, second.2)
 }
 
 // `weave DISKS MIB CLIENTS REQUESTS SEED`
@@ -59,20 +55,10 @@ fn weave<'a>(alloc: Global) -> Result<Command<'a>, AllocError>
     ensures app { IfOk result (λ job. app_of job ≡ weave_app) }
     ensures local { IfOk result (λ job. (out-Command job).has_globals ≡ false) }
 {
-    let job = with_number(Command::new(alloc, "weave"), alloc, "DISKS", 1, 8)?;
-    let job = with_number(job, alloc, "MIB", 8, 64)?;
+    let job = with_numbers(alloc, "weave", ("DISKS", 1, 8), ("MIB", 8, 64))?;
     let job = with_number(job, alloc, "CLIENTS", 1, 64)?;
     let job = with_number(job, alloc, "REQUESTS", 0, 50_000)?;
     with_number(job, alloc, "SEED", 0, u64::MAX)
-}
-
-// `image N MIB`
-fn image<'a>(alloc: Global) -> Result<Command<'a>, AllocError>
-    ensures app { IfOk result (λ job. app_of job ≡ image_app) }
-    ensures local { IfOk result (λ job. (out-Command job).has_globals ≡ false) }
-{
-    let job = with_number(Command::new(alloc, "image"), alloc, "N", 0, 127)?;
-    with_number(job, alloc, "MIB", 1, 4_096)
 }
 
 // The program without its jobs: the words begin with the name of one, and nothing is answered by help.
@@ -93,26 +79,32 @@ fn with_script<'a>(program: Command<'a>, alloc: Global) -> Result<Command<'a>, A
     program.subcommand(Command::new(alloc, "script"))
 }
 
-// The program, with one job more besides, if there was memory for it.
+// The program, with one job more besides, if there was memory for both.
 fn with_job<'a>(
-    program: Command<'a>,
+    program: Result<Command<'a>, AllocError>,
     job: Result<Command<'a>, AllocError>,
 ) -> Result<Command<'a>, AllocError>
     requires local { IfOk job (λ job. (out-Command job).has_globals ≡ false) }
-    ensures { (app : App) → IfOk job.entry (λ job. app_of job ≡ app) → IfOk result (λ more. app_of more ≡ with_subcommand (app_of program.entry) app.top) }
+    ensures { (base app : App) → IfOk program.entry (λ program. app_of program ≡ base) → IfOk job.entry (λ job. app_of job ≡ app) → IfOk result (λ more. app_of more ≡ with_subcommand base app.top) }
 {
-    program.subcommand(job?)
+    program?.subcommand(job?)
 }
 
 // The program, which is asked for one of its jobs.
 fn command_line<'a>(alloc: Global) -> Result<Command<'a>, AllocError>
     ensures { IfOk result (λ line. app_of line ≡ lvm_app) }
 {
-    let program = with_script(without_jobs(alloc), alloc)?;
-    let program = with_job(program, sim(alloc))?;
-    let program = with_job(program, generate(alloc))?;
-    let program = with_job(program, weave(alloc))?;
-    with_job(program, image(alloc))
+    let program = with_script(without_jobs(alloc), alloc);
+    // `sim DISKS MIB`
+    let sim = with_numbers(alloc, "sim", ("DISKS", 1, 32), ("MIB", 1, 64));
+    let program = with_job(program, sim);
+    // `gen SEED COUNT`
+    let generate = with_numbers(alloc, "gen", ("SEED", 0, u64::MAX), ("COUNT", 0, 100_000));
+    let program = with_job(program, generate);
+    let program = with_job(program, weave(alloc));
+    // `image N MIB`
+    let image = with_numbers(alloc, "image", ("N", 0, 127), ("MIB", 1, 4_096));
+    with_job(program, image)
 }
 
 /// What `clap` finds in the words. Usage comes exactly where there is a fault in them, by the language that

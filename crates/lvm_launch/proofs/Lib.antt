@@ -1,3 +1,4 @@
+pub mod handed
 mod Blocks
 pub mod Hands
 mod Starting

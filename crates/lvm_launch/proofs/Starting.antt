@@ -16,7 +16,7 @@ use Rattle.lvm_mwc.specs.declared.notes.DiskNotes.{DiskNotes}
 use Rattle.lvm_mwc.specs.Cache.{Cached, after_start, started}
 use Rattle.lvm_mwc.specs.Entries.{note_of}
 use Rattle.lvm_mwc.specs.Firsts.{with_first}
-use Rattle.lvm_mwc.specs.Notes.{is_on}
+use Rattle.lvm_mwc.specs.Notes.{is_of_disk}
 use Rattle.lvm_path.specs.Asks.{count_of, is_write}
 use Rattle.lvm_session.specs.declared.bringing.OpenCopy.{OpenCopy}
 use Rattle.lvm_session.specs.declared.open.Open.{Open}
@@ -87,19 +87,19 @@ module _ (old : State) (device : Device) (c : OpenCopy) (is_open : old.core.copy
 
 -- ---- a note
 
-notes_stay : (disk : ℕ) (entries : List CacheEntry) (d : ℕ) (rows : List DiskNotes) → is_some (find (is_on d) (with_first (is_on disk) (started entries) rows)) ≡ is_some (find (is_on d) rows)
+notes_stay : (disk : ℕ) (entries : List CacheEntry) (d : ℕ) (rows : List DiskNotes) → is_some (find (is_of_disk d) (with_first (is_of_disk disk) (started entries) rows)) ≡ is_some (find (is_of_disk d) rows)
 notes_stay disk entries d [] = refl
-notes_stay disk entries d (row ∷ rows) = by_test (is_on disk row) (notes_stay disk entries d rows)
+notes_stay disk entries d (row ∷ rows) = by_test (is_of_disk disk row) (notes_stay disk entries d rows)
   where
-    here : (b : Bool) (new : DiskNotes) (rest : List DiskNotes) → is_some (find (is_on d) rest) ≡ is_some (find (is_on d) rows) → is_on d new ≡ b → is_on d row ≡ b
-        → is_some (find (is_on d) (new ∷ rest)) ≡ is_some (find (is_on d) (row ∷ rows))
-    here true new rest same one two = ap (λ (b : Bool). is_some (if b then Some new else find (is_on d) rest)) one ∙ sym (ap (λ (b : Bool). is_some (if b then Some row else find (is_on d) rows)) two)
-    here false new rest same one two = ap (λ (b : Bool). is_some (if b then Some new else find (is_on d) rest)) one ∙ same ∙ sym (ap (λ (b : Bool). is_some (if b then Some row else find (is_on d) rows)) two)
+    here : (b : Bool) (new : DiskNotes) (rest : List DiskNotes) → is_some (find (is_of_disk d) rest) ≡ is_some (find (is_of_disk d) rows) → is_of_disk d new ≡ b → is_of_disk d row ≡ b
+        → is_some (find (is_of_disk d) (new ∷ rest)) ≡ is_some (find (is_of_disk d) (row ∷ rows))
+    here true new rest same one two = ap (λ (b : Bool). is_some (if b then Some new else find (is_of_disk d) rest)) one ∙ sym (ap (λ (b : Bool). is_some (if b then Some row else find (is_of_disk d) rows)) two)
+    here false new rest same one two = ap (λ (b : Bool). is_some (if b then Some new else find (is_of_disk d) rest)) one ∙ same ∙ sym (ap (λ (b : Bool). is_some (if b then Some row else find (is_of_disk d) rows)) two)
 
-    by_test : (b : Bool) → is_some (find (is_on d) (with_first (is_on disk) (started entries) rows)) ≡ is_some (find (is_on d) rows)
-        → is_some (find (is_on d) (if b then started entries row ∷ rows else row ∷ with_first (is_on disk) (started entries) rows)) ≡ is_some (find (is_on d) (row ∷ rows))
-    by_test true rest = here (is_on d row) (started entries row) rows refl refl refl
-    by_test false rest = here (is_on d row) row (with_first (is_on disk) (started entries) rows) rest refl refl
+    by_test : (b : Bool) → is_some (find (is_of_disk d) (with_first (is_of_disk disk) (started entries) rows)) ≡ is_some (find (is_of_disk d) rows)
+        → is_some (find (is_of_disk d) (if b then started entries row ∷ rows else row ∷ with_first (is_of_disk disk) (started entries) rows)) ≡ is_some (find (is_of_disk d) (row ∷ rows))
+    by_test true rest = here (is_of_disk d row) (started entries row) rows refl refl refl
+    by_test false rest = here (is_of_disk d row) row (with_first (is_of_disk disk) (started entries) rows) rest refl refl
 
 pub dark_note : (old : State) (device : Device) (new : Core) (disk : ℕ) (pool : List Bool) (n : ℕ) → TakesLowest old.core.pool pool n → GoesDark old.device device → device.power ≡ false
     → new ≡ all_dark (record old.core { pool = slice_set pool n false; cache = after_start old.core.cache disk }) → Darkens old (state device new)

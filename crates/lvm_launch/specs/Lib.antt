@@ -1,1 +1,2 @@
+pub mod handed
 pub mod Launching

@@ -5,6 +5,7 @@ mod copying;
 mod data;
 mod launch;
 mod loading;
+pub mod lower;
 mod noting;
 
 pub use copying::{read_copy, write_copy};

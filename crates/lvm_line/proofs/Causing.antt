@@ -24,12 +24,12 @@ use Rattle.lvm_core.specs.declared.refused.Cause.{Cause}
 use Rattle.lvm_core.specs.declared.refused.Cause.TheVariants as cause
 use Rattle.lvm_core.specs.declared.refused.Refused.{Refused}
 use Rattle.lvm_session.specs.State.{Core}
-use Rattle.lvm_copy_lines.specs.passed.Group.{NewGroup, RefusesFirst, Refuses as MkvgRefuses}
-use Rattle.lvm_copy_lines.specs.passed.Varyon.{Refuses as VaryonRefuses}
+use Rattle.lvm_copy_lines.specs.passed.Group.{NewGroup, RefusesFirst, MkvgRefuses}
+use Rattle.lvm_copy_lines.specs.passed.Varyon.{VaryonRefuses}
 use Rattle.lvm_copy_lines.proofs.passed.Quiesce.{quiet_is_ahead, ends_only}
 use Rattle.lvm_copy_lines.proofs.passed.Varyon.{failed_rose}
 use Rattle.lvm_line.specs.Causes.{HasCause, HasFailed, IsBroughtBack, RoseOn, VaryonLaw, disk_of}
-use Rattle.lvm_copy_lines.specs.passed.Stage.{patience_of_line, IsBetween, IsRelit, refusal_of, Shows, InFull, WithoutMemory, State, log_with, Refusal}
+use Rattle.lvm_copy_lines.specs.passed.Stage.{patience_of_line, IsBetween, IsRelit, refusal_of, Shows, InFull, WithoutMemory, ScriptState, log_with, Refusal}
 use Rattle.lvm_copy_lines.specs.passed.DiskLines.{refusal_by, NoWriteWhileOn, WriteGoes, NoReadWhileOn, ReadGoes, NotThere, NotPlanned, IsArranged}
 use Rattle.lvm_copy_lines.specs.passed.DiskLines.{CutNotPlanned, PowerIsCut}
 use Rattle.lvm_copy_lines.specs.passed.GroupLines.{Brings, IsLeft, asked_for, itself, outcome_of, NoVaryonWhileOn, Varies, NoMemoryForLine}
@@ -66,7 +66,7 @@ pub record Stopped (read : Result (Option Command) Misfit) (why : Cause) (moment
   pub back : (seen : ℕ) → why ≡ cause.ClockBack seen → moment ≤ seen
   pub unwritten : (have total : ℕ) → why ≡ cause.NoQuorum have total → left.wrote ≡ old.wrote
 
-known_by : (read : Result (Option Command) Misfit) (why : Cause) (old new : State) (left : Device) → IsOther read → Stopped read why new.last old.moment.device left → CauseRose patience_of_line old.moment.device.counts left.counts why → new.moment.device.counts ≡ left.counts
+known_by : (read : Result (Option Command) Misfit) (why : Cause) (old new : ScriptState) (left : Device) → IsOther read → Stopped read why new.last old.moment.device left → CauseRose patience_of_line old.moment.device.counts left.counts why → new.moment.device.counts ≡ left.counts
     → new.moment.device.wrote ≡ left.wrote → new.session ≡ None → Known read (refusal_of why) old new
 known_by read (cause.NoQuorum have total) old new left plain stopped rose counts wrote off = record { cause = has_by read _ old new plain tt; off = λ is. off; unwritten = λ have1 total1 is. wrote ∙ stopped.unwritten have total refl }
 known_by read (cause.ClockBack seen) old new left plain stopped rose counts wrote off = record { cause = has_by read (refusal.ClockBack seen) old new plain (stopped.back seen refl); off = λ is. off; unwritten = λ have total is. absurd (cc (is)) }
@@ -161,7 +161,7 @@ mkvg_judged force name mib disks moment room log old left is why (WentQuiet may 
 
 -- ---- lines that bring a group on
 
-varyon_known : (log : Log) (room : Room) (name : List ℕ) (why : Refusal) (old new : State)
+varyon_known : (log : Log) (room : Room) (name : List ℕ) (why : Refusal) (old new : ScriptState)
     → Brings (λ moment outcome. VaryonOnceQuiet itself (log_with log old.moment.facts) name moment room patience_of_line old.moment.device outcome) old new (reply.Refused why) → Known (Ok (Some (command.Varyon name))) why old new
 varyon_known log room name why old new brings = by brings.given brings.gives brings.rose brings.left
   where
@@ -173,7 +173,7 @@ varyon_known log room name why old new brings = by brings.given brings.gives bri
         (known_by (Ok (Some (command.Varyon name))) reason old new brings.shelf tt (varyon_judged name new.last room (log_with log old.moment.facts) old.moment.device brings.shelf brings.history reason gives) rose
         (counts_lit reason brings.shelf new.moment.device left.lit) (wrote_lit reason brings.shelf new.moment.device left.lit) left.after)
 
-mkvg_known : (log : Log) (room : Room) (force : Bool) (name : List ℕ) (mib : Option ℕ) (disks : List ℕ) (why : Refusal) (old new : State)
+mkvg_known : (log : Log) (room : Room) (force : Bool) (name : List ℕ) (mib : Option ℕ) (disks : List ℕ) (why : Refusal) (old new : ScriptState)
     → Brings (λ moment outcome. MkvgOnceQuiet itself (asked_for name mib disks force moment) room patience_of_line (log_with log old.moment.facts) old.moment.device outcome) old new (reply.Refused why) → Known (Ok (Some (command.Mkvg force name mib disks))) why old new
 mkvg_known log room force name mib disks why old new brings = by brings.given brings.gives brings.rose brings.left
   where
@@ -204,7 +204,7 @@ read_named log disk at count old new why gives d is =
     disk_named (λ left mid new given. ReadsAtRest log disk at count left mid new given) log disk at count old new d (λ left mid goes. goes.ends.cause.0)
     (subst (λ (w : RawFault). ReadOnceQuiet log disk at count patience_of_line old new (Err w)) is gives)
 
-module _ (read : Result (Option Command) Misfit) (plain : IsOther read) (disk : ℕ) (its : disk_of read ≡ Some disk) (missed : (d : ℕ) (a b : Counts) → Rose (a.misses d) (b.misses d) → HasFailed read d a b) (old new : State) (off : new.session ≡ None) where
+module _ (read : Result (Option Command) Misfit) (plain : IsOther read) (disk : ℕ) (its : disk_of read ≡ Some disk) (missed : (d : ℕ) (a b : Counts) → Rose (a.misses d) (b.misses d) → HasFailed read d a b) (old new : ScriptState) (off : new.session ≡ None) where
   on_disk : (a b : ℕ → ℕ) → Rose (a disk) (b disk) → RoseOn (disk_of read) a b
   on_disk a b rose = subst (λ (d : Option ℕ). RoseOn d a b) (sym its) rose
 
@@ -223,11 +223,11 @@ module _ (read : Result (Option Command) Misfit) (plain : IsOther read) (disk : 
 -- ---- lines
 
 -- the lines of a listing are no refusal, but for want of memory
-of_shows : (read : Result (Option Command) Misfit) (text : List ℕ) (why : Refusal) (old new : State) → IsOther read → Shows text (reply.Refused why) → Known read why old new
+of_shows : (read : Result (Option Command) Misfit) (text : List ℕ) (why : Refusal) (old new : ScriptState) → IsOther read → Shows text (reply.Refused why) → Known read why old new
 of_shows read text why old new plain (InFull is) = absurd (cc (is))
 of_shows read text why old new plain (WithoutMemory is) = by_reply read why refusal.Memory old new is (easy read refusal.Memory old new (has_by read refusal.Memory old new plain tt) (λ e. cc) (λ h t e. cc))
 
-pub known : (log : Log) (room : Room) (read : Result (Option Command) Misfit) (why : Refusal) (old new : State) → IsBetween old.moment old.session old.posts → LineDoes log room read old new (reply.Refused why) → Known read why old new
+pub known : (log : Log) (room : Room) (read : Result (Option Command) Misfit) (why : Refusal) (old new : ScriptState) → IsBetween old.moment old.session old.posts → LineDoes log room read old new (reply.Refused why) → Known read why old new
 known log room (Err misfit) why old new between does = by_reply _ why (refusal.BadLine misfit.column) old new does.0 (easy _ (refusal.BadLine misfit.column) old new tt (λ e. cc) (λ h t e. cc))
 known log room (Ok None) why old new between does = absurd (let e = does.0 in cc (e))
 known log room (Ok (Some (command.Mkvg force name mib disks))) why old new between (NoMemoryForLine off is asked) = by_reply _ why refusal.Memory old new is (easy _ refusal.Memory old new tt (λ e. cc) (λ h t e. cc))
@@ -300,15 +300,15 @@ known log room (Ok (Some (command.Heal disk))) why old new between (IsArranged t
 known log room (Ok (Some (command.Cut word))) why old new between (CutNotPlanned unplanned is) = by_reply _ why refusal.NoPlan old new is.0 (easy _ refusal.NoPlan old new tt (λ e. cc) (λ h t e. cc))
 known log room (Ok (Some (command.Cut word))) why old new between (PowerIsCut planned is cut) = absurd (cc (is))
 
-pub has_cause : (log : Log) (room : Room) (read : Result (Option Command) Misfit) (why : Refusal) (old new : State) → IsBetween old.moment old.session old.posts → LineDoes log room read old new (reply.Refused why) → HasCause read why old new
+pub has_cause : (log : Log) (room : Room) (read : Result (Option Command) Misfit) (why : Refusal) (old new : ScriptState) → IsBetween old.moment old.session old.posts → LineDoes log room read old new (reply.Refused why) → HasCause read why old new
 has_cause log room read why old new between does = (known log room read why old new between does).cause
 
-pub nothing_written : (log : Log) (room : Room) (read : Result (Option Command) Misfit) (have total : ℕ) (old new : State) → IsBetween old.moment old.session old.posts → LineDoes log room read old new (reply.Refused (refusal.NoQuorum have total))
+pub nothing_written : (log : Log) (room : Room) (read : Result (Option Command) Misfit) (have total : ℕ) (old new : ScriptState) → IsBetween old.moment old.session old.posts → LineDoes log room read old new (reply.Refused (refusal.NoQuorum have total))
     → new.moment.device.wrote ≡ old.moment.device.wrote
 nothing_written log room read have total old new between does = (known log room read (refusal.NoQuorum have total) old new between does).unwritten have total refl
 
 -- where nothing was heard of a transfer no group is on
-pub stuck_off : (log : Log) (room : Room) (read : Result (Option Command) Misfit) (old new : State) → IsBetween old.moment old.session old.posts → LineDoes log room read old new (reply.Refused refusal.Stuck) → new.session ≡ None
+pub stuck_off : (log : Log) (room : Room) (read : Result (Option Command) Misfit) (old new : ScriptState) → IsBetween old.moment old.session old.posts → LineDoes log room read old new (reply.Refused refusal.Stuck) → new.session ≡ None
 stuck_off log room read old new between does = (known log room read refusal.Stuck old new between does).off refl
 
 pub varyon_restates : VaryonLaw

@@ -6,14 +6,14 @@ use Rattle.lvm_parse.specs.declared.command.Command.TheVariants as command
 use Rattle.lvm_operands.specs.declared.rest.Misfit.{Misfit}
 use Rattle.lvm_session.specs.State.{Core, state}
 use Rattle.lvm_copy_lines.specs.passed.Resync.{AnyFails}
-use Rattle.lvm_copy_lines.specs.passed.Stage.{Refusal, State}
+use Rattle.lvm_copy_lines.specs.passed.Stage.{Refusal, ScriptState}
 use Rattle.lvm_copy_lines.specs.passed.RefusalVariants as refusal
-use Rattle.lvm_turn_losses.specs.Losing.{LostForFaults}
+use Rattle.lvm_copy_lines.specs.handed.Names.{LostForFaults}
 use Rattle.lvm_line.specs.Causes.{CauseOf, HasCause, HasFailed, HasFailedInSession, RangeLineCause, RoseOn, TurnCause, WereLost, disk_of}
 use Rattle.lvm_line.specs.Complete.{CompleteLaw, HasLostVotes, IsOwn, NothingFailed}
 use Rattle.lvm_line.proofs.Causing.{has_cause}
 
-module _ (old new : State) where
+module _ (old new : ScriptState) where
   none_failed : (read : Result (Option Command) Misfit) → NothingFailed read old new → (disk : ℕ) → HasFailed read disk old.moment.device.counts new.moment.device.counts → ⊥
   none_failed (Ok (Some (command.Mkvg force name mib disks))) nothing disk (inl rose) = nothing.misses tt disk rose
   none_failed (Ok (Some (command.Mkvg force name mib disks))) nothing disk (inr rose) = nothing.none.faults disk rose

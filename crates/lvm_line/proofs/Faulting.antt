@@ -19,7 +19,7 @@ use Rattle.lvm_write.proofs.Transfers.{rose_then}
 use Rattle.lvm_disk.proofs.Rising.{rose_before}
 use Rattle.lvm_copy_lines.specs.passed.Driver.{DrainFault}
 use Rattle.lvm_copy_lines.specs.passed.DrainFaultVariants as drain_fault
-use Rattle.lvm_copy_lines.specs.passed.Stage.{IsBetween, Refusal, Reply, patience_of_line, State}
+use Rattle.lvm_copy_lines.specs.passed.Stage.{IsBetween, Refusal, Reply, patience_of_line, ScriptState}
 use Rattle.lvm_copy_lines.specs.passed.RefusalVariants as refusal
 use Rattle.lvm_copy_lines.specs.passed.ReplyVariants as reply
 use Rattle.lvm_copy_lines.specs.passed.VolumeLines.{Drains, IsLeft, IsUndrained, drain_refusal, ends_session, refusal_for}
@@ -27,8 +27,8 @@ use Rattle.lvm_copy_lines.proofs.passed.VolumeLines.{FaultFacts}
 use Rattle.lvm_copy_lines.proofs.passed.Ranges.{off_votes}
 use Rattle.lvm_line.proofs.Knowing.{IsOther, Known, has_by}
 use Rattle.lvm_line.proofs.Turns.{dark_cause, off_cause, stuck_cause}
-use Rattle.lvm_volume_plan.specs.declared.fault.GroupFault.{GroupFault}
-use Rattle.lvm_volume_plan.specs.declared.fault.GroupFault.TheVariants as fault
+use Rattle.lvm_copy_lines.specs.handed.Names.{GroupFault}
+use Rattle.lvm_copy_lines.specs.handed.VolumePlanFaultGroupFault as fault
 
 -- votes that are too few to write are at most half
 at_most_half : (group : Descriptor) (have : ℕ) → IsFalse (is_enough_to_write group have) → 2 * have ≤ total_votes group
@@ -39,11 +39,11 @@ at_most_half group have few = go group.quorum few
     go false is = let none = ltb-false 0 have is in omega (arith, none)
 
 -- what is left has the counts of the shelf
-counts_left : (ends : Bool) (left : Session) (old new : State) → IsLeft ends left old new → new.moment.device.counts ≡ left.device.counts
+counts_left : (ends : Bool) (left : Session) (old new : ScriptState) → IsLeft ends left old new → new.moment.device.counts ≡ left.device.counts
 counts_left true left old new over = ap (λ (d : Device). d.counts) over.lit
 counts_left false left old new stays = ap (λ (d : Device). d.counts) stays.device
 
-none_left : (left : Session) (old new : State) → IsLeft true left old new → new.session ≡ None
+none_left : (left : Session) (old new : ScriptState) → IsLeft true left old new → new.session ≡ None
 none_left left old new over = over.session
 
 -- why the turns before the command have ended is no want of votes for a quorum
@@ -53,7 +53,7 @@ not_counted why (drain_fault.WentOff left all) have total says is = cc (says, is
 not_counted why drain_fault.Stuck have total says is = cc (says, is)
 
 -- the turns before the command have ended for what happened then
-module _ (read : Result (Option Command) Misfit) (old new : State) (core : Core) (other : IsOther read) (between : IsBetween old.moment old.session old.posts) (some : old.session ≡ Some core) where
+module _ (read : Result (Option Command) Misfit) (old new : ScriptState) (core : Core) (other : IsOther read) (between : IsBetween old.moment old.session old.posts) (some : old.session ≡ Some core) where
   why_undrained : (fault : DrainFault) → IsUndrained core old new fault (reply.Refused (drain_refusal fault)) → HasCause read (drain_refusal fault) old new
   why_undrained drain_fault.Dark ends = has_by read refusal.Dark old new other (dark_cause old new core ends.end between ends.runs.leaves ends.sound (ap (λ (d : Device). d.counts) ends.over.lit) ends.fails)
   why_undrained (drain_fault.WentOff have total) ends =
@@ -78,7 +78,7 @@ rose_in_line left a b c few before later =
     subst (λ (n : ℕ). RoseBy n a c) sum (rose_then (patience_of_line - left) left a b c before later)
 
 module _ (read : Result (Option Command) Misfit) (other : IsOther read) (failed : (d : ℕ) (a b : Counts) → Rose (a.faults d) (b.faults d) → HasFailed read d a b) where
-  module _ (old new : State) (core : Core) (patience : ℕ) (mid left : Session) (some : old.session ≡ Some core) (drains : Drains core old patience mid) where
+  module _ (old new : ScriptState) (core : Core) (patience : ℕ) (mid left : Session) (some : old.session ≡ Some core) (drains : Drains core old patience mid) where
     faults_since : (disk : ℕ) (n : Counts) → Rose (mid.device.counts.faults disk) (n.faults disk) → Rose (old.moment.device.counts.faults disk) (n.faults disk)
     faults_since disk n rose = rose_before (drains.runs.leaves.keeps.counts.faults disk) rose
 
@@ -142,6 +142,6 @@ module _ (read : Result (Option Command) Misfit) (other : IsOther read) (failed 
     }
     known_so plain facts leaves = record { cause = has_by read _ old new other tt; off = λ is. absurd (cc (is)); unwritten = λ have total is. absurd (cc (is)) }
 
-  pub known_group : (why : GroupFault) (old new : State) (core : Core) (patience : ℕ) (mid left : Session) → old.session ≡ Some core → Drains core old patience mid → FaultFacts why patience mid left → IsLeft (ends_session why) left old new
+  pub known_group : (why : GroupFault) (old new : ScriptState) (core : Core) (patience : ℕ) (mid left : Session) → old.session ≡ Some core → Drains core old patience mid → FaultFacts why patience mid left → IsLeft (ends_session why) left old new
       → Known read (refusal_for why) old new
   known_group why old new core patience mid left some drains facts leaves = known_so old new core patience mid left some drains why facts leaves

@@ -11,7 +11,7 @@ use Rattle.lvm_parse.specs.Answering.{IsMkvgLine}
 use Rattle.lvm_core.specs.declared.parts.Room.{Room}
 use Rattle.lvm_session.specs.State.{Core}
 use Rattle.lvm_copy_lines.specs.passed.Stage.{CommandEnds, IsAsked, IsLeftBy, is_unheard, GoesOn, InFull, Shows, WithoutMemory, most_refusals, IsBetweenStage, IsFitting}
-use Rattle.lvm_copy_lines.specs.passed.Stage.{history_in, history_of, session_in, shelf_in, session_of, state_in, IsBetween, State, without_facts}
+use Rattle.lvm_copy_lines.specs.passed.Stage.{history_in, history_of, session_in, shelf_in, session_of, state_in, IsBetween, ScriptState, without_facts}
 use Rattle.lvm_copy_lines.specs.passed.Stage.{Holder, Reply, Stage}
 use Rattle.lvm_copy_lines.specs.passed.GroupLines.{MkvgDoes, NoMemoryForLine, NoMkvgWhileOn, DiskShows, DiskOfGroup, GroupShows, GroupThatIsOn}
 use Rattle.lvm_copy_lines.specs.passed.GroupLines.{ListsGroup, ListsMember, ListsVolume, NoGroupForDisk, NoGroupForVolume, NoGroupToList}
@@ -76,14 +76,14 @@ stage_named {S} stage = by stage.holder
     by (holder.Serving driver) = refl
 
 -- what stands before a line
-pub record Before (log : Log) (old : State) : Type 0 where
+pub record Before (log : Log) (old : ScriptState) : Type 0 where
   pub whole : HasSectors old.moment.device
   pub between : IsBetween old.moment old.session old.posts
   pub named : IfSome old.session (λ core. core.history.run ≡ log.run)
 
 -- a line that is read so
 pub line_read :
-    (log : Log) (room : Room) (line : List ℕ) (read : Result (Option Command) Misfit) (answer : Reply) (old new : State) → line_of line ≡ read → LineDoes log room read old new answer → GoesOn log.run (role_of read) answer old new
+    (log : Log) (room : Room) (line : List ℕ) (read : Result (Option Command) Misfit) (answer : Reply) (old new : ScriptState) → line_of line ≡ read → LineDoes log room read old new answer → GoesOn log.run (role_of read) answer old new
     → ((IsOrder read → ⊥) → new.moment.device.orders ≡ old.moment.device.orders) → Before log old → IsLine log room line answer old new
 line_read log room line read answer old new is does goes orders before = record {
   does = subst (λ (r : Result (Option Command) Misfit). LineDoes log room r old new answer) (sym is) does;
@@ -96,19 +96,19 @@ line_read log room line read answer old new is does goes orders before = record 
 
 -- a line that changes nothing
 pub line_still :
-    (log : Log) (room : Room) (line : List ℕ) (read : Result (Option Command) Misfit) (answer : Reply) (old new : State) → line_of line ≡ read → LineDoes log room read old new answer → most_refusals answer ≤ 1 → new ≡ old → Before log old
+    (log : Log) (room : Room) (line : List ℕ) (read : Result (Option Command) Misfit) (answer : Reply) (old new : ScriptState) → line_of line ≡ read → LineDoes log room read old new answer → most_refusals answer ≤ 1 → new ≡ old → Before log old
     → IsLine log room line answer old new
 line_still log room line read answer old new is does one same before =
-    line_read log room line read answer old new is does (same_goes log.run (role_of read) answer old new before.between one same) (λ no_order. ap (λ (s : State). s.moment.device.orders) same) before
+    line_read log room line read answer old new is does (same_goes log.run (role_of read) answer old new before.between one same) (λ no_order. ap (λ (s : ScriptState). s.moment.device.orders) same) before
 
 -- a line for which no memory was found, while a group is on or none is
 pub line_unread :
-    (log : Log) (room : Room) (line : List ℕ) (answer : Reply) (old new : State) → IsMkvgLine (line_of line) → (IsSome old.session → answer ≡ reply.Refused refusal.GroupOn) → (old.session ≡ None → answer ≡ reply.Refused refusal.Memory) → IsAsked old new
+    (log : Log) (room : Room) (line : List ℕ) (answer : Reply) (old new : ScriptState) → IsMkvgLine (line_of line) → (IsSome old.session → answer ≡ reply.Refused refusal.GroupOn) → (old.session ≡ None → answer ≡ reply.Refused refusal.Memory) → IsAsked old new
     → Before log old → IsLine log room line answer old new
 line_unread log room line answer old new mkvg on off asked before = record {
   does = of_mkvg (line_of line) mkvg;
   goes = asked_goes log.run (role_of (line_of line)) answer old new before.between (one old.session refl) asked;
-  orders = λ no_order. ap (λ (s : State). s.moment.device.orders) asked.same;
+  orders = λ no_order. ap (λ (s : ScriptState). s.moment.device.orders) asked.same;
   whole = before.whole;
   between = before.between;
   named = before.named;
@@ -136,7 +136,7 @@ pub asked_so : (read other : Result (Option Command) Misfit) (before after : ℕ
 asked_so read other before after is so = subst (λ (r : Result (Option Command) Misfit). after ≡ asked_after r before) (sym is) so
 
 -- a command that is this one
-pub of_command : (log : Log) (room : Room) (it other : Command) (old new : State) (answer : Reply) → it ≡ other → CommandDoes log room other old new answer → CommandDoes log room it old new answer
+pub of_command : (log : Log) (room : Room) (it other : Command) (old new : ScriptState) (answer : Reply) → it ≡ other → CommandDoes log room other old new answer → CommandDoes log room it old new answer
 of_command log room it other old new answer is does = subst (λ (c : Command). CommandDoes log room c old new answer) (sym is) does
 
 -- so it ends,

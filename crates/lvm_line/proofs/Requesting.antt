@@ -8,7 +8,7 @@ use Rattle.lvm_session.specs.declared.answers.Turned.{Turned}
 use Rattle.lvm_session.specs.declared.answers.Turned.TheVariants as turned
 use Rattle.lvm_session.specs.Calls.{has_numbers}
 use Rattle.lvm_session.specs.State.{Core, State as Session, votes_there}
-use Rattle.lvm_turn_losses.proofs.Votes.{votes_go}
+use Rattle.lvm_copy_lines.proofs.handed.Names.{votes_go}
 use Rattle.lvm_posts.specs.declared.asked.Asked.{Asked}
 use Rattle.lvm_posts.specs.declared.fault.RangeFault.{RangeFault}
 use Rattle.lvm_posts.specs.declared.fault.RangeFault.TheVariants as fault
@@ -17,13 +17,9 @@ use Rattle.lvm_copy_lines.specs.passed.AskRangeFaultVariants as ask
 use Rattle.lvm_copy_lines.specs.Resyncing.{IsSynced, NoGroupForSync, NoVolumeForSync, NothingSyncs, OtherGroupForSync, SyncGroupDoes, SyncVolumeDoes, SyncsGroup, SyncsVolume, sync_reply}
 use Rattle.lvm_copy_lines.specs.passed.Resync.{Copy, SyncCause, SyncFault, group_copies, group_fault, volume_copies, volume_fault}
 use Rattle.lvm_copy_lines.specs.passed.SyncFaultVariants as sync
-use Rattle.lvm_copy_lines.specs.passed.RangeLines.{FailsBy, FailsIf, LeavesBy, StopsAs, session_over}
-use Rattle.lvm_copy_lines.specs.passed.RangeLines.{Tells, TellsAll, TellsNone, Ending, ask_refusal, range_refusal, EndsWell, Fails, IsFinished}
-use Rattle.lvm_copy_lines.specs.passed.RangeLines.{Finishes, NoMemory, NotBegun, NotPosted, NotThere, OnVolume, Posted, Posts, PostDoes, RdDoes}
-use Rattle.lvm_copy_lines.specs.passed.RangeLines.{ShowsBlocks, ShowsThem, There, WhileOff, WrDoes, NoStepWhileOff, NothingMoves, StepDoes, Steps}
-use Rattle.lvm_copy_lines.specs.passed.RangeLines.{step_reply}
+use Rattle.lvm_copy_lines.specs.passed.RangeLines.{FailsBy, FailsIf, LeavesBy, StopsAs, session_over, Tells, TellsAll, TellsNone, Ending, ask_refusal, range_refusal, EndsWell, Fails, IsFinished, Finishes, NoMemory, NotBegun, NotPosted, NotThere, OnVolume, Posted, Posts, PostDoes, RdDoes, ShowsBlocks, ShowsThem, There, WhileOff, WrDoes, NoStepWhileOff, NothingMoves, StepDoes, Steps, step_reply}
 use Rattle.lvm_copy_lines.specs.passed.RangeLinesWaiting.{AtRest, Awaits, Goes, InVain, Over, WaitDoes, WaitEnds, WhileOff as WaitsWhileOff}
-use Rattle.lvm_copy_lines.specs.passed.Stage.{InFull, IsBetween, Shows, WithoutMemory, State, Refusal, Reply, is_unheard}
+use Rattle.lvm_copy_lines.specs.passed.Stage.{InFull, IsBetween, Shows, WithoutMemory, ScriptState, Refusal, Reply, is_unheard}
 use Rattle.lvm_copy_lines.specs.passed.RefusalVariants as refusal
 use Rattle.lvm_copy_lines.specs.passed.ReplyVariants as reply
 use Rattle.lvm_copy_lines.proofs.passed.Ranges.{off_votes}
@@ -31,33 +27,33 @@ use Rattle.lvm_line.specs.Causes.{TurnCause}
 use Rattle.lvm_line.proofs.Turns.{dark_cause, failed_cause, fails_counts, leaves_counts, off_cause, over_counts, stuck_cause}
 
 -- what has happened for it; no group is on where nothing was heard of a transfer; and it isn't that votes are lacking for a quorum
-pub record Told (why : Refusal) (old new : State) : Type 0 where
+pub record Told (why : Refusal) (old new : ScriptState) : Type 0 where
   pub cause : TurnCause why old new
   pub off : why ≡ refusal.Stuck → new.session ≡ None
   pub counted : (have total : ℕ) → why ≡ refusal.NoQuorum have total → ⊥
 
-told_by : (why other : Refusal) (old new : State) → reply.Refused why ≡ reply.Refused other → Told other old new → Told why old new
+told_by : (why other : Refusal) (old new : ScriptState) → reply.Refused why ≡ reply.Refused other → Told other old new → Told why old new
 told_by why other old new is told = subst (λ (r : Refusal). Told r old new) (cc (is)) told
 
-told_easy : (why : Refusal) (old new : State) → TurnCause why old new → (why ≡ refusal.Stuck → ⊥) → ((have total : ℕ) → why ≡ refusal.NoQuorum have total → ⊥) → Told why old new
+told_easy : (why : Refusal) (old new : ScriptState) → TurnCause why old new → (why ≡ refusal.Stuck → ⊥) → ((have total : ℕ) → why ≡ refusal.NoQuorum have total → ⊥) → Told why old new
 told_easy why old new cause stuck counted = record { cause = cause; off = λ is. absurd (stuck is); counted = counted }
 
-told_ask : (why : AskRangeFault) (old new : State) → Told (ask_refusal why) old new
+told_ask : (why : AskRangeFault) (old new : ScriptState) → Told (ask_refusal why) old new
 told_ask ask.NoVolume old new = told_easy _ old new tt (λ e. cc) (λ h t e. cc)
 told_ask _ old new = told_easy _ old new tt (λ e. cc) (λ h t e. cc)
 
-told_of : (answers : List Ending) (why : Refusal) (old new : State) → Tells answers (reply.Refused why) → Told why old new
+told_of : (answers : List Ending) (why : Refusal) (old new : ScriptState) → Tells answers (reply.Refused why) → Told why old new
 told_of answers why old new (TellsAll is) = absurd (cc (is))
 told_of answers why old new (TellsNone is) = told_by why refusal.Memory old new is (told_easy refusal.Memory old new tt (λ e. cc) (λ h t e. cc))
 
-volume_told : (name : List ℕ) (Happens : Core → ℕ → Type 0) (why : Refusal) (old new : State) → ((core : Core) (lv : ℕ) → old.session ≡ Some core → Happens core lv → Told why old new) → OnVolume name Happens old new (reply.Refused why)
+volume_told : (name : List ℕ) (Happens : Core → ℕ → Type 0) (why : Refusal) (old new : ScriptState) → ((core : Core) (lv : ℕ) → old.session ≡ Some core → Happens core lv → Told why old new) → OnVolume name Happens old new (reply.Refused why)
     → Told why old new
 volume_told name Happens why old new told (WhileOff off is) = told_by why refusal.NoGroup old new is.0 (told_easy refusal.NoGroup old new tt (λ e. cc) (λ h t e. cc))
 volume_told name Happens why old new told (NotThere core some none is) = told_by why refusal.NoVolume old new is.0 (told_easy refusal.NoVolume old new tt (λ e. cc) (λ h t e. cc))
 volume_told name Happens why old new told (There core lv some its happens) = told core lv some happens
 
 -- a line over a state that stands between lines
-module _ (old new : State) (between : IsBetween old.moment old.session old.posts) where
+module _ (old new : ScriptState) (between : IsBetween old.moment old.session old.posts) where
   -- ---- rd and wr
 
   module _ (write : Option ℕ) (Says : Session → Asked → Reply → Type 0) (lv at count : ℕ) (core : Core) (some : old.session ≡ Some core) (end : Session) (asked : Asked) where

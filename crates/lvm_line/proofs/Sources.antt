@@ -14,7 +14,7 @@ use Rattle.lvm_copy_lines.specs.passed.Ranges.{AskRangeFault, RangeCause}
 use Rattle.lvm_copy_lines.specs.passed.AskRangeFaultVariants as ask
 use Rattle.lvm_copy_lines.specs.passed.RangeLines.{EndsWell, Fails, FailsBy, Finishes, IsFinished, NoMemory, NotBegun, NotThere, OnVolume, RdDoes, ShowsBlocks, ShowsThem, There, WhileOff, WrDoes}
 use Rattle.lvm_copy_lines.specs.passed.RangeLines.{ask_refusal, range_refusal, session_over}
-use Rattle.lvm_copy_lines.specs.passed.Stage.{InFull, Refusal, Reply, Shows, State, WithoutMemory}
+use Rattle.lvm_copy_lines.specs.passed.Stage.{InFull, Refusal, Reply, Shows, ScriptState, WithoutMemory}
 use Rattle.lvm_copy_lines.specs.passed.RefusalVariants as refusal
 use Rattle.lvm_copy_lines.specs.passed.ReplyVariants as reply
 use Rattle.lvm_line.specs.Causes.{LackedSource, RangeLineCause, TurnCause}
@@ -28,7 +28,7 @@ never_asked _ lp e = cc e
 as_refused : (why other : Refusal) (lp : ℕ) → reply.Refused why ≡ reply.Refused other → why ≡ refusal.NoFresh lp → other ≡ refusal.NoFresh lp
 as_refused why other lp says is = cc (says, is)
 
-module _ (old new : State) (name : List ℕ) (lp : ℕ) where
+module _ (old new : ScriptState) (name : List ℕ) (lp : ℕ) where
   module _ (write : Option ℕ) (Says : Session → Asked → Reply → Type 0) (why : Refusal) (is_so : why ≡ refusal.NoFresh lp) (never : (end : Session) (asked : Asked) → Says end asked (reply.Refused why) → ⊥) (at count : ℕ) where
     lacked : (core : Core) (lv : ℕ) → old.session ≡ Some core → IsNumberOf core.descriptor.lvs name lv → (end : Session) (asked : Asked) (failed : RangeFault) → IsFinished write lv at count core old new end asked (Err failed)
         → range_refusal failed ≡ refusal.NoFresh lp → LackedSource name lp old new
@@ -70,6 +70,6 @@ module _ (old new : State) (name : List ℕ) (lp : ℕ) where
   wr_lacks at count word why is_so does = volume_lacks (Some word) (λ end asked says. says ≡ reply.Ok) why is_so (λ end asked e. cc e) at count does
 
 -- what a line of a range is refused for, where that is no want of a source, and what is lacking where it is
-pub range_line_cause : (name : List ℕ) (old new : State) (why : Refusal) → TurnCause why old new → ((lp : ℕ) → why ≡ refusal.NoFresh lp → LackedSource name lp old new) → RangeLineCause name why old new
+pub range_line_cause : (name : List ℕ) (old new : ScriptState) (why : Refusal) → TurnCause why old new → ((lp : ℕ) → why ≡ refusal.NoFresh lp → LackedSource name lp old new) → RangeLineCause name why old new
 range_line_cause name old new (refusal.NoFresh lp) cause lacks = lacks lp refl
 range_line_cause name old new why cause lacks = cause

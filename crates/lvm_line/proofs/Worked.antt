@@ -8,7 +8,7 @@ use Rattle.lvm_vol.specs.Log.{Log}
 use Rattle.lvm_operands.specs.Reading.{ends, operand}
 use Rattle.lvm_parse.specs.Grammar.{line_of}
 use Rattle.lvm_copy_lines.specs.passed.RangeLines.{NoStepWhileOff}
-use Rattle.lvm_copy_lines.specs.passed.Stage.{IsBetween, Reply, State}
+use Rattle.lvm_copy_lines.specs.passed.Stage.{IsBetween, Reply, ScriptState}
 use Rattle.lvm_copy_lines.specs.passed.RefusalVariants as refusal
 use Rattle.lvm_copy_lines.specs.passed.ReplyVariants as reply
 use Rattle.lvm_copy_lines.proofs.passed.Stage.{same_goes}
@@ -21,7 +21,7 @@ none = record { starts = λ disk. 0; misses = λ disk. 0; faults = λ disk. 0; c
 abbrev bare : Device
 bare = record { sizes = 8192 ∷ []; media = None; flights = []; freed = []; power = true; counts = none; arranges = false; orders = record { made = 0; last = None }; wrote = None }
 
-abbrev off : State
+abbrev off : ScriptState
 off = record { moment = record { device = bare; facts = [] }; session = None; posts = []; last = 0 }
 
 abbrev answer : Reply

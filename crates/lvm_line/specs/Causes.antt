@@ -12,7 +12,7 @@ use Rattle.lvm_core.specs.Looking.{IsNumberOf}
 use Rattle.lvm_session.specs.Causes.{AnyFailedSince, was_usable}
 use Rattle.lvm_session.specs.Judging.{copies_in, is_missing}
 use Rattle.lvm_session.specs.State.{Core, state}
-use Rattle.lvm_turn_losses.specs.Losing.{LostForFaults}
+use Rattle.lvm_copy_lines.specs.handed.Names.{LostForFaults}
 use Rattle.lvm_num.specs.declared.descriptor.Descriptor.{Descriptor}
 use Rattle.lvm_num.specs.Descriptor.{is_member}
 use Rattle.lvm_disk.specs.Device.{Device}
@@ -23,7 +23,7 @@ use Rattle.lvm_copy_lines.specs.passed.Driver.{DrainFault}
 use Rattle.lvm_copy_lines.specs.passed.Ranges.{AnyFailed}
 use Rattle.lvm_copy_lines.specs.passed.Resync.{AnyFails}
 use Rattle.lvm_copy_lines.specs.passed.VolumeLines.{IsUndrained}
-use Rattle.lvm_copy_lines.specs.passed.Stage.{patience_of_line, State, IsTimely, Refusal}
+use Rattle.lvm_copy_lines.specs.passed.Stage.{patience_of_line, ScriptState, IsTimely, Refusal}
 use Rattle.lvm_line.specs.Lines.{IsLine}
 use Rattle.lvm_copy_lines.specs.passed.RefusalVariants as refusal
 use Rattle.lvm_copy_lines.specs.passed.ReplyVariants as reply
@@ -47,7 +47,7 @@ HasFailed (Ok (Some (command.RawWr on at count word))) disk old new = Rose (old.
 HasFailed other disk old new = Rose (old.faults disk) (new.faults disk)
 
 -- a transfer has failed since of a member of the group that was on, which wasn't missing then
-pub record HasLostMember (old : State) (new : Counts) : Type 0 where
+pub record HasLostMember (old : ScriptState) (new : Counts) : Type 0 where
   pub core : Core
   pub on : old.session ≡ Some core
   pub disk : ℕ
@@ -56,25 +56,25 @@ pub record HasLostMember (old : State) (new : Counts) : Type 0 where
   pub failed : Rose (old.moment.device.counts.faults disk) (new.faults disk)
 
 -- The turns before the command ended for that.
-pub record WasUndrained (why : Refusal) (old new : State) : Type 0 where
+pub record WasUndrained (why : Refusal) (old new : ScriptState) : Type 0 where
   pub core : Core
   pub fault : DrainFault
   pub on : old.session ≡ Some core
   pub ends : IsUndrained core old new fault (reply.Refused why)
 
 -- a transfer has failed since the session began that was on, and its votes were lost before the line, or one has failed in it
-pub record HasFailedInSession (old new : State) : Type 0 where
+pub record HasFailedInSession (old new : ScriptState) : Type 0 where
   pub core : Core
   pub on : old.session ≡ Some core
   pub failed : AnyFailedSince (state new.moment.device core)
   pub lost : LostForFaults (state old.moment.device core) (state new.moment.device core)
 
 -- the votes were lost with a transfer that failed in the line, or the turns before the command ended for them, which were lost before the line or so
-abbrev pub WereLost : Refusal → State → State → Type 0
+abbrev pub WereLost : Refusal → ScriptState → ScriptState → Type 0
 WereLost why old new = HasLostMember old new.moment.device.counts ⊎ (WasUndrained why old new × HasFailedInSession old new)
 
 -- a transfer has failed in the line; of a disk that isn't on the shelf, which a session can't count, since the session began that was on
-pub record HasFailedAsCounted (old new : State) : Type 0 where
+pub record HasFailedAsCounted (old new : ScriptState) : Type 0 where
   pub core : Core
   pub on : old.session ≡ Some core
   pub failed : AnyFails (state old.moment.device core) (state new.moment.device core)
@@ -82,7 +82,7 @@ pub record HasFailedAsCounted (old new : State) : Type 0 where
 -- Transfers of the line's disk have failed; the votes that are left are at most half, and a transfer of a member has failed, or, where the turns before the command
 -- ended for that, they were lost before, or some transfer has failed; the power was cut; the shelf waited a million times; transfers of the disk that is named have
 -- failed; or the clock's moment isn't later than the one that is told. For the other refusals nothing has to have happened.
-abbrev pub CauseOf : Result (Option Command) Misfit → Refusal → State → State → Type 0
+abbrev pub CauseOf : Result (Option Command) Misfit → Refusal → ScriptState → ScriptState → Type 0
 CauseOf read refusal.Lost old new = RoseOn (disk_of read) old.moment.device.counts.faults new.moment.device.counts.faults
 CauseOf read refusal.ReadFailed old new = RoseOn (disk_of read) old.moment.device.counts.faults new.moment.device.counts.faults
 CauseOf read (refusal.WentOff have total) old new = (2 * have ≤ total) × WereLost (refusal.WentOff have total) old new
@@ -95,7 +95,7 @@ CauseOf read other old new = Unit {0}
 
 -- What a line of requests is refused for: the power was cut; the shelf waited a million times; the votes that are left are at most half, and were lost before the
 -- line, or a transfer has failed in it; or a transfer has failed in the line. For the other refusals nothing has to have happened.
-abbrev pub TurnCause : Refusal → State → State → Type 0
+abbrev pub TurnCause : Refusal → ScriptState → ScriptState → Type 0
 TurnCause refusal.Dark old new = Rose old.moment.device.counts.cuts new.moment.device.counts.cuts
 TurnCause refusal.Stuck old new = RoseBy patience_of_line old.moment.device.counts.waits new.moment.device.counts.waits
 TurnCause (refusal.WentOff have total) old new = (2 * have ≤ total) × HasFailedInSession old new
@@ -106,7 +106,7 @@ TurnCause (refusal.DiskFailed disk) old new = ⊥
 TurnCause other old new = Unit {0}
 
 -- in the session that was on a transfer has failed since it began, or no copy of the logical partition of the volume of this name could be used then
-pub record LackedSource (name : List ℕ) (lp : ℕ) (old new : State) : Type 0 where
+pub record LackedSource (name : List ℕ) (lp : ℕ) (old new : ScriptState) : Type 0 where
   pub core : Core
   pub on : old.session ≡ Some core
   pub lv : ℕ
@@ -114,12 +114,12 @@ pub record LackedSource (name : List ℕ) (lp : ℕ) (old new : State) : Type 0 
   pub lacks : AnyFailedSince (state new.moment.device core) ⊎ (list_any (was_usable core) (copies_in core.descriptor lv lp) ≡ false)
 
 -- So it is of a line that reads or writes the volume of this name, which is refused for want of a source where that was lacking.
-abbrev pub RangeLineCause : List ℕ → Refusal → State → State → Type 0
+abbrev pub RangeLineCause : List ℕ → Refusal → ScriptState → ScriptState → Type 0
 RangeLineCause name (refusal.NoFresh lp) old new = LackedSource name lp old new
 RangeLineCause name why old new = TurnCause why old new
 
 -- so it is of each line that makes requests or turns, and of each other as above
-abbrev pub HasCause : Result (Option Command) Misfit → Refusal → State → State → Type 0
+abbrev pub HasCause : Result (Option Command) Misfit → Refusal → ScriptState → ScriptState → Type 0
 HasCause (Ok (Some (command.Rd name at count))) why old new = RangeLineCause name why old new
 HasCause (Ok (Some (command.Wr name at count word))) why old new = RangeLineCause name why old new
 HasCause (Ok (Some (command.Post name at count word))) why old new = TurnCause why old new
@@ -131,7 +131,7 @@ HasCause read why old new = CauseOf read why old new
 
 -- Within each line that is refused for what its shelf or the clock did, that has happened.
 abbrev pub CauseLaw : Type 0
-CauseLaw = (log : Log) (room : Room) (line : List ℕ) (why : Refusal) (old new : State) → IsLine log room line (reply.Refused why) old new → HasCause (line_of line) why old new
+CauseLaw = (log : Log) (room : Room) (line : List ℕ) (why : Refusal) (old new : ScriptState) → IsLine log room line (reply.Refused why) old new → HasCause (line_of line) why old new
 
 -- The records of the group stand again, and where no volume of it is in mode passive it is recovered.
 pub record IsBroughtBack (old new : Device) (group : Descriptor) : Type 0 where
@@ -142,9 +142,9 @@ pub record IsBroughtBack (old new : Device) (group : Descriptor) : Type 0 where
 -- moments rise; from the shelf on which the transfers of before have ended.
 abbrev pub VaryonLaw : Type 0
 VaryonLaw =
-    (log : Log) (room : Room) (line name : List ℕ) (old new : State) → line_of line ≡ Ok (Some (command.Varyon name)) → IsLine log room line reply.Ok old new → IsTimely log.run old
+    (log : Log) (room : Room) (line name : List ℕ) (old new : ScriptState) → line_of line ≡ Ok (Some (command.Varyon name)) → IsLine log room line reply.Ok old new → IsTimely log.run old
     → (core : Core) × (new.session ≡ Some core) × ((quiet : Device) × Quiesces old.moment.device quiet × IsBroughtBack quiet new.moment.device core.descriptor)
 
 -- Where the quorum is lacking nothing was written.
 abbrev pub NoQuorumLaw : Type 0
-NoQuorumLaw = (log : Log) (room : Room) (line : List ℕ) (have total : ℕ) (old new : State) → IsLine log room line (reply.Refused (refusal.NoQuorum have total)) old new → new.moment.device.wrote ≡ old.moment.device.wrote
+NoQuorumLaw = (log : Log) (room : Room) (line : List ℕ) (have total : ℕ) (old new : ScriptState) → IsLine log room line (reply.Refused (refusal.NoQuorum have total)) old new → new.moment.device.wrote ≡ old.moment.device.wrote

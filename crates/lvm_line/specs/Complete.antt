@@ -10,7 +10,7 @@ use Rattle.lvm_core.specs.declared.parts.Room.{Room}
 use Rattle.lvm_session.specs.Enabled.{is_lost}
 use Rattle.lvm_session.specs.State.{Core, state}
 use Rattle.lvm_copy_lines.specs.passed.Resync.{AnyFails}
-use Rattle.lvm_copy_lines.specs.passed.Stage.{Refusal, State, patience_of_line}
+use Rattle.lvm_copy_lines.specs.passed.Stage.{Refusal, ScriptState, patience_of_line}
 use Rattle.lvm_copy_lines.specs.passed.RefusalVariants as refusal
 use Rattle.lvm_copy_lines.specs.passed.ReplyVariants as reply
 use Rattle.lvm_line.specs.Lines.{IsLine}
@@ -30,20 +30,20 @@ TellsOfReads other = ⊥
 
 -- So it is between the states of a line, nor has a read of records failed of which that tells; and of a disk that isn't on the shelf, which a session can't count,
 -- no transfer has failed since that began which was on.
-pub record NothingFailed (read : Result (Option Command) Misfit) (old new : State) : Type 0 where
+pub record NothingFailed (read : Result (Option Command) Misfit) (old new : ScriptState) : Type 0 where
   pub none : NoneRose old.moment.device.counts new.moment.device.counts
   pub misses : TellsOfReads read → (disk : ℕ) → Rose (old.moment.device.counts.misses disk) (new.moment.device.counts.misses disk) → ⊥
   pub seen : IfSome old.session (λ (core : Core). AnyFails (state old.moment.device core) (state new.moment.device core) → ⊥)
 
 -- the votes of the session that is on are lost
-pub record HasLostVotes (s : State) : Type 0 where
+pub record HasLostVotes (s : ScriptState) : Type 0 where
   pub core : Core
   pub on : s.session ≡ Some core
   pub lost : is_lost core ≡ true
 
 -- A refusal by what is asked for, by the records and the session that are there, or for want of memory, and for nothing that a shelf did in the line; so it counts
 -- here that the votes were lost before, those that are left being at most half.
-abbrev pub IsOwn : State → Refusal → Type 0
+abbrev pub IsOwn : ScriptState → Refusal → Type 0
 IsOwn old refusal.Dark = ⊥
 IsOwn old refusal.Stuck = ⊥
 IsOwn old refusal.Lost = ⊥
@@ -55,10 +55,10 @@ IsOwn old other = Unit {0}
 
 -- Each line in which nothing failed is refused so alone, if it is.
 abbrev pub CompleteLaw : Type 0
-CompleteLaw = (log : Log) (room : Room) (line : List ℕ) (why : Refusal) (old new : State) → IsLine log room line (reply.Refused why) old new
+CompleteLaw = (log : Log) (room : Room) (line : List ℕ) (why : Refusal) (old new : ScriptState) → IsLine log room line (reply.Refused why) old new
     → NothingFailed (line_of line) old new → IsOwn old why
 
 -- And some line is refused in which nothing failed.
 abbrev pub NothingMayFail : Type 0
 NothingMayFail =
-    (log : Log) (room : Room) → (line : List ℕ) × (why : Refusal) × (old : State) × (new : State) × IsLine log room line (reply.Refused why) old new × NothingFailed (line_of line) old new
+    (log : Log) (room : Room) → (line : List ℕ) × (why : Refusal) × (old : ScriptState) × (new : ScriptState) × IsLine log room line (reply.Refused why) old new × NothingFailed (line_of line) old new

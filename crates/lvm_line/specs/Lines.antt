@@ -10,7 +10,7 @@ use Rattle.lvm_operands.specs.declared.rest.Misfit.{Misfit}
 use Rattle.lvm_parse.specs.Grammar.{line_of}
 use Rattle.lvm_core.specs.declared.parts.Room.{Room}
 use Rattle.lvm_copy_lines.specs.passed.DiskLines.{ReadDoes, WriteDoes, ArrangeDoes, CutDoes}
-use Rattle.lvm_copy_lines.specs.passed.Stage.{CommandEnds, GoesOn, Role, Aside, OfGroup, OfGroupWhere, OfRequests, IsRefused, IsStuck, IsBetween, State, Reply}
+use Rattle.lvm_copy_lines.specs.passed.Stage.{CommandEnds, GoesOn, Role, Aside, OfGroup, OfGroupWhere, OfRequests, IsRefused, IsStuck, IsBetween, ScriptState, Reply}
 use Rattle.lvm_copy_lines.specs.passed.Stage.{IsFitting, IsLeftBy, Stage, history_in, state_in, without_facts}
 use Rattle.lvm_line.specs.declared.line.InPlace.{InPlace}
 use Rattle.lvm_line.specs.declared.line.InPlace.TheVariants as in_place
@@ -25,11 +25,11 @@ use Rattle.lvm_copy_lines.specs.passed.RefusalVariants as refusal
 use Rattle.lvm_copy_lines.specs.passed.ReplyVariants as reply
 
 -- a listing leaves the whole state
-abbrev pub IsListed : State → State → Type 0 → Type 0
+abbrev pub IsListed : ScriptState → ScriptState → Type 0 → Type 0
 IsListed old new Shows = Shows × (new ≡ old)
 
 -- what a command does
-abbrev pub CommandDoes : Log → Room → Command → State → State → Reply → Type 0
+abbrev pub CommandDoes : Log → Room → Command → ScriptState → ScriptState → Reply → Type 0
 CommandDoes log room (command.Mkvg force name mib disks) old new answer = MkvgDoes log room force name mib disks old new answer
 CommandDoes log room (command.Varyon name) old new answer = VaryonDoes log room name old new answer
 CommandDoes log room (command.Varyoff name) old new answer = VaryoffDoes name old new answer
@@ -54,7 +54,7 @@ CommandDoes log room (command.Heal disk) old new answer = ArrangeDoes disk (arra
 CommandDoes log room (command.Cut word) old new answer = CutDoes log word old new answer
 
 -- what a line does that is read so: a line without a word, and a remark, do nothing
-abbrev pub LineDoes : Log → Room → Result (Option Command) Misfit → State → State → Reply → Type 0
+abbrev pub LineDoes : Log → Room → Result (Option Command) Misfit → ScriptState → ScriptState → Reply → Type 0
 LineDoes log room (Ok None) old new answer = (answer ≡ reply.Silent) × (new ≡ old)
 LineDoes log room (Ok (Some c)) old new answer = CommandDoes log room c old new answer
 LineDoes log room (Err misfit) old new answer = IsRefused (refusal.BadLine misfit.column) answer old new
@@ -105,7 +105,7 @@ pub record CommandIsDone {S : Type 0} (device : S → Device) (room : Room) (c :
   pub asked : now ≡ asked_after (Ok (Some c)) asks
 
 -- A line joins two states, of a session of this run, and of a shelf whose sectors are 512 bytes each. Before it nothing stands against it.
-pub record IsLine (log : Log) (room : Room) (line : List ℕ) (answer : Reply) (old new : State) : Type 0 where
+pub record IsLine (log : Log) (room : Room) (line : List ℕ) (answer : Reply) (old new : ScriptState) : Type 0 where
   pub does : LineDoes log room (line_of line) old new answer
   pub goes : GoesOn log.run (role_of (line_of line)) answer old new
   pub orders : (IsOrder (line_of line) → ⊥) → new.moment.device.orders ≡ old.moment.device.orders

@@ -27,7 +27,7 @@ use Rattle.lvm_session.specs.State.{Core, State}
 use Rattle.lvm_session.specs.Turns.{Finds, FindsNothing, TurnMakes}
 use Rattle.lvm_keeps.proofs.Small.{not_so}
 use Rattle.lvm_keeps_turn.specs.Turning.{is_last}
-use Rattle.lvm_keeps_events.proofs.Standing.{never_stands_still}
+use Rattle.lvm_keeps_turn.proofs.handed.Names.{never_stands_still}
 use Rattle.lvm_keeps_turn.specs.Telling.{IsStill, TurnTells, power_by}
 use Rattle.lvm_keeps_turn.proofs.Stepping.{turn_counts}
 use Rattle.lvm_keeps_turn.proofs.Telling.{turn_tells}
@@ -37,7 +37,7 @@ use Rattle.lvm_load.specs.declared.totals.Totals.{Totals}
 use Rattle.lvm_load.specs.Ends.{AreUnbegun, HasCauses, Over, Precedes, Refused, Waited}
 use Rattle.lvm_load.specs.Requests.{ask_of, bytes_of, word_of}
 use Rattle.lvm_load.specs.Totals.{entries_since, totals_of}
-use Rattle.lvm_load.specs.Weaving.{AsksDrawn, Draws, FinishesBy, Names, NoTurn, NoWord, NoneDrawn, OneDrawn, OneTurn, OneWord, PassesOn, TakesWhere, Turns, Unheard, Weaves, Weaving, client_at, first_weaving, fresh_clients, goes_on, has_open, idle_after, is_unheard, may_land, open_of}
+use Rattle.lvm_load.specs.Weaving.{AsksDrawn, Draws, FinishesBy, Names, NoTurn, NoWord, NoneDrawn, OneDrawn, OneTurn, OneWord, PassesOn, TakesWhere, Turns, Unheard, Weaves, Weaving, client_at, first_weaving, fresh_clients, goes_on, has_open, idle_after, is_unheard, might_have_landed, open_of}
 use Rattle.lvm_load.proofs.Gaining.{Gains, begun_since, gains_none, gains_then, submit_gains, taken_one, turns_gain}
 use Rattle.lvm_load.specs.Waiting.{AreWaiting, waits_for}
 use Rattle.lvm_load.proofs.Waiting.{asks_wait, behind_waits, fresh_wait, left_by_each}
@@ -158,7 +158,7 @@ record Behind (mid new : State) (after : List Client) : Type 0 where
   pub power : new.core.power ≡ mid.core.power
   pub device : new.device ≡ mid.device
 
-behind : (old mid new : State) (clients after : List Client) (answer : Turned) → AreWaiting old.core clients → TurnMakes old mid answer → (b : Bool) → may_land old mid answer ≡ b → TakesWhere b mid new clients after → Behind mid new after
+behind : (old mid new : State) (clients after : List Client) (answer : Turned) → AreWaiting old.core clients → TurnMakes old mid answer → (b : Bool) → might_have_landed old mid answer ≡ b → TakesWhere b mid new clients after → Behind mid new after
 behind old mid new clients after answer waiting made true may takes =
     let each = left_by_each mid clients (length clients) new after takes in
     record { waiting = behind_waits old mid new clients after answer waiting made true may takes; any = each.any; power = each.power; device = each.device }
@@ -174,7 +174,7 @@ module _ (first old new : State) (clients after : List Client) (idle idle1 : ℕ
   tells = turn_tells old made.mid made.sound made.answer made.made
 
   taken_so : Behind made.mid new after
-  taken_so = behind old made.mid new clients after made.answer so_far.waiting made.made (may_land old made.mid made.answer) refl made.takes
+  taken_so = behind old made.mid new clients after made.answer so_far.waiting made.made (might_have_landed old made.mid made.answer) refl made.takes
 
   counted : first.device.counts.waits ≤ made.mid.device.counts.waits
   counted = let le = so_far.later in let more = (turn_counts old made.mid made.answer made.made).waits in omega (arith, le, more)

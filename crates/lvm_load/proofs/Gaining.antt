@@ -22,13 +22,13 @@ use Rattle.lvm_session.specs.Dark.{landings}
 use Rattle.lvm_session.specs.Judging.{is_waiting}
 use Rattle.lvm_session.specs.State.{Core, State}
 use Rattle.lvm_session.specs.Turns.{Darkens, FinishMakes, Finishes, GoesOff, Makes, Moves, NoStart, OnMakes, TurnMakes, WasDark, WasOff, WasOn}
-use Rattle.lvm_tie.proofs.Histories.{ends_history}
+use Rattle.lvm_driver.proofs.handed.Names.{ends_history}
 use Rattle.lvm_draws.specs.Draws.{draw_at}
 use Rattle.lvm_load.specs.declared.client.Client.{Client}
 use Rattle.lvm_load.specs.declared.totals.Kind.TheVariants as kind
 use Rattle.lvm_load.specs.Requests.{ask_of, bytes_of, word_of}
 use Rattle.lvm_load.specs.Totals.{entries_since, is_of}
-use Rattle.lvm_load.specs.Weaving.{Draws, FinishesBy, NextClient, NoClient, NoTurn, NoWord, NoneDrawn, NoneOpen, OneDrawn, OneTurn, OneWord, PassesOn, Takes, TakesEach, TakesFor, TakesWhere, Turns, Unheard, Waits, Weaves, Weaving, may_land}
+use Rattle.lvm_load.specs.Weaving.{Draws, FinishesBy, NextClient, NoClient, NoTurn, NoWord, NoneDrawn, NoneOpen, OneDrawn, OneTurn, OneWord, PassesOn, Takes, TakesEach, TakesFor, TakesWhere, Turns, Unheard, Waits, Weaves, Weaving, might_have_landed}
 
 -- a request begins by it
 abbrev pub begins : Fact → Bool
@@ -167,7 +167,7 @@ where_gains false old new clients after still = same_core old.core new.core (ap 
 
 pub turns_gain : (old new : State) (clients after : List Client) (idle idle1 : ℕ) → Turns old new clients after idle idle1 → Gains 0 old.core.history.facts new.core.history.facts
 turns_gain old new clients after idle idle1 made =
-    gains_then 0 0 old.core.history.facts made.mid.core.history.facts new.core.history.facts (turn_gains old made.mid made.answer made.made) (where_gains (may_land old made.mid made.answer) made.mid new clients after made.takes)
+    gains_then 0 0 old.core.history.facts made.mid.core.history.facts new.core.history.facts (turn_gains old made.mid made.answer made.made) (where_gains (might_have_landed old made.mid made.answer) made.mid new clients after made.takes)
 
 -- ---- by a request
 

@@ -1,5 +1,5 @@
 -- While one request lands, all others wait.
-use Rattle.std.proofs.Common.{◌≡◌, ◌<◌, ◌+◌, ◌==◌, ◌&&◌, ◌||◌, ◌++◌, ℕ, suc, Bool, true, false, cond, not, List, [], ◌∷◌, length, Option, Some, None, slice_get, refl, sym, ap, ◌∙◌, subst, arith}
+use Rattle.std.proofs.Common.{◌≡◌, ◌≤◌, ◌<◌, ◌+◌, ◌-◌, ◌==◌, ◌&&◌, ◌||◌, ◌++◌, ℕ, zero, suc, Bool, true, false, cond, not, List, [], ◌∷◌, length, Option, Some, None, slice_get, refl, sym, ap, ◌∙◌, subst, arith}
 use Rattle.std.specs.Prelude.{MatchOption, is_none, nat_lt, position, unwrap_or}
 use Rattle.std.specs.List.{AllByRecursion, find, list_any, position_or_len}
 use Rattle.std.specs.Option.{option_map_or}
@@ -26,7 +26,7 @@ use Rattle.lvm_keeps.proofs.Lists.{all_at, any_set}
 use Rattle.lvm_keeps_turn.specs.Turning.{is_last}
 use Rattle.lvm_load.specs.declared.client.Client.{Client}
 use Rattle.lvm_load.specs.Waiting.{AreWaiting, AreWaitingBut, OthersWait, landed_by, waits_for}
-use Rattle.lvm_load.specs.Weaving.{NoneOpen, TakesFor, Waits, open_of}
+use Rattle.lvm_load.specs.Weaving.{NextClient, NoneOpen, TakesEach, TakesFor, Waits, open_of}
 use Rattle.lvm_load.proofs.Waiting.{Goes, LeftBy, One, Still, left_by, turn_goes}
 
 -- ---- a request that waits isn't answered yet
@@ -110,6 +110,29 @@ still_waits k id s clients sound waiting not = by (open_of clients k) refl
     by (Some other) is =
         let waits = waiting k other is (λ same. not (is ∙ ap (λ (n : ℕ). Some n) same)) in
         Waits other is (not_yet s.core (k + 1) other sound.told.table.ascending waits) refl refl
+
+-- so is none of those from one on, up to another
+pub others_on : (clients : List Client) (from k id : ℕ) → ((j : ℕ) → from ≤ j → j < k → open_of clients j ≡ Some id → ⊥) → (open_of clients k ≡ Some id → ⊥)
+    → (j : ℕ) → from ≤ j → j < k + 1 → open_of clients j ≡ Some id → ⊥
+others_on clients from k id before not j low high has = by (k == j) refl
+  where
+    by : (b : Bool) → (k == j) ≡ b → ⊥
+    by true is = not (ap (open_of clients) (eqb-true k j is) ∙ has)
+    by false is = before j low (let apart = eqb-false k j is in omega (arith, high, apart)) has
+
+module _ (first s : State) (clients now : List Client) (id : ℕ) (sound : IsSound s) (waiting : AreWaitingBut id s.core now) where
+  so_many : (n from : ℕ) → ((k : ℕ) → from ≤ k → k < from + n → open_of now k ≡ Some id → ⊥) → TakesEach first clients from s now → TakesEach first clients (from + n) s now
+  so_many zero from others each = let same : from ≡ from + 0 = omega arith in subst (λ (m : ℕ). TakesEach first clients m s now) same each
+  so_many (suc n) from others each =
+      let one : TakesEach first clients (from + 1) s now = NextClient each (still_waits from id s now sound waiting (others from (omega arith) (omega arith))) in
+      let same : from + 1 + n ≡ from + suc n = omega arith in
+      subst (λ (m : ℕ). TakesEach first clients m s now) same (so_many n (from + 1) (λ k low high. others k (omega (arith, low)) (omega (arith, high))) one)
+
+  -- those between wait
+  pub all_wait : (from to : ℕ) → from ≤ to → ((k : ℕ) → from ≤ k → k < to → open_of now k ≡ Some id → ⊥) → TakesEach first clients from s now → TakesEach first clients to s now
+  all_wait from to le others each =
+      let same : from + (to - from) ≡ to = omega (arith, le) in
+      subst (λ (m : ℕ). TakesEach first clients m s now) same (so_many (to - from) from (λ k low high. others k low (omega (arith, high, le))) each)
 
 -- all others wait when it is
 pub others_left : (k id : ℕ) (old new : State) (clients after : List Client) → AreWaitingBut id old.core clients → TakesFor k old new clients after → AreWaitingBut id new.core after

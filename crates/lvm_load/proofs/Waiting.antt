@@ -39,7 +39,7 @@ use Rattle.lvm_keeps_turn.proofs.Frames.{copy_stays, marked_stays, note_stays, s
 use Rattle.lvm_load.specs.declared.client.Client.{Client}
 use Rattle.lvm_load.specs.Requests.{ask_of, bytes_of, word_of}
 use Rattle.lvm_load.specs.Waiting.{AreWaiting, waits_for}
-use Rattle.lvm_load.specs.Weaving.{AsksDrawn, Names, NextClient, NoClient, NoneOpen, Takes, TakesEach, TakesFor, TakesWhere, Turns, Waits, Weaving, drew, fresh_clients, may_land, open_of, opened_by}
+use Rattle.lvm_load.specs.Weaving.{AsksDrawn, Names, NextClient, NoClient, NoneOpen, Takes, TakesEach, TakesFor, TakesWhere, Turns, Waits, Weaving, drew, fresh_clients, might_have_landed, open_of, opened_by}
 
 -- ---- a turn
 
@@ -132,7 +132,7 @@ pub record LeftBy (k : ℕ) (old new : State) (clients after : List Client) : Ty
   pub power : new.core.power ≡ old.core.power
   pub device : new.device ≡ old.device
 
-never_yet : (how : Outcome) (place count : ℕ) → taken.NotYet ≡ taken_as how place count → ⊥
+pub never_yet : (how : Outcome) (place count : ℕ) → taken.NotYet ≡ taken_as how place count → ⊥
 never_yet outcome.Done place count e = absurd (cc e)
 never_yet outcome.Got place count e = absurd (cc e)
 never_yet outcome.Lost place count e = absurd (cc e)
@@ -142,10 +142,18 @@ never_yet outcome.Off place count e = absurd (cc e)
 never_yet outcome.Dark place count e = absurd (cc e)
 
 -- the request that is found at a place is the one that is asked for
-found : (client id : ℕ) (os : List Open) (place : ℕ) (o : Open) → position (is_asked client id) os ≡ Some place → slice_get os place ≡ Some o → is_asked client id o ≡ true
+pub found : (client id : ℕ) (os : List Open) (place : ℕ) (o : Open) → position (is_asked client id) os ≡ Some place → slice_get os place ≡ Some o → is_asked client id o ≡ true
 found client id os place o is there =
     let it = position-Some (is_asked client id) os place o is in
     ap (is_asked client id) (sym (get_or_from_slice_get os place o o there)) ∙ it.1
+
+-- another client's request isn't this one
+pub not_its : (k id : ℕ) (o : Open) (j id1 : ℕ) → (j ≡ k → ⊥) → is_asked (k + 1) id o ≡ true → is_asked (j + 1) id1 o ≡ false
+not_its k id o j id1 beside asks = by_test (o.request.client == (j + 1)) refl (eqb-true o.request.client (k + 1) (both (o.request.client == (k + 1)) (o.request.id == id) asks).0)
+  where
+    by_test : (b : Bool) → (o.request.client == (j + 1)) ≡ b → o.request.client ≡ k + 1 → is_asked (j + 1) id1 o ≡ false
+    by_test true is client = absurd (beside (let own = eqb-true o.request.client (j + 1) is in omega (arith, own, client)))
+    by_test false is client = ap (λ b. b && (o.request.id == id1)) is
 
 -- one that is there, and so
 any_there : {A : Type 0} (t : A → Bool) (xs : List A) (k : ℕ) (x : A) → slice_get xs k ≡ Some x → t x ≡ true → list_any t xs ≡ true
@@ -200,23 +208,13 @@ module _ (k : ℕ) (old new : State) (clients after : List Client) where
       others : (j : ℕ) → (j ≡ k → ⊥) → open_of after j ≡ open_of clients j
       others j beside = ap (λ (cs : List Client). open_of cs j) put ∙ open_beside clients k j (record c { request = None }) beside
 
-      -- another client's request isn't this one
-      not_its : (o : Open) (j id1 : ℕ) → (j ≡ k → ⊥) → is_asked (k + 1) id o ≡ true → waits_for (j + 1) id1 o ≡ false
-      not_its o j id1 beside asks =
-          let client : o.request.client ≡ k + 1 = eqb-true o.request.client (k + 1) (both (o.request.client == (k + 1)) (o.request.id == id) asks).0 in
-          by_test (o.request.client == (j + 1)) refl client
-        where
-          by_test : (b : Bool) → (o.request.client == (j + 1)) ≡ b → o.request.client ≡ k + 1 → waits_for (j + 1) id1 o ≡ false
-          by_test true is client = absurd (beside (let own = eqb-true o.request.client (j + 1) is in omega (arith, own, client)))
-          by_test false is client = ap (λ b. (b && (o.request.id == id1)) && is_waiting o) is
-
       at_place : (place : ℕ) (o : Open) → position (is_asked (k + 1) id) old.core.requests ≡ Some place → slice_get old.core.requests place ≡ Some o → (l : Option Outcome) → o.landed ≡ l → TakesLanded old.core new.core place o how l → LeftBy k old new clients after
       at_place place o at here None waits takes = absurd (other takes.0)
       at_place place o at here (Some so) landed takes = record {
         own = own;
         others = others;
         waiting = λ j id1 beside. ap (λ (c : Core). list_any (waits_for (j + 1) id1) c.requests) takes.1
-            ∙ any_removed (waits_for (j + 1) id1) old.core.requests place o here (not_its o j id1 beside (found (k + 1) id old.core.requests place o at here));
+            ∙ any_removed (waits_for (j + 1) id1) old.core.requests place o here (ap (λ b. b && is_waiting o) (not_its k id o j id1 beside (found (k + 1) id old.core.requests place o at here)));
         any = ap (λ (c : Core). list_any is_waiting c.requests) takes.1 ∙ any_removed is_waiting old.core.requests place o here (ap is_none landed);
         power = ap (λ (c : Core). c.power) takes.1;
         device = shelf;
@@ -282,7 +280,7 @@ neither true b is = absurd (cc is)
 neither false b is = (refl, is)
 
 -- so behind a turn, whether what has landed is taken or nothing has
-pub behind_waits : (old mid new : State) (clients after : List Client) (answer : Turned) → AreWaiting old.core clients → TurnMakes old mid answer → (b : Bool) → may_land old mid answer ≡ b → TakesWhere b mid new clients after
+pub behind_waits : (old mid new : State) (clients after : List Client) (answer : Turned) → AreWaiting old.core clients → TurnMakes old mid answer → (b : Bool) → might_have_landed old mid answer ≡ b → TakesWhere b mid new clients after
     → AreWaiting new.core after
 behind_waits old mid new clients after answer waiting made true may takes k id has = all_waiting mid new clients after (left_by_each mid clients (length clients) new after takes) k id has
 behind_waits old mid new clients after answer waiting made false may still k id has =
@@ -291,12 +289,32 @@ behind_waits old mid new clients after answer waiting made false may still k id 
     ap (λ (s : State). list_any (waits_for (k + 1) id) s.core.requests) still.0 ∙ same (k + 1) id ∙ waiting k id (ap (λ (cs : List Client). open_of cs k) (sym still.1) ∙ has)
 
 pub turn_waits : (old new : State) (clients after : List Client) (idle idle1 : ℕ) → AreWaiting old.core clients → Turns old new clients after idle idle1 → AreWaiting new.core after
-turn_waits old new clients after idle idle1 waiting turns = behind_waits old turns.mid new clients after turns.answer waiting turns.made (may_land old turns.mid turns.answer) refl turns.takes
+turn_waits old new clients after idle idle1 waiting turns = behind_waits old turns.mid new clients after turns.answer waiting turns.made (might_have_landed old turns.mid turns.answer) refl turns.takes
 
 -- ---- a request is drawn
 
 pub named_free : (first new : Weaving) (k : ℕ) → Names first new k → open_of new.clients k ≡ None
 named_free first new k names = ap (λ (w : Weaving). open_of w.clients k) names.is ∙ names.free
+
+module _ (lv blocks k : ℕ) (g : Lcg) (old new : State) (clients after : List Client) (more : Bool) (free : open_of clients k ≡ None) (asks : AsksDrawn lv blocks k g old new clients after more) where
+  pub here : open_of after k ≡ opened_by asks.client.request asks.answer
+  here = ap (λ (cs : List Client). open_of cs k) asks.after_is ∙ open_here clients k (drew asks.client (opened_by asks.client.request asks.answer)) asks.client asks.client_is
+
+  pub beside : (j : ℕ) → (j ≡ k → ⊥) → open_of after j ≡ open_of clients j
+  beside j other = ap (λ (cs : List Client). open_of cs j) asks.after_is ∙ open_beside clients k j (drew asks.client (opened_by asks.client.request asks.answer)) other
+
+  pub none_before : asks.client.request ≡ None
+  none_before = sym (ap (λ (m : Option Client). option_map_or (λ (c : Client). c.request) m None) asks.client_is) ∙ free
+
+  -- where the request isn't taken the same are open
+  pub unmoved : (why : AskFault) → asks.answer ≡ Err why → (j : ℕ) → open_of after j ≡ open_of clients j
+  unmoved why is j = by (j == k) refl
+    where
+      by : (b : Bool) → (j == k) ≡ b → open_of after j ≡ open_of clients j
+      by true at =
+          let it : k ≡ j = sym (eqb-true j k at) in
+          subst (λ n. open_of after n ≡ open_of clients n) it (here ∙ ap (opened_by asks.client.request) is ∙ none_before ∙ sym free)
+      by false at = beside j (eqb-false j k at)
 
 module _ (lv blocks k : ℕ) (g : Lcg) (old new : State) (clients after : List Client) (more : Bool) (waiting : AreWaiting old.core clients) (free : open_of clients k ≡ None) (asks : AsksDrawn lv blocks k g old new clients after more) where
   abbrev ask : Ask
@@ -305,27 +323,10 @@ module _ (lv blocks k : ℕ) (g : Lcg) (old new : State) (clients after : List C
   abbrev bytes : Option (List ℕ)
   bytes = bytes_of (word_of (k + 1) asks.client.offset) blocks (draw_at g)
 
-  here : open_of after k ≡ opened_by asks.client.request asks.answer
-  here = ap (λ (cs : List Client). open_of cs k) asks.after_is ∙ open_here clients k (drew asks.client (opened_by asks.client.request asks.answer)) asks.client asks.client_is
-
-  beside : (j : ℕ) → (j ≡ k → ⊥) → open_of after j ≡ open_of clients j
-  beside j other = ap (λ (cs : List Client). open_of cs j) asks.after_is ∙ open_beside clients k j (drew asks.client (opened_by asks.client.request asks.answer)) other
-
-  none_before : asks.client.request ≡ None
-  none_before = sym (ap (λ (m : Option Client). option_map_or (λ (c : Client). c.request) m None) asks.client_is) ∙ free
-
   -- nothing changes
   refused : (why : AskFault) → asks.answer ≡ Err why → new.core ≡ old.core → AreWaiting new.core after
-  refused why is same j id has = ap (λ (c : Core). list_any (waits_for (j + 1) id) c.requests) same ∙ waiting j id (sym unmoved ∙ has)
-    where
-      by : (b : Bool) → (j == k) ≡ b → open_of after j ≡ open_of clients j
-      by true at =
-          let it : k ≡ j = sym (eqb-true j k at) in
-          subst (λ n. open_of after n ≡ open_of clients n) it (here ∙ ap (opened_by asks.client.request) is ∙ none_before ∙ sym free)
-      by false at = beside j (eqb-false j k at)
-
-      unmoved : open_of after j ≡ open_of clients j
-      unmoved = by (j == k) refl
+  refused why is same j id has =
+      ap (λ (c : Core). list_any (waits_for (j + 1) id) c.requests) same ∙ waiting j id (sym (unmoved lv blocks k g old new clients after more free asks why is j) ∙ has)
 
   -- one waits more
   taken_in : asks.answer ≡ Ok (next_id old.core.history) → new.core ≡ submitted old.core (k + 1) ask bytes → AreWaiting new.core after
@@ -337,7 +338,7 @@ module _ (lv blocks k : ℕ) (g : Lcg) (old new : State) (clients after : List C
       by : (b : Bool) → (j == k) ≡ b → list_any (waits_for (j + 1) id) new.core.requests ≡ true
       by true at =
           let it : j ≡ k = eqb-true j k at in
-          let e : Some (next_id old.core.history) ≡ Some id = sym (here ∙ ap (opened_by asks.client.request) is) ∙ subst (λ n. open_of after n ≡ Some id) it has in
+          let e : Some (next_id old.core.history) ≡ Some id = sym (here lv blocks k g old new clients after more free asks ∙ ap (opened_by asks.client.request) is) ∙ subst (λ n. open_of after n ≡ Some id) it has in
           let number : next_id old.core.history ≡ id = cc e in
           behind_them
           ∙ ap (λ b. list_any (waits_for (j + 1) id) old.core.requests || (((b && (next_id old.core.history == id)) && true) || false)) (eq-eqb (k + 1) (j + 1) (omega (arith, it)))
@@ -345,7 +346,7 @@ module _ (lv blocks k : ℕ) (g : Lcg) (old new : State) (clients after : List C
           ∙ or_right (list_any (waits_for (j + 1) id) old.core.requests) true refl
       by false at =
           behind_them
-          ∙ ap (λ b. b || (((((k + 1) == (j + 1)) && (next_id old.core.history == id)) && true) || false)) (waiting j id (sym (beside j (eqb-false j k at)) ∙ has))
+          ∙ ap (λ b. b || (((((k + 1) == (j + 1)) && (next_id old.core.history == id)) && true) || false)) (waiting j id (sym (beside lv blocks k g old new clients after more free asks j (eqb-false j k at)) ∙ has))
 
   -- a client that has none open asks
   pub asks_wait : AreWaiting new.core after

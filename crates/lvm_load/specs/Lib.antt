@@ -1,4 +1,5 @@
 pub mod Ends
+pub mod Leaving
 pub mod Requests
 pub mod Totals
 pub mod Waiting

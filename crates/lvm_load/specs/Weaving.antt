@@ -63,18 +63,18 @@ abbrev pub TakesWhere : Bool → State → State → List Client → List Client
 TakesWhere true old new clients after = TakesEach old clients (length clients) new after
 TakesWhere false old new clients after = (new ≡ old) × (after ≡ clients)
 
--- answers may have landed in a turn: the history has grown in it, or the session is over
-abbrev pub may_land : State → State → Turned → Bool
-may_land old new answer = nat_lt (length old.core.history.facts) (length new.core.history.facts) || is_last answer
+-- answers might have landed in a turn: the history has grown in it, or the session is over
+abbrev pub might_have_landed : State → State → Turned → Bool
+might_have_landed old new answer = nat_lt (length old.core.history.facts) (length new.core.history.facts) || is_last answer
 
--- A turn of a sound session is made, and where answers may have landed in it those that have are taken.
+-- A turn of a sound session is made, and where answers might have landed in it those that have are taken.
 pub record Turns (old new : State) (clients after : List Client) (idle idle1 : ℕ) : Type 0 where
   pub sound : IsSound old
   pub mid : State
   pub answer : Turned
   pub made : TurnMakes old mid answer
   pub idle_is : idle1 ≡ idle_after answer idle
-  pub takes : TakesWhere (may_land old mid answer) mid new clients after
+  pub takes : TakesWhere (might_have_landed old mid answer) mid new clients after
 
 -- no more turns than this are made before one submits, or a million have moved nothing
 abbrev pub turns_left : Core → ℕ → ℕ

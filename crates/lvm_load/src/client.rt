@@ -1,15 +1,14 @@
 //! Clients whose requests one thread submits, and whose answers it takes.
-ghost use Rattle.std.specs.Prelude.{◌≡◌, ◌≤◌, ◌<◌, ◌+◌, ◌-◌, ◌*◌, ◌^◌, ◌||◌, ◌==◌, false, nat_lt, length, vec_capacity};
+ghost use Rattle.std.specs.Prelude.{◌≡◌, ◌≤◌, ◌<◌, ◌+◌, ◌-◌, ◌*◌, ◌^◌, ◌||◌, ◌==◌, ℕ, Some, false, nat_lt, length, vec_capacity};
 ghost use Rattle.std.specs.Option.{option_map_or};
 ghost use Rattle.lvm_session.specs.declared.open.Power.TheVariants as power;
 ghost use Rattle.lvm_session.specs.Left.{left_of};
-ghost use Rattle.lvm_session.specs.Sound.{IsSound};
 ghost use Rattle.lvm_keeps_turn.specs.Turning.{is_last};
-ghost use Rattle.lvm_running.specs.Running.{RunsOn};
+ghost use Rattle.lvm_driver.specs.handed.Names.{RunsOn};
 ghost use Rattle.lvm_driver.specs.Answers.{state_of};
 ghost use Rattle.lvm_draws.specs.Draws.{after_draw};
 ghost use Rattle.lvm_load.specs.Waiting.{AreWaiting, AreWaitingBut, OthersWait, landed_by};
-ghost use Rattle.lvm_load.specs.Weaving.{AsksDrawn, TakesFor, TakesEach, Turns, goes_on, idle_after, turns_left};
+ghost use Rattle.lvm_load.specs.Weaving.{AsksDrawn, TakesFor, TakesEach, Turns, goes_on, idle_after, open_of, turns_left};
 
 use crate::request::submit_drawn;
 use lvm_disk::Shelf;
@@ -66,19 +65,18 @@ fn has_asked(client: &Client, id: u64) -> bool
     }
 }
 
-// Takes the answer of a client's open request, where it is this one and has landed. Any other one waits.
-fn take_this<S: Shelf>(driver: &mut Driver<S>, clients: &mut [Client], k: u32, id: u64)
-    requires within { k < length clients.old }
-    requires few { length clients.old ≤ 64 }
-    requires waiting { AreWaitingBut id driver.old.1 clients.old }
-    ensures takes { TakesFor k (state_of S.device driver.old) (state_of S.device driver.new) clients.old clients.new }
-    ensures waiting { AreWaitingBut id driver.new.1 clients.new }
-    ensures runs { RunsOn (state_of S.device driver.old) (state_of S.device driver.new) }
+// From one client on, a place up to which none has this request open.
+fn next_asker(clients: &[Client], from: u32, id: u64) -> u32
+    requires few { length clients.now ≤ 64 }
+    requires from { from ≤ length clients.now }
+    ensures within { (from ≤ result) × (result ≤ length clients.now) }
+    ensures others { (k : ℕ) → from ≤ k → k < result → open_of clients.now k ≡ Some id → ⊥ }
 {
-    is_sound(driver);
-    if has_asked(&clients[k as usize], id) {
-        take(driver, clients, k);
+    let mut k = from;
+    while k < clients.len() as u32 && !has_asked(&clients[k as usize], id) {
+        k += 1;
     }
+    k
 }
 
 // Takes the answer of this request where it has landed. All others wait.
@@ -88,8 +86,13 @@ fn take_only<S: Shelf>(driver: &mut Driver<S>, clients: &mut [Client], id: u64)
     ensures takes { TakesEach (state_of S.device driver.old) clients.old (length clients.old) (state_of S.device driver.new) clients.new }
     ensures runs { RunsOn (state_of S.device driver.old) (state_of S.device driver.new) }
 {
-    for k in 0..clients.len() as u32 {
-        take_this(driver, clients, k, id);
+    driver.is_sound();
+    let count = clients.len() as u32;
+    let mut k = next_asker(clients, 0, id);
+    while k < count {
+        take(driver, clients, k);
+        driver.is_sound();
+        k = next_asker(clients, k + 1, id);
     }
 }
 
@@ -147,18 +150,11 @@ fn is_last(answer: Turned) -> bool
     }
 }
 
-// Whether answers may have landed in a turn: the history has grown in it, or the session is over.
-fn may_land(before: u32, after: u32, answer: Turned) -> bool
+// Whether answers might have landed in a turn: the history has grown in it, or the session is over.
+fn might_have_landed(before: u32, after: u32, answer: Turned) -> bool
     ensures { result ≡ (nat_lt before after || is_last answer) }
 {
     before < after || is_last(answer)
-}
-
-/// The session of a driver is sound.
-pub(crate) fn is_sound<S: Shelf>(driver: &Driver<S>)
-    ensures { IsSound (state_of S.device driver.now) }
-{
-    let _ = driver.power();
 }
 
 /// Makes a turn, and takes what has landed.
@@ -171,11 +167,11 @@ pub(crate) fn turn<S: Shelf>(driver: &mut Driver<S>, clients: &mut [Client], idl
     ensures less { turns_left driver.new.1 idle.new < turns_left driver.old.1 idle.old }
     ensures runs { RunsOn (state_of S.device driver.old) (state_of S.device driver.new) }
 {
-    is_sound(driver);
+    driver.is_sound();
     let before = driver.history().len();
     let answer = driver.turn();
     *idle = idle_after(answer, *idle);
-    if may_land(before, driver.history().len(), answer) {
+    if might_have_landed(before, driver.history().len(), answer) {
         take_behind(driver, clients, before, answer);
     }
 }

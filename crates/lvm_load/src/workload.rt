@@ -3,14 +3,14 @@ ghost use Rattle.std.specs.Prelude.{◌≡◌, ◌≤◌, ◌<◌, length, vec_c
 ghost use Rattle.std.specs.List.{list_any};
 ghost use Rattle.lvm_draws.specs.Draws.{seeded};
 ghost use Rattle.lvm_session.specs.declared.open.Power.TheVariants as power;
-ghost use Rattle.lvm_running.specs.Running.{RunsOn};
+ghost use Rattle.lvm_driver.specs.handed.Names.{RunsOn};
 ghost use Rattle.lvm_driver.specs.Answers.{state_of};
 ghost use Rattle.lvm_load.specs.Ends.{HasCauses};
 ghost use Rattle.lvm_load.specs.Totals.{entries_since, totals_of};
 ghost use Rattle.lvm_load.specs.Waiting.{AreWaiting};
 ghost use Rattle.lvm_load.specs.Weaving.{FinishesAll, NamesNext, DrawsAll, Weaves, first_weaving, has_open, weaving};
 
-use crate::client::{Client, ask, is_sound, turn};
+use crate::client::{Client, ask, turn};
 use crate::totals::{Totals, totals_since};
 use lvm_disk::Shelf;
 use lvm_draws::{generator, next_word};
@@ -135,7 +135,7 @@ pub fn weave<S: Shelf>(
     ensures runs { RunsOn (state_of S.device driver.old) (state_of S.device driver.new) }
     ensures room { 131072 ≤ vec_capacity bytes.new }
 {
-    is_sound(driver);
+    driver.is_sound();
     let from = driver.history().len();
     let mut table = [Client {
         request: None,

@@ -1,3 +1,4 @@
+pub mod handed
 pub mod Marking
 mod Places
 mod Sures

@@ -2,6 +2,7 @@
 #![tactic(auto)]
 
 mod due;
+pub mod lower;
 mod wanted;
 
 pub use due::{Due, due_at, mark_due};

@@ -3,3 +3,4 @@ mod Putting
 mod Pieces
 pub mod Laying
 mod GivingUp
+mod MadeSoFar

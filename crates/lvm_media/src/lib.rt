@@ -1,11 +1,13 @@
-//! Disks in memory, and what transfers and power cuts put on a row of them.
+//! Disks in memory, how they are made, and what transfers and power cuts put on a row of them.
 #![tactic(auto)]
 
 mod cutting;
 mod disk;
+mod making;
 mod piece;
 mod row;
 
 pub use cutting::cut_flights;
 pub use disk::Disk;
+pub use making::{blank_disks, image_disks};
 pub use row::{finish_flight, tear_flight};

@@ -1,5 +1,5 @@
 -- A call begins.
-use Rattle.std.proofs.Common.{◌≡◌, ℕ, List, [], ◌∷◌, Bool, true, false, length, drop, Option, Some, None, refl, ◌∙◌, ap, length-set}
+use Rattle.std.proofs.Common.{◌≡◌, ℕ, List, Bool, length, ◌∙◌, ap}
 use Rattle.lvm_faults.specs.Injection.{Injection, due, next_call, begun}
 use Rattle.lvm_num.specs.Buffer.{Sector}
 use Rattle.lvm_disk.specs.Device.{Flight}

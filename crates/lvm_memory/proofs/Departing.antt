@@ -1,13 +1,15 @@
 -- A flight starts in memory.
-use Rattle.std.proofs.Common.{◌≡◌, ◌<◌, ◌≤◌, [], ◌∷◌, ◌++◌, ℕ, List, Bool, true, length, sym, ◌∙◌, ap, subst, arith, length-append}
+use Rattle.std.proofs.Common.{◌≡◌, ◌<◌, ◌≤◌, [], ◌∷◌, ◌++◌, ℕ, List, Bool, true, false, ◌||◌, nat_lt, length, refl, sym, ◌∙◌, ap, subst, arith, length-append}
+use Rattle.std.proofs.lemmas.Bool.Decides.{nat_tests}
 use Rattle.lvm_num.specs.Buffer.{Sector}
 use Rattle.lvm_disk.specs.Device.{Flight}
 use Rattle.lvm_media.specs.Media.{sizes_of}
-use Rattle.lvm_flights.specs.Flights.{Lies, AllLie}
+use Rattle.lvm_flights.specs.Flights.{Lies, AllLie, NoDelays}
 use Rattle.lvm_flights.specs.Tally.{Tallied}
 use Rattle.lvm_faults.specs.Injection.{Injection}
 use Rattle.lvm_memory.specs.Sound.{IsSound}
 use Rattle.lvm_flights.proofs.Starting.{lie_more}
+use Rattle.lvm_flights.proofs.Queues.{none_more}
 
 pub sound_departed :
     (disks : List (List Sector)) (flights more : List Flight) (freed flights_room flights_room1 freed_room : ℕ) (power : Bool) (tally tally1 : Tallied) (injection injection1 : Injection)
@@ -30,3 +32,8 @@ sound_departed disks flights more freed flights_room flights_room1 freed_room po
   faults = ap (λ (t : Tallied). length t.faults) same_tally ∙ sound.faults;
   failing = ap (λ (i : Injection). length i.failing) same_injection ∙ sound.failing;
 }
+
+-- a flight that may be passed over is noted
+pub delays_departed : (delayed : Bool) (delay : ℕ) (delays more : List ℕ) → (delayed ≡ false → NoDelays delays) → more ≡ delays ++ delay ∷ [] → (delayed || nat_lt 0 delay) ≡ false → NoDelays more
+delays_departed true delay delays more none is off = absurd (cc)
+delays_departed false delay delays more none is off = subst NoDelays (sym is) (none_more delays delay (none refl) (grind (arith, nat_tests)))

@@ -2,5 +2,4 @@ mod Beginning
 mod Darkening
 mod Departing
 mod Arriving
-mod Making
 mod Prompt

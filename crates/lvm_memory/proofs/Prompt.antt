@@ -1,12 +1,13 @@
 -- Shelves in memory that delay nothing.
-use Rattle.std.proofs.Common.{◌≡◌, ◌<◌, ◌==◌, [], ◌∷◌, ◌++◌, ℕ, zero, suc, List, Bool, true, false, cond, map, length, Option, Some, None, MatchOption, nat_lt, refl, sym, ◌∙◌, ap, subst, arith}
+use Rattle.std.proofs.Common.{◌≡◌, ◌<◌, ◌==◌, [], ◌∷◌, ℕ, zero, suc, List, Bool, true, false, cond, map, length, Option, Some, None, MatchOption, nat_lt, refl, sym, ◌∙◌, ap, subst, arith}
 use Rattle.std.proofs.lemmas.Bool.Decides.{nat_tests}
 use Rattle.std.specs.List.{filter, position, remove, AllByRecursion}
 use Rattle.lvm_disk.specs.Device.{Range}
 use Rattle.lvm_faults.specs.Injection.{Injection, due, after_act, after_acts, next_call, cut_planned}
 use Rattle.lvm_memory.specs.Bench.{Bench, Begins, DarkensBy, StartsAsPlanned, ReapsAsPlanned, IsPromptAct, IsPrompt, IsNoWait}
-use Rattle.lvm_flights.specs.Flights.{passed, flights_of, delays_of}
+use Rattle.lvm_flights.specs.Flights.{NoDelays, flights_of, delays_of}
 use Rattle.lvm_flights.specs.declared.flying.Flying.{Flying}
+use Rattle.lvm_flights.proofs.Queues.{none_passed, none_removed, none_more}
 use Rattle.lvm_faults.specs.declared.injector.Act.{Act}
 use Rattle.lvm_faults.specs.declared.injector.Act.TheVariants.{Fail, Delay}
 use Rattle.lvm_faults.specs.declared.injector.Planned.{Planned}
@@ -46,26 +47,9 @@ same_plans (act ∷ acts) i = same_plans acts (after_act act i) ∙ same_plan ac
 
 -- ---- delays
 
-abbrev NoDelays : List ℕ → Type 0
-NoDelays delays = AllByRecursion (λ n. n ≡ 0) delays
-
 none_by_cut : (o : Option ℕ) (old new : List ℕ) → MatchOption o (new ≡ old) (λ _. new ≡ []) → NoDelays old → NoDelays new
 none_by_cut None old new same none = subst NoDelays (sym same) none
 none_by_cut (Some word) old new cut none = subst NoDelays (sym cut) tt
-
-none_passed : (delays : List ℕ) → NoDelays delays → NoDelays (passed delays)
-none_passed [] none = tt
-none_passed (n ∷ delays) none = (let e = none.0 in omega arith, none_passed delays none.1)
-
-none_removed : (delays : List ℕ) (i : ℕ) → NoDelays delays → NoDelays (remove delays i)
-none_removed [] zero none = tt
-none_removed [] (suc i) none = tt
-none_removed (n ∷ delays) zero none = none.1
-none_removed (n ∷ delays) (suc i) none = (none.0, none_removed delays i none.1)
-
-none_more : (delays : List ℕ) (n : ℕ) → NoDelays delays → n ≡ 0 → NoDelays (delays ++ n ∷ [])
-none_more [] n none is = (is, tt)
-none_more (m ∷ delays) n none is = (none.0, none_more delays n none.1 is)
 
 -- ---- calls
 

@@ -1,14 +1,14 @@
 //! A shelf of disks in memory, with faults by plan.
-ghost use Rattle.std.specs.Prelude.{◌≡◌, ◌≤◌, ◌++◌, [], ◌∷◌, length, map, vec_capacity, Some, IfOk, OnOk};
-ghost use Rattle.lvm_disk.specs.Device.{AreSectors};
-ghost use Rattle.lvm_media.specs.Media.{AllSectors, media_of, sizes_of, blank_disks_of, sectors_in};
-ghost use Rattle.lvm_flights.specs.Flights.{flights_of};
+ghost use Rattle.std.specs.Prelude.{◌≡◌, false, length, replicate, vec_capacity, IfOk};
+ghost use Rattle.lvm_flights.specs.Flights.{flights_of, delays_of, NoDelays};
+ghost use Rattle.lvm_faults.specs.Injection.{NamesDisks};
 ghost use Rattle.lvm_memory.specs.Sound.{IsSound};
+ghost use Rattle.std.proofs.Props.{props};
 
 use lvm_disk::{Arrange, Reaped, Shelf, Started};
 use lvm_faults::{Injector, Planned};
-use lvm_flights::{Flying, Tally, WriteLog, first_due, free_ticket, pass_over, take_flight};
-use lvm_media::{Disk, cut_flights, finish_flight, tear_flight};
+use lvm_flights::{Flying, Tally, WriteLog, first_due, free_ticket, pass_over, rooms, take_flight};
+use lvm_media::{Disk, blank_disks, cut_flights, finish_flight, image_disks, tear_flight};
 use lvm_num::{Memory, Pbuf, Rows};
 use std::alloc::Global;
 
@@ -23,12 +23,15 @@ pub struct MemShelf {
     flights: Vec<Flying>,
     freed: Vec<Pbuf>,
     power: bool,
+    // Whether some transfer may be passed over.
+    delayed: bool,
     tally: Tally,
     injector: Injector,
     log: WriteLog,
     orders: u64,
     last: Option<Arrange>,
     ghost sound: { IsSound disks.items (flights_of flights.items) (length freed.items) (vec_capacity flights) (vec_capacity freed) power tally injector },
+    ghost delays: { delayed ≡ false → NoDelays (delays_of flights.items) } by { Prim.hlevel props },
 }
 
 impl MemShelf {
@@ -87,13 +90,13 @@ impl MemShelf {
     {
         let count = disks.len();
         let (flights, freed, log) = rooms(alloc, log)?;
-        let tally = Tally::new(alloc, count)?;
-        let injector = Injector::new(alloc, count, plan)?;
+        let (tally, injector) = counters(alloc, count, plan)?;
         Ok(MemShelf {
             disks,
             flights,
             freed,
             power: true,
+            delayed: false,
             tally,
             injector,
             log,
@@ -166,6 +169,7 @@ impl MemShelf {
     {
         let ticket = free_ticket(&self.flights);
         let delay = self.injector.take_delay();
+        self.delayed |= delay > 0;
         match self.flights.push(Flying {
             ticket,
             disk,
@@ -203,7 +207,7 @@ impl MemShelf {
         ensures gives { ReapGives (device_of self.old) (device_of self.new) result }
         ensures planned { ReapsThen (bench_of self.old) (bench_of self.new) result }
     {
-        let mut flying = take_flight(&mut self.flights, place);
+        let mut flying = take_flight(&mut self.flights, place, self.delayed);
         if self.injector.fails(flying.disk) {
             tear_flight(&mut self.disks, &flying, self.injector.pick(), 0);
             self.tally.count_failure(&flying);
@@ -227,6 +231,7 @@ impl MemShelf {
         ensures waits { Waits (device_of self.old) (device_of self.new) }
         ensures passes { Passes (bench_of self.old) (bench_of self.new) }
     {
+        self.delayed = true;
         pass_over(&mut self.flights);
         self.tally.count_wait();
     }
@@ -348,58 +353,13 @@ impl Shelf for MemShelf {
     }
 }
 
-// Room for the transfers that are out, for the buffers that a cut gives up, and for the ranges of the log.
-fn rooms(alloc: Global, log: u32) -> Result<(Vec<Flying>, Vec<Pbuf>, WriteLog), Memory>
-    ensures flights { IfOk result (λ made. (made.0.items ≡ []) × (1024 ≤ vec_capacity made.0)) }
-    ensures freed { IfOk result (λ made. (made.1.items ≡ []) × (1024 ≤ vec_capacity made.1)) }
-    ensures log { IfOk result (λ made. made.2 ≡ record { wrote = Some []; room = log }) }
+// What counts the transfers of so many disks, and the calls of a plan.
+fn counters(alloc: Global, disks: usize, plan: Rows<Planned>) -> Result<(Tally, Injector), Memory>
+    requires { NamesDisks disks plan }
+    ensures tally { IfOk result (λ made. made.0 ≡ record { starts = replicate disks 0; misses = replicate disks 0; faults = replicate disks 0; cuts = 0; waits = 0 }) }
+    ensures injector { IfOk result (λ made. made.1 ≡ record { plan = plan; calls = 0; failing = replicate disks false; pick = 0; delay = 0 }) }
 {
-    let flights = room(alloc)?;
-    let freed = room(alloc)?;
-    let log = WriteLog::new(alloc, log)?;
-    Ok((flights, freed, log))
-}
-
-// Room for each transfer that may be out.
-fn room<T>(alloc: Global) -> Result<Vec<T>, Memory>
-    ensures { IfOk result (λ v. (v.items ≡ []) × (1024 ≤ vec_capacity v)) }
-{
-    match Vec::with_capacity(alloc, 1024) {
-        Ok(v) => Ok(v),
-        Err(_) => Err(Memory),
-    }
-}
-
-fn blank_disks(alloc: Global, sizes: &[u64]) -> Result<Vec<Disk>, Memory>
-    ensures disks { IfOk result (λ disks. disks.items ≡ blank_disks_of sizes.now) }
-    ensures sectors { IfOk result (λ disks. AreSectors (sizes_of disks.items) (media_of disks.items)) }
-{
-    let mut disks = Vec::new(alloc);
-    for count in sizes {
-        push_disk(&mut disks, Disk::zeros(alloc, *count)?)?;
-    }
-    Ok(disks)
-}
-
-fn image_disks(alloc: Global, images: &[Rows<u8>]) -> Result<Vec<Disk>, Memory>
-    ensures disks { IfOk result (λ disks. disks.items ≡ map sectors_in images.now) }
-    ensures sectors { IfOk result (λ disks. AreSectors (sizes_of disks.items) (media_of disks.items)) }
-{
-    let mut disks = Vec::new(alloc);
-    for image in images {
-        push_disk(&mut disks, Disk::of_bytes(alloc, image.as_slice())?)?;
-    }
-    Ok(disks)
-}
-
-fn push_disk(disks: &mut Vec<Disk>, disk: Disk) -> Result<(), Memory>
-    requires disk { AllSectors disk }
-    requires sectors { AreSectors (sizes_of disks.old.items) (media_of disks.old.items) }
-    ensures pushed { OnOk result (disks.new.items ≡ disks.old.items ++ disk ∷ []) }
-    ensures sectors { OnOk result (AreSectors (sizes_of disks.new.items) (media_of disks.new.items)) }
-{
-    let Ok(()) = disks.push(disk) else {
-        return Err(Memory);
-    };
-    Ok(())
+    let tally = Tally::new(alloc, disks)?;
+    let injector = Injector::new(alloc, disks, plan)?;
+    Ok((tally, injector))
 }

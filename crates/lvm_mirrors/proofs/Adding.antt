@@ -29,11 +29,8 @@ use Rattle.lvm_commit.specs.Settling.{NoneIsLeft, MarksLeft, many_there}
 use Rattle.lvm_commit.proofs.Copies.{contains, one_place}
 use Rattle.lvm_session.specs.Judging.{copies_in, is_wanted_stale}
 use Rattle.lvm_session.specs.State.{Core, State, is_there}
-use Rattle.lvm_core.specs.declared.fault.CommitFault.{CommitFault}
-use Rattle.lvm_core.specs.Settled.{IsSettled, HasSpareNumbers}
-use Rattle.lvm_core.specs.Committing.{is_among, AreUnused, Restates, LetsCommit, HasStated, HasCommitted, CommitEnds, MarkEnds}
-use Rattle.lvm_core.specs.Leaves.{NoPartition, Always, IsHeldSince, Leaves, committing, marking}
-use Rattle.lvm_core.proofs.Marking.{pp_is}
+use Rattle.lvm_copy_plan.specs.handed.Names.{CommitFault, IsSettled, HasSpareNumbers, is_among, AreUnused, Restates, LetsCommit, HasStated, HasCommitted, CommitEnds, MarkEnds, NoPartition, Always, IsHeldSince, Leaves, committing, marking}
+use Rattle.lvm_copy_plan.proofs.handed.Names.{pp_is}
 use Rattle.lvm_volumes.specs.Endings.{StillHeld, KeepsFresh}
 use Rattle.lvm_volumes.specs.Stages.{IfGoesOn, CommandBroke}
 use Rattle.lvm_volumes.proofs.Breaking.{broken, broken_since, stopped}

@@ -1,3 +1,4 @@
+pub mod handed
 pub mod Serving
 pub mod Fresh
 pub mod Left

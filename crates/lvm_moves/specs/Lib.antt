@@ -1,2 +1,3 @@
+pub mod handed
 pub mod Moving
 pub mod Pinning

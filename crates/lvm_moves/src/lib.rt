@@ -2,6 +2,7 @@
 //! track group.
 #![tactic(auto)]
 
+pub mod lower;
 mod moves;
 mod pins;
 

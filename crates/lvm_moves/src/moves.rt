@@ -1,5 +1,5 @@
 //! The first request that may land, be admitted or pin its track group does.
-ghost use Rattle.std.specs.Prelude.{◌≡◌, ◌≤◌, ℕ, Some, None, length};
+ghost use Rattle.std.specs.Prelude.{◌≡◌, ℕ, Some, None};
 ghost use Rattle.lvm_disk.specs.Device.{Device};
 ghost use Rattle.lvm_vol.specs.declared.entry.Outcome.{Outcome};
 ghost use Rattle.lvm_session.specs.declared.event.Event.TheVariants as event;
@@ -46,7 +46,6 @@ fn admission_of(found: Option<Event>) -> Option<usize>
 /// there is one; where there is none nothing changes.
 pub fn land_first(session: &mut Session, due: &mut Due) -> bool
     requires going { IsGoing (core_of session.old) }
-    requires room { 131072 ≤ length session.old.bytes.items }
     requires due { IsDue (core_of session.old) due.old }
     ensures gives { (device : Device) → FirstGives landing device (core_of session.old) (core_of session.new) result }
     ensures rooms { SameRooms session.old session.new }
@@ -86,7 +85,6 @@ fn admit_first<S: Shelf>(session: &mut Session, shelf: &S, due: &mut Due) -> boo
 /// track group. Answers whether there is one; where there is none nothing changes.
 pub fn move_first<S: Shelf>(session: &mut Session, shelf: &S, due: &mut Due) -> bool
     requires may { MayChoose (S.device shelf.now) (core_of session.old) }
-    requires room { 131072 ≤ length session.old.bytes.items }
     requires due { IsDue (core_of session.old) due.old }
     ensures gives { FirstGives (first_of parts_to_settle) (S.device shelf.now) (core_of session.old) (core_of session.new) result }
     ensures rooms { SameRooms session.old session.new }

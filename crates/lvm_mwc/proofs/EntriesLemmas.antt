@@ -185,6 +185,9 @@ pinned_entries es new lv group are its is few =
       counting = counting-note (room_for es lv group ++ e ∷ []) (All-push Counts (room_for es lv group) e (room_counts (has_entry es lv group) (nat_lt (length es) 62) es lv group (note-counting es are.counting)) its);
     }
 
+pub no_entries : (es : List CacheEntry) → es ≡ [] → AreEntries es
+no_entries es none = rw none (record { most = omega arith; differ = tt; counting = All-nil IsEntry })
+
 -- ---- an unpin
 
 pub unpinned_entries : (es : List CacheEntry) (lv group : ℕ) → AreEntries es → AreEntries (with_unpin es lv group)
@@ -201,6 +204,12 @@ refilled xs ys same = rw (same, drop-length xs, append-nil ys) (take_all (length
 pub unpinned : (es now : List CacheEntry) (lv group k : ℕ) (d : CacheEntry) → now ≡ es → position (is_entry lv group) es ≡ Some k → refill (length es) es (set now k (less (get_or now k d))) ≡ with_unpin es lv group
 unpinned es now lv group k d is at =
     rw is (refilled es (set es k (less (get_or es k d))) (length-set es k (less (get_or es k d))) ∙ (first_at (is_entry lv group) es d k at).changed less)
+
+pub pins_there : (es now : List CacheEntry) (lv group k : ℕ) (d : CacheEntry) → now ≡ es → position (is_entry lv group) es ≡ Some k → (get_or now k d).pins ≡ pins_of es lv group
+pins_there es now lv group k d is at = rw is (sym (pins_at es lv group k d (first_at (is_entry lv group) es d k at)))
+
+pub pins_nowhere : (es : List CacheEntry) (lv group : ℕ) → position (is_entry lv group) es ≡ None → 0 ≡ pins_of es lv group
+pins_nowhere es lv group at = sym (no_pins es lv group (none_at (is_entry lv group) es at))
 
 pub some_pins : (es now : List CacheEntry) (lv group k : ℕ) (d : CacheEntry) → now ≡ es → position (is_entry lv group) es ≡ Some k → 0 < pins_of es lv group → 1 ≤ (get_or now k d).pins
 some_pins es now lv group k d is at some = rw is (omega (arith, pins_at es lv group k d (first_at (is_entry lv group) es d k at)))

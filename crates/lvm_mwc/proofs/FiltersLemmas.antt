@@ -4,6 +4,7 @@ use Rattle.std.proofs.lemmas.Bool.{and_parts, eqb-false, eqb-true, false_from_ne
 use Rattle.std.proofs.lemmas.List.{get_or_default, get_or-set_other, length-set}
 use Rattle.std.proofs.lemmas.Grind.{get_or-set_at}
 use Rattle.std.proofs.lemmas.Option.{same_Some, slice_get-get_or, slice_get_within}
+use Rattle.std.specs.List.{All}
 use Rattle.lvm_num.specs.declared.record.NoteEntry.{NoteEntry}
 use Rattle.arrayvec.specs.ArrayVec.{ArrayVec}
 use Rattle.lvm_mwc.specs.declared.notes.DiskNotes.{DiskNotes}
@@ -20,6 +21,18 @@ not_passed notes filters k lv group n filter are there its not =
     let same : get_or filters k [] ≡ filter = get_or_default filters k [] filter (omega (arith, are.as_many, within)) ∙ sym its in
     let e : true ≡ false = sym (are.pass k n there lv group named) ∙ ap (λ (f : List Bool). passes f group) same ∙ not in
     cc e)
+
+-- where no note names anything any filters will do
+pub filters_blank : (notes : List DiskNotes) (filters : List (List Bool)) → length filters ≡ length notes → All (λ (n : DiskNotes). n.written.items ≡ []) notes → AreFilters notes filters
+filters_blank notes filters long blank = record {
+  as_many = long;
+  pass = λ k n there lv group named.
+      let within = slice_get_within notes k n there in
+      let is : n ≡ get_or notes k n = same_Some n (get_or notes k n) (sym there ∙ slice_get-get_or notes k n within) in
+      let none : n.written.items ≡ [] = ap (λ (m : DiskNotes). m.written.items) is ∙ blank k n within in
+      let e : false ≡ true = sym (ap (λ (l : List NoteEntry). names_group l lv group) none) ∙ named in
+      absurd (cc (e));
+}
 
 -- ---- the notes of a disk change
 

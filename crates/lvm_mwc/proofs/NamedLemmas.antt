@@ -12,9 +12,9 @@ use Rattle.lvm_mwc.specs.declared.entries.CacheEntry.{CacheEntry}
 use Rattle.lvm_mwc.specs.declared.notes.DiskNotes.{DiskNotes}
 use Rattle.lvm_mwc.specs.Firsts.{with_first}
 use Rattle.lvm_mwc.specs.Entries.{has_entry, pins_of, are_all_pinned, with_pin, note_of}
-use Rattle.lvm_mwc.specs.Notes.{is_on, names_group, both_name, common, MayStand}
+use Rattle.lvm_mwc.specs.Notes.{is_of_disk, names_group, both_name, common, MayStand}
 use Rattle.lvm_mwc.specs.Cache.{Cached, IsNew, notes_on, is_named, no_notes, after_start, after_end, started, ended}
-use Rattle.lvm_mwc.specs.Runs.{Call, Pins, Unpins, StartsNote, EndsNote, after, after_all, IsPinnedBefore, Sectors, no_sectors, sectors_ended, sectors_in, sectors_after, Knows}
+use Rattle.lvm_mwc.specs.Runs.{Call, Pins, Unpins, StartsNote, Ending, after, after_all, IsPinnedBefore, Sectors, no_sectors, sectors_ended, sectors_in, sectors_after, Knows}
 use Rattle.lvm_mwc.proofs.FirstsLemmas.{find-with, find-with_other}
 use Rattle.lvm_mwc.proofs.NotesLemmas.{notes_of}
 use Rattle.lvm_mwc.proofs.PinsLemmas.{note-names, pinned_is_there}
@@ -46,14 +46,14 @@ names-common (e ∷ es) flight lv group = common_test (names_group flight e.lv e
 
 -- ---- one disk's notes change
 
-same_disk : (d disk : ℕ) (n : DiskNotes) → (d == disk) ≡ false → is_on d n ≡ true → is_on disk n ≡ false
+same_disk : (d disk : ℕ) (n : DiskNotes) → (d == disk) ≡ false → is_of_disk d n ≡ true → is_of_disk disk n ≡ false
 same_disk d disk n other on = rw (eqb-true n.disk d on) other
 
-on_other : (c : Cached) (d disk : ℕ) (f : DiskNotes → DiskNotes) → ((n : DiskNotes) → (f n).disk ≡ n.disk) → (d == disk) ≡ false → find (is_on disk) (with_first (is_on d) f c.notes) ≡ notes_on c disk
-on_other c d disk f stays other = find-with_other (is_on disk) (is_on d) f c.notes (λ n on. let it = same_disk d disk n other on in (it, ap (λ (m : ℕ). m == disk) (stays n) ∙ it))
+on_other : (c : Cached) (d disk : ℕ) (f : DiskNotes → DiskNotes) → ((n : DiskNotes) → (f n).disk ≡ n.disk) → (d == disk) ≡ false → find (is_of_disk disk) (with_first (is_of_disk d) f c.notes) ≡ notes_on c disk
+on_other c d disk f stays other = find-with_other (is_of_disk disk) (is_of_disk d) f c.notes (λ n on. let it = same_disk d disk n other on in (it, ap (λ (m : ℕ). m == disk) (stays n) ∙ it))
 
-on_same : (c : Cached) (d disk : ℕ) (f : DiskNotes → DiskNotes) → ((n : DiskNotes) → (f n).disk ≡ n.disk) → (d == disk) ≡ true → find (is_on disk) (with_first (is_on d) f c.notes) ≡ option_map f (notes_on c disk)
-on_same c d disk f stays same = rw (eqb-true d disk same) (find-with (is_on disk) f c.notes (λ n on. ap (λ (m : ℕ). m == disk) (stays n) ∙ on))
+on_same : (c : Cached) (d disk : ℕ) (f : DiskNotes → DiskNotes) → ((n : DiskNotes) → (f n).disk ≡ n.disk) → (d == disk) ≡ true → find (is_of_disk disk) (with_first (is_of_disk d) f c.notes) ≡ option_map f (notes_on c disk)
+on_same c d disk f stays same = rw (eqb-true d disk same) (find-with (is_of_disk disk) f c.notes (λ n on. ap (λ (m : ℕ). m == disk) (stays n) ∙ on))
 
 ended_there : (ok : Bool) (flight : Option (ArrayVec NoteEntry)) (disk : ℕ) (written : ArrayVec NoteEntry) → (ended ok (notes_of disk written flight)).disk ≡ disk
 ended_there ok None disk written = refl
@@ -98,7 +98,7 @@ named_after : (c : Cached) (call : Call) (disk lv group : ℕ) → 0 < pins_of c
 named_after c (Pins l g) disk lv group pinned named = named_after_pin (are_all_pinned c.entries l g) c l g disk lv group named
 named_after c (Unpins l g) disk lv group pinned named = named
 named_after c (StartsNote d) disk lv group pinned named = named_after_start (d == disk) c d disk lv group refl (pinned_is_there c.entries lv group pinned) named
-named_after c (EndsNote d ok) disk lv group pinned named = named_after_end (d == disk) c d disk ok lv group refl named
+named_after c (Ending d ok) disk lv group pinned named = named_after_end (d == disk) c d disk ok lv group refl named
 
 pub named_after_all : (c : Cached) (calls : List Call) (disk lv group : ℕ) → IsPinnedBefore c calls lv group → is_named c disk lv group ≡ true → is_named (after_all c calls) disk lv group ≡ true
 named_after_all c [] disk lv group pinned named = named
@@ -183,7 +183,7 @@ tracks_after : (c : Cached) (call : Call) (disk : ℕ) (s : Sectors) → TracksO
 tracks_after c (Pins l g) disk s on = tracks_pin (are_all_pinned c.entries l g) c l g disk s on
 tracks_after c (Unpins l g) disk s on = record { notes = on.notes; there = on.there; tracks = on.tracks }
 tracks_after c (StartsNote d) disk s on = tracks_start (d == disk) c d disk s refl on
-tracks_after c (EndsNote d ok) disk s on = tracks_end (d == disk) c d disk ok s refl on
+tracks_after c (Ending d ok) disk s on = tracks_end (d == disk) c d disk ok s refl on
 
 tracks_after_all : (c : Cached) (calls : List Call) (disk : ℕ) (s : Sectors) → TracksOn c disk s → TracksOn (after_all c calls) disk (sectors_after c disk s calls)
 tracks_after_all c [] disk s on = on

@@ -10,7 +10,7 @@ use Rattle.lvm_mwc.specs.declared.cache.Pin.{Pin}
 use Rattle.lvm_mwc.specs.declared.cache.Pin.TheVariants.{Pinned, AllPinned}
 use Rattle.lvm_mwc.specs.Firsts.{with_first}
 use Rattle.lvm_mwc.specs.Entries.{are_all_pinned, with_pin, with_unpin, note_of}
-use Rattle.lvm_mwc.specs.Notes.{is_on, names_group, both_name, common}
+use Rattle.lvm_mwc.specs.Notes.{is_of_disk, names_group, both_name, common}
 
 -- the entries in the order of their last pin, oldest first, and the notes of each disk
 pub record Cached : Type 0 where
@@ -19,7 +19,7 @@ pub record Cached : Type 0 where
 
 -- the notes of a disk
 abbrev pub notes_on : Cached → ℕ → Option DiskNotes
-notes_on c disk = find (is_on disk) c.notes
+notes_on c disk = find (is_of_disk disk) c.notes
 
 -- whether the cache was made for the disk
 abbrev pub has_disk : Cached → ℕ → Bool
@@ -64,7 +64,7 @@ started entries n = record n { flight = Some (record { items = note_of entries }
 
 -- after the start of a note on a disk
 abbrev pub after_start : Cached → ℕ → Cached
-after_start c disk = record c { notes = with_first (is_on disk) (started c.entries) c.notes }
+after_start c disk = record c { notes = with_first (is_of_disk disk) (started c.entries) c.notes }
 
 -- The note in flight is written where it ended well. Else the old one or the new one may stand there, and only
 -- what both have is known to be written.
@@ -78,4 +78,4 @@ ended ok n = option_map_or (λ (flight : ArrayVec NoteEntry). record n { written
 
 -- after the end of one there
 abbrev pub after_end : Cached → ℕ → Bool → Cached
-after_end c disk ok = record c { notes = with_first (is_on disk) (ended ok) c.notes }
+after_end c disk ok = record c { notes = with_first (is_of_disk disk) (ended ok) c.notes }

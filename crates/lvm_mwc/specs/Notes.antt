@@ -7,8 +7,8 @@ use Rattle.arrayvec.specs.ArrayVec.{ArrayVec}
 use Rattle.lvm_mwc.specs.declared.notes.DiskNotes.{DiskNotes}
 
 -- whether these are the notes of the disk
-abbrev pub is_on : ℕ → DiskNotes → Bool
-is_on disk n = n.disk == disk
+abbrev pub is_of_disk : ℕ → DiskNotes → Bool
+is_of_disk disk n = n.disk == disk
 
 -- the disks, in the order of their notes
 abbrev pub disks_of : List DiskNotes → List ℕ

@@ -1,11 +1,12 @@
 //! The cache of track groups.
-ghost use Rattle.std.specs.Prelude.{◌≡◌, ◌≢◌, ◌+◌, ◌<◌, ◌^◌, false, position, IsTrue, IfOk, IsSome, IsNone, is_some, All, replicate};
+ghost use Rattle.std.specs.Prelude.{◌≡◌, ◌≢◌, ◌+◌, ◌<◌, ◌^◌, [], false, position, IsTrue, IfOk, IsSome, IsNone, is_some, All, replicate};
 ghost use Rattle.lvm_num.specs.Note.{IsEntry};
+ghost use Rattle.lvm_mwc.specs.Cache.{IsNew};
 
-use crate::entries::{CacheEntry, entry_of, make_room, note_of, place_of};
+use crate::entries::{CacheEntry, make_room, note_of, place_of};
 use crate::notes::{
     DiskNotes, FILTER, both_name, disks_of, end_flight, filter_of, is_in_flight, passes,
-    place_of_disk, row_of,
+    place_of_disk,
 };
 use arrayvec::ArrayVec;
 use lvm_num::{DiskSet, Memory, NoteEntry};
@@ -13,7 +14,7 @@ use std::alloc::Global;
 use std::marker::Model;
 
 /// How a pin ended.
-#[derive(Clone, Copy, Debug, PartialEq, Eq)]
+#[derive(Clone, Copy, PartialEq, Eq)]
 pub enum Pin {
     /// The track group stands in the cache, with a pin more.
     Pinned,
@@ -48,6 +49,24 @@ impl Model for Cache {
     ghost invariant = { λ c. AreEntries c.entries.items × AreFilters c.notes.items c.filters.items × (c.disks.items ≡ disks_of c.notes.items) };
 }
 
+// The notes of the disks of a set, which name nothing.
+fn blank_notes(alloc: Global, disks: DiskSet) -> Result<Vec<DiskNotes>, Memory>
+    ensures new { IfOk result (λ notes. IsNew disks (record { entries = []; notes = notes.items })) }
+    ensures blank { IfOk result (λ notes. All (λ n. n.written.items ≡ []) notes.items) }
+{
+    let mut notes = Vec::new(alloc);
+    for disk in 0..128 {
+        if disks.has(disk) {
+            notes.push(DiskNotes {
+                disk,
+                written: ArrayVec::new(),
+                flight: None,
+            })?;
+        }
+    }
+    Ok(notes)
+}
+
 // So many filters that pass nothing.
 fn closed_filters(alloc: Global, count: usize) -> Result<Vec<[bool; FILTER]>, Memory>
     ensures { IfOk result (λ filters. filters.items ≡ replicate count (replicate 512 false)) }
@@ -66,20 +85,12 @@ impl Cache {
     pub fn new(alloc: Global, disks: DiskSet) -> Result<Cache, Memory>
         ensures { IfOk result (IsNew disks) }
     {
-        let mut notes = Vec::new(alloc);
-        for disk in 0..128 {
-            if disks.has(disk) {
-                notes.push(DiskNotes {
-                    disk,
-                    written: ArrayVec::new(),
-                    flight: None,
-                })?;
-            }
-        }
+        let notes = blank_notes(alloc, disks)?;
         let filters = closed_filters(alloc, notes.len())?;
+        let disks = disks_of(alloc, &notes)?;
         Ok(Cache {
             entries: ArrayVec::new(),
-            disks: disks_of(alloc, &notes)?,
+            disks,
             notes,
             filters,
         })
@@ -97,9 +108,9 @@ impl Cache {
     pub fn pins(&self, lv: u16, group: u32) -> u32
         ensures { result ≡ pins_of self.now.entries lv group }
     {
-        match entry_of(&self.entries, lv, group) {
+        match place_of(&self.entries, lv, group) {
             None => 0,
-            Some(entry) => entry.pins,
+            Some(place) => self.entries[place].pins,
         }
     }
 
@@ -140,16 +151,16 @@ impl Cache {
     pub fn has_disk(&self, disk: u16) -> bool
         ensures { result ≡ has_disk self.now disk }
     {
-        row_of(&self.notes, disk).is_some()
+        place_of_disk(&self.disks, disk).is_some()
     }
 
     /// Whether a note is in flight on a disk.
     pub fn has_note_in_flight(&self, disk: u16) -> bool
         ensures { result ≡ is_some (flight_on self.now disk) }
     {
-        match row_of(&self.notes, disk) {
+        match place_of_disk(&self.disks, disk) {
             None => false,
-            Some(row) => row.flight.is_some(),
+            Some(place) => self.notes[place].flight.is_some(),
         }
     }
 
@@ -197,9 +208,9 @@ impl Cache {
     pub fn flight_names(&self, disk: u16, lv: u16, group: u32) -> bool
         ensures { result ≡ flight_names self.now disk lv group }
     {
-        match row_of(&self.notes, disk) {
+        match place_of_disk(&self.disks, disk) {
             None => false,
-            Some(row) => is_in_flight(row, lv, group),
+            Some(place) => is_in_flight(&self.notes[place], lv, group),
         }
     }
 }

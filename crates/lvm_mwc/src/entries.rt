@@ -1,13 +1,12 @@
 //! The entries of a cache, in the order of their last pin.
-ghost use Rattle.std.specs.Prelude.{◌≡◌, find, position};
-ghost use Rattle.std.specs.Option.{option_copied};
+ghost use Rattle.std.specs.Prelude.{◌≡◌, position};
 ghost use Rattle.lvm_mwc.specs.Entries.{is_entry, is_unpinned, note_of, MakesRoom};
 
 use arrayvec::ArrayVec;
 use lvm_num::NoteEntry;
 
 /// A track group in the cache, with its pins.
-#[derive(Clone, Copy, Debug, Default, PartialEq, Eq)]
+#[derive(Clone, Copy, Default)]
 pub struct CacheEntry {
     /// A logical volume, not 0.
     pub lv: u16,
@@ -24,15 +23,6 @@ pub fn place_of(entries: &[CacheEntry], lv: u16, group: u32) -> Option<usize>
     entries
         .iter()
         .position(|entry| entry.lv == lv && entry.group == group)
-}
-
-// The entry of a track group.
-pub fn entry_of(entries: &[CacheEntry], lv: u16, group: u32) -> Option<&CacheEntry>
-    ensures { option_copied result ≡ find (is_entry lv group) entries.now }
-{
-    entries
-        .iter()
-        .find(|entry| entry.lv == lv && entry.group == group)
 }
 
 // The first place without pins.

@@ -1,9 +1,8 @@
 //! The consistency records of the disks, as they are written.
-ghost use Rattle.std.specs.Prelude.{◌≡◌, ◌==◌, find, position, IfOk};
-ghost use Rattle.std.specs.Option.{option_copied};
+ghost use Rattle.std.specs.Prelude.{◌≡◌, ◌==◌, position, IfOk};
 ghost use Rattle.lvm_mwc.specs.Cache.{ended};
 ghost use Rattle.lvm_mwc.specs.Filters.{PassesAll, passes};
-ghost use Rattle.lvm_mwc.specs.Notes.{is_on, names_group, both_name, is_in_flight, common, disks_of};
+ghost use Rattle.lvm_mwc.specs.Notes.{names_group, both_name, is_in_flight, common, disks_of};
 
 use arrayvec::ArrayVec;
 use lvm_num::{Memory, NoteEntry};
@@ -38,18 +37,12 @@ pub fn place_of_disk(disks: &[u16], disk: u16) -> Option<usize>
     disks.iter().position(|d| *d == disk)
 }
 
-// The notes of a disk.
-pub fn row_of(notes: &[DiskNotes], disk: u16) -> Option<&DiskNotes>
-    ensures { option_copied result ≡ find (is_on disk) notes.now }
-{
-    notes.iter().find(|row| row.disk == disk)
-}
-
-// Whether a note names a track group.
+// Whether a note names a track group. It is looked for from the end, where those stand that were pinned last.
 fn names_group(note: &[NoteEntry], lv: u16, group: u32) -> bool
     ensures { result ≡ names_group note.now lv group }
 {
     note.iter()
+        .rev()
         .any(|entry| entry.lv == lv && entry.group == group)
 }
 

@@ -1,9 +1,8 @@
 //! What a volume group is: its disks, its volumes and where they lie.
 
-ghost use Rattle.std.specs.Prelude.{◌↔◌, ◌≡◌, ◌==◌, IsTrue};
-ghost use Rattle.std.specs.List.{list_any};
-ghost use Rattle.lvm_num.specs.declared.descriptor.PvRow.{PvRow};
+ghost use Rattle.std.specs.Prelude.{◌↔◌, ◌≡◌, IsTrue};
 
+use crate::listed::has_member;
 use crate::valid::{are_maps, are_volumes, is_size, partition_counts};
 use crate::{DiskSet, Name, Pp, Rows};
 
@@ -115,7 +114,7 @@ impl Descriptor {
         ensures { result ≡ votes_of self.now disk }
     {
         let pvs = self.pvs.as_slice();
-        if !is_among(pvs, disk) {
+        if !has_member(pvs, disk) {
             return 0;
         }
         let first = pvs[0].disk == disk;
@@ -179,10 +178,4 @@ impl Descriptor {
             0 < have
         }
     }
-}
-
-fn is_among(pvs: &[PvRow], disk: u16) -> bool
-    ensures { result ≡ list_any (λ (row : PvRow). row.disk == disk) pvs.now }
-{
-    pvs.iter().any(|row| row.disk == disk)
 }

@@ -4,7 +4,7 @@
 use std::alloc::{AllocError, AllocFailed};
 
 mod bits;
-mod copies;
+mod clones;
 mod descriptor;
 mod disks;
 pub mod laws;
@@ -21,9 +21,7 @@ mod valid;
 mod word;
 
 pub use bits::{clear_bit, has_bit, set_bit};
-pub use copies::{
-    copy_of_descriptor, copy_of_status, copy_of_volume, copy_of_volumes, with_volumes,
-};
+pub use clones::{clone_descriptor, clone_status, clone_volume, clone_volumes, with_volumes};
 pub use descriptor::{Descriptor, LvRow, Mode, Policy, PvRow};
 pub use disks::{DISKS, DiskSet};
 pub use listed::{copies_of, has_member, is_on, volume_of};

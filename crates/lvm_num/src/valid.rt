@@ -10,9 +10,9 @@ ghost use Rattle.lvm_num.specs.Marks.{AreCounts, AreFree, AreCounted, spot};
 
 use crate::bits::{has_bit, set_bit};
 use crate::listed::is_on;
-use crate::{LvRow, Name, Pp, PvRow, StatusRow};
+use crate::{DISKS, LvRow, Name, Pp, PvRow, StatusRow};
 
-const DISKS: usize = 128;
+const PLACES: usize = DISKS as usize;
 
 const MOST_PPS: u16 = 1016;
 
@@ -36,10 +36,10 @@ pub fn partition_counts(pvs: &[PvRow]) -> Option<[u16; 128]>
     ensures counts { IfSome result (AreCounts pvs.now) }
     ensures most { IfSome result (All (λ count. count ≤ 1016)) }
 {
-    let mut counts = [0; DISKS];
+    let mut counts = [0; PLACES];
     for row in pvs {
         let disk = usize::from(row.disk);
-        if disk >= DISKS || row.pps == 0 || row.pps > MOST_PPS || counts[disk] != 0 {
+        if disk >= PLACES || row.pps == 0 || row.pps > MOST_PPS || counts[disk] != 0 {
             return None;
         }
         counts[disk] = row.pps;
@@ -131,7 +131,7 @@ fn mark_all(marks: &mut [u8; 16256], counts: &[u16; 128], map: &[Pp]) -> bool
     ensures marked { IsTrue result → (k : ℕ) → has_bit marks.new k ≡ (has_bit marks.old k || list_any (λ pp. k == spot pp) map.now) }
 {
     for pp in map {
-        if usize::from(pp.disk) >= DISKS || pp.pp >= counts[usize::from(pp.disk)] {
+        if usize::from(pp.disk) >= PLACES || pp.pp >= counts[usize::from(pp.disk)] {
             return false;
         }
         let spot = spot_of(*pp);
@@ -168,7 +168,7 @@ pub fn are_status_rows(rows: &[StatusRow]) -> bool
 fn is_status_row(row: &StatusRow) -> bool
     ensures { IsTrue result ↔ IsStatusRow row.now }
 {
-    usize::from(row.disk) < DISKS
+    usize::from(row.disk) < PLACES
 }
 
 /// Whether the numbers are those of dirty volumes.

@@ -3,7 +3,8 @@ use Rattle.std.proofs.Common.{◌≡◌, ℕ, Bool, true, false, cond, List, [],
 use Rattle.std.specs.Prelude.{bytes_eq}
 use Rattle.lvm_operands.specs.Line.{WordAt, Left}
 use Rattle.lvm_operands.specs.Reading.{misfit, then_, or_misfit, operand_of, operand, option_of, option, ends_of, ends}
-use Rattle.lvm_operands.specs.Rests.{with_word}
+use Rattle.lvm_operands.specs.declared.rest.Rest.{Rest}
+use Rattle.lvm_operands.specs.Rests.{left, with_word, fitted, Reads}
 
 -- no word is left
 pub operand_lacks : {T : Type 0} (meaning : List ℕ → Option T) (l : Left) → l.words ≡ [] → operand meaning l ≡ misfit l.end
@@ -23,6 +24,11 @@ unfolding operand
 operand_misfits {T} meaning l w rest is misfits =
     ap (λ (k : Left). operand_of meaning k.words k.end) is
     ∙ ap (λ (o : Option T). then_ (or_misfit o w.column) (λ v. Ok (v, rest))) misfits
+
+-- the next word is read as what it means
+pub operand_is : {T : Type 0} (meaning : List ℕ → Option T) (l : Left) (w : WordAt) (rest : Rest) (value : Option T) → l ≡ with_word w (left rest) → value ≡ meaning w.bytes → Reads (operand meaning l) (fitted value w.column rest)
+operand_is meaning l w rest (Some value) is means = operand_fits meaning l w (left rest) value is (sym means)
+operand_is meaning l w rest None is means = operand_misfits meaning l w (left rest) is (sym means)
 
 -- no word is left
 pub ends_here : {T : Type 0} (l : Left) (value : T) → l.words ≡ [] → ends l value ≡ Ok value

@@ -1,5 +1,5 @@
 -- What the code's rest of a line stands for.
-use Rattle.std.specs.Prelude.{◌≡◌, ⊤, ℕ, ◌<◌, List, ◌∷◌, length, Option, Some, Result, Ok, Err, MatchOption, MatchResult}
+use Rattle.std.specs.Prelude.{◌≡◌, ⊤, ℕ, ◌<◌, List, ◌∷◌, length, Option, Some, None, Result, Ok, Err, MatchOption, MatchResult}
 use Rattle.lvm_operands.specs.declared.rest.Misfit.{Misfit}
 use Rattle.lvm_operands.specs.declared.rest.Rest.{Rest}
 use Rattle.lvm_operands.specs.declared.rest.Word.{Word}
@@ -16,6 +16,11 @@ word_at word = record { column = word.column; bytes = word.bytes.now }
 -- these words with one in front
 abbrev pub with_word : WordAt → Left → Left
 with_word w l = record { words = w ∷ l.words; end = l.end }
+
+-- a value and what follows it, or else a fault at the column
+abbrev pub fitted : {T : Type 0} → Option T → ℕ → Rest → Result (T × Rest) Misfit
+fitted (Some value) column rest = Ok (value, rest)
+fitted None column rest = Err (record { column = column })
 
 -- the code reads what the definition reads, and goes on where it does
 abbrev pub Reads : {T : Type 0} → Result (T × Left) Misfit → Result (T × Rest) Misfit → Type 0

@@ -16,4 +16,4 @@ pub use operands::{
 };
 pub use range::{BlockRange, blocks, last_blocks};
 pub use rest::{Misfit, Rest, Word};
-pub use scan::{is_remark, next_word, unreadable_at};
+pub use scan::next_word;

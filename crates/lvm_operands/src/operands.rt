@@ -2,7 +2,7 @@
 ghost use Rattle.std.specs.Prelude.{◌≡◌, [], MatchResult};
 ghost use Rattle.lvm_literals.specs.Words.{disk_in, number_in, count_in, word_in, name_in, partitions_in, turns_in, size_in, copies_in, mode_in, policy_in};
 ghost use Rattle.lvm_operands.specs.Reading.{next_column, is_next, operand, option, ends, last};
-ghost use Rattle.lvm_operands.specs.Rests.{left, word_at, with_word, Reads};
+ghost use Rattle.lvm_operands.specs.Rests.{left, word_at, with_word, fitted, Reads};
 
 use crate::rest::{Misfit, Rest, Word};
 use crate::scan::next_word;
@@ -29,16 +29,23 @@ pub fn word(rest: Rest<'_>) -> Result<(Word<'_>, Rest<'_>), Misfit>
     }
 }
 
+// What a word at a column means, and what follows it.
+fn fit<T>(meaning: Option<T>, column: u32, rest: Rest<'_>) -> Result<(T, Rest<'_>), Misfit>
+    ensures { result ≡ fitted meaning column rest.entry }
+{
+    match meaning {
+        Some(value) => Ok((value, rest)),
+        None => Err(misfit(column)),
+    }
+}
+
 /// DISK: the number of a disk.
 #[tactic(auto, using(crate::proofs::NextWord::operand_lacks))]
 pub fn disk(rest: Rest<'_>) -> Result<(u16, Rest<'_>), Misfit>
     ensures { Reads (operand disk_in (left rest.entry)) result }
 {
     let (word, rest) = word(rest)?;
-    match disk_of(word.bytes) {
-        Some(disk) => Ok((disk, rest)),
-        None => Err(misfit(word.column)),
-    }
+    fit(disk_of(word.bytes), word.column, rest)
 }
 
 /// BLOCK: a number.
@@ -47,10 +54,7 @@ pub fn number(rest: Rest<'_>) -> Result<(u64, Rest<'_>), Misfit>
     ensures { Reads (operand number_in (left rest.entry)) result }
 {
     let (word, rest) = word(rest)?;
-    match number_of(word.bytes) {
-        Some(number) => Ok((number, rest)),
-        None => Err(misfit(word.column)),
-    }
+    fit(number_of(word.bytes), word.column, rest)
 }
 
 /// COUNT: how many blocks.
@@ -59,10 +63,7 @@ pub fn count(rest: Rest<'_>) -> Result<(u32, Rest<'_>), Misfit>
     ensures { Reads (operand count_in (left rest.entry)) result }
 {
     let (word, rest) = word(rest)?;
-    match count_of(word.bytes) {
-        Some(count) => Ok((count, rest)),
-        None => Err(misfit(word.column)),
-    }
+    fit(count_of(word.bytes), word.column, rest)
 }
 
 /// WORD: what blocks are filled with, or which sectors a cut keeps.
@@ -71,10 +72,7 @@ pub fn pattern(rest: Rest<'_>) -> Result<(u64, Rest<'_>), Misfit>
     ensures { Reads (operand word_in (left rest.entry)) result }
 {
     let (word, rest) = word(rest)?;
-    match hex_word(word.bytes) {
-        Some(pattern) => Ok((pattern, rest)),
-        None => Err(misfit(word.column)),
-    }
+    fit(hex_word(word.bytes), word.column, rest)
 }
 
 /// NAME: the name of a group or of a volume.
@@ -83,10 +81,7 @@ pub fn name(rest: Rest<'_>) -> Result<(Name, Rest<'_>), Misfit>
     ensures { Reads (operand name_in (left rest.entry)) result }
 {
     let (word, rest) = word(rest)?;
-    match name_of(word.bytes) {
-        Some(name) => Ok((name, rest)),
-        None => Err(misfit(word.column)),
-    }
+    fit(name_of(word.bytes), word.column, rest)
 }
 
 /// LPS: how many logical partitions.
@@ -95,10 +90,7 @@ pub fn partitions(rest: Rest<'_>) -> Result<(u32, Rest<'_>), Misfit>
     ensures { Reads (operand partitions_in (left rest.entry)) result }
 {
     let (word, rest) = word(rest)?;
-    match partitions_of(word.bytes) {
-        Some(partitions) => Ok((partitions, rest)),
-        None => Err(misfit(word.column)),
-    }
+    fit(partitions_of(word.bytes), word.column, rest)
 }
 
 /// TURNS: how many turns.
@@ -107,10 +99,7 @@ pub fn turns(rest: Rest<'_>) -> Result<(u32, Rest<'_>), Misfit>
     ensures { Reads (operand turns_in (left rest.entry)) result }
 {
     let (word, rest) = word(rest)?;
-    match turns_of(word.bytes) {
-        Some(turns) => Ok((turns, rest)),
-        None => Err(misfit(word.column)),
-    }
+    fit(turns_of(word.bytes), word.column, rest)
 }
 
 /// MIB: the size of a partition.
@@ -119,10 +108,7 @@ pub fn size(rest: Rest<'_>) -> Result<(u16, Rest<'_>), Misfit>
     ensures { Reads (operand size_in (left rest.entry)) result }
 {
     let (word, rest) = word(rest)?;
-    match size_of(word.bytes) {
-        Some(size) => Ok((size, rest)),
-        None => Err(misfit(word.column)),
-    }
+    fit(size_of(word.bytes), word.column, rest)
 }
 
 /// N: how many copies.
@@ -131,10 +117,7 @@ pub fn copies(rest: Rest<'_>) -> Result<(u8, Rest<'_>), Misfit>
     ensures { Reads (operand copies_in (left rest.entry)) result }
 {
     let (word, rest) = word(rest)?;
-    match copies_of(word.bytes) {
-        Some(copies) => Ok((copies, rest)),
-        None => Err(misfit(word.column)),
-    }
+    fit(copies_of(word.bytes), word.column, rest)
 }
 
 /// The mode of a volume.
@@ -143,10 +126,7 @@ pub fn mode(rest: Rest<'_>) -> Result<(Mode, Rest<'_>), Misfit>
     ensures { Reads (operand mode_in (left rest.entry)) result }
 {
     let (word, rest) = word(rest)?;
-    match mode_of(word.bytes) {
-        Some(mode) => Ok((mode, rest)),
-        None => Err(misfit(word.column)),
-    }
+    fit(mode_of(word.bytes), word.column, rest)
 }
 
 /// The policy of a volume.
@@ -155,10 +135,7 @@ pub fn policy(rest: Rest<'_>) -> Result<(Policy, Rest<'_>), Misfit>
     ensures { Reads (operand policy_in (left rest.entry)) result }
 {
     let (word, rest) = word(rest)?;
-    match policy_of(word.bytes) {
-        Some(policy) => Ok((policy, rest)),
-        None => Err(misfit(word.column)),
-    }
+    fit(policy_of(word.bytes), word.column, rest)
 }
 
 /// Whether this option is the next word, and what follows it.

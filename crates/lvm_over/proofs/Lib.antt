@@ -1,3 +1,4 @@
+pub mod handed
 mod Hands
 mod Landing
 mod Telling

@@ -3,6 +3,7 @@
 
 mod ends;
 mod landings;
+pub mod lower;
 
 pub use ends::{darken, go_off};
 pub use landings::give_back;

@@ -9,7 +9,8 @@ use Rattle.lvm_num.specs.declared.descriptor.Policy.TheVariants as policy
 use Rattle.lvm_parse.specs.declared.command.Command.{Command}
 use Rattle.lvm_parse.specs.declared.command.Command.TheVariants as command
 use Rattle.lvm_operands.specs.declared.rest.Misfit.{Misfit}
-use Rattle.lvm_operands.specs.Line.{WordAt, Left, finished, words_from, left_at, is_plain, is_remark, too_long_or, unreadable_at}
+use Rattle.lvm_literals.specs.Line.{is_plain, is_remark, too_long_or, unreadable_at}
+use Rattle.lvm_operands.specs.Line.{WordAt, Left, finished, words_from, left_at}
 use Rattle.lvm_literals.specs.Words.{number_in, count_in, partitions_in, turns_in, copies_in, word_in, name_in, disk_in}
 use Rattle.lvm_operands.specs.declared.range.BlockRange.{BlockRange}
 use Rattle.lvm_operands.specs.Reading.{misfit, then_, or_misfit, column_of, next_column, operand_of, operand, option_of, option, ends_of, ends, last, is_next, blocks, last_blocks, Choice, NoOption, Alone, Valued, options_of, options, required, further_disk, one_or_more, disks_of, disks}

@@ -12,7 +12,8 @@ use Rattle.lvm_num.specs.declared.descriptor.Mode.TheVariants.{Active, Off, Pass
 use Rattle.lvm_literals.specs.Words.{only, number_in, number_within, count_in, size_in, name_in, disk_in, word_in, mode_in, partitions_in, turns_in, copies_in, policy_in}
 use Rattle.lvm_operands.specs.declared.range.BlockRange.{BlockRange}
 use Rattle.lvm_operands.specs.declared.rest.Misfit.{Misfit}
-use Rattle.lvm_operands.specs.Line.{WordAt, Left, left_at, unreadable_at, is_remark}
+use Rattle.lvm_literals.specs.Line.{is_remark, unreadable_at}
+use Rattle.lvm_operands.specs.Line.{WordAt, Left, left_at}
 use Rattle.lvm_operands.specs.Reading.{then_, or_misfit, operand_of, operand, option, ends_of, ends, last, is_next, blocks, last_blocks, is_new, options, required, is_further, further_disk, disks_of, disks, next_column}
 use Rattle.lvm_options.specs.declared.chosen.MkvgOptions.{MkvgOptions}
 use Rattle.lvm_options.specs.declared.chosen.MklvOptions.{MklvOptions}

@@ -3,6 +3,7 @@
 
 mod ask;
 mod facts;
+pub mod lower;
 mod next;
 mod request;
 mod target;

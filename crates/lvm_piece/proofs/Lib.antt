@@ -1,3 +1,4 @@
+pub mod handed
 pub mod Fronts
 pub mod Logs
 pub mod Moving

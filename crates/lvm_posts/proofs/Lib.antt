@@ -1,2 +1,3 @@
+pub mod handed
 pub mod Deciding
 pub mod Closed

@@ -32,7 +32,7 @@ use Rattle.lvm_top.specs.passed.Running.{RunsOn}
 use Rattle.lvm_top.specs.passed.ReplyVariants as reply
 use Rattle.lvm_top.specs.passed.Lines.{IsLine, asked_after, role_of}
 use Rattle.lvm_top.specs.passed.Recover.{HasNoPassive}
-use Rattle.lvm_top.specs.passed.Stage.{Holder, IsBetween, IsBetweenStage, IsOfKind, IsAllowed, IsAlone, IsStuck, IsTimely, OfRequests, Reply, Stage, StandsAlone, StandsBy, State, history_in, history_of, moment_in, most_refusals, session_in, session_of, shelf_of, state_in, without_facts}
+use Rattle.lvm_top.specs.passed.Stage.{Holder, IsBetween, IsBetweenStage, IsOfKind, IsAllowed, IsAlone, IsStuck, IsTimely, OfRequests, Reply, Stage, StandsAlone, StandsBy, ScriptState, history_in, history_of, moment_in, most_refusals, session_in, session_of, shelf_of, state_in, without_facts}
 use Rattle.lvm_top.specs.declared.run.Ended.{Ended}
 use Rattle.lvm_top.specs.declared.status.ExitStatus.{ExitStatus}
 use Rattle.lvm_top.specs.declared.status.ExitStatus.TheVariants as ended
@@ -62,7 +62,7 @@ use Rattle.lvm_top.proofs.Volumes.{mklv_serves}
 -- ---- the lines that make the volume
 
 -- What they leave: while the clock is ahead, and no other group has a quorum, a span goes on; the next line may begin unless nothing was heard of a transfer.
-pub record MakesSo (run : ℕ) (Alone : Type 0) (answer : Reply) (first last : State) : Type 0 where
+pub record MakesSo (run : ℕ) (Alone : Type 0) (answer : Reply) (first last : ScriptState) : Type 0 where
   pub keeps : IsTimely run first → Alone → (begun : Moment) → Keeps run begun first.moment → StandsBy run begun first → Keeps run begun last.moment × ((IsStuck answer → ⊥) → StandsBy run begun last)
   pub timely : (IsStuck answer → ⊥) → IsTimely run first → IsTimely run last
   pub left : IsTimely run first → IsAhead run (last.last + 1) last.moment.device last.moment.facts
@@ -74,7 +74,7 @@ pub record MakesSo (run : ℕ) (Alone : Type 0) (answer : Reply) (first last : S
 pub ok_heard : IsStuck reply.Ok → ⊥
 ok_heard e = cc e
 
-pub makes_so : (log : Log) (room : Room) (group volume : List ℕ) (first : State) (answer : Reply) (last : State) (made : IsMade log room group volume first answer last) → MakesSo log.run (AreMadeAlone made) answer first last
+pub makes_so : (log : Log) (room : Room) (group volume : List ℕ) (first : ScriptState) (answer : Reply) (last : ScriptState) (made : IsMade log room group volume first answer last) → MakesSo log.run (AreMadeAlone made) answer first last
 makes_so log room group volume first answer last (NoGroup not it) = record {
   keeps = λ timely alone begun span stands. it.goes.keeps timely alone begun span stands;
   timely = it.goes.timely;
@@ -97,16 +97,16 @@ makes_so log room group volume first answer last (HasGroup mid makes it) = recor
 }
 
 -- What holds of them where one group may be found at first, without volumes in mode passive: no other has a quorum, and none comes.
-pub record LinesAlone {log : Log} {room : Room} {group volume : List ℕ} {first : State} {answer : Reply} {last : State} (made : IsMade log room group volume first answer last) : Type 0 where
+pub record LinesAlone {log : Log} {room : Room} {group volume : List ℕ} {first : ScriptState} {answer : Reply} {last : ScriptState} (made : IsMade log room group volume first answer last) : Type 0 where
   pub alone : AreMadeAlone made
   pub finds : (IsStuck answer → ⊥) → FindsOneGroup last.moment.device × HasNoPassiveOn last
 
-module _ (log : Log) (room : Room) (past : List Fact) (group volume : List ℕ) (first : State) (begin : MayStart log.run past first) (one : FindsOneGroup first.moment.device) (off : FindsNoPassive first.moment.device)
-    (no_force : IsUnforced group) (nor_force : IsUnforced volume) (allowed : (old : State) → IsAllowed (role_of (line_of group)) old) (allowed_too : (old : State) → IsAllowed (role_of (line_of volume)) old) where
+module _ (log : Log) (room : Room) (past : List Fact) (group volume : List ℕ) (first : ScriptState) (begin : MayStart log.run past first) (one : FindsOneGroup first.moment.device) (off : FindsNoPassive first.moment.device)
+    (no_force : IsUnforced group) (nor_force : IsUnforced volume) (allowed : (old : ScriptState) → IsAllowed (role_of (line_of group)) old) (allowed_too : (old : ScriptState) → IsAllowed (role_of (line_of volume)) old) where
   first_off : HasNoPassiveOn first
   first_off = subst (λ (o : Option Core). IfSome o (λ core. HasNoPassive core.descriptor)) (sym begin.off) tt
 
-  pub lines_alone : (answer : Reply) (last : State) (made : IsMade log room group volume first answer last) → LinesAlone made
+  pub lines_alone : (answer : Reply) (last : ScriptState) (made : IsMade log room group volume first answer last) → LinesAlone made
   lines_alone answer last (NoGroup not it) = record {
     alone = alone_so (role_of (line_of group)) first last (allowed first) one first_off;
     finds = λ heard. let all = script_one log room past first begin one off (NextLine group answer answer heard (inl refl) NoLine it) (tt, no_force) (tt, allowed first) in (all.finds_one, all.session);
@@ -131,7 +131,7 @@ runs_unstuck old new runs on stuck = by runs.leaves.keeps.power
     by (inr (inl dark)) = let e = sym dark ∙ stuck in cc e
     by (inr (inr off)) = let e = sym off.1 ∙ stuck in cc e
 
-pub drawn_concluded : (end : State) (exit : Moment) → IsBetween end.moment end.session end.posts → (core : Core) → end.session ≡ Some core → core.descriptor.lvs ≢ [] → end.moment.facts ≡ core.history.facts → (run : ℕ) → core.history.run ≡ run
+pub drawn_concluded : (end : ScriptState) (exit : Moment) → IsBetween end.moment end.session end.posts → (core : Core) → end.session ≡ Some core → core.descriptor.lvs ≢ [] → end.moment.facts ≡ core.history.facts → (run : ℕ) → core.history.run ≡ run
     → (blocks : ℕ) (load : Workload) (woven : Woven) → IsDrawn blocks load (state end.moment.device core) exit woven → Concluded run end exit
 drawn_concluded end exit between core some vols facts run named blocks load woven drawn =
     closed_concluded run end exit between core some vols facts named drawn.end (runs_unstuck (state end.moment.device core) drawn.end drawn.runs on) drawn.runs drawn.sound drawn.closed drawn.facts
@@ -140,24 +140,24 @@ drawn_concluded end exit between core some vols facts run named blocks load wove
     on = (subst (λ (o : Option Core). IsBetween end.moment o end.posts) some between).session.power
 
 -- the lines are those that are named
-pub made_by : (log : Log) (room : Room) (group group1 volume volume1 : List ℕ) (first : State) (answer : Reply) (last : State) → group ≡ group1 → volume ≡ volume1 → IsMade log room group volume first answer last → IsMade log room group1 volume1 first answer last
+pub made_by : (log : Log) (room : Room) (group group1 volume volume1 : List ℕ) (first : ScriptState) (answer : Reply) (last : ScriptState) → group ≡ group1 → volume ≡ volume1 → IsMade log room group volume first answer last → IsMade log room group1 volume1 first answer last
 made_by log room group group1 volume volume1 first answer last is_group is_volume made =
     subst (λ (l : List ℕ). IsMade log room l volume1 first answer last) is_group (subst (λ (l : List ℕ). IsMade log room group l first answer last) is_volume made)
 
 -- where the last is answered `ok` a session is on that serves requests
-pub made_serves : (log : Log) (room : Room) (disks mib : ℕ) → IsSized disks mib → (first : State) (answer : Reply) (last : State) → IsMade log room (mkvg_line disks) (mklv_line disks mib) first answer last → answer ≡ reply.Ok → IsServed last.session
+pub made_serves : (log : Log) (room : Room) (disks mib : ℕ) → IsSized disks mib → (first : ScriptState) (answer : Reply) (last : ScriptState) → IsMade log room (mkvg_line disks) (mklv_line disks mib) first answer last → answer ≡ reply.Ok → IsServed last.session
 made_serves log room disks mib sized first answer last (NoGroup not it) ok = absurd (not ok)
 made_serves log room disks mib sized first answer last (HasGroup mid makes it) ok =
     let on = mklv_serves log room (mklv_line disks mib) mid last _ _ _ _ _ _ (volume_reads disks mib sized) (subst (λ (a : Reply). IsLine log room (mklv_line disks mib) a mid last) ok it) in
     subst IsServed (sym on.1) on.2
 
 -- a refusal of them has its cause
-pub made_caused : (log : Log) (room : Room) (group volume : List ℕ) (first : State) (answer : Reply) (last : State) (made : IsMade log room group volume first answer last) → IsMadeForCause made
+pub made_caused : (log : Log) (room : Room) (group volume : List ℕ) (first : ScriptState) (answer : Reply) (last : ScriptState) (made : IsMade log room group volume first answer last) → IsMadeForCause made
 made_caused log room group volume first answer last (NoGroup not it) = line_caused log room group answer first last it
 made_caused log room group volume first answer last (HasGroup mid makes it) = line_caused log room volume answer mid last it
 
 -- the lines answer at most two refusals
-pub made_few : (log : Log) (room : Room) (group volume : List ℕ) (first : State) (answer : Reply) (last : State) → IsMade log room group volume first answer last → first.posts ≡ [] → most_refusals answer ≤ 2
+pub made_few : (log : Log) (room : Room) (group volume : List ℕ) (first : ScriptState) (answer : Reply) (last : ScriptState) → IsMade log room group volume first answer last → first.posts ≡ [] → most_refusals answer ≤ 2
 made_few log room group volume first answer last (NoGroup not it) none =
     let few = it.goes.few in let zero : length first.posts ≡ 0 = ap (λ (l : List Post). length l) none in omega (arith, few, zero)
 made_few log room group volume first answer last (HasGroup mid makes it) none =
@@ -329,11 +329,11 @@ serving_on device old driver is between = (between_at device old (holder.Serving
 -- ---- the end
 
 -- What follows the lines: nothing, where nothing was heard of a transfer; or what keeps the span.
-pub data ConcludesSo (run : ℕ) (answer : Reply) (end : State) (exit : Moment) : Type 0 where
+pub data ConcludesSo (run : ℕ) (answer : Reply) (end : ScriptState) (exit : Moment) : Type 0 where
   Unheard : IsStuck answer → exit ≡ end.moment → ConcludesSo run answer end exit
   Heard : (IsStuck answer → ⊥) → Concluded run end exit → ConcludesSo run answer end exit
 
-pub concludes_so : (blocks : ℕ) (load : Workload) (answer : Reply) (run : ℕ) (end : State) (exit : Exit) → EndsWoven blocks load answer run end.moment end.session exit
+pub concludes_so : (blocks : ℕ) (load : Workload) (answer : Reply) (run : ℕ) (end : ScriptState) (exit : Exit) → EndsWoven blocks load answer run end.moment end.session exit
     → (IsStuck answer → end.session ≡ None) → ((IsStuck answer → ⊥) → IsBetween end.moment end.session end.posts) → ConcludesSo run answer end exit.moment
 concludes_so blocks load answer run end exit (NotMade not it) off between = ⊎_elim
     (λ stuck. let is = it.tells.stuck.0 stuck in Unheard is (off_still run end.moment exit.moment end.session it.concludes (off is)))
@@ -343,7 +343,7 @@ concludes_so blocks load answer run end exit (Drawn ok core some vols named fact
     let heard : IsStuck answer → ⊥ = λ is. ok_heard (sym ok ∙ is) in
     Heard heard (drawn_concluded end exit.moment (between heard) core some vols facts run named blocks load served.woven served.drawn)
 
-pub lit : (run : ℕ) (answer : Reply) (end : State) (exit : Moment) → ConcludesSo run answer end exit → end.moment.device.power ≡ true → exit.device.power ≡ true
+pub lit : (run : ℕ) (answer : Reply) (end : ScriptState) (exit : Moment) → ConcludesSo run answer end exit → end.moment.device.power ≡ true → exit.device.power ≡ true
 lit run answer end exit (Unheard stuck same) on = subst (λ (m : Moment). m.device.power ≡ true) (sym same) on
 lit run answer end exit (Heard heard its) on = its.power
 
@@ -427,7 +427,7 @@ module _ {S : Type 0} (device : S → Device) (disks mib : ℕ) (sized : IsSized
     (fresh : without_facts (history_in start) ≡ empty_log run room) (it : Stage S) (answer : Reply) (lines : IsMade (without_facts (history_in start)) room (mkvg_line disks) (mklv_line disks mib) (state_in device start begun) answer (state_in device it last))
     (rooms : without_facts (history_in it) ≡ without_facts (history_in start)) (ready : IsReady entry) (rose : Rose asked run) where
   the_lines : IsMade (empty_log run room) room (mkvg_line disks) (mklv_line disks mib) (entry_state entry run) answer (state_in device it last)
-  the_lines = subst (λ (s : State). IsMade (empty_log run room) room (mkvg_line disks) (mklv_line disks mib) s answer (state_in device it last)) first_is
+  the_lines = subst (λ (s : ScriptState). IsMade (empty_log run room) room (mkvg_line disks) (mklv_line disks mib) s answer (state_in device it last)) first_is
       (subst (λ (l : Log). IsMade l room (mkvg_line disks) (mklv_line disks mib) (state_in device start begun) answer (state_in device it last)) fresh lines)
 
   so : MakesSo run (AreMadeAlone the_lines) answer (entry_state entry run) (state_in device it last)

@@ -23,7 +23,7 @@ use Rattle.lvm_load.specs.Weaving.{Weaves, first_weaving}
 use Rattle.lvm_top.specs.passed.Lines.{IsLine, asked_after, role_of}
 use Rattle.lvm_top.specs.passed.Running.{RunsOn}
 use Rattle.lvm_top.specs.passed.ReplyVariants as reply
-use Rattle.lvm_top.specs.passed.Stage.{IsAlone, IsClosed, OfRequests, Reply, State}
+use Rattle.lvm_top.specs.passed.Stage.{IsAlone, IsClosed, OfRequests, Reply, ScriptState}
 use Rattle.lvm_top.specs.declared.run.Ended.{Ended}
 use Rattle.lvm_top.specs.declared.script.Stop.{Stop}
 use Rattle.lvm_top.specs.declared.status.ExitStatus.{ExitStatus}
@@ -52,23 +52,23 @@ abbrev pub mklv_line : ℕ → ℕ → List ℕ
 mklv_line disks mib = codes "mklv -y weavelv -c " ++ (decimal (copy_count disks) ++ (codes " -w a weavevg " ++ decimal (mib - 2)))
 
 -- The two lines were done, or the first alone where it wasn't answered by `ok`; and the last of them was answered so.
-pub data IsMade (log : Log) (room : Room) (group volume : List ℕ) (first : State) (answer : Reply) (last : State) : Type 0 where
+pub data IsMade (log : Log) (room : Room) (group volume : List ℕ) (first : ScriptState) (answer : Reply) (last : ScriptState) : Type 0 where
   NoGroup : (answer ≡ reply.Ok → ⊥) → IsLine log room group answer first last → IsMade log room group volume first answer last
-  HasGroup : (mid : State) → IsLine log room group reply.Ok first mid → IsLine log room volume answer mid last → IsMade log room group volume first answer last
+  HasGroup : (mid : ScriptState) → IsLine log room group reply.Ok first mid → IsLine log room volume answer mid last → IsMade log room group volume first answer last
 
 -- the clock was asked for the line of the group, and for that of the volume where it was done
 abbrev pub HasAsked : (group volume : List ℕ) (asked now : ℕ) → Type 0
 HasAsked group volume asked now = (now ≡ asked_after (line_of group) asked) ⊎ (now ≡ asked_after (line_of volume) (asked_after (line_of group) asked))
 
 -- at most one group has a quorum among all disks where the lines enter a volume's making
-abbrev pub AreMadeAlone : {log : Log} {room : Room} {group volume : List ℕ} {first : State} {answer : Reply} {last : State}
+abbrev pub AreMadeAlone : {log : Log} {room : Room} {group volume : List ℕ} {first : ScriptState} {answer : Reply} {last : ScriptState}
     → IsMade log room group volume first answer last → Type 0
 AreMadeAlone {group = group} {first = first} {last = last} (NoGroup not does) = IsAlone (role_of (line_of group)) first last
 AreMadeAlone {group = group} {volume = volume} {first = first} {last = last} (HasGroup mid makes does) =
     IsAlone (role_of (line_of group)) first mid × IsAlone (role_of (line_of volume)) mid last
 
 -- the line that was answered last has its cause, where it is refused
-abbrev pub IsMadeForCause : {log : Log} {room : Room} {group volume : List ℕ} {first : State} {answer : Reply} {last : State}
+abbrev pub IsMadeForCause : {log : Log} {room : Room} {group volume : List ℕ} {first : ScriptState} {answer : Reply} {last : ScriptState}
     → IsMade log room group volume first answer last → Type 0
 IsMadeForCause {group = group} {first = first} {answer = answer} {last = last} (NoGroup not does) = IsForCause group answer first last
 IsMadeForCause {volume = volume} {answer = answer} {last = last} (HasGroup mid makes does) = IsForCause volume answer mid last
@@ -212,7 +212,7 @@ asked_woven (Some log) asked = next_count (next_count asked)
 -- What a run does for which memory was found: its lines, and its end.
 pub record GoesWoven (disks mib : ℕ) (load : Workload) (r : Run) : Type 0 where
   pub answer : Reply
-  pub end : State
+  pub end : ScriptState
   pub made : IsMade (empty_log r.named r.room) r.room (mkvg_line disks) (mklv_line disks mib) (entry_state r.entry r.named) answer end
   pub ends : EndsWoven (2048 * (mib - 2)) load answer r.named end.moment end.session (exit_from r)
   pub clock : end.last ≡ r.last

@@ -12,17 +12,17 @@ use Rattle.lvm_stamps.proofs.Clock.{all_is_behind_next}
 use Rattle.lvm_write.specs.Parts.{Spends}
 use Rattle.lvm_write.proofs.Transfers.{rose_then, spends_none, spends_then}
 use Rattle.lvm_session.specs.State.{Core, State}
-use Rattle.lvm_session_start.specs.Beginning.{AreFaults}
+use Rattle.lvm_core.specs.handed.Names.{AreFaults}
 use Rattle.lvm_core.specs.declared.parts.Room.{Room}
 use Rattle.lvm_core.specs.declared.refused.Cause.{Cause}
 use Rattle.lvm_core.specs.declared.refused.Cause.TheVariants as cause
 use Rattle.lvm_core.specs.declared.refused.Refused.{Refused}
 use Rattle.lvm_core.specs.Coming.{BringsOn, IsStarted, shelf_left, history_left}
 use Rattle.lvm_core.specs.State.{state_of}
-use Rattle.lvm_group.specs.NewGroup.{NewGroup, MayBegin, RefusesFirst}
-use Rattle.lvm_group.specs.Made.{Refuses as MkvgRefuses, MkvgGives}
+use Rattle.lvm_group.specs.passed.GroupPlan.{NewGroup, MayBegin, RefusesFirst}
+use Rattle.lvm_group.specs.Made.{MkvgRefuses, MkvgGives}
 use Rattle.lvm_group.proofs.Entries.{keeps_cut, calm_cut}
-use Rattle.lvm_varyon.specs.Varied.{Refuses as VaryonRefuses, VariesOnAt, VaryonGives}
+use Rattle.lvm_varyon.specs.Varied.{VaryonRefuses, VariesOnAt, VaryonGives}
 use Rattle.lvm_varyon.proofs.Wrote.{failed_rose}
 use Rattle.lvm_quiesce.specs.Ends.{Quiesces}
 use Rattle.lvm_quiesce.specs.Groups.{StaysOut, GivesOnceQuiet, StayedOut, WentQuiet, MkvgOnceQuiet, VaryonOnceQuiet, BringsOnEach, IsStartedEach, CauseRose}

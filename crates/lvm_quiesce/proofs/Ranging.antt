@@ -18,7 +18,7 @@ use Rattle.lvm_write.proofs.Transfers.{rose_then, spends_then}
 use Rattle.lvm_core.proofs.Dark.{cut_landed}
 use Rattle.lvm_core.proofs.LeavesLemmas.{keeps_cut as entries_keep_cut}
 use Rattle.lvm_group.proofs.Entries.{keeps_cut, calm_cut}
-use Rattle.lvm_piece.specs.Keeping.{HaveAllLanded, NoneComesOn}
+use Rattle.lvm_raw.specs.handed.Names.{HaveAllLanded, NoneComesOn}
 use Rattle.lvm_raw.specs.declared.fault.RawFault.{RawFault}
 use Rattle.lvm_raw.specs.declared.fault.RawFault.TheVariants as fault
 use Rattle.lvm_raw.specs.Asking.{IsRejected}

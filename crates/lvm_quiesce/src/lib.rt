@@ -4,6 +4,7 @@
 mod ends;
 mod groups;
 pub mod laws;
+pub mod lower;
 mod ranges;
 
 pub use ends::{Quiesced, quiesce};

@@ -7,7 +7,7 @@ ghost use Rattle.lvm_survey.specs.Rows.{AreRows};
 
 use crate::groups::{greatest_epoch, group_of};
 use crate::names::{first_named, has_record, other_named};
-use lvm_num::{Descriptor, DiskSet, Memory, Name, Status, copy_of_descriptor, copy_of_status};
+use lvm_num::{Descriptor, DiskSet, Memory, Name, Status, clone_descriptor, clone_status};
 use lvm_survey::Survey;
 use std::alloc::Global;
 
@@ -95,7 +95,7 @@ fn copies(
     ensures descriptor { IfOk result (λ made. made.0 ≡ descriptor.now) }
     ensures status { IfOk result (λ made. made.1 ≡ status.now) }
 {
-    let descriptor = copy_of_descriptor(alloc, descriptor)?;
-    let status = copy_of_status(alloc, status)?;
+    let descriptor = clone_descriptor(alloc, descriptor)?;
+    let status = clone_status(alloc, status)?;
     Ok((descriptor, status))
 }

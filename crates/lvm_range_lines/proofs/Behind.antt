@@ -8,8 +8,7 @@ use Rattle.lvm_vol.specs.Log.{Log}
 use Rattle.lvm_kept.specs.Moments.{Moment}
 use Rattle.lvm_steps.specs.Moments.{Keeps}
 use Rattle.lvm_steps.specs.Requests.{at}
-use Rattle.lvm_core.specs.Leaves.{is_of_volume}
-use Rattle.lvm_core.specs.Sound.{HaveAllLanded}
+use Rattle.lvm_group_lines.specs.handed.Names.{is_of_volume, HaveAllLanded}
 use Rattle.lvm_keeps.proofs.Lists.{count_cons}
 use Rattle.lvm_session.specs.State.{Core, State as Session}
 use Rattle.lvm_group_lines.specs.passed.Quiesce.{IsBehindEach}
@@ -19,8 +18,7 @@ use Rattle.lvm_group_lines.specs.passed.Tie.{LeavesDescriptors}
 use Rattle.lvm_posts.specs.declared.posts.Post.{Post}
 use Rattle.lvm_posts.specs.Posts.{takings}
 use Rattle.lvm_group_lines.specs.passed.HolderVariants as holder
-use Rattle.lvm_group_lines.specs.passed.Stage.{Reply, Stage, GoesOn, HasBegunHeld, IsAlone, OfRequests, IsStuck, most_refusals, HaveRooms, IsFitting}
-use Rattle.lvm_group_lines.specs.passed.Stage.{history_in, session_in, shelf_in, state_in, ArePosted, IsOnBetween, StandsAlone, State}
+use Rattle.lvm_group_lines.specs.passed.Stage.{Reply, Stage, GoesOn, HasBegunHeld, IsAlone, OfRequests, IsStuck, most_refusals, HaveRooms, IsFitting, history_in, session_in, shelf_in, state_in, ArePosted, IsOnBetween, StandsAlone, ScriptState}
 use Rattle.lvm_group_lines.specs.passed.TieCommands.{StandsAfter}
 use Rattle.lvm_range_lines.specs.declared.answers.Answers.{Answers}
 use Rattle.lvm_range_lines.specs.Answers.{Gathers, Tells, TellsAll, TellsNone}
@@ -69,9 +67,9 @@ gone_volumes (OneGone {posts} {facts} {answers} before post have total answer en
 
 -- ---- what it leaves
 
-module _ {S : Type 0} (device : S → Device) (run : ℕ) (old : State) (closed stage : Stage S) (last : ℕ) (answer : Reply) (waits : WaitsBehind device closed stage answer) (mid_off : session_in closed ≡ None)
+module _ {S : Type 0} (device : S → Device) (run : ℕ) (old : ScriptState) (closed stage : Stage S) (last : ℕ) (answer : Reply) (waits : WaitsBehind device closed stage answer) (mid_off : session_in closed ≡ None)
     (run_is : run ≡ (history_in closed).run) (says : Reply) (heard : IsStuck says → ⊥) (goes : GoesOn run OfRequests says old (state_in device closed last)) (few : length closed.posts.items ≤ length old.posts) where
-  abbrev pub new : State
+  abbrev pub new : ScriptState
   new = state_in device stage last
 
   alone_mid : IsAlone OfRequests old new → IsAlone OfRequests old (state_in device closed last)
@@ -114,13 +112,13 @@ module _ {S : Type 0} (device : S → Device) (run : ℕ) (old : State) (closed 
 -- what it does
 
 module _ {S : Type 0} (device : S → Device) (closed stage : Stage S) (answer : Reply) (waits : WaitsBehind device closed stage answer) (mid_off : session_in closed ≡ None) (last : ℕ) where
-  abbrev was : State
+  abbrev was : ScriptState
   was = state_in device closed last
 
-  abbrev now : State
+  abbrev now : ScriptState
   now = state_in device stage last
 
-  abbrev left : Device → Option Core → List Post → State
+  abbrev left : Device → Option Core → List Post → ScriptState
   left d session posts = record { moment = at d now.moment.facts; session = session; posts = posts; last = last }
 
   pub waits_off : WaitsOff (state_in device closed last) (state_in device stage last) answer

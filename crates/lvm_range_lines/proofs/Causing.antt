@@ -29,10 +29,10 @@ module _ (faults : ℕ → ℕ) where
   still NoPost start = start
   still {first} (OnePost {mid = mid} before post new answer takes) start = post_still post first mid new answer takes (still before start)
 
-  post_caused : (post : Post) (first old new : Session) (answer : Ending) → TakesPost post old new answer → IsStill faults first old → IsPostCaused faults first.device post answer
+  post_caused : (post : Post) (first old new : Session) (answer : Ending) → TakesPost post old new answer → IsStill faults first old → IsPostCaused faults first.device old.core post answer
   post_caused post first old new (Ok done) takes was = tt
   post_caused post first old new (Err why) (OfThis own range) was = λ its.
-      subst (λ (d : Device). GoingCause faults d why) (range.shelf ∙ was.device)
+      subst (λ (d : Device). GoingCause faults post.asked old.core d why) (range.shelf ∙ was.device)
       (going_cause faults post.asked old new why was.on (all_on (AreSince faults) (λ (o : Open). post.asked.first ≤ o.request.id → AreSince faults o) (λ o since above. since) old.core.requests was.since) range)
   post_caused post first old new (Err why) (OfEarlier have total is same ends) was = λ its. absurd (cc (sym its ∙ is))
 

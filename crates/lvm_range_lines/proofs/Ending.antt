@@ -27,7 +27,7 @@ use Rattle.lvm_posts.specs.Posts.{ended_with}
 use Rattle.lvm_posts.proofs.Closed.{over_answered}
 use Rattle.lvm_group_lines.specs.passed.Stage.{Holder, Reply, Stage, EndsUnasked, GoesOn, OfRequests, most_refusals, HaveRooms, IsBetweenStage}
 use Rattle.lvm_group_lines.specs.passed.Stage.{IsCarried, IsClosed, IsEnded, IsFitting, IsOfKind, history_in, moment_in, posts_ended, session_of}
-use Rattle.lvm_group_lines.specs.passed.Stage.{shelf_in, state_in, ArePosted, IsOnBetween, IsTimely, State, without_facts}
+use Rattle.lvm_group_lines.specs.passed.Stage.{shelf_in, state_in, ArePosted, IsOnBetween, IsTimely, ScriptState, without_facts}
 use Rattle.lvm_group_lines.specs.passed.HolderVariants as holder
 use Rattle.lvm_group_lines.specs.passed.RefusalVariants as refusal
 use Rattle.lvm_group_lines.specs.passed.ReplyVariants as reply
@@ -98,7 +98,7 @@ module _ {S : Type 0} (device : S → Device) (first : S × Core) (posts : Vec P
     volumes_stay : end.1.descriptor.lvs ≢ []
     volumes_stay none = fits.kind (sym (ap (λ (d : Descriptor). d.lvs) to.leaves.keeps.descriptor) ∙ none)
 
-    module _ (Does : Log → State → State → Reply → Type 0) (posts1 : Vec Post) (bytes1 : Vec ℕ) (rooms : HaveRooms first.1.history.room posts1 bytes1) (stage : Stage S) (answer : Reply)
+    module _ (Does : Log → ScriptState → ScriptState → Reply → Type 0) (posts1 : Vec Post) (bytes1 : Vec ℕ) (rooms : HaveRooms first.1.history.room posts1 bytes1) (stage : Stage S) (answer : Reply)
         (few : most_refusals answer + length posts1.items ≤ length posts.items + 1)
         (does : (last : ℕ) → Does (without_facts first.1.history) (state_in device old last) (state_in device stage last) answer) where
       -- it goes on

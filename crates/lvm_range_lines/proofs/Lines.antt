@@ -26,7 +26,7 @@ use Rattle.lvm_group_lines.specs.passed.Ranges.{AskRangeGives, Asks, IsAskedFor,
 use Rattle.lvm_group_lines.specs.passed.Ranges.{KeepsOthers, IsUnfinished, RangeCause}
 use Rattle.lvm_group_lines.proofs.passed.Ranges.{range_cause}
 use Rattle.lvm_group_lines.specs.passed.Stage.{Reply, Stage, EndsUnasked, OfRequests, InFull, Shows, WithoutMemory, most_refusals, HaveRooms}
-use Rattle.lvm_group_lines.specs.passed.Stage.{ComesTo, IsBetweenStage, IsCarried, IsFitting, state_in, ArePosted, State, is_unheard}
+use Rattle.lvm_group_lines.specs.passed.Stage.{ComesTo, IsBetweenStage, IsCarried, IsFitting, state_in, ArePosted, ScriptState, is_unheard}
 use Rattle.lvm_group_lines.specs.passed.HolderVariants as holder
 use Rattle.lvm_group_lines.specs.passed.ReplyVariants as reply
 use Rattle.lvm_group_lines.proofs.passed.Stage.{over_landed}
@@ -89,7 +89,7 @@ module _ {S : Type 0} (device : S → Device) (first : S × Core) (posts : Vec P
     (mid : S × Core) (asked : Asked) (asks : AsksByName name write at count first.1 mid.1 (Ok asked)) (its : IsAskedFor write count first.1 mid.1 asked) (shelf : mid.0 ≡ first.0) (kept : KeepsPosts first.1 mid.1)
     (begins : RunsOn (state_of device first) (state_of device mid))
     (end : S × Core) (others : KeepsOthers asked mid.1 end.1) (runs : RunsOn (state_of device mid) (state_of device end)) (sound : IsSound (state_of device end)) where
-  abbrev Does : Log → State → State → Reply → Type 0
+  abbrev Does : Log → ScriptState → ScriptState → Reply → Type 0
   Does log old new answer = OnVolume name (λ core lv. Finishes write Says lv at count core old new answer) old new answer
 
   all : RunsOn (state_of device first) (state_of device end)

@@ -13,7 +13,7 @@ use Rattle.lvm_group_lines.specs.passed.Running.{RunsOn}
 use Rattle.lvm_posts.specs.declared.posts.Post.{Post}
 use Rattle.lvm_group_lines.specs.passed.Ranges.{AskRangeGives}
 use Rattle.lvm_group_lines.specs.passed.Stage.{Refusal, Reply, Stage, EndsUnasked, OfRequests, most_refusals, HaveRooms, IsBetweenStage, IsCarried}
-use Rattle.lvm_group_lines.specs.passed.Stage.{IsFitting, state_in, State}
+use Rattle.lvm_group_lines.specs.passed.Stage.{IsFitting, state_in, ScriptState}
 use Rattle.lvm_group_lines.specs.passed.RefusalVariants as refusal
 use Rattle.lvm_group_lines.specs.passed.ReplyVariants as reply
 use Rattle.lvm_range_lines.specs.Leaving.{KeepsPosts, serving}
@@ -22,13 +22,13 @@ use Rattle.lvm_range_lines.specs.Requests.{AsksByName, HasNone, IsNotAsked, NotT
 use Rattle.lvm_range_lines.proofs.Ending.{RunsTo, carried_ends, runs_to}
 
 module _ {S : Type 0} (device : S → Device) (first : S × Core) (posts : Vec Post) (bytes : Vec ℕ) (fits : IsFitting (serving first posts bytes)) (between : IsBetweenStage device (serving first posts bytes))
-    (name : List ℕ) (write : Option ℕ) (at count : ℕ) (Happens : State → State → Reply → Core → ℕ → Type 0)
-    (not_asked : (old new : State) (answer : Reply) (core : Core) (lv : ℕ) → IsNotAsked write lv at count core old new answer → Happens old new answer core lv)
+    (name : List ℕ) (write : Option ℕ) (at count : ℕ) (Happens : ScriptState → ScriptState → Reply → Core → ℕ → Type 0)
+    (not_asked : (old new : ScriptState) (answer : Reply) (core : Core) (lv : ℕ) → IsNotAsked write lv at count core old new answer → Happens old new answer core lv)
     (mid : S × Core) (why : Refusal) (asks : AsksByName name write at count first.1 mid.1 (Err why)) (shelf : mid.0 ≡ first.0) (kept : KeepsPosts first.1 mid.1)
     (runs : RunsOn (state_of device first) (state_of device mid)) (on : mid.1.power ≡ power.On)
     (bytes1 : Vec ℕ) (rooms : HaveRooms first.1.history.room posts bytes1) (stage : Stage S) (answer : Reply) (is : answer ≡ reply.Refused why) (rooms_then : HaveRooms first.1.history.room stage.posts stage.bytes)
     (carried : IsCarried device mid posts bytes1 mid.1.power stage) where
-  abbrev Does : Log → State → State → Reply → Type 0
+  abbrev Does : Log → ScriptState → ScriptState → Reply → Type 0
   Does log old new says = OnVolume name (Happens old new says) old new says
 
   stage_is : stage ≡ serving mid posts bytes1

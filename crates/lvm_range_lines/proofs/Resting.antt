@@ -8,13 +8,12 @@ use Rattle.lvm_vol.specs.Order.{Ordered}
 use Rattle.lvm_steps.specs.Requests.{at}
 use Rattle.lvm_session.specs.State.{Core, State as Session, state}
 use Rattle.lvm_session.specs.Sound.{IsSound}
-use Rattle.lvm_core.specs.Settled.{IsSettled as IsSettledCore}
+use Rattle.lvm_group_lines.specs.handed.Names.{IsSettled as IsSettledCore}
 use Rattle.lvm_group_lines.specs.passed.Driver.{state_of}
 use Rattle.lvm_group_lines.specs.passed.Running.{RunsOn}
 use Rattle.lvm_posts.specs.declared.posts.Post.{Post}
 use Rattle.lvm_group_lines.specs.passed.TieCommands.{StandsAfter}
-use Rattle.lvm_group_lines.specs.passed.Stage.{Reply, Stage, EndsUnasked, GoesOn, OfRequests, HaveRooms, IsBetweenStage, IsFitting, history_in}
-use Rattle.lvm_group_lines.specs.passed.Stage.{session_in, shelf_in, state_in, ArePosted, IsOnBetween, State, without_facts}
+use Rattle.lvm_group_lines.specs.passed.Stage.{Reply, Stage, EndsUnasked, GoesOn, OfRequests, HaveRooms, IsBetweenStage, IsFitting, history_in, session_in, shelf_in, state_in, ArePosted, IsOnBetween, ScriptState, without_facts}
 use Rattle.lvm_group_lines.specs.passed.ReplyVariants as reply
 use Rattle.lvm_group_lines.proofs.passed.Stage.{still_goes, IsToldOf, posts_few}
 use Rattle.lvm_range_lines.specs.Answers.{Tells}
@@ -93,7 +92,7 @@ module _ {S : Type 0} (device : S → Device) (first : S × Core) (posts : Vec P
   log_is : end.1.history ≡ record first.1.history { facts = facts }
   log_is = ap (λ (s : Session). s.core.history) enters.is
 
-  abbrev behind : Session → ℕ → State
+  abbrev behind : Session → ℕ → ScriptState
   behind s last = record { moment = at s.device s.core.history.facts; session = Some s.core; posts = []; last = last }
 
   goes_as : (last : ℕ) → state_in device stage last ≡ behind (state_of device end) last

@@ -18,7 +18,7 @@ use Rattle.lvm_group_lines.proofs.passed.Running.{runs_both}
 use Rattle.lvm_posts.specs.declared.posts.Post.{Post}
 use Rattle.lvm_group_lines.specs.passed.RefusalVariants as refusal
 use Rattle.lvm_group_lines.specs.passed.Stage.{Reply, Stage, EndsUnasked, GoesOn, OfRequests, IsStuck, most_refusals, HaveRooms, IsBetweenStage}
-use Rattle.lvm_group_lines.specs.passed.Stage.{IsCarried, IsEnded, IsFitting, history_in, shelf_in, state_in, ArePosted, State, without_facts}
+use Rattle.lvm_group_lines.specs.passed.Stage.{IsCarried, IsEnded, IsFitting, history_in, shelf_in, state_in, ArePosted, ScriptState, without_facts}
 use Rattle.lvm_group_lines.specs.passed.ReplyVariants as reply
 use Rattle.lvm_group_lines.proofs.passed.Stage.{over_goes}
 use Rattle.lvm_range_lines.specs.Leaving.{GoesOnWith, Waited, serving}
@@ -40,7 +40,7 @@ heard_ok stuck = cc stuck
 module _ {S : Type 0} (device : S → Device) (first : S × Core) (posts : Vec Post) (bytes : Vec ℕ) (fits : IsFitting (serving first posts bytes)) (between : IsBetweenStage device (serving first posts bytes))
     (mid : S × Core) (turns : Path (TurnsForPosts posts.items) IsAny (state_of device first) (state_of device mid)) (runs : RunsOn (state_of device first) (state_of device mid)) (sound : IsSound (state_of device mid))
     (left : ℕ) (waited : Waited left (state_of device first) (state_of device mid)) (posted : ArePosted mid.1.history.facts (Some mid.1) posts.items) where
-  abbrev Does : Log → State → State → Reply → Type 0
+  abbrev Does : Log → ScriptState → ScriptState → Reply → Type 0
   Does log = WaitDoes
 
   abbrev old : Stage S

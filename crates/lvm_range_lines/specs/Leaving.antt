@@ -10,21 +10,21 @@ use Rattle.lvm_posts.specs.declared.fault.RangeFault.{RangeFault}
 use Rattle.lvm_posts.specs.declared.posts.Post.{Post}
 use Rattle.lvm_group_lines.specs.passed.HolderVariants as holder
 use Rattle.lvm_group_lines.specs.passed.Stage.{Reply, Stage, EndsUnasked, OfRequests, patience_of_line, IsBetweenStage, IsClosed, IsFitting, IsLeftBy}
-use Rattle.lvm_group_lines.specs.passed.Stage.{posts_ended, ArePosted, State}
+use Rattle.lvm_group_lines.specs.passed.Stage.{posts_ended, ArePosted, ScriptState}
 use Rattle.lvm_range_lines.specs.Refusals.{is_stuck}
 
 -- ---- states
 
 -- the session over the shelf of a state
-abbrev pub session_over : State → Core → Session
+abbrev pub session_over : ScriptState → Core → Session
 session_over s core = state s.moment.device core
 
 -- it goes on with these posts
-abbrev pub GoesOnWith : Session → List Post → ℕ → State → Type 0
+abbrev pub GoesOnWith : Session → List Post → ℕ → ScriptState → Type 0
 GoesOnWith end posts last new = new ≡ record { moment = record { device = end.device; facts = end.core.history.facts }; session = Some end.core; posts = posts; last = last }
 
 -- it is closed, and its posts have ended; after a power cut the power is on again
-pub record IsOverWith (end : Session) (posts : List Post) (last : ℕ) (new : State) : Type 0 where
+pub record IsOverWith (end : Session) (posts : List Post) (last : ℕ) (new : ScriptState) : Type 0 where
   pub shelf : IsClosed end.core.power end.device new.moment.device
   pub facts : new.moment.facts ≡ end.core.history.facts
   pub session : new.session ≡ None
@@ -32,25 +32,25 @@ pub record IsOverWith (end : Session) (posts : List Post) (last : ℕ) (new : St
   pub clock : new.last ≡ last
 
 -- It goes on where it is on, and is closed where it is over.
-abbrev pub LeavesBy : Power → Session → List Post → ℕ → State → Type 0
+abbrev pub LeavesBy : Power → Session → List Post → ℕ → ScriptState → Type 0
 LeavesBy power.On end posts last new = GoesOnWith end posts last new
 LeavesBy power.Off end posts last new = IsOverWith end posts last new
 LeavesBy power.Dark end posts last new = IsOverWith end posts last new
 LeavesBy power.Stuck end posts last new = IsOverWith end posts last new
 
-abbrev pub Leaves : Session → List Post → ℕ → State → Type 0
+abbrev pub Leaves : Session → List Post → ℕ → ScriptState → Type 0
 Leaves end posts last new = LeavesBy end.core.power end posts last new
 
 -- so it does behind a range that failed; one that is stuck is closed
-abbrev pub FailsIf : Bool → Session → List Post → ℕ → State → Type 0
+abbrev pub FailsIf : Bool → Session → List Post → ℕ → ScriptState → Type 0
 FailsIf true end posts last new = IsOverWith end posts last new
 FailsIf false end posts last new = Leaves end posts last new
 
-abbrev pub FailsBy : RangeFault → Session → List Post → ℕ → State → Type 0
+abbrev pub FailsBy : RangeFault → Session → List Post → ℕ → ScriptState → Type 0
 FailsBy why end posts last new = FailsIf (is_stuck why) end posts last new
 
 -- and behind one that was waited for
-abbrev pub EndsBy : {A : Type 0} → Result A RangeFault → Session → List Post → ℕ → State → Type 0
+abbrev pub EndsBy : {A : Type 0} → Result A RangeFault → Session → List Post → ℕ → ScriptState → Type 0
 EndsBy (Ok done) end posts last new = Leaves end posts last new
 EndsBy (Err why) end posts last new = FailsBy why end posts last new
 
@@ -69,11 +69,11 @@ abbrev pub resting : {S : Type 0} → S × Core → Vec Post → Vec ℕ → Sta
 resting driver posts bytes = record { holder = holder.Empty driver; posts = posts; bytes = bytes }
 
 -- A line goes on in the session of a stage, and ends by what becomes of the stage behind it.
-abbrev pub EndsInPlace : {S : Type 0} → (S → Device) → (State → State → Reply → Type 0) → Stage S → Stage S → Reply → Type 0
+abbrev pub EndsInPlace : {S : Type 0} → (S → Device) → (ScriptState → ScriptState → Reply → Type 0) → Stage S → Stage S → Reply → Type 0
 EndsInPlace device Does old kept answer = (stage : Stage _) → IsLeftBy device kept answer stage → EndsUnasked device (λ log. Does) ⊥ OfRequests old stage answer
 
 -- So it does in this session, whatever posts stand there.
-abbrev pub EndsInSession : {S : Type 0} → (S → Device) → (State → State → Reply → Type 0) → S × Core → Vec ℕ → S × Core → Vec ℕ → Reply → Type 0
+abbrev pub EndsInSession : {S : Type 0} → (S → Device) → (ScriptState → ScriptState → Reply → Type 0) → S × Core → Vec ℕ → S × Core → Vec ℕ → Reply → Type 0
 EndsInSession device Does old bytes kept bytes1 answer =
     (posts : Vec Post) → IsFitting (serving old posts bytes) → IsBetweenStage device (serving old posts bytes) → EndsInPlace device Does (serving old posts bytes) (serving kept posts bytes1) answer
 

@@ -7,10 +7,10 @@ use Rattle.lvm_session.specs.declared.open.Power.{Power}
 use Rattle.lvm_session.specs.declared.open.Power.TheVariants as power
 use Rattle.lvm_session.specs.Sound.{IsSound}
 use Rattle.lvm_session.specs.State.{Core, State as Session, votes_there}
-use Rattle.lvm_turn_losses.specs.Losing.{LosesVotesByFaults}
+use Rattle.lvm_group_lines.specs.handed.Names.{LosesVotesByFaults}
 use Rattle.lvm_group_lines.specs.passed.Running.{RunsOn}
 use Rattle.lvm_group_lines.specs.passed.Ranges.{StepEnds}
-use Rattle.lvm_group_lines.specs.passed.Stage.{State, IsRefused, Reply}
+use Rattle.lvm_group_lines.specs.passed.Stage.{ScriptState, IsRefused, Reply}
 use Rattle.lvm_group_lines.specs.passed.RefusalVariants as refusal
 use Rattle.lvm_group_lines.specs.passed.ReplyVariants as reply
 use Rattle.lvm_range_lines.specs.Leaving.{Leaves, session_over}
@@ -30,7 +30,7 @@ StopsAs turned.Dark left = left ≡ power.Dark
 StopsAs turned.Off left = left ≡ power.Off
 
 -- the turns of a session are made, and lose the votes by faults alone
-pub record IsStepped (turns : ℕ) (core : Core) (old new : State) (answer : Reply) : Type 0 where
+pub record IsStepped (turns : ℕ) (core : Core) (old new : ScriptState) (answer : Reply) : Type 0 where
   pub end : Session
   pub moved : ℕ
   pub how : Turned
@@ -43,7 +43,7 @@ pub record IsStepped (turns : ℕ) (core : Core) (old new : State) (answer : Rep
   pub says : answer ≡ step_reply moved end how
 
 -- It is refused while no group is on. In a group without volumes nothing is under way, so no turn moves. Else the turns are made.
-pub data StepDoes (turns : ℕ) (old new : State) (answer : Reply) : Type 0 where
+pub data StepDoes (turns : ℕ) (old new : ScriptState) (answer : Reply) : Type 0 where
   NoStepWhileOff : old.session ≡ None → IsRefused refusal.NoGroup answer old new → StepDoes turns old new answer
   NothingMoves : (core : Core) → old.session ≡ Some core → core.descriptor.lvs ≡ [] → answer ≡ reply.Stepped 0 → new ≡ old → StepDoes turns old new answer
   Steps : (core : Core) → old.session ≡ Some core → core.descriptor.lvs ≢ [] → IsStepped turns core old new answer → StepDoes turns old new answer

@@ -13,7 +13,7 @@ use Rattle.lvm_posts.specs.Deciding.{RangeEnds}
 use Rattle.lvm_posts.specs.Posts.{takings}
 use Rattle.lvm_group_lines.specs.passed.Ranges.{HavePiecesLanded, IsUnfinished, TakesRange}
 use Rattle.lvm_group_lines.specs.passed.Earlier.{with_taken}
-use Rattle.lvm_group_lines.specs.passed.Stage.{State, Reply}
+use Rattle.lvm_group_lines.specs.passed.Stage.{ScriptState, Reply}
 use Rattle.lvm_group_lines.specs.passed.RefusalVariants as refusal
 use Rattle.lvm_group_lines.specs.passed.ReplyVariants as reply
 use Rattle.lvm_range_lines.specs.Answers.{Tells}
@@ -61,7 +61,7 @@ TurnsForPosts posts old new = IsAwaited posts old × IsTurn old new
 -- ---- the line
 
 -- no group is on, and all answers are taken
-pub record WaitsOff (old new : State) (answer : Reply) : Type 0 where
+pub record WaitsOff (old new : ScriptState) (answer : Reply) : Type 0 where
   pub off : old.session ≡ None
   pub answers : List Ending
   pub takes : TakesGone old.moment.facts old.posts new.moment.facts answers
@@ -69,7 +69,7 @@ pub record WaitsOff (old new : State) (answer : Reply) : Type 0 where
   pub tells : Tells answers answer
 
 -- a session goes on behind them
-pub record WaitsOn (first : Session) (old new : State) (answer : Reply) : Type 0 where
+pub record WaitsOn (first : Session) (old new : ScriptState) (answer : Reply) : Type 0 where
   pub answers : List Ending
   pub end : Session
   pub takes : TakesPosts first old.posts end answers
@@ -79,28 +79,28 @@ pub record WaitsOn (first : Session) (old new : State) (answer : Reply) : Type 0
   pub tells : Tells answers answer
 
 -- it is over by the turns, each request of it that has landed has its cause, and all answers are taken once it is closed
-pub record WaitsOver (mid : Session) (old new : State) (answer : Reply) : Type 0 where
+pub record WaitsOver (mid : Session) (old new : ScriptState) (answer : Reply) : Type 0 where
   pub over : is_over mid.core.power ≡ true
   pub caused : (id : ℕ) → IsCausedFor mid 1 id
-  pub closed : State
+  pub closed : ScriptState
   pub ends : IsOverWith mid old.posts old.last closed
   pub waits : WaitsOff closed new answer
 
 -- some post hasn't landed, and no patience is left; no answer is taken
-pub record WaitsInVain (mid : Session) (left : ℕ) (old new : State) (answer : Reply) : Type 0 where
+pub record WaitsInVain (mid : Session) (left : ℕ) (old new : ScriptState) (answer : Reply) : Type 0 where
   pub awaited : IsAwaited old.posts mid
   pub none : left ≡ 0
   pub ends : IsOverWith mid old.posts old.last new
   pub says : answer ≡ reply.Refused refusal.Stuck
 
 -- what happens once no further turn is made
-pub data WaitEnds (mid : Session) (left : ℕ) (old new : State) (answer : Reply) : Type 0 where
+pub data WaitEnds (mid : Session) (left : ℕ) (old new : ScriptState) (answer : Reply) : Type 0 where
   Goes : mid.core.power ≡ power.On → AllHaveLanded old.posts mid → WaitsOn mid old new answer → WaitEnds mid left old new answer
   Over : AllHaveLanded old.posts mid → WaitsOver mid old new answer → WaitEnds mid left old new answer
   InVain : WaitsInVain mid left old new answer → WaitEnds mid left old new answer
 
 -- turns are made while some post hasn't landed
-pub record WaitsFor (core : Core) (old new : State) (answer : Reply) : Type 0 where
+pub record WaitsFor (core : Core) (old new : ScriptState) (answer : Reply) : Type 0 where
   pub mid : Session
   pub turns : Path (TurnsForPosts old.posts) IsAny (session_over old core) mid
   pub runs : RunsOn (session_over old core) mid
@@ -110,7 +110,7 @@ pub record WaitsFor (core : Core) (old new : State) (answer : Reply) : Type 0 wh
   pub ends : WaitEnds mid left old new answer
 
 -- All posts are answered in their order, once all have landed. Where no group is on, or one without a volume, each has.
-pub data WaitDoes (old new : State) (answer : Reply) : Type 0 where
+pub data WaitDoes (old new : ScriptState) (answer : Reply) : Type 0 where
   WhileOff : WaitsOff old new answer → WaitDoes old new answer
   AtRest : (core : Core) → old.session ≡ Some core → core.descriptor.lvs ≡ [] → WaitsOn (session_over old core) old new answer → WaitDoes old new answer
   Awaits : (core : Core) → old.session ≡ Some core → core.descriptor.lvs ≢ [] → WaitsFor core old new answer → WaitDoes old new answer

@@ -4,6 +4,7 @@
 mod answers;
 pub mod below;
 mod laws;
+pub mod lower;
 mod refusal;
 mod requests;
 mod stepping;

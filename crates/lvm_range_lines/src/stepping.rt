@@ -53,12 +53,9 @@ pub fn do_step<S: Shelf>(stage: Stage<S>, turns: u32) -> Answered<S>
         bytes,
     } = stage;
     match holder {
-        Holder::Off { shelf, history } => Stage {
-            holder: Holder::Off { shelf, history },
-            posts,
-            bytes,
+        Holder::Off { shelf, history } => {
+            Stage::off(shelf, history, posts, bytes).refused(Refusal::NoGroup)
         }
-        .refused(Refusal::NoGroup),
         Holder::Empty { driver } => Stage {
             holder: Holder::Empty { driver },
             posts,

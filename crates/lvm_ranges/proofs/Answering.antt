@@ -1,9 +1,9 @@
 -- The answers of a range, taken one after the other.
-use Rattle.std.proofs.Common.{◌≡◌, ◌≢◌, inl, inr, ◌≤◌, ◌<◌, ◌+◌, ◌==◌, ◌&&◌, ◌||◌, ℕ, zero, suc, Bool, true, false, not, List, [], ◌∷◌, ◌++◌, Option, Some, None, length, position, slice_get, slice_index_or, refl, sym, ◌∙◌, ap, subst, arith, if◌then◌else◌}
-use Rattle.std.specs.Prelude.{IfSome, MatchOption, Result, cond, find, is_none, nat_lt, unwrap_or}
-use Rattle.std.specs.List.{AllByRecursion, list_any, position_or_len, remove}
+use Rattle.std.proofs.Common.{◌≡◌, ◌≢◌, inl, inr, ◌≤◌, ◌<◌, ◌+◌, ◌==◌, ◌&&◌, ◌||◌, ℕ, zero, suc, Bool, true, false, List, [], ◌∷◌, ◌++◌, Option, Some, None, length, position, slice_get, slice_index_or, refl, sym, ◌∙◌, ap, subst, arith, if◌then◌else◌}
+use Rattle.std.specs.Prelude.{IfSome, MatchOption, Result, find, is_none, unwrap_or}
+use Rattle.std.specs.List.{AllByRecursion, list_any, remove}
 use Rattle.std.specs.Option.{option_or}
-use Rattle.std.proofs.lemmas.Bool.{eq-eqb, eqb-true, lt-ltb, ne_eqb}
+use Rattle.std.proofs.lemmas.Bool.{eq-eqb, eqb-true, ne_eqb}
 use Rattle.std.proofs.lemmas.List.Edits.{length-remove}
 use Rattle.std.proofs.lemmas.List.Quantifiers.{position-Some}
 use Rattle.std.proofs.lemmas.Option.{slice_get_within}
@@ -25,8 +25,8 @@ use Rattle.lvm_session.specs.State.{Core, State, votes_there}
 use Rattle.lvm_keeps.proofs.Lists.{all_at, any_removed}
 use Rattle.lvm_keeps.proofs.Small.{both, not_so}
 use Rattle.lvm_keeps.proofs.Telling.{answered_still, open_still, outcome_still}
-use Rattle.lvm_running.specs.Running.{RunsOn}
-use Rattle.lvm_running.proofs.Running.{runs_both, runs_none}
+use Rattle.lvm_driver.proofs.handed.Names.{some_position, runs_both, runs_none}
+use Rattle.lvm_driver.specs.handed.Names.{RunsOn}
 use Rattle.lvm_driver.specs.Answers.{IsCausedFor}
 use Rattle.lvm_posts.specs.declared.asked.Asked.{Asked}
 use Rattle.lvm_posts.specs.declared.fault.RangeFault.{RangeFault}
@@ -39,23 +39,6 @@ use Rattle.lvm_posts.specs.Deciding.{EndsWith, RangeEnds, fault_by}
 use Rattle.lvm_posts.proofs.Deciding.{DecidesSoFar, decides_more, none_yet}
 use Rattle.lvm_ranges.specs.Taking.{NoTake, OneTake, Takes, fault_taken, is_landed}
 use Rattle.lvm_ranges.proofs.Growing.{Grows, grows_quiet, keeps_both, keeps_none, keeps_requests}
-
--- ---- one that is asked for stands somewhere
-
-before_some : {X : Type 0} (t : X → Bool) (xs : List X) → list_any t xs ≡ true → position_or_len t xs < length xs
-before_some t [] some = not_so some
-before_some t (x ∷ xs) some = by (t x) (before_some t xs) some
-  where
-    by : (b : Bool) → (list_any t xs ≡ true → position_or_len t xs < length xs) → b || list_any t xs ≡ true → cond (not b) (1 + position_or_len t xs) 0 < length (x ∷ xs)
-    by true rest some = omega arith
-    by false rest some = let less = rest some in omega (arith, less)
-
-some_position : {X : Type 0} (t : X → Bool) (xs : List X) → list_any t xs ≡ true → position t xs ≡ None → ⊥
-some_position t xs some none =
-    let less = before_some t xs some in
-    let tested : nat_lt (position_or_len t xs) (length xs) ≡ true = lt-ltb (position_or_len t xs) (length xs) less in
-    let found : position t xs ≡ Some (position_or_len t xs) = ap (λ b. cond b (Some (position_or_len t xs)) None) tested in
-    absurd (cc (sym found ∙ none))
 
 -- ---- one answer is taken
 

@@ -1,5 +1,5 @@
 -- Why a range that was asked for, and waited for, ended otherwise than well.
-use Rattle.std.proofs.Common.{◌≡◌, inl, inr, ◌≤◌, ◌<◌, ◌+◌, ◌-◌, ◌*◌, ◌/◌, ◌||◌, ◌&&◌, ◌==◌, not, ℕ, zero, suc, Bool, true, false, List, [], ◌∷◌, Option, Some, None, Result, Ok, Err, position, if◌then◌else◌, refl, sym, ◌∙◌, ap, subst, arith}
+use Rattle.std.proofs.Common.{◌≡◌, ◌⊎◌, inl, inr, ◌≤◌, ◌<◌, ◌+◌, ◌-◌, ◌*◌, ◌/◌, ◌||◌, ◌&&◌, ◌==◌, not, ℕ, zero, suc, Bool, true, false, List, [], ◌∷◌, Option, Some, None, Result, Ok, Err, position, if◌then◌else◌, refl, sym, ◌∙◌, ap, subst, arith}
 use Rattle.std.specs.Prelude.{IfSome, MatchOption, is_some, nat_lt, slice_index_or}
 use Rattle.std.specs.List.{list_any, AllByRecursion}
 use Rattle.std.proofs.lemmas.Bool.{eqb-true, ltb-false}
@@ -34,16 +34,15 @@ use Rattle.lvm_session.specs.State.{Core, State, state, votes_there}
 use Rattle.lvm_keeps.proofs.Lists.{all_on, all_push, all_removed}
 use Rattle.lvm_keeps.proofs.Losing.{loss_is_caused}
 use Rattle.lvm_keeps.proofs.Small.{both, is_false, not_so}
-use Rattle.lvm_keeps_turn.proofs.Stepping.{turn_counts}
+use Rattle.lvm_driver.proofs.handed.Names.{turn_counts, Given, turn_goes}
 use Rattle.lvm_turn_losses.specs.Losing.{LosesVotesByFaults, LostForFaults}
-use Rattle.lvm_running.proofs.Shapes.{Given, turn_goes}
 use Rattle.lvm_driver.specs.Drains.{IsAny}
 use Rattle.lvm_posts.specs.declared.asked.Asked.{Asked}
 use Rattle.lvm_posts.specs.declared.fault.RangeFault.{RangeFault}
 use Rattle.lvm_posts.specs.declared.fault.RangeFault.TheVariants as fault
 use Rattle.lvm_posts.specs.Deciding.{AllWell, FirstFails, RangeEnds, fault_by}
 use Rattle.lvm_posts.specs.Pieces.{piece_lp, piece_start}
-use Rattle.lvm_raw.specs.Pieces.{piece_end}
+use Rattle.lvm_posts.specs.handed.Names.{piece_end}
 use Rattle.lvm_ranges.specs.declared.refusal.AskRangeFault.{AskRangeFault}
 use Rattle.lvm_ranges.specs.Asking.{AskRangeGives, Asks, range_fault}
 use Rattle.lvm_ranges.specs.Choosing.{AreAllSince, AreSince}
@@ -280,29 +279,36 @@ module _ (faults : ℕ → ℕ) (asked : Asked) (old new : State) (why : RangeFa
   rose_at_end : (disk : ℕ) × Rose (faults disk) (old.device.counts.faults disk) → (disk : ℕ) × Rose (faults disk) (new.device.counts.faults disk)
   rose_at_end rose = (rose.0, subst (λ (d : Device). Rose (faults rose.0) (d.counts.faults rose.0)) (sym takes.shelf) rose.1)
 
-  piece_going : (k : ℕ) (how : Outcome) (w : RangeFault) → fault_by (piece_lp asked k) (votes_there old.core) (total_votes old.core.descriptor) how ≡ Some w → HasLandedSo old (asked.first + k) how → GoingCause faults new.device w
-  piece_going k outcome.Done w is it = absurd (cc is)
-  piece_going k outcome.Got w is it = absurd (cc is)
-  piece_going k outcome.Lost w is it =
+  lacks_at_end : (o : Open) → IsLandedFor old o outcome.NoFresh → AnyFailedSince (state new.device old.core) ⊎ (list_any (was_usable old.core) (copies_for old.core o.request.ask) ≡ false)
+  lacks_at_end o (inl failed) = inl (failed.0, subst (λ (d : Device). Rose (faults_at_first old.core failed.0) (d.counts.faults failed.0)) (sym takes.shelf) failed.1)
+  lacks_at_end o (inr none) = inr none
+
+  piece_going : (k : ℕ) (how : Outcome) (w : RangeFault) → k < asked.pieces → fault_by (piece_lp asked k) (votes_there old.core) (total_votes old.core.descriptor) how ≡ Some w → HasLandedSo old (asked.first + k) how → GoingCause faults asked old.core new.device w
+  piece_going k outcome.Done w less is it = absurd (cc is)
+  piece_going k outcome.Got w less is it = absurd (cc is)
+  piece_going k outcome.Lost w less is it =
       let same : fault.Lost ≡ w = cc is in
-      subst (GoingCause faults new.device) same (rose_at_end (some_failed faults old.device it.request.request.targets.items it.cause.0 it.cause.1 (row_since faults asked old k outcome.Lost it since)))
-  piece_going k outcome.ReadFailed w is it =
+      subst (GoingCause faults asked old.core new.device) same (rose_at_end (some_failed faults old.device it.request.request.targets.items it.cause.0 it.cause.1 (row_since faults asked old k outcome.Lost it since)))
+  piece_going k outcome.ReadFailed w less is it =
       let same : fault.ReadFailed ≡ w = cc is in
-      subst (GoingCause faults new.device) same (rose_at_end (some_failed faults old.device it.request.request.targets.items it.cause.0
+      subst (GoingCause faults asked old.core new.device) same (rose_at_end (some_failed faults old.device it.request.request.targets.items it.cause.0
       (all_on (λ (t : Target). (is_failed t.state ≡ true) × HasFailed old.device t) (λ (t : Target). t.usable ≡ true → HasFailed old.device t) (λ t its usable. its.1) it.request.request.targets.items it.cause.1)
       (row_since faults asked old k outcome.ReadFailed it since)))
-  piece_going k outcome.NoFresh w is it = let same : fault.NoFresh (piece_lp asked k) ≡ w = cc is in subst (GoingCause faults new.device) same tt
-  piece_going k outcome.Off w is it = not_so (sym (ap is_over on) ∙ it.cause.0)
-  piece_going k outcome.Dark w is it = absurd (let e : power.On ≡ power.Dark = sym on ∙ it.cause in cc e)
+  piece_going k outcome.NoFresh w less is it =
+      let same : fault.NoFresh (piece_lp asked k) ≡ w = cc is in
+      subst (GoingCause faults asked old.core new.device) same
+      (record { piece = k; below = less; lp_is = refl; request = it.request; found = it.found; landed = it.landed; lacks = lacks_at_end it.request it.cause })
+  piece_going k outcome.Off w less is it = not_so (sym (ap is_over on) ∙ it.cause.0)
+  piece_going k outcome.Dark w less is it = absurd (let e : power.On ≡ power.Dark = sym on ∙ it.cause in cc e)
 
-  pub going_cause : GoingCause faults new.device why
+  pub going_cause : GoingCause faults asked old.core new.device why
   going_cause = by takes.ends
     where
-      by : RangeEnds new.core.history.facts asked (votes_there old.core) (total_votes old.core.descriptor) (Err why) → GoingCause faults new.device why
+      by : RangeEnds new.core.history.facts asked (votes_there old.core) (total_votes old.core.descriptor) (Err why) → GoingCause faults asked old.core new.device why
       by (AllWell well is) = absurd (cc is)
       by (FirstFails k failed less before fails is) =
           let same : failed ≡ why = cc is in
-          subst (GoingCause faults new.device) same (piece_going k fails.how failed fails.fault (takes.caused k fails.how less fails.landed))
+          subst (GoingCause faults asked old.core new.device) same (piece_going k fails.how failed less fails.fault (takes.caused k fails.how less fails.landed))
 
 -- the other requests stay what they are
 rows_left : (Holds : Open → Type 0) (core new : Core) (client id : ℕ) (answer : Taken) → TakeGives core new client id answer → AllByRecursion Holds core.requests → AllByRecursion Holds new.requests

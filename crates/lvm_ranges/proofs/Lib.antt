@@ -1,3 +1,4 @@
+pub mod handed
 pub mod passed
 pub mod Growing
 pub mod Done
@@ -11,3 +12,4 @@ pub mod Stepping
 pub mod Finishing
 pub mod Choosing
 pub mod Causing
+pub mod Sourced

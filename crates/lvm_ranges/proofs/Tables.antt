@@ -1,9 +1,8 @@
 -- A turn keeps the requests of the table.
-use Rattle.std.proofs.Common.{◌≡◌, ◌==◌, ◌||◌, ⊎_elim, inl, inr, ℕ, Bool, true, false, List, [], ◌∷◌, ◌++◌, map, length, Option, Some, slice_get, slice_set, refl, sym, ◌∙◌, ap, subst, if◌then◌else◌}
+use Rattle.std.proofs.Common.{◌≡◌, ◌==◌, ⊎_elim, inl, inr, ℕ, Bool, true, false, List, [], ◌∷◌, ◌++◌, Option, Some, refl, sym, ◌∙◌, ap, subst, if◌then◌else◌}
 use Rattle.std.specs.Prelude.{unwrap_or}
 use Rattle.std.specs.List.{list_any}
 use Rattle.std.proofs.lemmas.Bool.{eqb-true}
-use Rattle.std.proofs.lemmas.List.{length-map}
 use Rattle.lvm_vol.specs.declared.entry.Outcome.{Outcome}
 use Rattle.lvm_vol.specs.declared.entry.Outcome.TheVariants as outcome
 use Rattle.lvm_vol.specs.Facts.{Cut, Fact, Landed, Request, begun}
@@ -14,83 +13,23 @@ use Rattle.lvm_path.specs.Asks.{count_of, is_write}
 use Rattle.lvm_path.specs.Targets.{is_begun}
 use Rattle.lvm_session.specs.declared.event.Event.{Event}
 use Rattle.lvm_session.specs.declared.event.Event.TheVariants as event
-use Rattle.lvm_session.specs.declared.flown.Owner.{Owner}
-use Rattle.lvm_session.specs.declared.flown.Owner.TheVariants as owner
 use Rattle.lvm_session.specs.declared.open.Open.{Open}
 use Rattle.lvm_session.specs.declared.open.Power.TheVariants as power
 use Rattle.lvm_session.specs.declared.answers.Turned.{Turned}
 use Rattle.lvm_session.specs.declared.answers.Turned.TheVariants as turned
-use Rattle.lvm_session.specs.Calls.{is_asked}
-use Rattle.lvm_session.specs.Dark.{ended_as}
-use Rattle.lvm_session.specs.Ends.{Ends, Learns}
-use Rattle.lvm_session.specs.Events.{Lands, got_blocks, landed_as}
-use Rattle.lvm_session.specs.Judging.{is_running, is_waiting, next_for}
+use Rattle.lvm_session.specs.Events.{Lands, got_blocks}
+use Rattle.lvm_session.specs.Judging.{next_for}
 use Rattle.lvm_session.specs.Requests.{IsOpenOne}
 use Rattle.lvm_session.specs.Sound.{IsAsked, IsSound, outcome_in}
 use Rattle.lvm_session.specs.State.{Core, State}
 use Rattle.lvm_session.specs.Turns.{Darkens, FinishMakes, Finishes, GoesOff, Makes, Moves, NoStart, OnMakes, TurnMakes, WasDark, WasOff, WasOn}
-use Rattle.lvm_keeps.proofs.Lists.{all_at, any_set, length_set}
+use Rattle.lvm_keeps.proofs.Lists.{all_at}
 use Rattle.lvm_keeps.proofs.Small.{not_so}
 use Rattle.lvm_keeps.proofs.Telling.{asked_still}
-use Rattle.lvm_tie.proofs.Histories.{ends_history}
-use Rattle.lvm_keeps_turn.proofs.Frames.{copy_stays, marked_stays, note_stays, status_stays}
+use Rattle.lvm_driver.proofs.handed.Names.{ends_history, turn_leaves_table}
 use Rattle.lvm_ranges.specs.Keeping.{KeepsTable, TurnKeepsTable}
 use Rattle.lvm_ranges.proofs.Done.{done_writes}
 use Rattle.lvm_ranges.proofs.Growing.{Grows, SameTakings, answered_on, grows_ended, grows_none, grows_quiet, grows_same, grows_then, keeps_both, keeps_none, keeps_requests, outcome_last, takings_ended, takings_push, takings_same}
-
--- ---- the table
-
--- the same requests are in it
-pub record SameTable (old new : Core) : Type 0 where
-  pub asked : (client id : ℕ) → list_any (is_asked client id) new.requests ≡ list_any (is_asked client id) old.requests
-  pub long : length new.requests ≡ length old.requests
-
--- they stay
-stay : (old new : Core) → new.requests ≡ old.requests → SameTable old new
-stay old new requests = record { asked = λ client id. ap (list_any (is_asked client id)) requests; long = ap length requests }
-
--- one is set that has the same number and client
-set_one : (old new : Core) (k : ℕ) (x y : Open) → slice_get old.requests k ≡ Some x → new.requests ≡ slice_set old.requests k y → ((client id : ℕ) → is_asked client id y ≡ is_asked client id x) → SameTable old new
-set_one old new k x y there set same = record {
-  asked = λ client id. ap (list_any (is_asked client id)) set ∙ any_set (is_asked client id) old.requests k x y there (same client id);
-  long = ap length set ∙ length_set old.requests k y;
-}
-
--- all land
-any_ended : (how : Outcome) (client id : ℕ) (os : List Open) → list_any (is_asked client id) (map (ended_as how) os) ≡ list_any (is_asked client id) os
-any_ended how client id [] = refl
-any_ended how client id (o ∷ os) = ap (λ b. b || list_any (is_asked client id) (map (ended_as how) os)) (by (is_waiting o)) ∙ ap (λ b. is_asked client id o || b) (any_ended how client id os)
-  where
-    by : (b : Bool) → is_asked client id (if b then landed_as how o else o) ≡ is_asked client id o
-    by true = refl
-    by false = refl
-
-all_end : (how : Outcome) (old new : Core) → new.requests ≡ map (ended_as how) old.requests → SameTable old new
-all_end how old new all = record {
-  asked = λ client id. ap (list_any (is_asked client id)) all ∙ any_ended how client id old.requests;
-  long = ap length all ∙ length-map old.requests (ended_as how);
-}
-
--- ---- the events
-
-event_table : (it : Event) (old new : State) → Makes it old new → SameTable old.core new.core
-event_table (event.Land place how) old new made = set_one old.core new.core place made.request _ made.there (ap (λ (s : State). s.core.requests) made.is) (λ client id. refl)
-event_table (event.Admit place) old new made = set_one old.core new.core place made.request _ made.there (ap (λ (s : State). s.core.requests) made.is) (λ client id. refl)
-event_table (event.Pin place) old new made = set_one old.core new.core place made.request _ made.there (ap (λ (s : State). s.core.requests) made.is) (λ client id. refl)
-event_table event.StartStatus old new made = stay old.core new.core (ap (λ (s : State). s.core.requests) made.is)
-event_table (event.StartNote place disk) old new made = stay old.core new.core (ap (λ (s : State). s.core.requests) made.is)
-event_table (event.StartData place target) old new made = set_one old.core new.core place made.its.request _ made.its.there (ap (λ (s : State). s.core.requests) made.is) (λ client id. refl)
-event_table event.ReadCopy old new made = stay old.core new.core (ap (λ (s : State). s.core.requests) made.is)
-event_table event.WriteCopy old new made = stay old.core new.core (ap (λ (s : State). s.core.requests) made.is)
-
-end_table : (old new : State) (at : ℕ) → Ends old new at → SameTable old.core new.core
-end_table old new at it = by it.row.owner it.learns
-  where
-    by : (who : Owner) → Learns who old.core at it.ok it.buf new.core → SameTable old.core new.core
-    by (owner.Data id target) learns = set_one old.core new.core learns.place learns.its.request _ learns.its.there (marked_stays _ new.core _ learns.entails.is).requests (λ client id. refl)
-    by (owner.Status disk) learns = stay old.core new.core (status_stays old.core new.core at disk it.ok it.buf learns).requests
-    by (owner.Note disk) learns = stay old.core new.core (note_stays old.core new.core at disk it.ok it.buf learns).requests
-    by owner.Copy learns = stay old.core new.core (copy_stays (is_running learns.copy) it.ok old.core new.core at learns.copy it.buf learns.learns).requests
 
 -- ---- the history
 
@@ -198,29 +137,28 @@ off_takings old new it id = ap (λ (s : State). list_any (takes_id id) s.core.hi
 
 -- ---- all of it
 
--- the table is the same, and the history has grown
+-- the history has grown, and no answer is taken
 record Turns (old new : State) : Type 0 where
-  pub table : SameTable old.core new.core
   pub grows : Grows old.core.history.facts new.core.history.facts
   pub takings : SameTakings old.core.history.facts new.core.history.facts
 
 at_once : (old new : State) → new.core ≡ old.core → Turns old new
-at_once old new same = record { table = stay old.core new.core (ap (λ (c : Core). c.requests) same); grows = same_facts old new (ap (λ (c : Core). c.history.facts) same); takings = same_takings old new (ap (λ (c : Core). c.history.facts) same) }
+at_once old new same = record { grows = same_facts old new (ap (λ (c : Core). c.history.facts) same); takings = same_takings old new (ap (λ (c : Core). c.history.facts) same) }
 
 darkens : (old new : State) → Darkens old new → Turns old new
-darkens old new it = record { table = all_end outcome.Dark old.core new.core (ap (λ (c : Core). c.requests) it.is); grows = dark_grows old new it; takings = dark_takings old new it }
+darkens old new it = record { grows = dark_grows old new it; takings = dark_takings old new it }
 
 finish_turns : (old new : State) (answer : Turned) → FinishMakes old new answer → Turns old new
 finish_turns old new turned.Moved made =
     let same : new.core.history.facts ≡ old.core.history.facts = ap (λ (l : Log). l.facts) (ends_history old new made.0 made.1) in
-    record { table = end_table old new made.0 made.1; grows = same_facts old new same; takings = same_takings old new same }
+    record { grows = same_facts old new same; takings = same_takings old new same }
 finish_turns old new turned.Idle (inl finds) = at_once old new finds.is
 finish_turns old new turned.Idle (inr nothing) = at_once old new (ap (λ (s : State). s.core) nothing.is)
 finish_turns old new turned.Dark made = darkens old new made.1
-finish_turns old new turned.Off made = record { table = all_end outcome.Off old.core new.core (ap (λ (s : State). s.core.requests) made.is); grows = off_grows old new made; takings = off_takings old new made }
+finish_turns old new turned.Off made = record { grows = off_grows old new made; takings = off_takings old new made }
 
 on_turns : (old new : State) (answer : Turned) → IsSound old → old.core.power ≡ power.On → OnMakes old new answer → Turns old new
-on_turns old new answer sound on (Moves it first made is) = record { table = event_table it old new made; grows = event_grows it old new sound on made; takings = event_takings it old new made }
+on_turns old new answer sound on (Moves it first made is) = record { grows = event_grows it old new sound on made; takings = event_takings it old new made }
 on_turns old new answer sound on (NoStart it first start dark is) = darkens old new dark
 on_turns old new answer sound on (Finishes none made) = finish_turns old new answer made
 
@@ -231,10 +169,11 @@ turns old new answer sound (WasOn on made) = on_turns old new answer sound on ma
 
 pub turn_table : TurnKeepsTable
 turn_table old new answer sound made =
+    let table = turn_leaves_table old new answer made in
     let both = turns old new answer sound made in
     record {
-      asked = both.table.asked;
-      long = both.table.long;
+      asked = table.asked;
+      long = table.long;
       answered = answered_on old.core.history.facts new.core.history.facts both.grows both.takings;
       requests = keeps_requests old.core new.core sound.told.ordered both.grows;
     }

@@ -6,11 +6,12 @@ use Rattle.lvm_disk.specs.Device.{Device}
 use Rattle.lvm_disk.specs.Paths.{Path}
 use Rattle.lvm_num.specs.Votes.{total_votes}
 use Rattle.lvm_vol.specs.declared.entry.Outcome.{Outcome}
+use Rattle.lvm_vol.specs.declared.entry.Outcome.TheVariants as outcome
 use Rattle.lvm_session.specs.declared.open.Open.{Open}
 use Rattle.lvm_session.specs.declared.open.Power.TheVariants as power
 use Rattle.lvm_session.specs.Calls.{is_asked}
 use Rattle.lvm_session.specs.Causes.{AnyFailedSince, IsLandedFor, was_usable}
-use Rattle.lvm_session.specs.Judging.{copies_in}
+use Rattle.lvm_session.specs.Judging.{copies_for, copies_in}
 use Rattle.lvm_session.specs.Sound.{outcome_in}
 use Rattle.lvm_session.specs.State.{Core, State, state, votes_there}
 use Rattle.lvm_turn_losses.specs.Losing.{LosesVotesByFaults, LostForFaults}
@@ -21,6 +22,7 @@ use Rattle.lvm_posts.specs.declared.fault.RangeFault.TheVariants as fault
 use Rattle.lvm_ranges.specs.Keeping.{KeepsTable}
 use Rattle.lvm_ranges.specs.Landing.{AwaitCosts, HavePiecesLanded, IsUnfinished, TurnsFor}
 use Rattle.lvm_posts.specs.Deciding.{RangeEnds}
+use Rattle.lvm_posts.specs.Pieces.{piece_lp}
 use Rattle.lvm_ranges.specs.Taking.{Takes}
 
 -- Client 1's request of this number has landed so, and the cause of that holds of it.
@@ -73,10 +75,21 @@ RangeCause lv left first end fault.Lost = AnyFailed first.device end.device
 RangeCause lv left first end fault.ReadFailed = AnyFailed first.device end.device
 RangeCause lv left first end (fault.NoFresh lp) = LacksSource first.core end.device lv lp
 
--- What a range of a session that goes on ended for, whose targets were chosen once their disks had at least these faults: a transfer has failed since, or a source was
--- lacking.
-abbrev pub GoingCause : (ℕ → ℕ) → Device → RangeFault → Type 0
-GoingCause faults end fault.Lost = (disk : ℕ) × Rose (faults disk) (end.counts.faults disk)
-GoingCause faults end fault.ReadFailed = (disk : ℕ) × Rose (faults disk) (end.counts.faults disk)
-GoingCause faults end (fault.NoFresh lp) = Unit {0}
-GoingCause faults end other = ⊥
+-- The table has the request of a piece of the range that lies in this logical partition, which landed so, and a transfer has failed since the session began, or no
+-- copy of the partition that it is for could be used then.
+pub record PieceLacksSource (asked : Asked) (core : Core) (device : Device) (lp : ℕ) : Type 0 where
+  pub piece : ℕ
+  pub below : piece < asked.pieces
+  pub lp_is : lp ≡ piece_lp asked piece
+  pub request : Open
+  pub found : find (is_asked 1 (asked.first + piece)) core.requests ≡ Some request
+  pub landed : request.landed ≡ Some outcome.NoFresh
+  pub lacks : AnyFailedSince (state device core) ⊎ (list_any (was_usable core) (copies_for core request.request.ask) ≡ false)
+
+-- What a range of a session that goes on ended for, whose targets were chosen once their disks had at least these faults, and whose answers were taken from this
+-- session: a transfer has failed since, or a piece of it lacked a source.
+abbrev pub GoingCause : (ℕ → ℕ) → Asked → Core → Device → RangeFault → Type 0
+GoingCause faults asked core end fault.Lost = (disk : ℕ) × Rose (faults disk) (end.counts.faults disk)
+GoingCause faults asked core end fault.ReadFailed = (disk : ℕ) × Rose (faults disk) (end.counts.faults disk)
+GoingCause faults asked core end (fault.NoFresh lp) = PieceLacksSource asked core end lp
+GoingCause faults asked core end other = ⊥

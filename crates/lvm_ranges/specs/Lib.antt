@@ -1,3 +1,4 @@
+pub mod handed
 pub mod passed
 pub mod Pieces
 pub mod Reading
@@ -8,3 +9,4 @@ pub mod Taking
 pub mod Choosing
 pub mod Finishing
 pub mod Stepping
+pub mod Worked

@@ -6,7 +6,7 @@ use Rattle.lvm_vol.specs.Log.{Log}
 use Rattle.lvm_kept.specs.Moments.{Moment}
 use Rattle.lvm_transfer.specs.declared.moves.Moved.{Moved}
 use Rattle.lvm_transfer.specs.declared.moves.Moved.TheVariants as moved
-use Rattle.lvm_area.proofs.Joining.{got_within}
+use Rattle.lvm_transfer.proofs.Joining.{got_within}
 use Rattle.lvm_raw.specs.declared.fault.RawFault.{RawFault}
 use Rattle.lvm_raw.specs.declared.fault.RawFault.TheVariants as fault
 use Rattle.lvm_raw.specs.Asking.{IsNoDisk, IsInData, IsOutside, HasRoomForPieces, IsFull, IsRejected, MayAsk}

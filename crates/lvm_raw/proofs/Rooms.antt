@@ -9,7 +9,7 @@ use Rattle.lvm_vol.specs.Log.{Log, spare_entries, spare_bytes}
 use Rattle.lvm_kept.specs.Moments.{Moment}
 use Rattle.lvm_steps.specs.Requests.{IsInNoGroup}
 use Rattle.lvm_transfer.specs.declared.moves.Moved.{Moved}
-use Rattle.lvm_area.proofs.Joining.{got_within}
+use Rattle.lvm_transfer.proofs.Joining.{got_within}
 use Rattle.lvm_raw.specs.Asking.{IsInData, HasRoomForPieces}
 use Rattle.lvm_piece.specs.Asking.{MayAskPiece}
 use Rattle.lvm_piece.specs.Pieces.{AreFilled, WritesPiece}

@@ -6,11 +6,11 @@ ghost use Rattle.lvm_raw.specs.Keeping.{RangeKeeps};
 ghost use Rattle.lvm_raw.specs.Looking.{FindsNone, LookFails, look_ends};
 
 use crate::fault::RawFault;
-use lvm_area::{Stop, Unread, read_descriptor};
+use lvm_area::read_descriptor;
 use lvm_disk::Shelf;
 use lvm_history::History;
 use lvm_num::Pbuf;
-use lvm_transfer::{Patience, relight};
+use lvm_transfer::{Patience, Stop, Unread, relight};
 use std::alloc::Global;
 
 /// Reads the descriptor slots of a disk that has them, and answers a buffer where the disk is in no group. After a

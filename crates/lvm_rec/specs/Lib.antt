@@ -2,3 +2,4 @@ pub mod Frames
 pub mod Note
 pub mod Slots
 pub mod Homes
+pub mod Latest

@@ -6,7 +6,7 @@ use Rattle.lvm_num.specs.Disks.{Disks}
 use Rattle.lvm_disk.specs.Counts.{Rose}
 use Rattle.lvm_disk.specs.Device.{Device, Range, image_of}
 use Rattle.lvm_kept.specs.Plans.{Plan, ChangesBy}
-use Rattle.lvm_area.specs.Reading.{IsCutOff}
+use Rattle.lvm_transfer.specs.Reading.{IsCutOff}
 use Rattle.lvm_write.specs.Parts.{Spends}
 use Rattle.lvm_write.specs.Written.{KeepsShelf}
 use Rattle.lvm_write.proofs.Writing.{if_told, told_at, both_map, changes_more, logs_wider, moments_on, moments_wider}

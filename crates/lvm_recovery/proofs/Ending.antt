@@ -16,8 +16,7 @@ use Rattle.lvm_kept.specs.Contents.{Contents, contents_of}
 use Rattle.lvm_kept.specs.Group.{IsOneOf, is_named, is_stale_by, fresh_on}
 use Rattle.lvm_kept.proofs.Standing.{note_shows}
 use Rattle.lvm_write.proofs.Writing.{changes_more}
-use Rattle.lvm_commit.proofs.Copies.{of_map, of_rows}
-use Rattle.lvm_rest.proofs.Good.{mib_positive}
+use Rattle.lvm_recover.proofs.handed.Names.{of_map, of_rows, mib_positive}
 use Rattle.lvm_recover.specs.Recopied.{IsFromFirst}
 use Rattle.lvm_recover.proofs.Copying.{left_passes}
 use Rattle.lvm_recover.proofs.Images.{images_are_recopied}

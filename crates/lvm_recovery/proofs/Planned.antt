@@ -23,7 +23,7 @@ use Rattle.lvm_kept.specs.Plans.{ChangesBy}
 use Rattle.lvm_kept.proofs.Contained.{blocks_are_sectors}
 use Rattle.lvm_kept.specs.Group.{is_stale_by, is_named, fresh_on, block_at, IsBlockOf, IsOneOf}
 use Rattle.lvm_write.proofs.Writing.{told_at, both_at, changes_more}
-use Rattle.lvm_rest.proofs.Good.{mib_positive}
+use Rattle.lvm_recover.proofs.handed.Names.{mib_positive}
 use Rattle.lvm_recover.specs.Recopied.{IsToEqual, IsFromFirst, IsRecopied, HoldFirst}
 use Rattle.lvm_recover.proofs.Places.{IsSame, one_block}
 use Rattle.lvm_recover.proofs.Copying.{left_passes, cons_same, equal_stays}

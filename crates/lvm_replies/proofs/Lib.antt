@@ -1,2 +1,4 @@
 mod Filled
 mod Rows
+mod Names
+mod Digits

@@ -23,14 +23,12 @@ use Rattle.lvm_kept.specs.Committed.{IsWithinDisks}
 use Rattle.lvm_kept.specs.Changes.{Serves}
 use Rattle.lvm_kept.specs.Torn.{StatusesChange}
 use Rattle.lvm_kept.proofs.Finding.{finding_reads}
-use Rattle.lvm_steps.proofs.Booleans.{clash}
-use Rattle.lvm_steps.proofs.ServesLemmas.{serving, put_keeps}
-use Rattle.lvm_steps.specs.Committing.{IsServed}
+use Rattle.lvm_commit.proofs.handed.Names.{clash, serving, put_keeps, member_of_parts}
+use Rattle.lvm_commit.specs.handed.Names.{IsServed}
 use Rattle.lvm_commit.specs.Committed.{ShowsCommitted}
 use Rattle.lvm_commit.specs.Laws.{IsLaterStatus}
 use Rattle.lvm_commit.proofs.Free.{none_stands}
 use Rattle.lvm_commit.proofs.Found.{shows_group, only_found, status_read}
-use Rattle.lvm_steps.proofs.Members.{member_of_parts}
 use Rattle.lvm_crash.proofs.Lists.{left_of, right_of, both_of, not_so, so_not, of_passing, one_passes}
 use Rattle.lvm_rest.specs.Rest.{IsEven, NoneIsBehind}
 use Rattle.lvm_rest.specs.Commands.{IsUsable, KeepsCopies, IsUniform, EvenStays, FreeKeepsEven, BehindStays, HasCopiesOf, CopiesServe, MayClean, CleaningFollows}

@@ -1,3 +1,4 @@
+pub mod handed
 pub mod Cuts
 pub mod Shapes
 pub mod Rows

@@ -18,7 +18,7 @@ use Rattle.lvm_kept.specs.Kept.{Kept}
 use Rattle.lvm_kept.specs.Committed.{IsWithinDisks}
 use Rattle.lvm_commit.specs.Committed.{ShowsCommitted}
 use Rattle.lvm_commit.proofs.Found.{shows_group}
-use Rattle.lvm_steps.proofs.Members.{member_of_parts}
+use Rattle.lvm_commit.proofs.handed.Names.{member_of_parts}
 use Rattle.lvm_invariant.specs.State.{has_notes, has_mark, Marks, ModelState, Live, stale_in, told}
 use Rattle.lvm_invariant.specs.Sound.{MayDiffer, Agree}
 use Rattle.lvm_invariant.specs.Found.{Votes}

@@ -27,14 +27,13 @@ use Rattle.lvm_session.specs.declared.open.Power.TheVariants as power
 use Rattle.lvm_session.specs.declared.origin.Origin.{Origin}
 use Rattle.lvm_session.specs.Bringing.{is_out}
 use Rattle.lvm_session.specs.Calls.{copy_at, has_numbers, state_at_end, state_of_copy}
-use Rattle.lvm_session.specs.Causes.{FailedSinceOpening, HaveSourcesFailed, IsCopyCaused as IsCausedAmong, faults_at_first, faults_at_opening}
+use Rattle.lvm_session.specs.Causes.{FailedSinceOpening, HaveSourcesFailed, IsCausedAmong, faults_at_first, faults_at_opening}
 use Rattle.lvm_session.specs.Ends.{Ends, EndsAs}
 use Rattle.lvm_session.specs.Judging.{copies_in}
 use Rattle.lvm_session.specs.State.{Core, State}
 use Rattle.lvm_session.specs.Turns.{FinishMakes, Finishes, Makes, Moves, NoStart, OnMakes, TurnMakes, WasDark, WasOff, WasOn}
-use Rattle.lvm_calls.specs.Opening.{counts_seen, faults_seen}
-use Rattle.lvm_keeps_turn.proofs.Stepping.{turn_counts}
-use Rattle.lvm_running.proofs.Shapes.{Given, given, turn_goes}
+use Rattle.lvm_ranges.specs.handed.Names.{counts_seen, faults_seen}
+use Rattle.lvm_ranges.proofs.handed.Names.{turn_counts, Given, given, turn_goes, at_place, counted_at}
 use Rattle.lvm_resync.specs.declared.copies.Passed.{Passed}
 use Rattle.lvm_resync.specs.declared.copies.Passed.TheVariants as passed
 use Rattle.lvm_resync.specs.declared.fault.SyncFault.{SyncFault}
@@ -45,7 +44,6 @@ use Rattle.lvm_resync.specs.Passing.{Copy, EachTurnWhile, FailedFor, IsBroughtUp
 use Rattle.lvm_resync.specs.Syncing.{ArePassed, IsAnswer, NonePassed, OnePassed, Passes, StopsAmong, fault_by, fault_on, group_fault, no_tally, numbers_fault, or_first, partition_fault, volume_fault, with_passed}
 use Rattle.lvm_resync.proofs.Making.{as_opened}
 use Rattle.lvm_resync.proofs.Turning.{TurnsIn, turns_in}
-use Rattle.lvm_keeps_calls.proofs.Opening.{at_place, counted_at}
 
 -- ---- a turn leaves the disks as they are
 

@@ -1,3 +1,4 @@
+pub mod handed
 pub mod Turning
 pub mod Passing
 pub mod Syncing

@@ -3,6 +3,7 @@
 
 mod copies;
 mod fault;
+pub mod lower;
 mod passes;
 mod sync;
 mod tally;

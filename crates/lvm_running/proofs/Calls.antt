@@ -26,8 +26,8 @@ use Rattle.lvm_session.specs.Calls.{OpenGives, Opens, SubmitGives, TakeAt, TakeG
 use Rattle.lvm_session.specs.Dark.{all_dark, hand_of_copy, is_cut}
 use Rattle.lvm_session.specs.State.{Core, State, state}
 use Rattle.lvm_session.specs.Sound.{IsSound}
-use Rattle.lvm_session.specs.Turns.{Arranges}
-use Rattle.lvm_keeps.proofs.Ending.{back_long, hands_long}
+use Rattle.lvm_session.specs.Turns.{ArrangesSession}
+use Rattle.lvm_keeps_turn.proofs.handed.Names.{back_long, hands_long}
 use Rattle.lvm_tie.specs.GoingOn.{GoesOn}
 use Rattle.lvm_tie.specs.Landings.{HasCausesSince}
 use Rattle.lvm_tie.specs.Spares.{LeavesDescriptors, SparesDescriptors}
@@ -121,7 +121,7 @@ open_shape counts old new lv lp number answer = by (copy_fault old lv lp number)
 
 -- ---- an order to the shelf
 
-module _ (old new : State) (what : Arrange) (done : Bool) (it : Arranges old new what done) where
+module _ (old new : State) (what : Arrange) (done : Bool) (it : ArrangesSession old new what done) where
   order_counts : NoneFalls old.device.counts new.device.counts
   order_counts = by done it.device
     where

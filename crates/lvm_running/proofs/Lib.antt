@@ -1,3 +1,4 @@
+pub mod handed
 pub mod Shapes
 pub mod Shelves
 pub mod Running

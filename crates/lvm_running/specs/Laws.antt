@@ -13,7 +13,7 @@ use Rattle.lvm_session.specs.Asking.{IsAsking}
 use Rattle.lvm_session.specs.Calls.{Closes, OpenGives, SubmitGives, TakeGives}
 use Rattle.lvm_session.specs.State.{Core, State, state}
 use Rattle.lvm_session.specs.Sound.{IsSound}
-use Rattle.lvm_session.specs.Turns.{Arranges, TurnMakes}
+use Rattle.lvm_session.specs.Turns.{ArrangesSession, TurnMakes}
 use Rattle.lvm_tie.specs.Stamps.{AreValid}
 use Rattle.lvm_running.specs.Running.{LeavesSession, RunsOn}
 
@@ -29,7 +29,7 @@ pub record CallsRunOn : Type 0 where
   pub close_copy : (s : State) (new : Core) → IsSound (state s.device new) → Closes s.core new → RunsOn s (state s.device new)
   pub open_copy : (s : State) (new : Core) (counts : Counts) (lv lp number : ℕ) (answer : Result (Unit {0}) CopyFault)
       → IsSound (state s.device new) → OpenGives counts s.core new lv lp number answer → LeavesSession s (state s.device new)
-  pub arrange : (old new : State) (what : Arrange) (done : Bool) → IsSound old → IsSound new → Arranges old new what done → LeavesSession old new
+  pub arrange : (old new : State) (what : Arrange) (done : Bool) → IsSound old → IsSound new → ArrangesSession old new what done → LeavesSession old new
 
 -- Nothing that happens runs on, and one run behind another is one.
 pub record RunsJoin : Type 0 where

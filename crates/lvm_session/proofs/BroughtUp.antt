@@ -14,7 +14,7 @@ use Rattle.lvm_session.specs.declared.flown.Owner.TheVariants as owner
 use Rattle.lvm_session.specs.Bringing.{copy_ends}
 use Rattle.lvm_session.specs.Owners.{AreOwned}
 use Rattle.lvm_session.specs.Left.{updates_left}
-use Rattle.lvm_session.specs.Causes.{IsCopyCaused}
+use Rattle.lvm_session.specs.Causes.{IsCausedAmong}
 use Rattle.lvm_session.specs.Sound.{stays_fresh, IsCopy, IsFitting, IsTold, IsGoing}
 use Rattle.lvm_session.specs.Worked.{mirrored, first_copy, bringing_up, bringing, core_of, status_of, behind, faultless, CopiesAreSound}
 use Rattle.lvm_session.proofs.Small.{not_so, not_either, not_none}
@@ -55,7 +55,7 @@ module _ (m : Mode) where
     clearing = λ runs whole. not_so whole;
   }
 
-  caused : IsCopyCaused (state faultless (core_of (bringing m))) (copies_of (mirror m) 0) (bringing_up 3 None)
+  caused : IsCausedAmong (state faultless (core_of (bringing m))) (copies_of (mirror m) 0) (bringing_up 3 None)
   caused = record {
     began = λ number p is. let first = zeros_at 128 p.disk in omega (arith, first);
     since = λ number p is. let none = zeros_at 3 (number - 1) in omega (arith, none);

@@ -20,12 +20,11 @@ use Rattle.lvm_num.specs.Descriptor.{IsVolume, IsPartitionOf, IsLaidOut, IsValid
 use Rattle.lvm_num.specs.Status.{calls_stale, calls_missing}
 use Rattle.lvm_num.proofs.DisksLemmas.{has-zero, has-with}
 use Rattle.lvm_kept.specs.Examples.{member}
-use Rattle.lvm_vol.specs.Facts.{Begun}
-use Rattle.lvm_vol.specs.Order.{Ordered}
+use Rattle.lvm_kept.specs.handed.Names.{Begun, Ordered}
 use Rattle.lvm_mwc.specs.declared.entries.CacheEntry.{CacheEntry}
 use Rattle.lvm_status.specs.Update.{is_there, members_there, seen}
 use Rattle.lvm_status.specs.Runs.{IsSoundStatus}
-use Rattle.lvm_sched.specs.declared.writes.TargetState.TheVariants as stage
+use Rattle.lvm_path.specs.handed.SchedWritesTargetState as stage
 use Rattle.lvm_path.specs.declared.target.Target.{Target}
 use Rattle.lvm_session.specs.declared.event.Event.TheVariants as event
 use Rattle.lvm_session.specs.declared.flown.Owner.TheVariants as owner
@@ -34,11 +33,11 @@ use Rattle.lvm_session.specs.Judging.{copies_in, is_missing, is_stale}
 use Rattle.lvm_session.specs.Bringing.{copy_ends}
 use Rattle.lvm_session.specs.Enabled.{first_event}
 use Rattle.lvm_session.specs.Marks.{can_replace, is_among, is_entailed}
-use Rattle.lvm_vol.specs.declared.entry.Outcome.TheVariants as outcome
+use Rattle.lvm_kept.specs.handed.VolEntryOutcome as outcome
 use Rattle.lvm_session.specs.Owners.{AreOwned, IsDataOf, target_flies}
 use Rattle.lvm_session.specs.Left.{updates_left}
 use Rattle.lvm_session.specs.Requests.{IsOpenOne}
-use Rattle.lvm_session.specs.Causes.{AreCaused, AreCounted, IsChosenSince, IsCopyCaused, faults_at_opening}
+use Rattle.lvm_session.specs.Causes.{AreCaused, AreCounted, IsChosenSince, IsCausedAmong, faults_at_opening}
 use Rattle.lvm_session.specs.Sound.{count_if, may_be_fresh, out_with, stays_fresh, IsAsked, IsCopy, IsFitting, IsTold, IsGoing, IsOn, IsSound}
 use Rattle.lvm_session.specs.Worked.{behind, begun_write, second_copy, status_of}
 use Rattle.lvm_session.specs.Busy.{BusyIsSound, begun_read, busy_core, busy_device, data_flight, got_read, group_of_three, half_written, other_part, part, target_at, wide, writing}
@@ -341,7 +340,7 @@ copy = record {
   clearing = λ runs whole. not_so whole;
 }
 
-copy_caused : IsCopyCaused (state busy_device busy_core) (first_pp ∷ second_copy ∷ []) writing
+copy_caused : IsCausedAmong (state busy_device busy_core) (first_pp ∷ second_copy ∷ []) writing
 copy_caused = record {
   began = λ number p is. let none = zeros_at 128 p.disk in omega (arith, none);
   since = λ number p is. let none = zeros_at 3 (number - 1) in omega (arith, none);

@@ -1,3 +1,4 @@
+pub mod handed
 pub mod RoomsLemmas
 pub mod Small
 pub mod Statuses

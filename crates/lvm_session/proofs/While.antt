@@ -7,7 +7,7 @@ use Rattle.lvm_session.specs.declared.open.Power.{Power}
 use Rattle.lvm_session.specs.declared.open.Power.TheVariants as power
 use Rattle.lvm_session.specs.State.{State}
 use Rattle.lvm_session.specs.Judging.{copies_in}
-use Rattle.lvm_session.specs.Causes.{AreCounted, IsAnswered, IsCopyCaused, IsTrueToOrigin, is_over}
+use Rattle.lvm_session.specs.Causes.{AreCounted, IsAnswered, IsCausedAmong, IsTrueToOrigin, is_over}
 use Rattle.lvm_session.specs.Placed.{ArePlaced}
 use Rattle.lvm_session.specs.Sound.{IsFitting, IsLit, IsOn, IsSound, IsTold, count_if, is_dark, out_with}
 use Rattle.lvm_session.proofs.Small.{not_so}
@@ -22,7 +22,7 @@ on_is_not_stuck e = absurd cc
 pub record HasCauses (s : State) : Type 0 where
   pub counted : AllByRecursion (AreCounted s) s.core.requests
   pub answered : AllByRecursion (IsAnswered s) s.core.requests
-  pub copy : IfSome s.core.copy (λ (c : OpenCopy). IsCopyCaused s (copies_in s.core.descriptor c.lv c.lp) c)
+  pub copy : IfSome s.core.copy (λ (c : OpenCopy). IsCausedAmong s (copies_in s.core.descriptor c.lv c.lp) c)
   pub origin : IsTrueToOrigin s
 
 pub sound_while_on : (s : State) → s.core.power ≡ power.On → IsLit s.device → IsFitting s.core → IsTold s.core → ArePlaced s.device.sizes s.core.descriptor s.core.origin.table

@@ -5,12 +5,10 @@ use Rattle.lvm_num.specs.declared.place.Pp.{Pp}
 use Rattle.lvm_num.specs.Disks.{has}
 use Rattle.lvm_num.specs.Status.{calls_stale, calls_missing}
 use Rattle.lvm_num.specs.Votes.{votes_in, is_enough_to_write}
-use Rattle.lvm_stale.specs.Table.{is_pp}
+use Rattle.lvm_status.specs.handed.Names.{is_pp}
 use Rattle.lvm_status.specs.Update.{members_there}
-use Rattle.lvm_disk.specs.Counts.{Rose}
-use Rattle.lvm_disk.specs.Device.{Device}
-use Rattle.lvm_vol.specs.declared.entry.Outcome.{Outcome}
-use Rattle.lvm_vol.specs.declared.entry.Outcome.TheVariants as outcome
+use Rattle.lvm_kept.specs.handed.Names.{Rose, Device, Outcome}
+use Rattle.lvm_kept.specs.handed.VolEntryOutcome as outcome
 use Rattle.lvm_path.specs.declared.target.Target.{Target}
 use Rattle.lvm_path.specs.Asks.{is_write}
 use Rattle.lvm_path.specs.Targets.{is_failed}
@@ -115,7 +113,7 @@ pub record HaveSourcesFailed (s : State) (copies : List Pp) (c : OpenCopy) : Typ
   pub one : FailedSinceOpening s.device c number source
 
 -- The disks of the copies that were tried in vain have failed since the copy was opened; so has its own, or that of each source, where it ended as failed.
-pub record IsCopyCaused (s : State) (copies : List Pp) (c : OpenCopy) : Type 0 where
+pub record IsCausedAmong (s : State) (copies : List Pp) (c : OpenCopy) : Type 0 where
   pub began : (number : ℕ) (p : Pp) → copy_at copies number ≡ Some p → faults_at_first s.core p.disk ≤ faults_at_opening c number
   pub since : (number : ℕ) (p : Pp) → copy_at copies number ≡ Some p → faults_at_opening c number ≤ s.device.counts.faults p.disk
   pub tried : (number : ℕ) (p : Pp) → copy_at copies number ≡ Some p → has c.tried p.disk ≡ true → FailedSinceOpening s.device c number p

@@ -1,3 +1,4 @@
+pub mod handed
 pub mod State
 pub mod Fields
 pub mod Rooms

@@ -7,13 +7,9 @@ use Rattle.lvm_num.specs.declared.place.Pp.{Pp}
 use Rattle.lvm_num.specs.declared.descriptor.LvRow.{LvRow}
 use Rattle.lvm_num.specs.Descriptor.{IsValid, is_member, volume_of}
 use Rattle.lvm_num.specs.Disks.{has}
-use Rattle.lvm_stale.specs.Table.{is_pp}
-use Rattle.lvm_disk.specs.Device.{Device, Flight}
-use Rattle.lvm_vol.specs.declared.entry.Vol.TheVariants.{Lv}
-use Rattle.lvm_vol.specs.Facts.{Request as Asked, Fact, Making, Made, Split, Removing, Removed, Begun, Landed, Taken, Cut, On, begun}
-use Rattle.lvm_vol.specs.declared.entry.Outcome.{Outcome}
-use Rattle.lvm_vol.specs.Log.{asked, next_id, is_open, lands_id, is_answered}
-use Rattle.lvm_vol.specs.Order.{Ordered}
+use Rattle.lvm_status.specs.handed.Names.{is_pp}
+use Rattle.lvm_kept.specs.handed.Names.{Device, Flight, Request as Asked, Fact, Making, Made, Split, Removing, Removed, Begun, Landed, Taken, Cut, On, begun, Outcome, asked, next_id, is_open, lands_id, is_answered, Ordered}
+use Rattle.lvm_kept.specs.handed.VolEntryVol.{Lv}
 use Rattle.lvm_hold.specs.declared.queue.Row.{Row}
 use Rattle.lvm_mwc.specs.Entries.{AreEntries, pins_of}
 use Rattle.lvm_mwc.specs.Cache.{has_disk}
@@ -34,7 +30,7 @@ use Rattle.lvm_session.specs.Enabled.{is_lost, is_free_step}
 use Rattle.lvm_session.specs.Dark.{AreTold, hand_of_copy}
 use Rattle.lvm_session.specs.Calls.{copy_at}
 use Rattle.lvm_session.specs.Marks.{is_among, is_entailed}
-use Rattle.lvm_session.specs.Causes.{AreCaused, AreCounted, IsAnswered, IsChosenSince, IsCopyCaused, IsTrueToOrigin, is_held_stale, is_over, was_fresh}
+use Rattle.lvm_session.specs.Causes.{AreCaused, AreCounted, IsAnswered, IsChosenSince, IsCausedAmong, IsTrueToOrigin, is_held_stale, is_over, was_fresh}
 use Rattle.lvm_session.specs.Left.{updates_left}
 use Rattle.lvm_session.specs.Owners.{AreOwned, AreRows, HaveTickets}
 use Rattle.lvm_session.specs.Placed.{ArePlaced}
@@ -279,5 +275,5 @@ pub record IsSound (s : State) : Type 0 where
   -- why each request that has landed did so, why the copy ended, and why disks are missing and copies stale
   pub counted : AllByRecursion (AreCounted s) s.core.requests
   pub answered : AllByRecursion (IsAnswered s) s.core.requests
-  pub copy : IfSome s.core.copy (λ (c : OpenCopy). IsCopyCaused s (copies_in s.core.descriptor c.lv c.lp) c)
+  pub copy : IfSome s.core.copy (λ (c : OpenCopy). IsCausedAmong s (copies_in s.core.descriptor c.lv c.lp) c)
   pub origin : IsTrueToOrigin s

@@ -1,7 +1,6 @@
 -- A turn: the first event that may be made, else the end of a transfer, else the end of the session.
 use Rattle.std.specs.Prelude.{◌≡◌, ◌⊎◌, ◌+◌, ◌<◌, ℕ, Bool, true, false, [], Some, None, length}
-use Rattle.lvm_disk.specs.declared.shelf.Arrange.{Arrange}
-use Rattle.lvm_disk.specs.Steps.{ArrangeGives, GoesDark, Waits}
+use Rattle.lvm_kept.specs.handed.Names.{Arrange, ArrangeGives, GoesDark, Waits}
 use Rattle.lvm_status.specs.Update.{Stored}
 use Rattle.lvm_mwc.specs.Cache.{has_disk}
 use Rattle.lvm_session.specs.declared.open.Power.TheVariants as power
@@ -61,7 +60,7 @@ pub record GoesOff (old new : State) : Type 0 where
   pub is : new ≡ state old.device (all_off old.core)
 
 -- A client gives an order to the shelf; a power cut ends the session.
-pub record Arranges (old new : State) (what : Arrange) (done : Bool) : Type 0 where
+pub record ArrangesSession (old new : State) (what : Arrange) (done : Bool) : Type 0 where
   pub device : ArrangeGives old.device new.device what done
   pub is : new.core ≡ after_arrange what done old.core
 

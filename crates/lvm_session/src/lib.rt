@@ -8,6 +8,7 @@ mod bringing;
 mod event;
 mod flown;
 mod laws;
+pub mod lower;
 mod open;
 mod origin;
 mod session;

@@ -6,10 +6,10 @@ use crate::open::{Open, Power};
 use crate::origin::Origin;
 use lvm_history::History;
 use lvm_hold::Queue;
+use lvm_kept::lower::Homes;
 use lvm_mwc::Cache;
 use lvm_num::Descriptor;
 use lvm_pbuf::Pool;
-use lvm_rec::Homes;
 use lvm_status::Updater;
 
 /// What a driver has beside its shelf.
@@ -40,6 +40,6 @@ pub struct Session {
     pub last: [u8; 512],
     pub origin: Origin,
     pub power: Power,
-    /// Room for the blocks of a read, and for the bytes of a status.
+    /// Room for the bytes of a status.
     pub bytes: Vec<u8>,
 }

@@ -7,7 +7,7 @@ use Rattle.lvm_num.specs.declared.descriptor.Descriptor.{Descriptor}
 use Rattle.lvm_num.specs.declared.record.Stamp.{Stamp}
 use Rattle.lvm_num.specs.declared.status.Status.{Status}
 use Rattle.lvm_num.specs.Descriptor.{is_member}
-use Rattle.lvm_stale.specs.Table.{has_row}
+use Rattle.lvm_status.specs.handed.Names.{has_row}
 use Rattle.lvm_disk.specs.Device.{Device}
 use Rattle.lvm_vol.specs.Facts.{On}
 use Rattle.lvm_vol.specs.Log.{Log}
@@ -20,11 +20,7 @@ use Rattle.lvm_status.specs.Calls.{first_updates}
 use Rattle.lvm_status.specs.Runs.{SetStamp, IsSoundStatus}
 use Rattle.lvm_status.specs.Update.{Updates, seen}
 use Rattle.lvm_status.proofs.Sound.{first_is_sound, steps_stay_sound}
-use Rattle.lvm_rec.specs.declared.homes.Homes.{Homes}
-use Rattle.lvm_session.specs.declared.open.Open.{Open}
-use Rattle.lvm_session.specs.State.{Core, state}
-use Rattle.lvm_session.specs.Causes.{faults_at_first}
-use Rattle.lvm_session.specs.Sound.{IsFitting, IsSound}
+use Rattle.lvm_keeps.specs.handed.Names.{Homes, Open, Core, state, faults_at_first, IsFitting, IsSound}
 use Rattle.lvm_keeps.specs.Begins.{Begins}
 use Rattle.lvm_keeps.proofs.Begin.{beginning_is_sound}
 use Rattle.lvm_keeps.proofs.Telling.{open_still}
@@ -34,7 +30,10 @@ use Rattle.lvm_session_start.specs.Beginning.{AreFaults, MayBegin, first_core}
 
 -- ---- an empty cache
 
-notes_fit : (d : Descriptor) (c : Cached) → IsEmptyCache d c → (disk : ℕ) → has_disk c disk ≡ is_member d disk
+pub no_entries : AreEntries []
+no_entries = record { most = omega arith; differ = tt; counting = All-nil _ }
+
+pub notes_fit : (d : Descriptor) (c : Cached) → IsEmptyCache d c → (disk : ℕ) → has_disk c disk ≡ is_member d disk
 notes_fit d c empty disk = ap (λ (o : Option DiskNotes). is_some o) (empty.notes disk) ∙ by_test (is_member d disk)
   where
     by_test : (b : Bool) → is_some (cond b (Some (no_notes disk)) None) ≡ b
@@ -64,6 +63,10 @@ none_asked count disk = zeros 128 disk ∙ sym (ap (λ b. if b then count disk e
 
 -- ---- the session
 
+-- it has as many buffers as its room says
+pub pool_size : (p : Parts) → IsReserved p.descriptor p.table p.room p → length p.pool ≡ p.room.pool
+pool_size p its = ap length its.pool ∙ length-replicate p.room.pool false
+
 module _ (device : Device) (history : Log) (stamp : Stamp) (homes : Homes) (p : Parts) (may : MayBegin device history stamp homes p) (faults : List ℕ) (are : AreFaults device faults) where
   abbrev core : Core
   core = first_core p history stamp homes faults
@@ -72,10 +75,7 @@ module _ (device : Device) (history : Log) (stamp : Stamp) (homes : Homes) (p : 
   its = may.reserved
 
   buffers : length p.pool ≡ p.room.pool
-  buffers = ap length its.pool ∙ length-replicate p.room.pool false
-
-  no_entries : AreEntries []
-  no_entries = record { most = omega arith; differ = tt; counting = All-nil _ }
+  buffers = pool_size p its
 
   fitting : IsFitting core
   fitting = record {

@@ -1,1 +1,2 @@
-mod Beginning
+pub mod handed
+pub mod Beginning

@@ -9,15 +9,10 @@ use Rattle.lvm_vol.specs.Facts.{On}
 use Rattle.lvm_vol.specs.Log.{Log, is_open, with_fact}
 use Rattle.lvm_vol.specs.Order.{Ordered}
 use Rattle.lvm_status.specs.Update.{members_there}
-use Rattle.lvm_rec.specs.declared.homes.Homes.{Homes}
-use Rattle.lvm_session.specs.declared.open.Power.TheVariants as power
-use Rattle.lvm_session.specs.State.{Core}
-use Rattle.lvm_session.specs.Marks.{is_entailed}
-use Rattle.lvm_session.specs.Left.{updates_left}
-use Rattle.lvm_session.specs.Placed.{ArePlaced}
-use Rattle.lvm_session.specs.Sound.{IsLit}
+use Rattle.lvm_keeps.specs.handed.Names.{Homes, Core, is_entailed, updates_left, ArePlaced, IsLit}
+use Rattle.lvm_keeps.specs.handed.SessionOpenPower as power
 use Rattle.lvm_session_start.specs.declared.parts.Parts.{Parts}
-use Rattle.lvm_session_start.specs.Parts.{IsOneGroup, IsReserved, IsRoom}
+use Rattle.lvm_session_start.specs.Parts.{IsOneGroup, IsReserved, IsSessionRoom}
 
 -- how many transfers of each of 128 disks have failed; of those that aren't on the shelf none
 pub record AreFaults (device : Device) (faults : List ℕ) : Type 0 where
@@ -51,7 +46,7 @@ first_core p history stamp homes faults = with_parts (record p { updater = recor
 -- requests have landed, nothing that missing disks would entail, and numbers for the updates that may follow.
 pub record MayBegin (device : Device) (history : Log) (stamp : Stamp) (homes : Homes) (p : Parts) : Type 0 where
   pub reserved : IsReserved p.descriptor p.table p.room p
-  pub room : IsRoom p.room
+  pub room : IsSessionRoom p.room
   pub valid : IsValid p.descriptor
   pub group : IsOneGroup p.descriptor p.table
   pub ordered : Ordered history.run [] history.facts

@@ -11,7 +11,7 @@ use Rattle.lvm_session_start.specs.declared.parts.Parts.{Parts}
 use Rattle.lvm_session_start.specs.declared.parts.Room.{Room}
 
 -- the numbers that a room may have
-pub record IsRoom (room : Room) : Type 0 where
+pub record IsSessionRoom (room : Room) : Type 0 where
   pub requests : room.table ≤ 1024
   pub a_buffer : 1 ≤ room.pool
   pub buffers : room.pool ≤ 1024

@@ -5,15 +5,14 @@ ghost use Rattle.lvm_num.specs.Disks.{has};
 ghost use Rattle.lvm_num.specs.Status.{IsValidStatus};
 ghost use Rattle.lvm_status.specs.Calls.{first_updates};
 ghost use Rattle.lvm_status.specs.Update.{seen};
-ghost use Rattle.lvm_session_start.specs.Parts.{IsEmptyCache, IsOneGroup, IsReserved, IsRoom};
+ghost use Rattle.lvm_session_start.specs.Parts.{IsEmptyCache, IsOneGroup, IsReserved, IsSessionRoom};
 
 use lvm_hold::Queue;
+use lvm_keeps::lower::{Flown, Open, Pool};
 use lvm_mwc::Cache;
 use lvm_num::{Descriptor, DiskSet, Memory, Status};
-use lvm_pbuf::Pool;
-use lvm_session::{Flown, Open};
-use lvm_stale::StaleTable;
 use lvm_status::Updater;
+use lvm_status::lower::StaleTable;
 use std::alloc::Global;
 
 // The bytes of 256 blocks, which are more than those of any status.
@@ -122,7 +121,7 @@ struct Tables {
 }
 
 fn of_requests(alloc: Global, room: Room) -> Result<Tables, Memory>
-    requires { IsRoom room }
+    requires { IsSessionRoom room }
     ensures requests { IfOk result (λ tables. tables.requests.items ≡ []) }
     ensures capacity { IfOk result (λ tables. room.table ≤ vec_capacity tables.requests) }
     ensures queue { IfOk result (λ tables. tables.queue ≡ record { room = room.table + 1; rows = [] }) }
@@ -149,9 +148,9 @@ fn room_of_blocks(alloc: Global) -> Result<Vec<u8>, Memory>
     }
 }
 
-// The transfer buffers, and the room for the blocks of a read.
+// The transfer buffers, and the room for the bytes of a status.
 fn of_blocks(alloc: Global, room: Room) -> Result<(Pool, Vec<u8>), Memory>
-    requires { IsRoom room }
+    requires { IsSessionRoom room }
     ensures pool { IfOk result (λ made. made.0 ≡ replicate room.pool false) }
     ensures bytes { IfOk result (λ made. length made.1.items ≡ 131072) }
 {
@@ -169,7 +168,7 @@ struct Reserved {
 }
 
 fn of_room(alloc: Global, room: Room) -> Result<Reserved, Memory>
-    requires { IsRoom room }
+    requires { IsSessionRoom room }
     ensures requests { IfOk result (λ made. made.tables.requests.items ≡ []) }
     ensures capacity { IfOk result (λ made. room.table ≤ vec_capacity made.tables.requests) }
     ensures queue { IfOk result (λ made. made.tables.queue ≡ record { room = room.table + 1; rows = [] }) }
@@ -198,7 +197,7 @@ pub fn take_parts(
     status: &Status,
     room: Room,
 ) -> Result<Parts, Memory>
-    requires room { IsRoom room }
+    requires room { IsSessionRoom room }
     requires descriptor { IsValid descriptor }
     requires status { IsValidStatus status.now }
     requires group { IsOneGroup descriptor status.now }

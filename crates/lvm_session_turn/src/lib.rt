@@ -3,6 +3,7 @@
 
 mod ending;
 mod first;
+pub mod lower;
 mod orders;
 mod turns;
 

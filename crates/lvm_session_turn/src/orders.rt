@@ -5,13 +5,13 @@ ghost use Rattle.lvm_session.specs.Fields.{core_of};
 ghost use Rattle.lvm_session.specs.Rooms.{SameRooms};
 ghost use Rattle.lvm_session.specs.State.{state};
 ghost use Rattle.lvm_session.specs.Dark.{after_arrange, is_cut};
-ghost use Rattle.lvm_session.specs.Turns.{Arranges};
-ghost use Rattle.lvm_over.specs.Hands.{MayEnd};
+ghost use Rattle.lvm_session.specs.Turns.{ArrangesSession};
+ghost use Rattle.lvm_starts.specs.handed.Names.{MayEnd};
 ghost use Rattle.lvm_session.specs.Sound.{IsSound};
 
 use lvm_disk::{Arrange, Shelf};
-use lvm_over::darken;
 use lvm_session::Session;
+use lvm_starts::lower::darken;
 
 fn is_cut(what: Arrange) -> bool
     ensures { result ≡ is_cut what }
@@ -35,7 +35,7 @@ fn follow(session: &mut Session, what: Arrange, done: bool)
 pub fn arrange<S: Shelf>(session: &mut Session, shelf: &mut S, what: Arrange) -> bool
     requires disk { MayArrange (S.device shelf.old) what }
     requires sound { IsSound (state (S.device shelf.old) (core_of session.old)) }
-    ensures gives { Arranges (state (S.device shelf.old) (core_of session.old)) (state (S.device shelf.new) (core_of session.new)) what result }
+    ensures gives { ArrangesSession (state (S.device shelf.old) (core_of session.old)) (state (S.device shelf.new) (core_of session.new)) what result }
     ensures rooms { SameRooms session.old session.new }
 {
     let done = shelf.arrange(what);

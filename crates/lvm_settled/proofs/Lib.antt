@@ -1,3 +1,4 @@
+pub mod handed
 pub mod Settled
 pub mod Examples
 pub mod Notes

@@ -1,5 +1,3 @@
-pub mod Names
-pub mod Digits
 pub mod Appending
 pub mod Found
 mod FreeCount

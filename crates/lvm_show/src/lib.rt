@@ -5,7 +5,6 @@ mod counts;
 mod group;
 mod map;
 mod member;
-mod words;
 
 pub use counts::{
     all_free, all_partitions, all_stale, carriers, free_on, missing_members, quorum_votes,

@@ -7,7 +7,7 @@ use Rattle.lvm_stage.specs.Asking.{IsAsked}
 use Rattle.lvm_stage.specs.Moments.{Role}
 use Rattle.lvm_stage.specs.Replies.{IsRefused, most_refusals}
 use Rattle.lvm_stage.specs.Stages.{IsBetweenStage, IsFitting, shelf_in, history_in, state_in}
-use Rattle.lvm_stage.specs.State.{State, without_facts}
+use Rattle.lvm_stage.specs.State.{ScriptState, without_facts}
 use Rattle.lvm_stage.specs.declared.reply.Refusal.{Refusal}
 use Rattle.lvm_stage.specs.declared.reply.Reply.{Reply}
 use Rattle.lvm_stage.specs.declared.reply.Reply.TheVariants as reply
@@ -18,7 +18,7 @@ use Rattle.lvm_stage.proofs.Going.{same_goes, asked_goes}
 pub one_refused : (answer : Reply) (why : Refusal) → answer ≡ reply.Refused why → most_refusals answer ≤ 1
 one_refused answer why says = subst (λ (a : Reply). most_refusals a ≤ 1) (sym says) (omega arith)
 
-module _ {S : Type 0} (device : S → Device) (Does : Log → State → State → Reply → Type 0) (Orders : Type 0) (role : Role) where
+module _ {S : Type 0} (device : S → Device) (Does : Log → ScriptState → ScriptState → Reply → Type 0) (Orders : Type 0) (role : Role) where
   -- a command that ends so, from these stages and answers
   pub ends_as : (old was new is : Stage S) (answer says : Reply) (before after : ℕ) → old ≡ was → new ≡ is → answer ≡ says → CommandEnds device Does Orders role was is says before after → CommandEnds device Does Orders role old new answer before after
   ends_as old was new is answer says before after old_is new_is answer_is ends =

@@ -15,9 +15,8 @@ use Rattle.lvm_stamps.proofs.Clock.{later_is_later_too}
 use Rattle.lvm_session.specs.declared.open.Open.{Open}
 use Rattle.lvm_session.specs.State.{Core, votes_there}
 use Rattle.lvm_session.specs.Sound.{waits}
-use Rattle.lvm_core.specs.Sound.{HaveAllLanded}
-use Rattle.lvm_posts.specs.declared.posts.Post.{Post}
-use Rattle.lvm_posts.specs.Posts.{ended_with}
+use Rattle.lvm_quiesce.specs.handed.Names.{HaveAllLanded}
+use Rattle.lvm_tie_copies.specs.handed.Names.{Post, ended_with}
 use Rattle.lvm_quiesce.specs.Behind.{IsAheadEach}
 use Rattle.lvm_quiesce.proofs.Behind.{each_is_behind, later_is_behind_each}
 use Rattle.lvm_transfer.specs.Transfer.{Relights}
@@ -25,7 +24,7 @@ use Rattle.lvm_stage.specs.Asking.{IsAsked, EndsSession}
 use Rattle.lvm_stage.specs.Moments.{GoesOn, HasBegunHeld, Role}
 use Rattle.lvm_stage.specs.Replies.{most_refusals}
 use Rattle.lvm_stage.specs.Stages.{posts_ended}
-use Rattle.lvm_stage.specs.State.{State, ArePosted, IsBetween, IsOnBetween}
+use Rattle.lvm_stage.specs.State.{ScriptState, ArePosted, IsBetween, IsOnBetween}
 use Rattle.lvm_stage.specs.declared.reply.Reply.{Reply}
 use Rattle.lvm_stage.proofs.Posting.{end_posts, none_held}
 
@@ -66,7 +65,7 @@ none_begins (Some core) = tt
 
 -- ---- where nothing changes
 
-pub still_goes : (run : ℕ) (role : Role) (answer : Reply) (s : State) → IsBetween s.moment s.session s.posts → most_refusals answer ≤ 1 → GoesOn run role answer s s
+pub still_goes : (run : ℕ) (role : Role) (answer : Reply) (s : ScriptState) → IsBetween s.moment s.session s.posts → most_refusals answer ≤ 1 → GoesOn run role answer s s
 still_goes run role answer s between one = record {
   keeps = λ timely alone first span stands. (span, λ goes. stands);
   timely = λ goes timely. timely;
@@ -80,12 +79,12 @@ still_goes run role answer s between one = record {
   few = omega (arith, one);
 }
 
-pub same_goes : (run : ℕ) (role : Role) (answer : Reply) (old new : State) → IsBetween old.moment old.session old.posts → most_refusals answer ≤ 1 → new ≡ old → GoesOn run role answer old new
-same_goes run role answer old new between one same = subst (λ (s : State). GoesOn run role answer old s) (sym same) (still_goes run role answer old between one)
+pub same_goes : (run : ℕ) (role : Role) (answer : Reply) (old new : ScriptState) → IsBetween old.moment old.session old.posts → most_refusals answer ≤ 1 → new ≡ old → GoesOn run role answer old new
+same_goes run role answer old new between one same = subst (λ (s : ScriptState). GoesOn run role answer old s) (sym same) (still_goes run role answer old between one)
 
 -- the clock alone was asked
-pub asked_goes : (run : ℕ) (role : Role) (answer : Reply) (old new : State) → IsBetween old.moment old.session old.posts → most_refusals answer ≤ 1 → IsAsked old new → GoesOn run role answer old new
-asked_goes run role answer old new between one asked = subst (λ (s : State). GoesOn run role answer old s) (sym asked.same) (record {
+pub asked_goes : (run : ℕ) (role : Role) (answer : Reply) (old new : ScriptState) → IsBetween old.moment old.session old.posts → most_refusals answer ≤ 1 → IsAsked old new → GoesOn run role answer old new
+asked_goes run role answer old new between one asked = subst (λ (s : ScriptState). GoesOn run role answer old s) (sym asked.same) (record {
   keeps = λ timely alone first span stands. (span, λ goes. stands);
   timely = λ goes timely. record { ahead = ahead timely.ahead; session = session_later old.session old.last new.last later timely.session };
   left = λ timely. each_is_ahead run (new.last + 1) old.moment.device old.moment.facts (ahead timely.ahead);
@@ -106,9 +105,9 @@ asked_goes run role answer old new between one asked = subst (λ (s : State). Go
 
 -- ---- a session ends of which no request is open, and nothing else changes
 
-pub ended_goes : (run : ℕ) (role : Role) (answer : Reply) (old new : State) (core : Core) → old.session ≡ Some core → core.history.facts ≡ old.moment.facts → core.requests ≡ [] → IsBetween old.moment old.session old.posts
+pub ended_goes : (run : ℕ) (role : Role) (answer : Reply) (old new : ScriptState) (core : Core) → old.session ≡ Some core → core.history.facts ≡ old.moment.facts → core.requests ≡ [] → IsBetween old.moment old.session old.posts
     → most_refusals answer ≤ 1 → EndsSession old new → GoesOn run role answer old new
-ended_goes run role answer old new core was facts none between one ends = subst (λ (s : State). GoesOn run role answer old s) (sym is) (record {
+ended_goes run role answer old new core was facts none between one ends = subst (λ (s : ScriptState). GoesOn run role answer old s) (sym is) (record {
   keeps = λ timely alone first span stands. (span, λ goes past begins. tt);
   timely = λ goes timely. record { ahead = timely.ahead; session = tt };
   left = λ timely. each_is_ahead run (old.last + 1) old.moment.device old.moment.facts timely.ahead;

@@ -26,7 +26,7 @@ use Rattle.lvm_session.specs.Requests.{IsLanded}
 use Rattle.lvm_session.specs.Sound.{IsLit, IsSound, is_dark, waits}
 use Rattle.lvm_session.specs.State.{Core, State as Session, state}
 use Rattle.lvm_status.specs.Members.{HasItsRows}
-use Rattle.lvm_core.specs.Sound.{HaveAllLanded}
+use Rattle.lvm_quiesce.specs.handed.Names.{HaveAllLanded}
 use Rattle.lvm_tie_copies.specs.passed.Tie.{IsGood, moment_of}
 use Rattle.lvm_tie_copies.specs.passed.Running.{IsBefore, LeavesSession}
 use Rattle.lvm_quiesce.specs.Behind.{IsAheadEach}
@@ -34,7 +34,7 @@ use Rattle.lvm_tie_copies.specs.passed.TieCommands.{StandsAfter}
 use Rattle.lvm_stage.specs.Moments.{GoesOn, HasBegunHeld, IsAlone, IsRequesting, Role}
 use Rattle.lvm_stage.specs.Replies.{IsStuck, most_refusals}
 use Rattle.lvm_stage.specs.Stages.{IsClosed}
-use Rattle.lvm_stage.specs.State.{ArePosted, IsAtRest, IsBetween, IsOnBetween, IsTimely, StandsAlone, StandsBy, State}
+use Rattle.lvm_stage.specs.State.{ArePosted, IsAtRest, IsBetween, IsOnBetween, IsTimely, StandsAlone, StandsBy, ScriptState}
 use Rattle.lvm_stage.specs.declared.reply.Reply.{Reply}
 use Rattle.lvm_stage.proofs.Going.{relit_path, was_session}
 
@@ -85,8 +85,8 @@ closes s new sound = by s.core.power refl
 -- ---- from one state to the next
 
 -- What leads from a session of a group with volumes to this one.
-pub record IsRun (role : Role) (old : State) (core : Core) (end : Session) : Type 0 where
-  pub alone : (new : State) → IsAlone role old new → IfSome old.session (StandsAlone old.moment.device)
+pub record IsRun (role : Role) (old : ScriptState) (core : Core) (end : Session) : Type 0 where
+  pub alone : (new : ScriptState) → IsAlone role old new → IfSome old.session (StandsAlone old.moment.device)
   pub session : old.session ≡ Some core
   pub facts : old.moment.facts ≡ core.history.facts
   pub volumes : core.descriptor.lvs ≢ []
@@ -94,7 +94,7 @@ pub record IsRun (role : Role) (old : State) (core : Core) (end : Session) : Typ
   pub leaves : LeavesSession (state old.moment.device core) end
   pub sound : IsSound end
 
-module _ (role : Role) (old : State) (core : Core) (end : Session) (its : IsRun role old core end) where
+module _ (role : Role) (old : ScriptState) (core : Core) (end : Session) (its : IsRun role old core end) where
   abbrev first_session : Session
   first_session = state old.moment.device core
 
@@ -104,7 +104,7 @@ module _ (role : Role) (old : State) (core : Core) (end : Session) (its : IsRun 
   moment_is : old.moment ≡ moment_of first_session
   moment_is = ap (λ (fs : List Fact). at old.moment.device fs) its.facts
 
-  module _ (new : State) (alone : IsAlone role old new) (first : Moment) (stands : StandsBy core.history.run first old) where
+  module _ (new : ScriptState) (alone : IsAlone role old new) (first : Moment) (stands : StandsBy core.history.run first old) where
     stands_first : (past : List Fact) → Begins core.history.run past first → StandsAfter past old.moment.device core
     stands_first past begins =
         subst (λ (o : Option Core). IfSome o (λ (c : Core). StandsAlone old.moment.device c → StandsAfter past old.moment.device c)) its.session (stands past begins)
@@ -144,10 +144,10 @@ module _ (role : Role) (old : State) (core : Core) (end : Session) (its : IsRun 
   -- ---- it goes on
 
   -- the state once it goes on with these posts
-  module _ (answer : Reply) (new : State) (is : new ≡ record { moment = moment_of end; session = Some end.core; posts = new.posts; last = old.last })
+  module _ (answer : Reply) (new : ScriptState) (is : new ≡ record { moment = moment_of end; session = Some end.core; posts = new.posts; last = old.last })
       (on : end.core.power ≡ power.On) (copy : end.core.copy ≡ None) (posted : ArePosted end.core.history.facts (Some end.core) new.posts)
       (rests : (IsRequesting role → ⊥) → IsAtRest old → IsAtRest new) (few : most_refusals answer + length new.posts ≤ length old.posts + 1) where
-    abbrev next : State
+    abbrev next : ScriptState
     next = record { moment = moment_of end; session = Some end.core; posts = new.posts; last = old.last }
 
     not_dark : end.core.power ≡ power.Dark → ⊥
@@ -191,7 +191,7 @@ module _ (role : Role) (old : State) (core : Core) (end : Session) (its : IsRun 
 
   -- ---- it is closed
 
-  module _ (answer : Reply) (new : State) (closed : IsClosed end.core.power end.device new.moment.device) (facts : new.moment.facts ≡ end.core.history.facts) (none : new.session ≡ None)
+  module _ (answer : Reply) (new : ScriptState) (closed : IsClosed end.core.power end.device new.moment.device) (facts : new.moment.facts ≡ end.core.history.facts) (none : new.session ≡ None)
       (clock : new.last ≡ old.last) (heard_of : end.core.power ≡ power.Stuck → ⊥) (over : (IsStuck answer → ⊥) → is_over end.core.power ≡ true) (posted : ArePosted new.moment.facts None new.posts)
       (rests : (IsRequesting role → ⊥) → IsAtRest old → IsAtRest new) (few : most_refusals answer + length new.posts ≤ length old.posts + 1) where
     it : Closes end.device new.moment.device

@@ -1,3 +1,4 @@
+pub mod handed
 pub mod passed
 pub mod Asking
 pub mod Ends

@@ -4,14 +4,12 @@ use Rattle.lvm_disk.specs.Device.{Device, IsReady}
 use Rattle.lvm_kept.specs.Moments.{Moment}
 use Rattle.lvm_steps.specs.Moments.{Keeps}
 use Rattle.lvm_stamps.specs.Behind.{IsAhead}
-use Rattle.lvm_commit.specs.LawsOfVolumes.{IsOneByAllOn}
-use Rattle.lvm_core.specs.Held.{IsHeld}
-use Rattle.lvm_core.specs.Leaves.{EntersVolumes}
-use Rattle.lvm_core.specs.Settled.{IsSettled as IsSettledCore}
+use Rattle.lvm_tie_copies.specs.handed.Names.{IsOneByAllOn}
+use Rattle.lvm_quiesce.specs.handed.Names.{IsHeld, EntersVolumes, IsSettled as IsSettledCore}
 use Rattle.lvm_session.specs.State.{Core, State as Session, state}
 use Rattle.lvm_disk.specs.Paths.{Path}
 use Rattle.lvm_tie_copies.specs.passed.Driver.{IsAny, IsTurn}
-use Rattle.lvm_stage.specs.State.{State, IsAtRest, IsBetween, IsTimely, StandsAlone, StandsBy}
+use Rattle.lvm_stage.specs.State.{ScriptState, IsAtRest, IsBetween, IsTimely, StandsAlone, StandsBy}
 use Rattle.lvm_stage.specs.Replies.{IsStuck, most_refusals}
 use Rattle.lvm_stage.specs.declared.reply.Refusal.TheVariants as refusal
 use Rattle.lvm_stage.specs.declared.reply.Reply.{Reply}
@@ -48,11 +46,11 @@ IsRequesting (OfGroupWhere Holds) = ⊥
 IsRequesting OfRequests = Unit {0}
 
 -- this holds of each session to which turns may lead from the one that is on, once nothing is under way
-abbrev pub AtRestEach : (Session → Type 0) → State → Type 0
+abbrev pub AtRestEach : (Session → Type 0) → ScriptState → Type 0
 AtRestEach Holds old = IfSome old.session (λ core. (mid : Session) → Path IsTurn IsAny (state old.moment.device core) mid → IsSettledCore mid.core → Holds mid)
 
 -- so does what its command asks for
-abbrev pub IsAllowed : Role → State → Type 0
+abbrev pub IsAllowed : Role → ScriptState → Type 0
 IsAllowed Aside old = Unit {0}
 IsAllowed OfGroup old = Unit {0}
 IsAllowed (OfGroupWhere Holds) old = AtRestEach Holds old
@@ -60,13 +58,13 @@ IsAllowed OfRequests old = Unit {0}
 
 -- At most one group has a quorum among all disks where a volume's making or removal is entered meanwhile; so too where a session is acted on whose group has
 -- volumes and which has no open request, and none of these is in mode passive then. What a command asks for besides holds of its session.
-pub record IsAlone (role : Role) (old new : State) : Type 0 where
+pub record IsAlone (role : Role) (old new : ScriptState) : Type 0 where
   pub enters : EntersVolumes old.moment.facts new.moment.facts → IsOneByAllOn old.moment.device
   pub acts : IsActing role → IfSome old.session (StandsAlone old.moment.device)
   pub allowed : IsAllowed role old
 
 -- A span goes on from the one state to the other, and the disks go on standing by the session, unless nothing was heard of a transfer.
-abbrev pub KeepsStanding : ℕ → Reply → State → State → Type 0
+abbrev pub KeepsStanding : ℕ → Reply → ScriptState → ScriptState → Type 0
 KeepsStanding run answer old new = (first : Moment) → Keeps run first old.moment → StandsBy run first old → Keeps run first new.moment × ((IsStuck answer → ⊥) → StandsBy run first new)
 
 -- A session begins settled, nothing is out, and its disks hold what it says is committed.
@@ -78,7 +76,7 @@ pub record HasBegunHeld (device : Device) (core : Core) : Type 0 where
 -- From one state to the next, where this is answered. While the clock is ahead of each crash image, and no other group has a quorum where that is asked, what
 -- stood goes on to stand. The clock stays ahead of the disks, and of each crash image unless nothing was heard of a transfer: else the next line may begin, and
 -- at rest too, if none of requests was between.
-pub record GoesOn (run : ℕ) (role : Role) (answer : Reply) (old new : State) : Type 0 where
+pub record GoesOn (run : ℕ) (role : Role) (answer : Reply) (old new : ScriptState) : Type 0 where
   pub keeps : IsTimely run old → IsAlone role old new → KeepsStanding run answer old new
   pub timely : (IsStuck answer → ⊥) → IsTimely run old → IsTimely run new
   pub left : IsTimely run old → IsAhead run (new.last + 1) new.moment.device new.moment.facts

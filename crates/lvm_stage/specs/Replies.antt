@@ -3,7 +3,7 @@ use Rattle.std.specs.Prelude.{◌≡◌, ℕ, Bool, true, false, List, [], codes
 use Rattle.lvm_replies.specs.Refusals.{refusal_text}
 use Rattle.lvm_replies.specs.Texts.{stepped_text, synced_text}
 use Rattle.lvm_stage.specs.Refusals.{shown}
-use Rattle.lvm_stage.specs.State.{State}
+use Rattle.lvm_stage.specs.State.{ScriptState}
 use Rattle.lvm_stage.specs.declared.reply.Refusal.{Refusal}
 use Rattle.lvm_stage.specs.declared.reply.Refusal.TheVariants as refusal
 use Rattle.lvm_stage.specs.declared.reply.Reply.{Reply}
@@ -42,7 +42,7 @@ is_unheard (reply.Refused refusal.Stuck) = true
 is_unheard other = false
 
 -- it is refused, and nothing changes
-abbrev pub IsRefused : Refusal → Reply → State → State → Type 0
+abbrev pub IsRefused : Refusal → Reply → ScriptState → ScriptState → Type 0
 IsRefused why answer old new = (answer ≡ reply.Refused why) × (new ≡ old)
 
 -- where no memory is found for the lines that answer, the reply says so

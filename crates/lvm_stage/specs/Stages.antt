@@ -11,9 +11,8 @@ use Rattle.lvm_session.specs.Dark.{after_arrange}
 use Rattle.lvm_session.specs.declared.open.Power.{Power}
 use Rattle.lvm_session.specs.declared.open.Power.TheVariants as power
 use Rattle.lvm_session.specs.State.{Core, votes_there}
-use Rattle.lvm_posts.specs.declared.posts.Post.{Post}
-use Rattle.lvm_posts.specs.Posts.{ended_with}
-use Rattle.lvm_stage.specs.State.{State, IsBetween}
+use Rattle.lvm_tie_copies.specs.handed.Names.{Post, ended_with}
+use Rattle.lvm_stage.specs.State.{ScriptState, IsBetween}
 use Rattle.lvm_stage.specs.Replies.{is_unheard}
 use Rattle.lvm_stage.specs.declared.holder.Holder.{Holder}
 use Rattle.lvm_stage.specs.declared.holder.Holder.TheVariants as holder
@@ -70,7 +69,7 @@ abbrev pub moment_in : {S : Type 0} → (S → Device) → Stage S → Moment
 moment_in device stage = record { device = device (shelf_in stage); facts = (history_in stage).facts }
 
 -- the state, where this was the clock's last moment
-abbrev pub state_in : {S : Type 0} → (S → Device) → Stage S → ℕ → State
+abbrev pub state_in : {S : Type 0} → (S → Device) → Stage S → ℕ → ScriptState
 state_in device stage last = record { moment = moment_in device stage; session = session_in stage; posts = stage.posts.items; last = last }
 
 -- the next line may begin
@@ -89,7 +88,7 @@ pub record IsFitting {S : Type 0} (stage : Stage S) : Type 0 where
   pub rooms : HaveRooms (history_in stage).room stage.posts stage.bytes
 
 -- this holds of the states before a line and after it, in which the clock isn't asked
-abbrev pub Between : {S : Type 0} → (S → Device) → Stage S → Stage S → (State → State → Type 0) → Type 0
+abbrev pub Between : {S : Type 0} → (S → Device) → Stage S → Stage S → (ScriptState → ScriptState → Type 0) → Type 0
 Between device old new P = (last : ℕ) → P (state_in device old last) (state_in device new last)
 
 -- ---- orders, and the end of a session

@@ -5,24 +5,20 @@ use Rattle.lvm_vol.specs.Facts.{Fact}
 pub use Rattle.lvm_vol.specs.Log.{log_with, without_facts}
 use Rattle.lvm_kept.specs.Moments.{Moment}
 use Rattle.lvm_steps.specs.Moments.{Begins}
-use Rattle.lvm_commit.specs.LawsOfVolumes.{IsOneByAllOn}
+use Rattle.lvm_tie_copies.specs.handed.Names.{IsOneByAllOn, Post, IsLaidOut, AreAnswered, AreHeld}
 use Rattle.lvm_status.specs.Members.{HasItsRows}
 use Rattle.lvm_session.specs.declared.open.Power.TheVariants as power
 use Rattle.lvm_session.specs.State.{Core, state}
 use Rattle.lvm_session.specs.Sound.{IsLit, IsSound}
 use Rattle.lvm_tie_copies.specs.passed.Tie.{LeavesDescriptors, IsStamped}
-use Rattle.lvm_core.specs.Sound.{HaveAllLanded}
-use Rattle.lvm_core.specs.Settled.{IsSettled as IsSettledCore}
-use Rattle.lvm_posts.specs.declared.posts.Post.{Post}
-use Rattle.lvm_posts.specs.Pieces.{IsLaidOut}
-use Rattle.lvm_posts.specs.Posts.{AreAnswered, AreHeld}
+use Rattle.lvm_quiesce.specs.handed.Names.{HaveAllLanded, IsSettled as IsSettledCore}
 use Rattle.lvm_quiesce.specs.Behind.{IsAheadEach}
 use Rattle.lvm_tie_copies.specs.passed.Earlier.{AreGone}
 use Rattle.lvm_tie_copies.specs.passed.TieCommands.{StandsAfter}
 use Rattle.lvm_tie_copies.specs.passed.Recover.{HasNoPassive}
 
 -- The shelf and what the history has so far, the session of the group that is on, if one is, the posts whose answers aren't taken, and the clock's last moment.
-pub record State : Type 0 where
+pub record ScriptState : Type 0 where
   pub moment : Moment
   pub session : Option Core
   pub posts : List Post
@@ -66,7 +62,7 @@ pub record IsBetween (moment : Moment) (on : Option Core) (posts : List Post) : 
   pub posted : ArePosted moment.facts on posts
 
 -- nothing is out, or under way in a session, and no post is left
-pub record IsAtRest (s : State) : Type 0 where
+pub record IsAtRest (s : ScriptState) : Type 0 where
   pub ready : IsReady s.moment.device
   pub landed : HaveAllLanded s.moment.facts
   pub session : IfSome s.session IsSettledCore
@@ -76,7 +72,7 @@ pub record IsAtRest (s : State) : Type 0 where
 
 -- What stands on the disks, or may after a loss of power, is of sessions up to the clock's last moment, and so is the run and each group that was varied on
 -- in it, that of the session among them.
-pub record IsTimely (run : ℕ) (s : State) : Type 0 where
+pub record IsTimely (run : ℕ) (s : ScriptState) : Type 0 where
   pub ahead : IsAheadEach run (s.last + 1) s.moment.device s.moment.facts
   pub session : IfSome s.session (λ core. core.status.stamp.epoch ≤ s.last)
 
@@ -87,5 +83,5 @@ abbrev pub StandsAlone : Device → Core → Type 0
 StandsAlone device core = core.requests ≡ [] → core.descriptor.lvs ≢ [] → IsOneByAllOn device × HasNoPassive core.descriptor
 
 -- After each earlier history with which the run may have begun, the disks stand by the session, where its group stands alone.
-abbrev pub StandsBy : ℕ → Moment → State → Type 0
+abbrev pub StandsBy : ℕ → Moment → ScriptState → Type 0
 StandsBy run first s = (past : List Fact) → Begins run past first → IfSome s.session (λ core. StandsAlone s.moment.device core → StandsAfter past s.moment.device core)

@@ -4,6 +4,7 @@
 pub mod below;
 mod holder;
 mod looking;
+pub mod lower;
 mod reply;
 mod stage;
 

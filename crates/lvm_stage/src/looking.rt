@@ -1,6 +1,6 @@
 //! What is looked up in a group.
 ghost use Rattle.std.specs.Prelude.{IfSome, IfNone};
-ghost use Rattle.lvm_core.specs.Looking.{HasNoVolumeNamed, IsNumberOf};
+ghost use Rattle.lvm_quiesce.specs.handed.Names.{HasNoVolumeNamed, IsNumberOf};
 
 use lvm_num::{Descriptor, Name};
 

@@ -1,18 +1,19 @@
 //! What stands between two lines of a script.
-ghost use Rattle.std.specs.Prelude.{◌≡◌, ◌≤◌, ◌⊎◌, ◌↔◌, ℕ, [], length, vec_capacity, IsTrue, IsFalse, IsSome, IfSome, IfOk, Some, None};
+ghost use Rattle.std.specs.Prelude.{◌≡◌, ◌≤◌, ◌⊎◌, ◌↔◌, ℕ, [], length, vec_capacity, IsTrue, IsFalse, IsSome, IfSome, IfOk, IfErr, Some, None};
 ghost use Rattle.lvm_disk.specs.Device.{Device};
+ghost use Rattle.lvm_vol.specs.Order.{Ordered};
 ghost use Rattle.lvm_stage.specs.Replies.{IsStuck, is_unheard};
 ghost use Rattle.lvm_stage.specs.Stages.{ComesTo, GivesBack, HaveRooms, IsCarried, IsClosed, IsEnded, IsLeftBy, IsNotOn, IsOn, IsOnIn, history_in, posts_ended, session_in, session_of, shelf_in};
 
 use crate::holder::Holder;
 use crate::reply::{Refusal, Reply};
-use lvm_core::Closed;
 use lvm_disk::Shelf;
 use lvm_history::History;
 use lvm_num::{Memory, Name};
-use lvm_posts::{Post, end_posts};
+use lvm_quiesce::lower::Closed;
 use lvm_session::Power;
 use lvm_tie_copies::below::driver::{self, Driver};
+use lvm_tie_copies::lower::{Post, end_posts};
 use lvm_transfer::relight;
 use std::alloc::Global;
 
@@ -124,6 +125,31 @@ impl<S: Shelf> Stage<S> {
         }
     }
 
+    /// The shelf and the history beside the posts and the room for bytes, while no group is on; else the stage as it was.
+    pub fn into_off(self) -> Result<(Closed<S>, Vec<Post>, Vec<u8>), Stage<S>>
+        ensures off { IfOk result (λ parts. self ≡ record { holder = Holder.Off parts.0.shelf parts.0.history; posts = parts.1; bytes = parts.2 }) }
+        ensures ordered { IfOk result (λ parts. Ordered parts.0.history.run [] parts.0.history.facts) }
+        ensures kept { IfErr result (λ stage. stage ≡ self) }
+        ensures on { IfErr result (λ _. IsSome (session_in self)) }
+    {
+        let Stage {
+            holder,
+            posts,
+            bytes,
+        } = self;
+        match holder {
+            Holder::Off { shelf, history } => {
+                let _ = history.run();
+                Ok((Closed { shelf, history }, posts, bytes))
+            }
+            holder => Err(Stage {
+                holder,
+                posts,
+                bytes,
+            }),
+        }
+    }
+
     /// Leaves it so, with this answer.
     pub fn answered(self, reply: Reply) -> Answered<S>
         ensures stage { result.stage ≡ self }
@@ -185,14 +211,7 @@ impl<S: Shelf> Stage<S> {
         let power = driver.power();
         let posts = ended_posts(&driver, posts);
         let driver::Closed { shelf, history } = driver.close();
-        Stage {
-            holder: Holder::Off {
-                shelf: relit(shelf, power),
-                history,
-            },
-            posts,
-            bytes,
-        }
+        Stage::off(relit(shelf, power), history, posts, bytes)
     }
 
     /// The stage after turns or calls of its session: one that is over has ended.

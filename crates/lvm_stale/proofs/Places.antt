@@ -13,7 +13,7 @@ use Rattle.lvm_num.specs.declared.status.Status.{Status}
 use Rattle.lvm_num.specs.Bits.{has_bit}
 use Rattle.lvm_num.specs.Status.{calls_stale, calls_missing, IsStatusRow, IsValidStatus}
 use Rattle.lvm_num.proofs.Pairs.{AllPairs-right}
-use Rattle.lvm_stale.specs.Rows.{IsRowAt}
+use Rattle.lvm_stale.specs.Rows.{IsRowAt, with_row_at}
 use Rattle.lvm_stale.specs.Table.{is_pp, SameMembers}
 
 -- disks that rise
@@ -110,13 +110,9 @@ rise-set rows i row its rise a b d less lt =
     let old = rise a b d less within in
     omega (arith, a-is, b-is, old)
 
--- a table with another row for one disk
-abbrev pub with_row : Status → ℕ → StatusRow → Status
-with_row s place row = record s { rows = set s.rows place row }
-
-pub with_row-members : (s : Status) (disk place : ℕ) (was row : StatusRow) → IsValidStatus s → IsRowAt s.rows disk place was → row.disk ≡ was.disk → length row.stale ≡ 127
-    → SameMembers s (with_row s place row)
-with_row-members s disk place was row valid at same size =
+pub with_row_at-members : (s : Status) (disk place : ℕ) (was row : StatusRow) → IsValidStatus s → IsRowAt s.rows disk place was → row.disk ≡ was.disk → length row.stale ≡ 127
+    → SameMembers s (with_row_at s place row)
+with_row_at-members s disk place was row valid at same size =
     let its : (get_or s.rows place row).disk ≡ row.disk = ap (λ (r : StatusRow). r.disk) (at.there row) ∙ sym same in
     let here : IsStatusRow row = record {
       disk = omega (arith, valid.rows.each place row at.within, its);
@@ -149,27 +145,27 @@ module _ (s : Status) (disk place : ℕ) (was row : StatusRow) (valid : IsValidS
   before f d = says-at f d s.rows place was valid.rows.disks_rise at.within (at.there was)
 
 -- a test that says the same of the new row says the same
-pub with_row-same : (s : Status) (disk place : ℕ) (was row : StatusRow) → IsValidStatus s → IsRowAt s.rows disk place was → row.disk ≡ was.disk
+pub with_row_at-same : (s : Status) (disk place : ℕ) (was row : StatusRow) → IsValidStatus s → IsRowAt s.rows disk place was → row.disk ≡ was.disk
     → (f : StatusRow → Bool) → f row ≡ f was → (d : ℕ) → says f d (set s.rows place row) ≡ says f d s.rows
-with_row-same s disk place was row valid at same f is d =
+with_row_at-same s disk place was row valid at same f is d =
     after s disk place was row valid at same f d
     ∙ ap (λ b. if row.disk == d then b else says f d s.rows) is
     ∙ ap (λ n. if n == d then f was else says f d s.rows) same
     ∙ sym (before s disk place was row valid at same f d)
 
 -- what is said of the disk itself, and of another
-pub with_row-its : (s : Status) (disk place : ℕ) (was row : StatusRow) → IsValidStatus s → IsRowAt s.rows disk place was → row.disk ≡ was.disk
+pub with_row_at-its : (s : Status) (disk place : ℕ) (was row : StatusRow) → IsValidStatus s → IsRowAt s.rows disk place was → row.disk ≡ was.disk
     → (f : StatusRow → Bool) → (d : ℕ) → disk ≡ d → (says f d (set s.rows place row) ≡ f row) × (says f d s.rows ≡ f was)
-with_row-its s disk place was row valid at same f d it =
+with_row_at-its s disk place was row valid at same f d it =
     let was-is : was.disk == d ≡ true = eq-eqb was.disk d (at.its ∙ it) in
     let row-is : row.disk == d ≡ true = eq-eqb row.disk d (same ∙ at.its ∙ it) in (
       after s disk place was row valid at same f d ∙ ap (λ b. if b then f row else says f d s.rows) row-is,
       before s disk place was row valid at same f d ∙ ap (λ b. if b then f was else says f d s.rows) was-is,
     )
 
-pub with_row-other : (s : Status) (disk place : ℕ) (was row : StatusRow) → IsValidStatus s → IsRowAt s.rows disk place was → row.disk ≡ was.disk
+pub with_row_at-other : (s : Status) (disk place : ℕ) (was row : StatusRow) → IsValidStatus s → IsRowAt s.rows disk place was → row.disk ≡ was.disk
     → (f : StatusRow → Bool) → (d : ℕ) → disk ≢ d → says f d (set s.rows place row) ≡ says f d s.rows
-with_row-other s disk place was row valid at same f d apart =
+with_row_at-other s disk place was row valid at same f d apart =
     let row-is : row.disk == d ≡ false = differ row.disk d (λ e. apart (sym at.its ∙ sym same ∙ e)) in
     after s disk place was row valid at same f d ∙ ap (λ b. if b then f row else says f d s.rows) row-is
 
@@ -191,40 +187,40 @@ its_number : (p pp : Pp) → pp.disk ≡ p.disk → is_pp p pp ≡ (p.pp == pp.p
 its_number p pp is = ap (λ b. b && p.pp == pp.pp) (eq-eqb p.disk pp.disk (sym is))
 
 pub marked : (s : Status) (pp : Pp) (place : ℕ) (was row : StatusRow) → IsValidStatus s → IsRowAt s.rows pp.disk place was → row.disk ≡ was.disk
-    → ((k : ℕ) → has_bit row.stale k ≡ has_bit was.stale k || k == pp.pp) → (p : Pp) → calls_stale (with_row s place row) p ≡ calls_stale s p || is_pp p pp
+    → ((k : ℕ) → has_bit row.stale k ≡ has_bit was.stale k || k == pp.pp) → (p : Pp) → calls_stale (with_row_at s place row) p ≡ calls_stale s p || is_pp p pp
 marked s pp place was row valid at same bits p = elim (cases_eq pp.disk p.disk) [
   | inl it ↦
-      let both = with_row-its s pp.disk place was row valid at same (λ (r : StatusRow). has_bit r.stale p.pp) p.disk it in
+      let both = with_row_at-its s pp.disk place was row valid at same (λ (r : StatusRow). has_bit r.stale p.pp) p.disk it in
       both.0 ∙ bits p.pp ∙ ap (λ b. b || p.pp == pp.pp) (sym both.1) ∙ ap (λ b. calls_stale s p || b) (sym (its_number p pp it))
   | inr apart ↦
-      with_row-other s pp.disk place was row valid at same (λ (r : StatusRow). has_bit r.stale p.pp) p.disk apart
+      with_row_at-other s pp.disk place was row valid at same (λ (r : StatusRow). has_bit r.stale p.pp) p.disk apart
       ∙ or_right (calls_stale s p) (is_pp p pp) (another p pp apart)
 ]
 
 pub cleared : (s : Status) (pp : Pp) (place : ℕ) (was row : StatusRow) → IsValidStatus s → IsRowAt s.rows pp.disk place was → row.disk ≡ was.disk
-    → ((k : ℕ) → has_bit row.stale k ≡ has_bit was.stale k && not (k == pp.pp)) → (p : Pp) → calls_stale (with_row s place row) p ≡ calls_stale s p && not (is_pp p pp)
+    → ((k : ℕ) → has_bit row.stale k ≡ has_bit was.stale k && not (k == pp.pp)) → (p : Pp) → calls_stale (with_row_at s place row) p ≡ calls_stale s p && not (is_pp p pp)
 cleared s pp place was row valid at same bits p = elim (cases_eq pp.disk p.disk) [
   | inl it ↦
-      let both = with_row-its s pp.disk place was row valid at same (λ (r : StatusRow). has_bit r.stale p.pp) p.disk it in
+      let both = with_row_at-its s pp.disk place was row valid at same (λ (r : StatusRow). has_bit r.stale p.pp) p.disk it in
       both.0 ∙ bits p.pp ∙ ap (λ b. b && not (p.pp == pp.pp)) (sym both.1) ∙ ap (λ b. calls_stale s p && not b) (sym (its_number p pp it))
   | inr apart ↦
-      with_row-other s pp.disk place was row valid at same (λ (r : StatusRow). has_bit r.stale p.pp) p.disk apart
+      with_row_at-other s pp.disk place was row valid at same (λ (r : StatusRow). has_bit r.stale p.pp) p.disk apart
       ∙ and_right (calls_stale s p) (is_pp p pp) (another p pp apart)
 ]
 
 pub set_missing-says : (s : Status) (disk place : ℕ) (was row : StatusRow) (is : Bool) → IsValidStatus s → IsRowAt s.rows disk place was → row.disk ≡ was.disk
-    → row.missing ≡ is → (d : ℕ) → calls_missing (with_row s place row) d ≡ (if d == disk then is else calls_missing s d)
+    → row.missing ≡ is → (d : ℕ) → calls_missing (with_row_at s place row) d ≡ (if d == disk then is else calls_missing s d)
 set_missing-says s disk place was row is valid at same now d = elim (cases_eq disk d) [
   | inl it ↦
-      (with_row-its s disk place was row valid at same (λ (r : StatusRow). r.missing) d it).0 ∙ now
+      (with_row_at-its s disk place was row valid at same (λ (r : StatusRow). r.missing) d it).0 ∙ now
       ∙ ap (λ b. if b then is else calls_missing s d) (sym (eq-eqb d disk (sym it)))
   | inr apart ↦
-      with_row-other s disk place was row valid at same (λ (r : StatusRow). r.missing) d apart
+      with_row_at-other s disk place was row valid at same (λ (r : StatusRow). r.missing) d apart
       ∙ ap (λ b. if b then is else calls_missing s d) (sym (differ d disk (λ e. apart (sym e))))
 ]
 
 -- a disk that is missing already, or is there, leaves the table as it is
-pub set_missing-same : (s : Status) (disk place : ℕ) (was : StatusRow) (is : Bool) → IsValidStatus s → IsRowAt s.rows disk place was → calls_missing s disk ≡ is → with_row s place (record was { missing = is }) ≡ s
+pub set_missing-same : (s : Status) (disk place : ℕ) (was : StatusRow) (is : Bool) → IsValidStatus s → IsRowAt s.rows disk place was → calls_missing s disk ≡ is → with_row_at s place (record was { missing = is }) ≡ s
 set_missing-same s disk place was is valid at said =
-    let now : was.missing ≡ is = sym (with_row-its s disk place was was valid at refl (λ (r : StatusRow). r.missing) disk refl).1 ∙ said in
-    ap (λ (b : Bool). with_row s place (record was { missing = b })) (sym now) ∙ ap (λ (rows : List StatusRow). record s { rows = rows }) (set-itself s.rows place was (at.there was))
+    let now : was.missing ≡ is = sym (with_row_at-its s disk place was was valid at refl (λ (r : StatusRow). r.missing) disk refl).1 ∙ said in
+    ap (λ (b : Bool). with_row_at s place (record was { missing = b })) (sym now) ∙ ap (λ (rows : List StatusRow). record s { rows = rows }) (set-itself s.rows place was (at.there was))

@@ -1,3 +1,4 @@
+pub mod handed
 pub mod Rows
 pub mod Table
 pub mod Marking

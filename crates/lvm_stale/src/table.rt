@@ -6,11 +6,11 @@ ghost use Rattle.lvm_num.specs.declared.status.StatusRow.{StatusRow};
 ghost use Rattle.lvm_num.specs.Bits.{has_bit};
 ghost use Rattle.lvm_num.specs.Descriptor.{IsValid};
 ghost use Rattle.lvm_num.specs.Status.{calls_stale, calls_missing, calls_dirty, IsValidStatus, AreDirty, IsVolumeNumber};
-ghost use Rattle.lvm_stale.specs.Rows.{IsRowAt, SetsAmong};
+ghost use Rattle.lvm_stale.specs.Rows.{IsRowAt, SetsAmong, with_row_at};
 ghost use Rattle.lvm_stale.specs.Table.{has_row, is_pp, SameMembers, SameStale, SameMissing, stale_count};
 
 use lvm_num::{
-    Descriptor, Memory, Pp, Status, StatusRow, VolumeNumbers, clear_bit, copy_of_status, has_bit,
+    Descriptor, Memory, Pp, Status, StatusRow, VolumeNumbers, clear_bit, clone_status, has_bit,
     set_bit, volume_of,
 };
 use std::alloc::Global;
@@ -41,7 +41,7 @@ impl StaleTable {
         requires { IsValidStatus s.now }
         ensures { IfOk result (λ table. table ≡ s.now) }
     {
-        let status = copy_of_status(alloc, s)?;
+        let status = clone_status(alloc, s)?;
         Ok(StaleTable { status })
     }
 
@@ -50,7 +50,7 @@ impl StaleTable {
         ensures same { IfOk result (λ status. status ≡ self.now) }
         ensures valid { IfOk result IsValidStatus }
     {
-        copy_of_status(alloc, &self.status)
+        clone_status(alloc, &self.status)
     }
 
     /// The status that it is, without memory.
@@ -114,9 +114,9 @@ impl StaleTable {
         ensures missing { SameMissing self.old self.new }
         ensures dirty { self.new.dirty ≡ self.old.dirty }
     {
-        let (place, mut row) = row_at(self.status.rows.as_slice(), pp.disk);
+        let (place, mut row) = self.row_of(pp.disk);
         set_bit(&mut row.stale, usize::from(pp.pp));
-        self.status.rows.set(place, row);
+        self.put(place, row);
     }
 
     /// A partition becomes fresh.
@@ -128,9 +128,9 @@ impl StaleTable {
         ensures missing { SameMissing self.old self.new }
         ensures dirty { self.new.dirty ≡ self.old.dirty }
     {
-        let (place, mut row) = row_at(self.status.rows.as_slice(), pp.disk);
+        let (place, mut row) = self.row_of(pp.disk);
         clear_bit(&mut row.stale, usize::from(pp.pp));
-        self.status.rows.set(place, row);
+        self.put(place, row);
     }
 
     /// A disk becomes missing, or is there again.
@@ -142,9 +142,9 @@ impl StaleTable {
         ensures dirty { self.new.dirty ≡ self.old.dirty }
         ensures same { calls_missing self.old disk ≡ yes → self.new ≡ self.old }
     {
-        let (place, mut row) = row_at(self.status.rows.as_slice(), disk);
+        let (place, mut row) = self.row_of(disk);
         row.missing = yes;
-        self.status.rows.set(place, row);
+        self.put(place, row);
     }
 
     /// A volume may differ after a crash, or may not any more.
@@ -180,6 +180,24 @@ impl StaleTable {
         self.status.big = from.big;
         self.status.dirty.copy_from(from.dirty.as_slice());
         self.status.rows.copy_from(from.rows.as_slice());
+    }
+
+    // The row of a disk, and its place.
+    fn row_of(&self, disk: u16) -> (usize, StatusRow)
+        requires { IsTrue (has_row self.now disk) }
+        ensures at { IsRowAt self.now.rows disk result.0 result.1 }
+        ensures valid { IsValidStatus self.now }
+    {
+        row_at(self.status.rows.as_slice(), disk)
+    }
+
+    // Another row of the disk whose row stands at this place stands there then.
+    fn put(&mut self, place: usize, row: StatusRow)
+        requires { (was : StatusRow) × IsRowAt self.old.rows row.disk place was }
+        ensures is { self.new ≡ with_row_at self.old place row }
+        ensures members { SameMembers self.old self.new }
+    {
+        self.status.rows.set(place, row);
     }
 
     // How many of these partitions are stale.

@@ -1,3 +1,4 @@
+pub mod handed
 pub mod Firsts
 mod Within
 mod Writes

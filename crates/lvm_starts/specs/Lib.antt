@@ -1,3 +1,4 @@
+pub mod handed
 pub mod Starts
 pub mod Updating
 pub mod Ready

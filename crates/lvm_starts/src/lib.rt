@@ -5,6 +5,7 @@
 mod bytes;
 mod first;
 mod laws;
+pub mod lower;
 mod start;
 
 pub use first::make_start;

@@ -1,3 +1,4 @@
+pub mod handed
 pub mod Disks
 pub mod Fit
 pub mod Same

@@ -3,8 +3,7 @@ use Rattle.std.proofs.Common.{◌≡◌, Bool, true, false, ◌&&◌, refl, ap, 
 use Rattle.std.proofs.Math.Bool.{beq}
 use Rattle.std.proofs.lemmas.Bool.{eq-eqb, eqb-true, false≢true}
 use lib.Pointwise.{pointwise, pointwise_decides, bytes_decides}
-use Rattle.lvm_num.specs.declared.status.StatusRow.{StatusRow}
-use Rattle.lvm_num.specs.declared.status.Status.{Status}
+use Rattle.lvm_stale.specs.handed.Names.{StatusRow, Status}
 
 first : (s t : Bool) → s && t ≡ true → s ≡ true
 first true t e = refl

@@ -4,6 +4,7 @@
 
 mod change;
 pub mod laws;
+pub mod lower;
 mod updater;
 mod writes;
 

@@ -1,3 +1,4 @@
+pub mod handed
 pub mod Moments
 pub mod Entries
 pub mod Requests

@@ -1,3 +1,4 @@
+pub mod handed
 pub mod DiskRows
 pub mod DiskByDisk
 pub mod ShownValid

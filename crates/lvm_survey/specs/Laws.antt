@@ -6,8 +6,7 @@ use Rattle.lvm_num.specs.Buffer.{IsSector}
 use Rattle.lvm_num.specs.Descriptor.{IsValid}
 use Rattle.lvm_num.specs.Record.{Stamped}
 use Rattle.lvm_num.specs.Status.{IsValidStatus}
-use Rattle.lvm_disk.specs.Device.{Image}
-use Rattle.lvm_kept.specs.Contents.{contents_of}
+use Rattle.lvm_area.specs.handed.Names.{Image, contents_of}
 
 -- each sector of the disks has 512 bytes
 abbrev pub IsWholeImage : Image → Type 0

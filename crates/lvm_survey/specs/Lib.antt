@@ -1,3 +1,4 @@
+pub mod handed
 pub mod Surveyed
 pub mod Rows
 pub mod Surveying

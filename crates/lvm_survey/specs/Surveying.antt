@@ -4,16 +4,13 @@ use Rattle.std.specs.Global.{Global}
 use Rattle.lvm_num.specs.Buffer.{Buffer}
 use Rattle.lvm_num.specs.Geometry.{data_start}
 use Rattle.lvm_num.specs.Note.{note_in}
-use Rattle.lvm_rec.specs.Note.{noted_of}
-use Rattle.lvm_disk.specs.Counts.{Rose}
-use Rattle.lvm_disk.specs.Device.{Device, image_of}
+use Rattle.lvm_area.specs.handed.Names.{noted_of, Rose, Device, image_of, Stop, IsRested, IsCutOff, IsReadStuck, StopGives}
 use Rattle.lvm_area.specs.declared.area.RecordArea.{RecordArea}
-use Rattle.lvm_area.specs.declared.area.Stop.{Stop}
 use Rattle.lvm_survey.specs.declared.row.Survey.{Survey}
 use Rattle.lvm_survey.specs.declared.row.SurveyRow.{SurveyRow}
 use Rattle.lvm_survey.specs.declared.survey.Surveyed.{Surveyed}
 use Rattle.lvm_survey.specs.declared.survey.Surveyed.TheVariants as surveyed
-use Rattle.lvm_area.specs.Reading.{IsRested, IsCutOff, IsReadStuck, StopGives, IsHome, under}
+use Rattle.lvm_area.specs.Reading.{IsHome, under}
 use Rattle.lvm_survey.specs.Surveyed.{IsEmpty, IsRead, IsRowValid}
 
 -- ---- what a row says

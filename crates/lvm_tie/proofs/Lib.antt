@@ -1,3 +1,4 @@
+pub mod handed
 pub mod Words
 pub mod Orderly
 pub mod Judged

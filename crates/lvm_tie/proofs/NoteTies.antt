@@ -23,7 +23,7 @@ use Rattle.lvm_mwc.specs.declared.entries.CacheEntry.{CacheEntry}
 use Rattle.lvm_mwc.specs.declared.notes.DiskNotes.{DiskNotes}
 use Rattle.lvm_mwc.specs.Firsts.{with_first}
 use Rattle.lvm_mwc.specs.Entries.{note_of}
-use Rattle.lvm_mwc.specs.Notes.{is_on, names_group}
+use Rattle.lvm_mwc.specs.Notes.{is_of_disk, names_group}
 use Rattle.lvm_mwc.specs.Cache.{notes_on, flight_on, is_named, started, after_start}
 use Rattle.lvm_mwc.proofs.PinsLemmas.{note-names}
 use Rattle.lvm_path.specs.declared.request.Phase.{Phase}
@@ -58,25 +58,25 @@ use Rattle.lvm_tie.proofs.Ties.{carry_more}
 
 -- ---- the notes of a disk
 
-notes_elsewhere : (ns : List DiskNotes) (disk d : ℕ) (es : List CacheEntry) → (d ≡ disk → ⊥) → find (is_on d) (with_first (is_on disk) (started es) ns) ≡ find (is_on d) ns
+notes_elsewhere : (ns : List DiskNotes) (disk d : ℕ) (es : List CacheEntry) → (d ≡ disk → ⊥) → find (is_of_disk d) (with_first (is_of_disk disk) (started es) ns) ≡ find (is_of_disk d) ns
 notes_elsewhere [] disk d es ne = refl
-notes_elsewhere (n ∷ ns) disk d es ne = by (is_on disk n) refl (notes_elsewhere ns disk d es ne)
+notes_elsewhere (n ∷ ns) disk d es ne = by (is_of_disk disk n) refl (notes_elsewhere ns disk d es ne)
   where
-    by : (b : Bool) → is_on disk n ≡ b → find (is_on d) (with_first (is_on disk) (started es) ns) ≡ find (is_on d) ns
-        → find (is_on d) (if b then started es n ∷ ns else n ∷ with_first (is_on disk) (started es) ns) ≡ find (is_on d) (n ∷ ns)
+    by : (b : Bool) → is_of_disk disk n ≡ b → find (is_of_disk d) (with_first (is_of_disk disk) (started es) ns) ≡ find (is_of_disk d) ns
+        → find (is_of_disk d) (if b then started es n ∷ ns else n ∷ with_first (is_of_disk disk) (started es) ns) ≡ find (is_of_disk d) (n ∷ ns)
     by true test rest =
         let other : (n.disk == d) ≡ false = let e : n.disk ≡ disk = eqb-true n.disk disk test in grind (arith, nat_tests) in
-        ap (λ b. if b then Some (started es n) else find (is_on d) ns) other ∙ sym (ap (λ b. if b then Some n else find (is_on d) ns) other)
-    by false test rest = ap (λ x. if is_on d n then Some n else x) rest
+        ap (λ b. if b then Some (started es n) else find (is_of_disk d) ns) other ∙ sym (ap (λ b. if b then Some n else find (is_of_disk d) ns) other)
+    by false test rest = ap (λ x. if is_of_disk d n then Some n else x) rest
 
-notes_here : (ns : List DiskNotes) (disk : ℕ) (es : List CacheEntry) → find (is_on disk) (with_first (is_on disk) (started es) ns) ≡ option_map (started es) (find (is_on disk) ns)
+notes_here : (ns : List DiskNotes) (disk : ℕ) (es : List CacheEntry) → find (is_of_disk disk) (with_first (is_of_disk disk) (started es) ns) ≡ option_map (started es) (find (is_of_disk disk) ns)
 notes_here [] disk es = refl
-notes_here (n ∷ ns) disk es = by (is_on disk n) refl (notes_here ns disk es)
+notes_here (n ∷ ns) disk es = by (is_of_disk disk n) refl (notes_here ns disk es)
   where
-    by : (b : Bool) → is_on disk n ≡ b → find (is_on disk) (with_first (is_on disk) (started es) ns) ≡ option_map (started es) (find (is_on disk) ns)
-        → find (is_on disk) (if b then started es n ∷ ns else n ∷ with_first (is_on disk) (started es) ns) ≡ option_map (started es) (if is_on disk n then Some n else find (is_on disk) ns)
-    by true test rest = ap (λ b. if b then Some (started es n) else find (is_on disk) ns) test ∙ sym (ap (λ b. option_map (started es) (if b then Some n else find (is_on disk) ns)) test)
-    by false test rest = ap (λ b. if b then Some n else find (is_on disk) (with_first (is_on disk) (started es) ns)) test ∙ rest ∙ sym (ap (λ b. option_map (started es) (if b then Some n else find (is_on disk) ns)) test)
+    by : (b : Bool) → is_of_disk disk n ≡ b → find (is_of_disk disk) (with_first (is_of_disk disk) (started es) ns) ≡ option_map (started es) (find (is_of_disk disk) ns)
+        → find (is_of_disk disk) (if b then started es n ∷ ns else n ∷ with_first (is_of_disk disk) (started es) ns) ≡ option_map (started es) (if is_of_disk disk n then Some n else find (is_of_disk disk) ns)
+    by true test rest = ap (λ b. if b then Some (started es n) else find (is_of_disk disk) ns) test ∙ sym (ap (λ b. option_map (started es) (if b then Some n else find (is_of_disk disk) ns)) test)
+    by false test rest = ap (λ b. if b then Some n else find (is_of_disk disk) (with_first (is_of_disk disk) (started es) ns)) test ∙ rest ∙ sym (ap (λ b. option_map (started es) (if b then Some n else find (is_of_disk disk) ns)) test)
 
 -- ---- what is due
 

@@ -31,7 +31,7 @@ use Rattle.lvm_session.specs.Calls.{copy_at}
 use Rattle.lvm_session.specs.Judging.{copies_in, is_missing, is_running, is_stale, is_waiting, is_wanted_stale, place_of}
 use Rattle.lvm_session.specs.State.{Core, State}
 use Rattle.lvm_session.specs.Marks.{is_among}
-use Rattle.lvm_session.specs.Causes.{AreCaused, AreCounted, FailedSince, HasFailed as HasFailedSince, IsCaused, IsCopyCaused, IsCounted, faults_at_first, faults_at_opening, is_blamed, is_held_stale, was_usable}
+use Rattle.lvm_session.specs.Causes.{AreCaused, AreCounted, FailedSince, HasFailed as HasFailedSince, IsCaused, IsCausedAmong, IsCounted, faults_at_first, faults_at_opening, is_blamed, is_held_stale, was_usable}
 use Rattle.lvm_session.specs.Sound.{IsSound}
 use Rattle.lvm_invariant.specs.Caused.{FactIsCaused, HadNoCopy, LandingIsCaused, Since}
 use Rattle.lvm_invariant.specs.Faults.{Faults, HasCause, HasFailed}
@@ -226,7 +226,7 @@ module _ (past first : List Fact) (s : State) (w : Faults) (tied : IsTied past s
       let copies = copies_in core.descriptor copy.lv copy.lp in
       let one = numbered (λ (p : Pp). not (is_pp p copy.pp) && p.disk == disk) copies ((copy_is past s tied copy is_open).tried disk tried) in
       let same : one.1.disk ≡ disk = eqb-true one.1.disk disk (and_both (not (is_pp one.1 copy.pp)) (one.1.disk == disk) one.3).1 in
-      let caused : IsCopyCaused s copies copy = subst (λ (m : Option OpenCopy). IfSome m (λ (x : OpenCopy). IsCopyCaused s (copies_in core.descriptor x.lv x.lp) x)) is_open sound.copy in
+      let caused : IsCausedAmong s copies copy = subst (λ (m : Option OpenCopy). IfSome m (λ (x : OpenCopy). IsCausedAmong s (copies_in core.descriptor x.lv x.lp) x)) is_open sound.copy in
       subst (λ d. Rose (w.asked copy.place d) (w.now d)) same
       (subst (Rose (w.asked copy.place one.1.disk)) (sym (faults.now one.1.disk))
       (rose_since (w.asked copy.place one.1.disk) (faults_at_opening copy one.0) (s.device.counts.faults one.1.disk) (faults.opened copy one.0 one.1 is_open one.2)
@@ -320,7 +320,7 @@ faults_are_there past first s sound = (
     asked_since = λ i d. omega arith;
     asked_before = λ i d. sound.origin.since d;
     asked = λ place o number t there at. (all_at (IsCounted s) o.request.targets.items number t (all_at (AreCounted s) s.core.requests place o sound.counted there) at).began;
-    opened = λ c number p is_open at. (subst (λ (m : Option OpenCopy). IfSome m (λ (x : OpenCopy). IsCopyCaused s (copies_in s.core.descriptor x.lv x.lp) x)) is_open sound.copy).began number p at;
+    opened = λ c number p is_open at. (subst (λ (m : Option OpenCopy). IfSome m (λ (x : OpenCopy). IsCausedAmong s (copies_in s.core.descriptor x.lv x.lp) x)) is_open sound.copy).began number p at;
     missing = λ d. refl;
     stale = λ p. refl;
     past_is = refl;

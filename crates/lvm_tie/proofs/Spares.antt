@@ -50,7 +50,7 @@ use Rattle.lvm_session.specs.Ends.{Ends, EndsAs, FlipsIf, GoesOn, Learns, NoteLe
 use Rattle.lvm_session.specs.Events.{Begins, StartsStatus}
 use Rattle.lvm_session.specs.Judging.{is_running}
 use Rattle.lvm_session.specs.Marks.{Reviews, WantsDirtyIf, WantsStale}
-use Rattle.lvm_session.specs.Turns.{Arranges, Darkens, FinishMakes, Finishes, Makes, Moves, NoStart, OnMakes, TurnMakes, WasDark, WasOff, WasOn}
+use Rattle.lvm_session.specs.Turns.{ArrangesSession, Darkens, FinishMakes, Finishes, Makes, Moves, NoStart, OnMakes, TurnMakes, WasDark, WasOff, WasOn}
 use Rattle.lvm_tie_shelf.proofs.Writing.{and_both}
 use Rattle.lvm_tie.specs.Spares.{CallsSpareDescriptors, LeavesDescriptors, OverLeavesDescriptors, SparesDescriptors, SparesOn, TiedLeavesDescriptors, TurnSparesDescriptors}
 use Rattle.lvm_tie.proofs.Learning.{missing_then}
@@ -301,14 +301,14 @@ module _ (old new : State) (outside : LeavesDescriptors old.device) (spares : Sp
 
   -- ---- an order
 
-  order_slots : (what : Arrange) (done : Bool) → Arranges old new what done → BothTold old.device.media new.device.media SameSlots
+  order_slots : (what : Arrange) (done : Bool) → ArrangesSession old new what done → BothTold old.device.media new.device.media SameSlots
   order_slots what done it = by (arrange_step old.device new.device what done it.device)
     where
       by : (new.device ≡ old.device) ⊎ DeviceStep old.device new.device → BothTold old.device.media new.device.media SameSlots
       by (inl is) = same_media old.device.media new.device.media (ap (λ (d : Device). d.media) is)
       by (inr made) = step_slots old.device new.device outside made
 
-  order_spares : (what : Arrange) (done : Bool) → Arranges old new what done → SparesDescriptors new
+  order_spares : (what : Arrange) (done : Bool) → ArrangesSession old new what done → SparesDescriptors new
   order_spares what done it = by (done && is_cut what) it.is
     where
       by : (b : Bool) → new.core ≡ (if b then all_dark old.core else old.core) → SparesDescriptors new

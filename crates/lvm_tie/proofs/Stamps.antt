@@ -64,9 +64,9 @@ use Rattle.lvm_session.specs.Events.{Begins, StartsStatus}
 use Rattle.lvm_session.specs.Judging.{is_running, is_waiting}
 use Rattle.lvm_session.specs.Marks.{WantsDirtyIf, WantsStale}
 use Rattle.lvm_session.specs.Requests.{IsOpenOne, IsTarget}
-use Rattle.lvm_session.specs.Turns.{Arranges, Darkens, FinishMakes, Finishes, Makes, Moves, NoStart, OnMakes, TurnMakes, WasDark, WasOff, WasOn}
+use Rattle.lvm_session.specs.Turns.{ArrangesSession, Darkens, FinishMakes, Finishes, Makes, Moves, NoStart, OnMakes, TurnMakes, WasDark, WasOff, WasOn}
 use Rattle.lvm_session.specs.Sound.{IsSound}
-use Rattle.lvm_keeps.proofs.Lists.{all_at}
+use Rattle.lvm_keeps_events.proofs.handed.Names.{all_at}
 use Rattle.lvm_tie_shelf.proofs.Flying.{writes_at}
 use Rattle.lvm_tie_shelf.proofs.Owned.{reads_none}
 use Rattle.lvm_tie.specs.Stamps.{AreValid, ArrangeLeavesBefore, CallsStay, IsStamped, KeepsEpoch, StaysOf, TurnIsEarlier, TurnKeepsEpoch, TurnLeavesBefore}
@@ -470,7 +470,7 @@ module _ (old new : Core) where
       by None it = record { status = ap (λ (c : Core). c.status) it.1.is; later = λ moment was. subst (λ (fs : List Fact). IsLater fs moment) (sym (ap (λ (c : Core). c.history.facts) it.1.is)) was }
       by (Some why) it = same_of it.1
 
-arrange_stays : (old new : State) (what : Arrange) (done : Bool) → Arranges old new what done → StaysOf old.core new.core
+arrange_stays : (old new : State) (what : Arrange) (done : Bool) → ArrangesSession old new what done → StaysOf old.core new.core
 arrange_stays old new what done it = by (done && is_cut what) it.is
   where
     by : (b : Bool) → new.core ≡ (if b then all_dark old.core else old.core) → StaysOf old.core new.core

@@ -13,7 +13,7 @@ use Rattle.lvm_session.specs.declared.answers.CopyFault.{CopyFault}
 use Rattle.lvm_session.specs.declared.answers.Taken.{Taken}
 use Rattle.lvm_session.specs.declared.answers.Turned.{Turned}
 use Rattle.lvm_session.specs.Calls.{Closes, OpenGives, SubmitGives, TakeGives}
-use Rattle.lvm_session.specs.Turns.{Arranges, TurnMakes}
+use Rattle.lvm_session.specs.Turns.{ArrangesSession, TurnMakes}
 use Rattle.lvm_session.specs.Asking.{IsAsking}
 use Rattle.lvm_session.specs.Sound.{IsSound}
 use Rattle.lvm_tie.specs.Tied.{IsGood, SpanGoesOn}
@@ -49,4 +49,4 @@ CloseGoesOn = (run : ℕ) (s : State) (new : Core) → IsSound (state s.device n
 
 -- and over an order to the shelf.
 abbrev pub ArrangeGoesOn : Type 0
-ArrangeGoesOn = (run : ℕ) (old new : State) (what : Arrange) (done : Bool) → IsSound old → IsSound new → Arranges old new what done → GoesOn run old new
+ArrangeGoesOn = (run : ℕ) (old new : State) (what : Arrange) (done : Bool) → IsSound old → IsSound new → ArrangesSession old new what done → GoesOn run old new

@@ -22,7 +22,7 @@ use Rattle.lvm_session.specs.declared.answers.Taken.{Taken as Answer}
 use Rattle.lvm_session.specs.declared.answers.Turned.{Turned}
 use Rattle.lvm_session.specs.Calls.{Closes, OpenGives, SubmitGives, TakeGives}
 use Rattle.lvm_session.specs.Marks.{is_among}
-use Rattle.lvm_session.specs.Turns.{Arranges, TurnMakes}
+use Rattle.lvm_session.specs.Turns.{ArrangesSession, TurnMakes}
 use Rattle.lvm_disk.specs.Counts.{Counts}
 use Rattle.lvm_session.specs.Causes.{AnyFailedSince, HasFailed, was_usable}
 use Rattle.lvm_session.specs.Sound.{IsSound}
@@ -86,4 +86,4 @@ pub record CallsKeepCauses : Type 0 where
   pub take : (client id : ℕ) (answer : Answer) → KeepsCauses (λ s new. TakeGives s.core new client id answer)
   pub open_copy : (counts : Counts) (lv lp number : ℕ) (answer : Result (Unit {0}) CopyFault) → KeepsCauses (λ s new. OpenGives counts s.core new lv lp number answer)
   pub close_copy : KeepsCauses (λ s new. Closes s.core new)
-  pub arrange : (first : List Fact) (old new : State) (what : Arrange) (done : Bool) → Arranges old new what done → HasCausesSince first old → HasCausesSince first new
+  pub arrange : (first : List Fact) (old new : State) (what : Arrange) (done : Bool) → ArrangesSession old new what done → HasCausesSince first old → HasCausesSince first new

@@ -1,3 +1,4 @@
+pub mod handed
 pub mod Seen
 pub mod Out
 pub mod Tied

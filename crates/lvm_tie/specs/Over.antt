@@ -6,7 +6,7 @@ use Rattle.lvm_session.specs.declared.open.Power.TheVariants as power
 use Rattle.lvm_session.specs.State.{State}
 use Rattle.lvm_session.specs.declared.answers.Taken.{Taken}
 use Rattle.lvm_session.specs.Calls.{TakeGives}
-use Rattle.lvm_session.specs.Turns.{Darkens, GoesOff, Arranges}
+use Rattle.lvm_session.specs.Turns.{Darkens, GoesOff, ArrangesSession}
 use Rattle.lvm_session.specs.Sound.{IsSound}
 use Rattle.lvm_tie.specs.Tied.{IsGood, SpanGoesOn}
 
@@ -21,12 +21,12 @@ DarkGoesOn = (run : ℕ) (first : Moment) (old new : State) → old.core.power �
 -- And over an order of a client, also a power cut, and also where the session is over already.
 abbrev pub OrderGoesOn : Type 0
 OrderGoesOn =
-    (run : ℕ) (first : Moment) (old new : State) (what : Arrange) (done : Bool) → IsSound old → IsGood run first old → Arranges old new what done → SpanGoesOn run first old new
+    (run : ℕ) (first : Moment) (old new : State) (what : Arrange) (done : Bool) → IsSound old → IsGood run first old → ArrangesSession old new what done → SpanGoesOn run first old new
 
 -- An order leaves a good session good, if it is on then.
 abbrev pub OrderTies : Type 0
 OrderTies =
-    (run : ℕ) (first : Moment) (old new : State) (what : Arrange) (done : Bool) → IsGood run first old → IsSound new → Arranges old new what done → IsGood run first new
+    (run : ℕ) (first : Moment) (old new : State) (what : Arrange) (done : Bool) → IsGood run first old → IsSound new → ArrangesSession old new what done → IsGood run first new
 
 -- ---- answers
 

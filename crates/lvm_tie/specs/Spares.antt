@@ -18,7 +18,7 @@ use Rattle.lvm_session.specs.declared.answers.Taken.{Taken}
 use Rattle.lvm_session.specs.declared.answers.Turned.{Turned}
 use Rattle.lvm_session.specs.Calls.{Closes, OpenGives, SubmitGives, TakeGives}
 use Rattle.lvm_session.specs.Causes.{is_over}
-use Rattle.lvm_session.specs.Turns.{Arranges, TurnMakes}
+use Rattle.lvm_session.specs.Turns.{ArrangesSession, TurnMakes}
 use Rattle.lvm_session.specs.Sound.{IsSound}
 use Rattle.lvm_tie.specs.Tied.{IsTied}
 
@@ -59,5 +59,5 @@ pub record CallsSpareDescriptors : Type 0 where
   pub open_copy : (counts : Counts) (lv lp number : ℕ) (answer : Result (Unit {0}) CopyFault)
       → GoesOnSparing (λ s new. OpenGives counts s.core new lv lp number answer)
   pub close_copy : GoesOnSparing (λ s new. Closes s.core new)
-  pub arrange : (old new : State) (what : Arrange) (done : Bool) → LeavesDescriptors old.device → Arranges old new what done
+  pub arrange : (old new : State) (what : Arrange) (done : Bool) → LeavesDescriptors old.device → ArrangesSession old new what done
       → SparesDescriptors old → SparesDescriptors new

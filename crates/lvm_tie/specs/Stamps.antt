@@ -17,7 +17,7 @@ use Rattle.lvm_session.specs.declared.answers.Taken.{Taken}
 use Rattle.lvm_session.specs.declared.answers.Turned.{Turned}
 use Rattle.lvm_session.specs.declared.open.Power.TheVariants as power
 use Rattle.lvm_session.specs.Calls.{Closes, OpenGives, SubmitGives, TakeGives}
-use Rattle.lvm_session.specs.Turns.{Arranges, TurnMakes}
+use Rattle.lvm_session.specs.Turns.{ArrangesSession, TurnMakes}
 use Rattle.lvm_session.specs.Sound.{IsSound}
 
 -- Its stamp is of an epoch of eight bytes that isn't 0, and an update in flight has a number that isn't 0.
@@ -41,7 +41,7 @@ TurnLeavesBefore = (moment : ℕ) (old new : State) (answer : Turned) → IsSoun
 -- and after an order of a client.
 abbrev pub ArrangeLeavesBefore : Type 0
 ArrangeLeavesBefore = (stamp : Stamp) (old new : State) (what : Arrange) (done : Bool)
-    → Arranges old new what done → LeavesBefore stamp old.device → LeavesBefore stamp new.device
+    → ArrangesSession old new what done → LeavesBefore stamp old.device → LeavesBefore stamp new.device
 
 -- the stamp stays one of the same epoch
 pub record KeepsEpoch (old new : Stored) : Type 0 where
@@ -68,4 +68,4 @@ pub record CallsStay : Type 0 where
   pub open_copy : (counts : Counts) (lv lp number : ℕ) (answer : Result (Unit {0}) CopyFault) (old new : Core)
       → OpenGives counts old new lv lp number answer → StaysOf old new
   pub close_copy : (old new : Core) → Closes old new → StaysOf old new
-  pub arrange : (old new : State) (what : Arrange) (done : Bool) → Arranges old new what done → StaysOf old.core new.core
+  pub arrange : (old new : State) (what : Arrange) (done : Bool) → ArrangesSession old new what done → StaysOf old.core new.core

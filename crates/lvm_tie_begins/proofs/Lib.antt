@@ -1,3 +1,4 @@
+pub mod handed
 pub mod Resting
 pub mod Beginning
 pub mod Rested

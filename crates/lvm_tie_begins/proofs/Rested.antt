@@ -29,8 +29,8 @@ use Rattle.lvm_crash.specs.Session.{as_marks, marks_of, marks_shown, Describes}
 use Rattle.lvm_rest.specs.Rest.{IsAtRest, IsIdle, SeesThat}
 use Rattle.lvm_rest.proofs.Rest.{good_is_rest}
 use Rattle.lvm_steps.proofs.Members.{parts_of}
-use Rattle.lvm_commit.specs.Committed.{Began}
-use Rattle.lvm_tie_shelf.proofs.Writing.{and_both}
+use Rattle.lvm_tie.specs.handed.Names.{Began}
+use Rattle.lvm_tie.proofs.handed.Names.{and_both}
 use Rattle.lvm_tie.proofs.Judged.{there_first}
 use Rattle.lvm_tie.proofs.Orderly.{valid_of}
 use Rattle.lvm_tie.proofs.Recorded.{shown_of, shows_own}

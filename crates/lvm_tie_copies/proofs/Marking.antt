@@ -8,11 +8,11 @@ use Rattle.lvm_num.specs.Descriptor.{IsValid}
 use Rattle.lvm_status.specs.Calls.{IsMarkable}
 use Rattle.lvm_status.specs.Members.{HasItsRows}
 use Rattle.lvm_session.specs.State.{Core, State, is_there}
-use Rattle.lvm_core.specs.Committing.{AreUnused}
-use Rattle.lvm_core.proofs.Commits.{unused_markable}
-use Rattle.lvm_copy_plan.specs.Copies.{further_copies, with_copies, with_map}
-use Rattle.lvm_copy_plan.proofs.More as more
-use Rattle.lvm_copy_plan.proofs.Rows.{named}
+use Rattle.lvm_tie_commands.specs.handed.Names.{AreUnused}
+use Rattle.lvm_tie_commands.proofs.handed.Names.{unused_markable}
+use Rattle.lvm_mirrors.specs.handed.Names.{further_copies, with_copies, with_map}
+use Rattle.lvm_mirrors.proofs.handed.CopyPlanMore as more
+use Rattle.lvm_mirrors.proofs.handed.Names.{named}
 use Rattle.lvm_mirrors.specs.Mirrors.{AreAdded}
 use Rattle.lvm_tie_copies.proofs.Adding.{no_volume}
 

@@ -20,12 +20,12 @@ use Rattle.lvm_commit.specs.Committed.{HoldsCommitted}
 use Rattle.lvm_commit.specs.LawsOfVolumes.{IsOneByAllOn}
 use Rattle.lvm_commit.proofs.Still.{still_image}
 use Rattle.lvm_session.specs.State.{Core, State, is_there}
-use Rattle.lvm_begin.specs.Beginning.{Beginning, IsOfParts, Part, TheDescriptor, TheNotes, TheStatus, new_order}
-use Rattle.lvm_core.specs.declared.parts.Room.{Room}
+use Rattle.lvm_varyon.specs.handed.Names.{Beginning, IsOfParts, Part, TheDescriptor, TheNotes, TheStatus, new_order}
+use Rattle.lvm_settled.specs.handed.Names.{Room}
 use Rattle.lvm_group.specs.Made.{IsMade, beginning_for}
-use Rattle.lvm_group.specs.NewGroup.{NewGroup, among, new_group, size_for}
+use Rattle.lvm_group.specs.passed.GroupPlan.{NewGroup, among, new_group, size_for}
 use Rattle.lvm_group.specs.Shown.{HasGroup}
-use Rattle.lvm_group.proofs.Groups.{member_among, nothing_missing}
+use Rattle.lvm_group.proofs.passed.GroupPlan.{member_among, nothing_missing}
 use Rattle.lvm_tie_groups.specs.Coming.{MadeAlone}
 
 -- what the parts of a beginning bring goes to its targets

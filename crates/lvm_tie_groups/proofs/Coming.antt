@@ -32,25 +32,21 @@ use Rattle.lvm_session.specs.State.{Core, State, state, is_there}
 use Rattle.lvm_session_start.specs.declared.parts.Parts.{Parts}
 use Rattle.lvm_session_start.specs.declared.parts.Room.{Room as SessionRoom}
 use Rattle.lvm_session_start.specs.Beginning.{MayBegin, first_core}
-use Rattle.lvm_session_start.specs.Parts.{IsReserved, IsRoom as IsSessionRoom}
+use Rattle.lvm_session_start.specs.Parts.{IsReserved, IsSessionRoom}
 use Rattle.lvm_keeps.specs.Begins.{Begins as Beginning, IsCalm, IsUnused}
 use Rattle.lvm_keeps.proofs.Begin.{beginning_is_sound}
 use Rattle.lvm_keeps.proofs.Telling.{open_still}
 use Rattle.lvm_session.specs.Placed.{ArePlaced}
 use Rattle.lvm_session.specs.Causes.{faults_at_first}
 use Rattle.lvm_session.specs.Sound.{IsFitting as IsFittingTable, IsSound, is_dark}
-use Rattle.lvm_core.specs.declared.parts.Room.{Room}
-use Rattle.lvm_core.specs.Held.{NotesAreHome}
-use Rattle.lvm_core.proofs.Held.{empty_names_none}
+use Rattle.lvm_settled.specs.handed.Names.{Room, NotesAreHome, HaveAllLanded, IsFitting, IsRoom, room_of}
+use Rattle.lvm_settled.proofs.handed.Names.{empty_names_none}
 use Rattle.lvm_mwc.specs.Cache.{is_named as is_named_by}
 use Rattle.lvm_kept.proofs.Finding.{images_within}
-use Rattle.lvm_recover.proofs.Equalling.{quiet_is_even}
-use Rattle.lvm_core.specs.Sound.{HaveAllLanded, IsFitting}
-use Rattle.lvm_core.specs.Starting.{IsRoom, room_of}
-use Rattle.lvm_group.specs.NewGroup.{given_up, new_group, new_status}
-use Rattle.lvm_rest.specs.Rest.{NoneIsBehind}
-use Rattle.lvm_rest.proofs.Marking.{none_is_left_behind}
-use Rattle.lvm_tie.specs.Tied.{IsGood, moment_of}
+use Rattle.lvm_varyon.proofs.handed.Names.{quiet_is_even}
+use Rattle.lvm_group.specs.passed.GroupPlan.{given_up, new_group, new_status}
+use Rattle.lvm_tie_begins.specs.handed.Names.{NoneIsBehind, IsGood, moment_of}
+use Rattle.lvm_tie_begins.proofs.handed.Names.{none_is_left_behind}
 use Rattle.lvm_tie_begins.specs.Begins.{BeginsSound, StandsAtRest, Start, begun, shown_to}
 use Rattle.lvm_tie_begins.proofs.Beginning.{begins_good}
 use Rattle.lvm_tie_groups.specs.Coming.{IsBegun, IsDriven, IsMadeEven, LeadsTo, MadeServes, VariedIsMadeEven, VariedOnServes}

@@ -32,7 +32,7 @@ use Rattle.lvm_line.specs.passed.Quiesce.{MkvgOnceQuiet, RefusedAtOnce, StayedOu
 use Rattle.lvm_line.proofs.passed.Quiesce.{ends_only}
 use Rattle.lvm_line.specs.passed.Tie.{LeavesDescriptors}
 use Rattle.lvm_line.specs.passed.GroupLines.{IsLeft, Varies, NoVaryonWhileOn, NoMemoryForLine, NoMkvgWhileOn, Makes, asked_for, itself, outcome_of}
-use Rattle.lvm_line.specs.passed.Stage.{patience_of_line, HasBegunHeld, IsStuck, State, log_with, Reply}
+use Rattle.lvm_line.specs.passed.Stage.{patience_of_line, HasBegunHeld, IsStuck, ScriptState, log_with, Reply}
 use Rattle.lvm_line.specs.Lines.{CommandDoes, LineDoes, role_of}
 use Rattle.lvm_line.specs.passed.VolumeLines.{StaysOn, NoGroupForMklv, BusyMklv, UndrainedMklv, MakesVolume, MklvFails, NoGroupForRmlv, BusyRmlv}
 use Rattle.lvm_line.specs.passed.VolumeLines.{UndrainedRmlv, NoVolumeForRmlv, RemovesVolume, RmlvFails, wanted}
@@ -61,14 +61,14 @@ module _ (device : Device) (core : Core) (facts : List Fact) (settled : IsSettle
 -- ---- the session after the command
 
 -- A group is on, settled, and held by its disks, on which nothing is out; and what the line was to commit is a descriptor of it.
-pub record LeavesOn (read : Result (Option Command) Misfit) (old new : State) : Type 0 where
+pub record LeavesOn (read : Result (Option Command) Misfit) (old new : ScriptState) : Type 0 where
   pub core : Core
   pub on : new.session ≡ Some core
   pub begun : HasBegunHeld new.moment.device core
   pub own : (k : Descriptor) → IsToCommit read old new k → k.id ≡ core.descriptor.id
 
 -- a line by which a group comes on
-pub begun_by : (old new : State) (core : Core) → old.session ≡ None → new.session ≡ Some core → IfNone old.session (IfSome new.session (HasBegunHeld new.moment.device)) → HasBegunHeld new.moment.device core
+pub begun_by : (old new : ScriptState) (core : Core) → old.session ≡ None → new.session ≡ Some core → IfNone old.session (IfSome new.session (HasBegunHeld new.moment.device)) → HasBegunHeld new.moment.device core
 begun_by old new core off on begins =
     subst (λ (o : Option Core). IfSome o (HasBegunHeld new.moment.device)) on (subst (λ (o : Option Core). IfNone o (IfSome new.session (HasBegunHeld new.moment.device))) off begins)
 
@@ -80,13 +80,13 @@ made_is w room patience was old left core (WentQuiet may once) =
     ap (λ (c : Core). c.descriptor) once.goes.core_is ∙ once.goes.parts.descriptor ∙ ap (λ (sizes : List ℕ). new_group sizes w) (ends_only once.quiesces.ends).sizes
 
 -- a descriptor with a volume more is of the group that is on
-with_id : (old : State) (core : Core) → old.session ≡ Some core → (w : NewVolume) (k : Descriptor) → (c : Core) × (mid : Session) × WasDrained old c mid × IsWith w mid.core k → k.id ≡ core.descriptor.id
+with_id : (old : ScriptState) (core : Core) → old.session ≡ Some core → (w : NewVolume) (k : Descriptor) → (c : Core) × (mid : Session) × WasDrained old c mid × IsWith w mid.core k → k.id ≡ core.descriptor.id
 with_id old core some w k (c, mid, drained, is) =
     let same : c ≡ core = let e = sym drained.on ∙ some in cc e in
     ap (λ (d : Descriptor). d.id) is.2.2 ∙ ap (λ (d : Descriptor). d.id) drained.drains.runs.leaves.keeps.descriptor ∙ ap (λ (c : Core). c.descriptor.id) same
 
 -- one in which a volume has more copies too
-with_more_id : (old : State) (core : Core) → old.session ≡ Some core → (name : List ℕ) (copies : ℕ) (k : Descriptor)
+with_more_id : (old : ScriptState) (core : Core) → old.session ≡ Some core → (name : List ℕ) (copies : ℕ) (k : Descriptor)
     → (c : Core) × (mid : Session) × WasDrained old c mid × ((lv : ℕ) × IsNumberOf c.descriptor.lvs name lv × IsWithMore lv copies mid.core k) → k.id ≡ core.descriptor.id
 with_more_id old core some name copies k (c, mid, drained, (lv, its, more)) =
     let same : c ≡ core = let e = sym drained.on ∙ some in cc e in
@@ -97,14 +97,14 @@ told_and : {X : Type 0} (o : Option X) (P : X → Type 0) (x : X) → o ≡ Some
 told_and {X} o P x some is = subst (λ (p : Option X). IsSomeAnd p P) some is
 
 -- the session once its line has handed it on
-handed_on : (left : Session) (old new : State) (stays : StaysOn left old new) → IsSettled left.core → IsReady left.device → IsHeld left.device left.core → HasBegunHeld new.moment.device stays.core
+handed_on : (left : Session) (old new : ScriptState) (stays : StaysOn left old new) → IsSettled left.core → IsReady left.device → IsHeld left.device left.core → HasBegunHeld new.moment.device stays.core
 handed_on left old new stays settled ready held = record {
   ready = subst IsReady (sym stays.device) ready;
   settled = subst IsSettled (sym stays.is) (record { power = settled.power; quiet = record { requests = settled.quiet.requests; copy = settled.quiet.copy; status = settled.quiet.status; notes = settled.quiet.notes; buffers = settled.quiet.buffers }; committed = settled.committed; epoch = settled.epoch; votes = settled.votes });
   held = subst (λ (d : Device). IsHeld d stays.core) (sym stays.device) (subst (IsHeld left.device) (sym stays.is) held);
 }
 
-module _ (log : Log) (room : Room) (old new : State) (leaves : LeavesDescriptors old.moment.device) (named : IfSome old.session (λ core. core.history.run ≡ log.run)) (begins : IfNone old.session (IfSome new.session (HasBegunHeld new.moment.device))) where
+module _ (log : Log) (room : Room) (old new : ScriptState) (leaves : LeavesDescriptors old.moment.device) (named : IfSome old.session (λ core. core.history.run ≡ log.run)) (begins : IfNone old.session (IfSome new.session (HasBegunHeld new.moment.device))) where
   by_command : (c : Command) → is_group_command c ≡ true → StoodBefore log.run (role_of (Ok (Some c))) old new → CommandDoes log room c old new reply.Ok → LeavesOn (Ok (Some c)) old new
   by_command (command.Mkvg force name mib disks) acked stood (NoMemoryForLine off says asked) = absurd (cc (says))
   by_command (command.Mkvg force name mib disks) acked stood (NoMkvgWhileOn on says asked) = absurd (cc (says))

@@ -16,13 +16,13 @@ use Rattle.lvm_session.specs.declared.answers.Turned.{Turned}
 use Rattle.lvm_session.specs.declared.open.Power.TheVariants as power
 use Rattle.lvm_session.specs.State.{Core, State as Session, state}
 use Rattle.lvm_session.specs.Sound.{IsSound}
-use Rattle.lvm_keeps_turn.specs.Telling.{power_by}
+use Rattle.lvm_line.specs.handed.Names.{power_by}
 use Rattle.lvm_session.specs.declared.answers.Turned.TheVariants as turned
 use Rattle.lvm_session.specs.declared.open.Power.{Power}
 use Rattle.lvm_line.specs.passed.Tie.{LeavesDescriptors}
 use Rattle.lvm_line.specs.passed.Running.{RunsOn}
 use Rattle.lvm_line.specs.Lines.{role_of}
-use Rattle.lvm_line.specs.passed.Stage.{GoesOn, IsAlone, OfRequests, IsClosed, ArePosted, State, IsAtRest, IsBetween, IsTimely, StandsBy, Reply}
+use Rattle.lvm_line.specs.passed.Stage.{GoesOn, IsAlone, OfRequests, IsClosed, ArePosted, ScriptState, IsAtRest, IsBetween, IsTimely, StandsBy, Reply}
 use Rattle.lvm_line.specs.passed.RefusalVariants as refusal
 use Rattle.lvm_line.specs.passed.ReplyVariants as reply
 use Rattle.lvm_line.proofs.passed.Stage.{over_goes}
@@ -46,7 +46,7 @@ off_still run end exit on (NoneIsServed core some empty same) off = same
 off_still run end exit on (IsServed core some vols named facts out) off = absurd (let e = sym some ∙ off in cc e)
 
 -- where nothing was heard of a transfer no group is on
-pub stuck_ends : {log : Log} {room : Room} {mid last : State} {done : List (List ℕ)} {said : List Reply} {front : List ℕ} (ends : Ends log room mid last done said front) → EndsStuck ends → last.session ≡ None
+pub stuck_ends : {log : Log} {room : Room} {mid last : ScriptState} {done : List (List ℕ)} {said : List Reply} {front : List ℕ} (ends : Ends log room mid last done said front) → EndsStuck ends → last.session ≡ None
 stuck_ends (AtLine same) stuck = absurd stuck
 stuck_ends {log = log} {room = room} {mid = mid} {last = last} (InLine line answer said front rest says split it) stuck = stuck_is_off log room line mid last answer it stuck
 
@@ -65,7 +65,7 @@ rests_still run end exit on (IsServed core some vols named facts (NothingIsLeft 
 rests_still run end exit on (IsServed core some vols named facts (TurnsAreMade last moving turns runs sound closed entries)) ready settled =
     absurd (moving (settled_rests end.device core ready (subst (λ (o : Option Core). IfSome o IsSettledCore) some settled)))
 
-pub at_rest_still : (run : ℕ) (end : State) (exit : Moment) → Concludes run end.moment exit end.session → IsAtRest end → exit ≡ end.moment
+pub at_rest_still : (run : ℕ) (end : ScriptState) (exit : Moment) → Concludes run end.moment exit end.session → IsAtRest end → exit ≡ end.moment
 at_rest_still run end exit concludes rest = rests_still run end.moment exit end.session concludes rest.ready rest.session
 
 -- ---- turns behind the last line
@@ -75,8 +75,8 @@ unstuck : (answer : Turned) (p : Power) → p ≡ power_by answer → p ≡ powe
 unstuck turned.Moved p is stuck = let e = sym is ∙ stuck in cc e
 unstuck _ p is stuck = let e = sym is ∙ stuck in cc e
 
-module _ (end : State) (exit : Moment) (between : IsBetween end.moment end.session end.posts) (core : Core) (some : end.session ≡ Some core) (vols : core.descriptor.lvs ≢ []) (facts : end.moment.facts ≡ core.history.facts) where
-  abbrev behind : State
+module _ (end : ScriptState) (exit : Moment) (between : IsBetween end.moment end.session end.posts) (core : Core) (some : end.session ≡ Some core) (vols : core.descriptor.lvs ≢ []) (facts : end.moment.facts ≡ core.history.facts) where
+  abbrev behind : ScriptState
   behind = record { moment = exit; session = None; posts = []; last = end.last }
 
   -- it has run on, and is closed
@@ -89,20 +89,20 @@ module _ (end : State) (exit : Moment) (between : IsBetween end.moment end.sessi
       (λ not_asking. absurd (not_asking tt)) (omega arith)
 
 -- the span, and the clock
-pub record Concluded (run : ℕ) (end : State) (exit : Moment) : Type 0 where
+pub record Concluded (run : ℕ) (end : ScriptState) (exit : Moment) : Type 0 where
   pub keeps : IsTimely run end → IsAlone OfRequests end (record { moment = exit; session = None; posts = []; last = end.last }) → (first : Moment) → Keeps run first end.moment → StandsBy run first end → Keeps run first exit
   pub left : IsTimely run end → IsAhead run (end.last + 1) exit.device exit.facts
   pub power : exit.device.power ≡ true
 
 -- so where a session with volumes has run on, and is closed
-pub closed_concluded : (run : ℕ) (end : State) (exit : Moment) → IsBetween end.moment end.session end.posts → (core : Core) → end.session ≡ Some core → core.descriptor.lvs ≢ [] → end.moment.facts ≡ core.history.facts → core.history.run ≡ run
+pub closed_concluded : (run : ℕ) (end : ScriptState) (exit : Moment) → IsBetween end.moment end.session end.posts → (core : Core) → end.session ≡ Some core → core.descriptor.lvs ≢ [] → end.moment.facts ≡ core.history.facts → core.history.run ≡ run
     → (last : Session) → (last.core.power ≡ power.Stuck → ⊥) → RunsOn (state end.moment.device core) last → IsSound last → IsClosed last.core.power last.device exit.device → exit.facts ≡ last.core.history.facts → Concluded run end exit
 closed_concluded run end exit between core some vols facts named last heard runs sound closed entries =
     let goes : GoesOn run OfRequests (reply.Refused refusal.Stuck) end (behind end exit between core some vols facts) =
     subst (λ (n : ℕ). GoesOn n OfRequests (reply.Refused refusal.Stuck) end (behind end exit between core some vols facts)) named (closed_goes end exit between core some vols facts last heard runs sound closed entries) in
     record { keeps = λ timely alone first span stands. (goes.keeps timely alone first span stands).0; left = λ timely. goes.left timely; power = goes.power }
 
-same_concluded : (run : ℕ) (end : State) (exit : Moment) → end.moment.device.power ≡ true → exit ≡ end.moment → Concluded run end exit
+same_concluded : (run : ℕ) (end : ScriptState) (exit : Moment) → end.moment.device.power ≡ true → exit ≡ end.moment → Concluded run end exit
 same_concluded run end exit power same = record {
   keeps = λ timely alone first span stands. subst (Keeps run first) (sym same) span;
   left = λ timely. subst (λ (m : Moment). IsAhead run (end.last + 1) m.device m.facts) (sym same) (timely_ahead run end timely);
@@ -113,7 +113,7 @@ same_concluded run end exit power same = record {
 freed_none : (device : Device) → device.freed ≡ [] → record device { freed = [] } ≡ device
 freed_none device none = ap (λ (l : List Buffer). record device { freed = l }) (sym none)
 
-pub concluded : (run : ℕ) (end : State) (exit : Moment) → Concludes run end.moment exit end.session → IsBetween end.moment end.session end.posts → Concluded run end exit
+pub concluded : (run : ℕ) (end : ScriptState) (exit : Moment) → Concludes run end.moment exit end.session → IsBetween end.moment end.session end.posts → Concluded run end exit
 concluded run end exit (NoneIsOn none same) between = same_concluded run end exit between.lit.power same
 concluded run end exit (NoneIsServed core some empty same) between = same_concluded run end exit between.lit.power same
 concluded run end exit (IsServed core some vols named facts (NothingIsLeft rests device entries)) between =
@@ -130,12 +130,12 @@ how_ended ended.Stuck = inl refl
 how_ended _ = inr (λ e. cc (e))
 
 -- a state from which lines may be done, and the one behind them
-script_between : (log : Log) (room : Room) (first : State) {lines : List (List ℕ)} {replies : List Reply} {last : State} → Script log room first lines replies last → IsBetween first.moment first.session first.posts → IsBetween last.moment last.session last.posts
+script_between : (log : Log) (room : Room) (first : ScriptState) {lines : List (List ℕ)} {replies : List Reply} {last : ScriptState} → Script log room first lines replies last → IsBetween first.moment first.session first.posts → IsBetween last.moment last.session last.posts
 script_between log room first NoLine between = between
 script_between log room first (NextLine line answer said heard says script it) between = it.goes.between heard
 
-ends_between : {log : Log} {room : Room} {mid last : State} {done : List (List ℕ)} {said : List Reply} {front : List ℕ} (ends : Ends log room mid last done said front) → EndsHeard ends → IsBetween mid.moment mid.session mid.posts → IsBetween last.moment last.session last.posts
-ends_between (AtLine same) heard between = subst (λ (s : State). IsBetween s.moment s.session s.posts) (sym same) between
+ends_between : {log : Log} {room : Room} {mid last : ScriptState} {done : List (List ℕ)} {said : List Reply} {front : List ℕ} (ends : Ends log room mid last done said front) → EndsHeard ends → IsBetween mid.moment mid.session mid.posts → IsBetween last.moment last.session last.posts
+ends_between (AtLine same) heard between = subst (λ (s : ScriptState). IsBetween s.moment s.session s.posts) (sym same) between
 ends_between (InLine line answer said front rest says split it) heard between = it.goes.between heard
 
 -- no transfer is out, so none goes to a slot of descriptors
@@ -152,7 +152,7 @@ entry_between device run ready = record {
 }
 
 module _ (r : Run) (ran : IsRun r) where
-  abbrev first : State
+  abbrev first : ScriptState
   first = entry_state r.entry r.named
 
   abbrev exit : Moment

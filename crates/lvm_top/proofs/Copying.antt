@@ -10,7 +10,7 @@ use Rattle.lvm_session.specs.State.{Core, State as Session}
 use Rattle.lvm_line.specs.passed.Mirrors.{IsWithFirst, IsWithMore}
 use Rattle.lvm_line.specs.passed.Tie.{LeavesDescriptors}
 use Rattle.lvm_line.specs.passed.Stage.{IsBrokenOff, OfGroup}
-use Rattle.lvm_line.specs.passed.Stage.{State}
+use Rattle.lvm_line.specs.passed.Stage.{ScriptState}
 use Rattle.lvm_line.specs.passed.Stage.{Reply}
 use Rattle.lvm_line.specs.passed.ReplyVariants as reply
 use Rattle.lvm_line.specs.passed.VolumeLines.{Drains, ends_session, refusal_for}
@@ -30,7 +30,7 @@ more_id lv copies core k (row, (pps, places, same)) = ap (λ (d : Descriptor). d
 pub fewer_id : (lv copies : ℕ) (core : Core) (k : Descriptor) → IsWithFirst lv copies core k → k.id ≡ core.descriptor.id
 fewer_id lv copies core k (row, found, same) = ap (λ (d : Descriptor). d.id) same
 
-module _ (run : ℕ) (old new : State) (leaves : LeavesDescriptors old.moment.device) (named : IfSome old.session (λ core. core.history.run ≡ run)) (stood : StoodBefore run OfGroup old new) (answer : Reply) (name : List ℕ) (copies : ℕ) where
+module _ (run : ℕ) (old new : ScriptState) (leaves : LeavesDescriptors old.moment.device) (named : IfSome old.session (λ core. core.history.run ≡ run)) (stood : StoodBefore run OfGroup old new) (answer : Reply) (name : List ℕ) (copies : ℕ) where
   -- ---- `mklvcopy`
 
   abbrev FoundByMklvcopy : Type 0
@@ -59,8 +59,8 @@ module _ (run : ℕ) (old new : State) (leaves : LeavesDescriptors old.moment.de
     failed_mklvcopy _ says done id k it = absurd done.gives
 
   pub mklvcopy_finds : MklvcopyDoes name copies old new answer → FoundByMklvcopy
-  mklvcopy_finds (NoGroupForMklvcopy none is) id k it = inl (same_nothing old.moment.device new.moment.device (ap (λ (s : State). s.moment.device) is.1) id k it)
-  mklvcopy_finds (BusyMklvcopy busy is) id k it = inl (same_nothing old.moment.device new.moment.device (ap (λ (s : State). s.moment.device) is.1) id k it)
+  mklvcopy_finds (NoGroupForMklvcopy none is) id k it = inl (same_nothing old.moment.device new.moment.device (ap (λ (s : ScriptState). s.moment.device) is.1) id k it)
+  mklvcopy_finds (BusyMklvcopy busy is) id k it = inl (same_nothing old.moment.device new.moment.device (ap (λ (s : ScriptState). s.moment.device) is.1) id k it)
   mklvcopy_finds (UndrainedMklvcopy core why some un) id k it = inl (undrained_nothing run old new leaves named stood core why answer un id k it)
   mklvcopy_finds (NoVolumeForMklvcopy core left mid some drains none stays last says) id k it = inl (idle_nothing run old new leaves named stood core left mid mid drains refl stays id k it)
   mklvcopy_finds (AddsCopies core left mid lv added some drains its done is) id k it = tried_mklvcopy core left mid some drains lv its (Ok added) false (inl is) done id k it
@@ -95,8 +95,8 @@ module _ (run : ℕ) (old new : State) (leaves : LeavesDescriptors old.moment.de
     failed_rmlvcopy _ says done id k it = absurd done.gives
 
   pub rmlvcopy_finds : RmlvcopyDoes name copies old new answer → FoundByRmlvcopy
-  rmlvcopy_finds (NoGroupForRmlvcopy none is) id k it = inl (same_nothing old.moment.device new.moment.device (ap (λ (s : State). s.moment.device) is.1) id k it)
-  rmlvcopy_finds (BusyRmlvcopy busy is) id k it = inl (same_nothing old.moment.device new.moment.device (ap (λ (s : State). s.moment.device) is.1) id k it)
+  rmlvcopy_finds (NoGroupForRmlvcopy none is) id k it = inl (same_nothing old.moment.device new.moment.device (ap (λ (s : ScriptState). s.moment.device) is.1) id k it)
+  rmlvcopy_finds (BusyRmlvcopy busy is) id k it = inl (same_nothing old.moment.device new.moment.device (ap (λ (s : ScriptState). s.moment.device) is.1) id k it)
   rmlvcopy_finds (UndrainedRmlvcopy core why some un) id k it = inl (undrained_nothing run old new leaves named stood core why answer un id k it)
   rmlvcopy_finds (NoVolumeForRmlvcopy core left mid some drains none stays last says) id k it = inl (idle_nothing run old new leaves named stood core left mid mid drains refl stays id k it)
   rmlvcopy_finds (RemovesCopies core left mid lv some drains its done is) id k it = tried_rmlvcopy core left mid some drains lv its (Ok tt) false (inl is) done id k it

@@ -9,7 +9,7 @@ use Rattle.lvm_parse.specs.Grammar.{line_of}
 use Rattle.lvm_core.specs.declared.parts.Room.{Room}
 use Rattle.lvm_line.specs.Causes.{HasCause}
 use Rattle.lvm_line.specs.Lines.{IsLine}
-use Rattle.lvm_line.specs.passed.Stage.{Reply, State, patience_of_line}
+use Rattle.lvm_line.specs.passed.Stage.{Reply, ScriptState, patience_of_line}
 use Rattle.lvm_line.specs.passed.RefusalVariants as refusal
 use Rattle.lvm_line.specs.passed.ReplyVariants as reply
 use Rattle.lvm_line.proofs.Causing.{has_cause}
@@ -20,7 +20,7 @@ use Rattle.lvm_top.specs.declared.status.ExitStatus.{ExitStatus}
 use Rattle.lvm_top.specs.declared.status.ExitStatus.TheVariants as ended
 
 -- whatever the line, it is answered so only where the shelf waited so often
-has_waited : (read : Result (Option Command) Misfit) (old new : State) → HasCause read refusal.Stuck old new → RoseBy patience_of_line old.moment.device.counts.waits new.moment.device.counts.waits
+has_waited : (read : Result (Option Command) Misfit) (old new : ScriptState) → HasCause read refusal.Stuck old new → RoseBy patience_of_line old.moment.device.counts.waits new.moment.device.counts.waits
 has_waited (Ok (Some (command.Rd name at count))) old new cause = cause
 has_waited (Ok (Some (command.Wr name at count word))) old new cause = cause
 has_waited (Ok (Some (command.Post name at count word))) old new cause = cause
@@ -30,7 +30,7 @@ has_waited (Ok (Some (command.SyncGroup name))) old new cause = cause
 has_waited (Ok (Some (command.Step turns))) old new cause = cause
 has_waited read old new cause = cause
 
-never_stuck : {log : Log} {room : Room} {mid last : State} {done : List (List ℕ)} {said : List Reply} {front : List ℕ} (ends : Ends log room mid last done said front) → EndsStuck ends → EndsInTime ends → ⊥
+never_stuck : {log : Log} {room : Room} {mid last : ScriptState} {done : List (List ℕ)} {said : List Reply} {front : List ℕ} (ends : Ends log room mid last done said front) → EndsStuck ends → EndsInTime ends → ⊥
 never_stuck (AtLine same) stuck in_time = stuck
 never_stuck {log} {room} {mid} {last} (InLine line answer said front rest says split does) stuck in_time =
     let its : IsLine log room line (reply.Refused refusal.Stuck) mid last = subst (λ (a : Reply). IsLine log room line a mid last) stuck does in

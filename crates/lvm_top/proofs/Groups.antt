@@ -14,7 +14,7 @@ use Rattle.lvm_core.specs.declared.refused.Cause.{Cause}
 use Rattle.lvm_core.specs.declared.refused.Cause.TheVariants as cause
 use Rattle.lvm_core.specs.Leaves.{MayBeFound}
 use Rattle.lvm_line.specs.passed.Group.{new_group}
-use Rattle.lvm_line.specs.passed.Stage.{patience_of_line, refusal_of, IsStuck, Asks, IsAsked, IsBrokenOff, State, IsTimely, log_with, Reply}
+use Rattle.lvm_line.specs.passed.Stage.{patience_of_line, refusal_of, IsStuck, Asks, IsAsked, IsBrokenOff, ScriptState, IsTimely, log_with, Reply}
 use Rattle.lvm_line.specs.passed.GroupLines.{IsLeft, MkvgDoes, NoMemoryForLine, NoMkvgWhileOn, Makes, VaryonDoes, NoVaryonWhileOn, Varies, asked_for}
 use Rattle.lvm_line.specs.passed.GroupLines.{itself, outcome_of}
 use Rattle.lvm_line.specs.passed.Quiesce.{Quiesces, MkvgOnceQuiet, RefusedAtOnce, StayedOut, VaryonOnceQuiet, WentQuiet}
@@ -23,7 +23,7 @@ use Rattle.lvm_core.specs.declared.refused.Refused.{Refused}
 use Rattle.lvm_session.specs.State.{Core}
 use Rattle.lvm_stamps.proofs.Stamps.{later_is_ahead_too}
 use Rattle.lvm_line.specs.passed.ReplyVariants as reply
-use Rattle.lvm_line.specs.passed.Varyon.{Refuses}
+use Rattle.lvm_line.specs.passed.Varyon.{VaryonRefuses}
 use Rattle.lvm_line.proofs.passed.Varyon.{failed_rests, wrote_broken, wrote_equalled, wrote_failed}
 use Rattle.lvm_top.specs.Standing.{MayHaveCommitted}
 use Rattle.lvm_top.proofs.Begun.{IsIts}
@@ -34,14 +34,14 @@ use Rattle.lvm_top.proofs.Varying.{all_nothing}
 
 -- ---- the clock
 
-pub asked_nothing : (old new : State) → IsAsked old new → NothingNew old.moment.device new.moment.device
-asked_nothing old new asked = same_nothing old.moment.device new.moment.device (ap (λ (s : State). s.moment.device) asked.same)
+pub asked_nothing : (old new : ScriptState) → IsAsked old new → NothingNew old.moment.device new.moment.device
+asked_nothing old new asked = same_nothing old.moment.device new.moment.device (ap (λ (s : ScriptState). s.moment.device) asked.same)
 
 -- no moment that a clock answers is the first of all
 some_moment : (last moment : ℕ) → Rose last moment → moment ≢ 0
 some_moment last moment rose none = let r = rose.risen in omega (arith, r, none)
 
-module _ (log : Log) (old new : State) (answer : Reply) (shelf : IsShelf old.moment.device) (heard : IsStuck answer → ⊥) (timely : IsTimely log.run old) where
+module _ (log : Log) (old new : ScriptState) (answer : Reply) (shelf : IsShelf old.moment.device) (heard : IsStuck answer → ⊥) (timely : IsTimely log.run old) where
   -- the shelf once the transfers of before have ended
   module _ (mid : Device) (quiet : Quiesces old.moment.device mid) where
     same_sizes : mid.sizes ≡ old.moment.device.sizes
@@ -122,7 +122,7 @@ module _ (log : Log) (old new : State) (answer : Reply) (shelf : IsShelf old.mom
       some : new.last ≢ 0
       some = some_moment old.last new.last asks
 
-      stops_nothing : (why : Cause) → (why ≡ cause.Stuck → ⊥) → Refuses mid left name new.last patience (log_with log old.moment.facts) why → NothingNew mid left
+      stops_nothing : (why : Cause) → (why ≡ cause.Stuck → ⊥) → VaryonRefuses mid left name new.last patience (log_with log old.moment.facts) why → NothingNew mid left
       stops_nothing cause.HistoryFull heard refuses = same_nothing mid left refuses.1
       stops_nothing cause.NoRecord heard refuses = unwritten_nothing mid left refuses.1.unwritten refuses.1.rested.ready.flights
       stops_nothing cause.Ambiguous heard refuses = unwritten_nothing mid left refuses.1.unwritten refuses.1.rested.ready.flights

@@ -13,7 +13,7 @@ use Rattle.lvm_operands.specs.declared.rest.Misfit.{Misfit}
 use Rattle.lvm_parse.specs.Grammar.{line_of}
 use Rattle.lvm_core.specs.declared.parts.Room.{Room}
 use Rattle.lvm_core.specs.Leaves.{MayBeFound}
-use Rattle.lvm_line.specs.passed.Stage.{patience_of_line, IsStuck, State, IsTimely, Reply, is_unheard}
+use Rattle.lvm_line.specs.passed.Stage.{patience_of_line, IsStuck, ScriptState, IsTimely, Reply, is_unheard}
 use Rattle.lvm_line.specs.passed.DiskLines.{WriteDoes, ReadDoes, NoWriteWhileOn, WriteGoes, NoReadWhileOn, ReadGoes, ArrangeDoes, NotThere}
 use Rattle.lvm_line.specs.passed.DiskLines.{NotPlanned, IsArranged, CutDoes, CutNotPlanned, PowerIsCut}
 use Rattle.lvm_line.specs.passed.Quiesce.{RejectedAtOnce, KeptFrom, AskedAtRest}
@@ -48,13 +48,13 @@ use Rattle.lvm_top.proofs.Volumes.{as_group, mklv_finds, rmlv_finds}
 use Rattle.lvm_top.proofs.Copying.{mklvcopy_finds, rmlvcopy_finds}
 use Rattle.lvm_raw.specs.Raw.{log_with as log_of}
 
-module _ (log : Log) (old new : State) (answer : Reply) where
+module _ (log : Log) (old new : ScriptState) (answer : Reply) where
   -- nothing was found that wasn't before
   abbrev pub FindsNothing : Type 0
   FindsNothing = NothingNew old.moment.device new.moment.device
 
   same_state : new ≡ old → FindsNothing
-  same_state same = same_nothing old.moment.device new.moment.device (ap (λ (s : State). s.moment.device) same)
+  same_state same = same_nothing old.moment.device new.moment.device (ap (λ (s : ScriptState). s.moment.device) same)
 
   varyoff_nothing : (name : List ℕ) → VaryoffDoes name old new answer → FindsNothing
   varyoff_nothing name (NoVaryoff none is) = same_state is.1
@@ -80,7 +80,7 @@ module _ (log : Log) (old new : State) (answer : Reply) where
   arrange_nothing : (disk : ℕ) (what : Arrange) → ArrangeDoes disk what old new answer → FindsNothing
   arrange_nothing disk what (NotThere beyond is) id k it = same_state is.1 id k it
   arrange_nothing disk what (NotPlanned there unplanned is) id k it = same_state is.1 id k it
-  arrange_nothing disk what (IsArranged there planned is same) id k it = subst (λ (s : State). MayBeFound s.moment.device id k) same it
+  arrange_nothing disk what (IsArranged there planned is same) id k it = subst (λ (s : ScriptState). MayBeFound s.moment.device id k) same it
 
   cut_nothing : (word : ℕ) → CutDoes log word old new answer → FindsNothing
   cut_nothing word (CutNotPlanned unplanned is) = same_state is.1
@@ -89,12 +89,12 @@ module _ (log : Log) (old new : State) (answer : Reply) where
 
 -- ---- requests
 
-module _ (old new : State) (answer : Reply) (leaves : LeavesDescriptors old.moment.device) where
+module _ (old new : ScriptState) (answer : Reply) (leaves : LeavesDescriptors old.moment.device) where
   -- what a session leaves that goes on, or is closed
   goes_on_nothing : (end : Session) (posts : List Post) (last : ℕ) → GoesOnWith end posts last new → NothingNew end.device new.moment.device
-  goes_on_nothing end posts last goes = same_nothing end.device new.moment.device (ap (λ (s : State). s.moment.device) goes)
+  goes_on_nothing end posts last goes = same_nothing end.device new.moment.device (ap (λ (s : ScriptState). s.moment.device) goes)
 
-  over_nothing : (end : Session) (posts : List Post) (last : ℕ) (closed : State) → IsOverWith end posts last closed → NothingNew end.device closed.moment.device
+  over_nothing : (end : Session) (posts : List Post) (last : ℕ) (closed : ScriptState) → IsOverWith end posts last closed → NothingNew end.device closed.moment.device
   over_nothing end posts last closed over = closed_nothing end.core.power end.device closed.moment.device over.shelf
 
   leaves_nothing : (p : Power) (end : Session) (posts : List Post) (last : ℕ) → LeavesBy p end posts last new → NothingNew end.device new.moment.device
@@ -120,12 +120,12 @@ module _ (old new : State) (answer : Reply) (leaves : LeavesDescriptors old.mome
   finished_nothing {done = done} lv at count core end asked its = turns_nothing core end its.runs (ends_nothing done end old.posts old.last its.ends)
 
   volume_nothing : (name : List ℕ) (Happens : Core → ℕ → Type 0) → ((core : Core) (lv : ℕ) → Happens core lv → NothingNew old.moment.device new.moment.device) → OnVolume name Happens old new answer → NothingNew old.moment.device new.moment.device
-  volume_nothing name Happens each (WhileOff off is) = same_nothing old.moment.device new.moment.device (ap (λ (s : State). s.moment.device) is.1)
-  volume_nothing name Happens each (VolumeNotThere core some none is) = same_nothing old.moment.device new.moment.device (ap (λ (s : State). s.moment.device) is.1)
+  volume_nothing name Happens each (WhileOff off is) = same_nothing old.moment.device new.moment.device (ap (λ (s : ScriptState). s.moment.device) is.1)
+  volume_nothing name Happens each (VolumeNotThere core some none is) = same_nothing old.moment.device new.moment.device (ap (λ (s : ScriptState). s.moment.device) is.1)
   volume_nothing name Happens each (There core lv some its happens) = each core lv happens
 
   not_asked_nothing : (write : Option ℕ) (lv at count : ℕ) (core : Core) → IsNotAsked write lv at count core old new answer → NothingNew old.moment.device new.moment.device
-  not_asked_nothing write lv at count core none = same_nothing old.moment.device new.moment.device (ap (λ (s : State). s.moment.device) none.refused.1)
+  not_asked_nothing write lv at count core none = same_nothing old.moment.device new.moment.device (ap (λ (s : ScriptState). s.moment.device) none.refused.1)
 
   finishes_nothing : (write : Option ℕ) (Tells : Session → Asked → Reply → Type 0) (at count : ℕ) (core : Core) (lv : ℕ) → Finishes write Tells lv at count core old new answer → NothingNew old.moment.device new.moment.device
   finishes_nothing write Tells at count core lv (NotBegun none) = not_asked_nothing write lv at count core none
@@ -137,8 +137,8 @@ module _ (old new : State) (answer : Reply) (leaves : LeavesDescriptors old.mome
   posts_nothing at count word core lv (Posted its) = turns_nothing core (state old.moment.device its.begun) its.runs (goes_on_nothing (state old.moment.device its.begun) _ old.last its.goes)
 
   step_nothing : (turns : ℕ) → StepDoes turns old new answer → NothingNew old.moment.device new.moment.device
-  step_nothing turns (NoStepWhileOff off is) = same_nothing old.moment.device new.moment.device (ap (λ (s : State). s.moment.device) is.1)
-  step_nothing turns (NothingMoves core some empty says same) = same_nothing old.moment.device new.moment.device (ap (λ (s : State). s.moment.device) same)
+  step_nothing turns (NoStepWhileOff off is) = same_nothing old.moment.device new.moment.device (ap (λ (s : ScriptState). s.moment.device) is.1)
+  step_nothing turns (NothingMoves core some empty says same) = same_nothing old.moment.device new.moment.device (ap (λ (s : ScriptState). s.moment.device) same)
   step_nothing turns (Steps core some vols its) = turns_nothing core its.end its.runs (leaves_nothing its.end.core.power its.end old.posts old.last its.leaves)
 
   synced_nothing : (refused : Core → Option SyncFault) (copies : List Copy) (core : Core) → IsSynced refused copies core old new answer → NothingNew old.moment.device new.moment.device
@@ -149,17 +149,17 @@ module _ (old new : State) (answer : Reply) (leaves : LeavesDescriptors old.mome
       by false left = leaves_nothing its.end.core.power its.end old.posts old.last left
 
   sync_volume_nothing : (name : List ℕ) → SyncVolumeDoes name old new answer → NothingNew old.moment.device new.moment.device
-  sync_volume_nothing name (NoGroupForSync off is) = same_nothing old.moment.device new.moment.device (ap (λ (s : State). s.moment.device) is.1)
-  sync_volume_nothing name (NoVolumeForSync core some none is) = same_nothing old.moment.device new.moment.device (ap (λ (s : State). s.moment.device) is.1)
+  sync_volume_nothing name (NoGroupForSync off is) = same_nothing old.moment.device new.moment.device (ap (λ (s : ScriptState). s.moment.device) is.1)
+  sync_volume_nothing name (NoVolumeForSync core some none is) = same_nothing old.moment.device new.moment.device (ap (λ (s : ScriptState). s.moment.device) is.1)
   sync_volume_nothing name (SyncsVolume core lv some of its) = synced_nothing (λ c. volume_fault c lv) (volume_copies core.descriptor lv) core its
 
   sync_group_nothing : (name : List ℕ) → SyncGroupDoes name old new answer → NothingNew old.moment.device new.moment.device
-  sync_group_nothing name (OtherGroupForSync off is) = same_nothing old.moment.device new.moment.device (ap (λ (s : State). s.moment.device) is.1)
-  sync_group_nothing name (NothingSyncs core some named empty says same) = same_nothing old.moment.device new.moment.device (ap (λ (s : State). s.moment.device) same)
+  sync_group_nothing name (OtherGroupForSync off is) = same_nothing old.moment.device new.moment.device (ap (λ (s : ScriptState). s.moment.device) is.1)
+  sync_group_nothing name (NothingSyncs core some named empty says same) = same_nothing old.moment.device new.moment.device (ap (λ (s : ScriptState). s.moment.device) same)
   sync_group_nothing name (SyncsGroup core some named vols its) = synced_nothing group_fault (group_copies core.descriptor) core its
 
-  off_nothing : (closed : State) → WaitsOff closed new answer → NothingNew closed.moment.device new.moment.device
-  off_nothing closed waits = same_nothing closed.moment.device new.moment.device (ap (λ (s : State). s.moment.device) waits.new_is)
+  off_nothing : (closed : ScriptState) → WaitsOff closed new answer → NothingNew closed.moment.device new.moment.device
+  off_nothing closed waits = same_nothing closed.moment.device new.moment.device (ap (λ (s : ScriptState). s.moment.device) waits.new_is)
 
   on_nothing : (first : Session) → LeavesDescriptors first.device → WaitsOn first old new answer → NothingNew first.device new.moment.device
   on_nothing first at waits = then_nothing first.device waits.end.device new.moment.device (runs_nothing first waits.end at waits.runs) (goes_on_nothing waits.end [] old.last waits.goes)
@@ -178,7 +178,7 @@ module _ (old new : State) (answer : Reply) (leaves : LeavesDescriptors old.mome
 
 -- ---- any line
 
-module _ (log : Log) (room : Room) (line : List ℕ) (answer : Reply) (old new : State) (shelf : IsShelf old.moment.device) (leaves : LeavesDescriptors old.moment.device) (heard : IsStuck answer → ⊥) (timely : IsTimely log.run old)
+module _ (log : Log) (room : Room) (line : List ℕ) (answer : Reply) (old new : ScriptState) (shelf : IsShelf old.moment.device) (leaves : LeavesDescriptors old.moment.device) (heard : IsStuck answer → ⊥) (timely : IsTimely log.run old)
     (named : IfSome old.session (λ core. core.history.run ≡ log.run)) where
   pub by_reading : (read : Result (Option Command) Misfit) → line_of line ≡ read → StoodBefore log.run (role_of read) old new → LineDoes log room read old new answer
       → (id : ℕ) (k : Descriptor) → MayBeFound new.moment.device id k → MayBeFound old.moment.device id k ⊎ MayHaveCommitted read answer old new id k

@@ -6,7 +6,7 @@ use Rattle.lvm_io.specs.Stream.{WhereTold, WritesFront}
 use Rattle.lvm_vol.specs.Log.{Log}
 use Rattle.lvm_core.specs.declared.parts.Room.{Room}
 use Rattle.lvm_line.specs.Lines.{IsLine}
-use Rattle.lvm_line.specs.passed.Stage.{IsStuck, State, Reply}
+use Rattle.lvm_line.specs.passed.Stage.{IsStuck, ScriptState, Reply}
 use Rattle.lvm_line.specs.passed.RefusalVariants as refusal
 use Rattle.lvm_line.specs.passed.ReplyVariants as reply
 use Rattle.std.specs.Prelude.{is_some}
@@ -17,11 +17,11 @@ use Rattle.lvm_top.specs.Script.{stream}
 use Rattle.lvm_top.specs.Turn.{Wrote}
 
 -- where a line answers that nothing was heard, no group is on
-pub stuck_is_off : (log : Log) (room : Room) (line : List ℕ) (old new : State) (answer : Reply) → IsLine log room line answer old new → IsStuck answer → new.session ≡ None
+pub stuck_is_off : (log : Log) (room : Room) (line : List ℕ) (old new : ScriptState) (answer : Reply) → IsLine log room line answer old new → IsStuck answer → new.session ≡ None
 stuck_is_off log room line old new answer it stuck = let same : IsLine log room line (reply.Refused refusal.Stuck) old new = subst (λ (a : Reply). IsLine log room line a old new) stuck it in stuck_off log room _ old new same.between same.does
 
 -- a line of one history is one of another with the same rooms
-pub renamed : (h k : Log) (room : Room) (line line' : List ℕ) (answer : Reply) (old new : State) → h ≡ k → line ≡ line' → IsLine h room line answer old new → IsLine k room line' answer old new
+pub renamed : (h k : Log) (room : Room) (line line' : List ℕ) (answer : Reply) (old new : ScriptState) → h ≡ k → line ≡ line' → IsLine h room line answer old new → IsLine k room line' answer old new
 renamed h k room line line' answer old new same is it = subst (λ (l : List ℕ). IsLine k room l answer old new) is (subst (λ (l : Log). IsLine l room line answer old new) same it)
 
 wrote_part : (text : List ℕ) (before after : Option (List ℕ)) (faults later : ℕ) → WhereTold before after (λ a b. WritesFront text a b) → Rose faults later → Wrote text (record { before = stream before faults; after = stream after later })

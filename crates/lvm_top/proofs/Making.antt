@@ -16,7 +16,7 @@ use Rattle.lvm_core.specs.declared.refused.Cause.{Cause}
 use Rattle.lvm_core.specs.declared.refused.Cause.TheVariants as cause
 use Rattle.lvm_core.specs.Leaves.{MayBeFound}
 use Rattle.lvm_line.specs.passed.Group.{NewGroup, sizes_in_order, least_size, most_sectors, size_for, new_group, new_status, beginning_for}
-use Rattle.lvm_line.specs.passed.Group.{IsAsBefore, Breaks, Refuses, IsClear, SparesTold}
+use Rattle.lvm_line.specs.passed.Group.{IsAsBefore, Breaks, MkvgRefuses, IsClear, SparesTold}
 use Rattle.lvm_line.proofs.passed.Group.{is_there, are_members, valid_group, valid_status, size_positive, IsBeginning, may_begin}
 use Rattle.lvm_line.specs.passed.Stage.{refusal_of, IsBrokenOff}
 use Rattle.lvm_line.specs.passed.ReplyVariants as reply
@@ -109,7 +109,7 @@ module _ (w : NewGroup) (old : Device) (asked : IsAskedFor w old) where
     breaks_find begun breaks still why broken id k it =
         ⊎_elim (λ before. inl before) (λ its. inr (broken, its)) (parts_find was left breaks.clear breaks.homes breaks.spares (breaks.stops.before ++ breaks.stops.hand ∷ []) breaks.stops.only still id k it)
 
-    pub refused_finds : (why : Cause) → (why ≡ cause.Stuck → left.flights ≡ []) → Refuses w patience was is old left why → FoundBy left why
+    pub refused_finds : (why : Cause) → (why ≡ cause.Stuck → left.flights ≡ []) → MkvgRefuses w patience was is old left why → FoundBy left why
     refused_finds (cause.NoDisk disk) rests refuses id k it = inl (same_nothing old left refuses.0.shelf id k it)
     refused_finds (cause.TooMany limit) rests refuses id k it = inl (same_nothing old left refuses.0.shelf id k it)
     refused_finds (cause.TooSmall disk) rests refuses id k it = inl (same_nothing old left refuses.0.shelf id k it)

@@ -32,44 +32,34 @@ use Rattle.lvm_posts.specs.declared.fault.RangeFault.{RangeFault}
 use Rattle.lvm_posts.specs.declared.fault.RangeFault.TheVariants as range_fault
 use Rattle.lvm_line.specs.passed.Volumes.{IsWith}
 use Rattle.lvm_line.specs.passed.Mirrors.{IsWithFirst, IsWithMore}
-use Rattle.lvm_copy_plan.specs.Copies.{first_copies, with_copies, with_map}
+use Rattle.lvm_line.specs.handed.Names.{first_copies, with_copies, with_map}
 use Rattle.lvm_num.specs.declared.descriptor.Mode.TheVariants.{Passive}
 use Rattle.lvm_num.specs.declared.place.Pp.{Pp}
 use Rattle.lvm_volume_plan.specs.declared.new_volume.NewVolume.{NewVolume}
 use Rattle.lvm_volume_plan.specs.NewVolume.{row_for, without_volume}
 use Rattle.lvm_volume_plan.proofs.Sublists.{one_filter, one_insert}
-use Rattle.lvm_line.specs.passed.GroupLines.{IsLeft, MkvgDoes, VaryonDoes, VaryoffDoes, NoMemoryForLine, NoMkvgWhileOn, Makes, NoVaryonWhileOn}
-use Rattle.lvm_line.specs.passed.GroupLines.{Varies, NoVaryoff, BusyVaryoff, VariesOff}
-use Rattle.lvm_line.specs.passed.DiskLines.{ReadDoes, WriteDoes, NoWriteWhileOn, WriteGoes, NoReadWhileOn, ReadGoes, ArrangeDoes, CutDoes, NotThere}
-use Rattle.lvm_line.specs.passed.DiskLines.{NotPlanned, IsArranged, CutNotPlanned, PowerIsCut}
+use Rattle.lvm_line.specs.passed.GroupLines.{IsLeft, MkvgDoes, VaryonDoes, VaryoffDoes, NoMemoryForLine, NoMkvgWhileOn, Makes, NoVaryonWhileOn, Varies, NoVaryoff, BusyVaryoff, VariesOff}
+use Rattle.lvm_line.specs.passed.DiskLines.{ReadDoes, WriteDoes, NoWriteWhileOn, WriteGoes, NoReadWhileOn, ReadGoes, ArrangeDoes, CutDoes, NotThere, NotPlanned, IsArranged, CutNotPlanned, PowerIsCut}
 use Rattle.lvm_disk.specs.declared.shelf.Arrange.{Arrange}
-use Rattle.lvm_line.specs.passed.RangeLines.{EndsBy, GoesOnWith, LeavesBy, OnVolume, WhileOff, NotThere as VolumeNotThere, There, Posts, NotPosted}
-use Rattle.lvm_line.specs.passed.RangeLines.{Posted, Finishes, NotBegun, EndsWell, Fails, StepDoes, NoStepWhileOff, NothingMoves, Steps}
-use Rattle.lvm_line.specs.passed.RangeLinesWaiting.{WaitDoes, WhileOff as WaitsWhileOff, AtRest, Awaits, WaitsOff, WaitsOn, WaitEnds, Goes, Over}
-use Rattle.lvm_line.specs.passed.CopyLines.{IsSynced, NoGroupForSync, NoVolumeForSync, NothingSyncs, OtherGroupForSync, SyncGroupDoes, SyncVolumeDoes}
-use Rattle.lvm_line.specs.passed.CopyLines.{SyncsGroup, SyncsVolume}
+use Rattle.lvm_line.specs.passed.RangeLines.{EndsBy, GoesOnWith, LeavesBy, OnVolume, WhileOff, NotThere as VolumeNotThere, There, Posts, NotPosted, Posted, Finishes, NotBegun, EndsWell, Fails, StepDoes, NoStepWhileOff, NothingMoves, Steps, FailsIf}
+use Rattle.lvm_line.specs.passed.RangeLinesWaiting.{WaitDoes, WhileOff as WaitsWhileOff, AtRest, Awaits, WaitsOff, WaitsOn, WaitEnds, Goes, Over, InVain}
+use Rattle.lvm_line.specs.passed.CopyLines.{IsSynced, NoGroupForSync, NoVolumeForSync, NothingSyncs, OtherGroupForSync, SyncGroupDoes, SyncVolumeDoes, SyncsGroup, SyncsVolume, MklvcopyDoes, NoGroupForMklvcopy, BusyMklvcopy, UndrainedMklvcopy, NoVolumeForMklvcopy, AddsCopies, MklvcopyFails, RmlvcopyDoes, NoGroupForRmlvcopy, BusyRmlvcopy, UndrainedRmlvcopy, NoVolumeForRmlvcopy, RemovesCopies, RmlvcopyFails}
 use Rattle.lvm_line.specs.passed.Resync.{Copy, SyncFault, group_copies, group_fault, volume_copies, volume_fault}
-use Rattle.lvm_line.specs.passed.RangeLines.{FailsIf}
-use Rattle.lvm_line.specs.passed.RangeLinesWaiting.{InVain}
 use Rattle.lvm_line.specs.Lines.{LineDoes, role_of}
-use Rattle.lvm_line.specs.passed.Stage.{HasBegunHeld, OfGroup, State, Reply, is_unheard}
-use Rattle.lvm_line.specs.passed.VolumeLines.{Drains, IsDone, StaysOn, MklvDoes, RmlvDoes, NoGroupForMklv, BusyMklv, UndrainedMklv, MakesVolume}
-use Rattle.lvm_line.specs.passed.VolumeLines.{MklvFails, NoGroupForRmlv, BusyRmlv, UndrainedRmlv, NoVolumeForRmlv, RemovesVolume, RmlvFails}
-use Rattle.lvm_line.specs.passed.VolumeLines.{ends_session, wanted}
-use Rattle.lvm_line.specs.passed.CopyLines.{MklvcopyDoes, NoGroupForMklvcopy, BusyMklvcopy, UndrainedMklvcopy, NoVolumeForMklvcopy, AddsCopies, MklvcopyFails}
-use Rattle.lvm_line.specs.passed.CopyLines.{RmlvcopyDoes, NoGroupForRmlvcopy, BusyRmlvcopy, UndrainedRmlvcopy, NoVolumeForRmlvcopy, RemovesCopies, RmlvcopyFails}
+use Rattle.lvm_line.specs.passed.Stage.{HasBegunHeld, OfGroup, ScriptState, Reply, is_unheard}
+use Rattle.lvm_line.specs.passed.VolumeLines.{Drains, IsDone, StaysOn, MklvDoes, RmlvDoes, NoGroupForMklv, BusyMklv, UndrainedMklv, MakesVolume, MklvFails, NoGroupForRmlv, BusyRmlv, UndrainedRmlv, NoVolumeForRmlv, RemovesVolume, RmlvFails, ends_session, wanted}
 use Rattle.lvm_top.specs.OneGroup.{FindsNoPassive}
 use Rattle.lvm_top.specs.Standing.{MayHaveCommitted, StoodBefore, WasDrained}
 use Rattle.lvm_top.proofs.Acknowledged.{begun_by}
 use Rattle.lvm_top.proofs.Volumes.{as_group, held_mid, some_of}
 
 -- no volume of the group that is on is in mode passive
-abbrev pub HasNoPassiveOn : State → Type 0
+abbrev pub HasNoPassiveOn : ScriptState → Type 0
 HasNoPassiveOn s = IfSome s.session (λ core. HasNoPassive core.descriptor)
 
 -- ---- what a line commits
 
-with_off : (line : List ℕ) (name : List ℕ) (copies : ℕ) (mode : _) (policy : _) (group : List ℕ) (lps : ℕ) → line_of line ≡ Ok (Some (command.Mklv name copies mode policy group lps)) → (old : State) → HasNoPassiveOn old → (k : Descriptor)
+with_off : (line : List ℕ) (name : List ℕ) (copies : ℕ) (mode : _) (policy : _) (group : List ℕ) (lps : ℕ) → line_of line ≡ Ok (Some (command.Mklv name copies mode policy group lps)) → (old : ScriptState) → HasNoPassiveOn old → (k : Descriptor)
     → (core : Core) × (mid : Session) × WasDrained old core mid × IsWith (wanted name copies mode policy lps) mid.core k → HasNoPassive k
 with_off line name copies mode policy group lps is old off k (core, mid, drained, with) row volume =
     ⊎_elim
@@ -101,7 +91,7 @@ rows_off lv copies pps (x ∷ xs) off row one = by_test (x.number == lv) (rows_o
 copies_off : (d k : Descriptor) (lv copies : ℕ) (pps : List Pp) → k ≡ with_copies d lv copies pps → HasNoPassive d → HasNoPassive k
 copies_off d k lv copies pps same off = λ row volume. rows_off lv copies pps d.lvs off row (subst (λ (g : Descriptor). IsOneOf g.lvs row) same volume)
 
-with_more_off : (name : List ℕ) (copies : ℕ) (old : State) → HasNoPassiveOn old → (k : Descriptor) → (core : Core) × (mid : Session) × WasDrained old core mid × ((lv : ℕ) × IsNumberOf core.descriptor.lvs name lv × IsWithMore lv copies mid.core k) → HasNoPassive k
+with_more_off : (name : List ℕ) (copies : ℕ) (old : ScriptState) → HasNoPassiveOn old → (k : Descriptor) → (core : Core) × (mid : Session) × WasDrained old core mid × ((lv : ℕ) × IsNumberOf core.descriptor.lvs name lv × IsWithMore lv copies mid.core k) → HasNoPassive k
 with_more_off name copies old off k (core, mid, drained, (lv, its, (row, (pps, places, same)))) =
     copies_off mid.core.descriptor k lv copies pps same (subst HasNoPassive (sym drained.drains.runs.leaves.keeps.descriptor) (subst (λ (o : Option Core). IfSome o (λ c. HasNoPassive c.descriptor)) drained.on off))
 
@@ -109,7 +99,7 @@ with_fewer_off : (name : List ℕ) (copies : ℕ) (o : Option Core) (k : Descrip
 with_fewer_off name copies None k off is = absurd is
 with_fewer_off name copies (Some core) k off (lv, its, (row, found, same)) = copies_off core.descriptor k lv copies (first_copies row copies) same off
 
-pub committed_off : (line : List ℕ) (read : Result (Option Command) Misfit) → line_of line ≡ read → (answer : Reply) (old new : State) → HasNoPassiveOn old → (id : ℕ) (k : Descriptor) → MayHaveCommitted read answer old new id k → HasNoPassive k
+pub committed_off : (line : List ℕ) (read : Result (Option Command) Misfit) → line_of line ≡ read → (answer : Reply) (old new : ScriptState) → HasNoPassiveOn old → (id : ℕ) (k : Descriptor) → MayHaveCommitted read answer old new id k → HasNoPassive k
 committed_off line (Ok (Some (command.Mkvg force name mib disks))) is answer old new off id k it = subst HasNoPassive (sym it.is) (λ row none. absurd none)
 committed_off line (Ok (Some (command.Mklv name copies mode policy group lps))) is answer old new off id k it = with_off line name copies mode policy group lps is old off k it.is
 committed_off line (Ok (Some (command.Rmlv name))) is answer old new off id k it = without_off name old.session k off it.is
@@ -144,7 +134,7 @@ held_found device core held told =
     let shown = told_at device.media (λ (x : Media). HoldsCommitted (image_of device.sizes x) core.descriptor core.status.committed (is_there core) core.status.stamp core.homes) m.0 m.1 held in
     (image_of device.sizes m.0, media_may device m.0 m.1, (all_disks, shown.shows.found))
 
-module _ (old new : State) (off : HasNoPassiveOn old) where
+module _ (old new : ScriptState) (off : HasNoPassiveOn old) where
   same_off : new ≡ old → HasNoPassiveOn new
   same_off same = subst HasNoPassiveOn (sym same) off
 
@@ -160,7 +150,7 @@ module _ (old new : State) (off : HasNoPassiveOn old) where
   -- ---- turns and calls
 
   goes_off : (end : Session) (posts : List Post) (last : ℕ) → HasNoPassive end.core.descriptor → GoesOnWith end posts last new → HasNoPassiveOn new
-  goes_off end posts last its goes = some_off end.core (ap (λ (s : State). s.session) goes) its
+  goes_off end posts last its goes = some_off end.core (ap (λ (s : ScriptState). s.session) goes) its
 
   leaves_off : (p : Power) (end : Session) (posts : List Post) (last : ℕ) → HasNoPassive end.core.descriptor → LeavesBy p end posts last new → HasNoPassiveOn new
   leaves_off power.On end posts last its left = goes_off end posts last its left
@@ -226,8 +216,8 @@ module _ (old new : State) (off : HasNoPassiveOn old) where
   on_off : {answer : Reply} (first : Session) → HasNoPassive first.core.descriptor → WaitsOn first old new answer → HasNoPassiveOn new
   on_off first its waits = goes_off waits.end [] old.last (runs_off first waits.end waits.runs its) waits.goes
 
-  closed_off : {answer : Reply} (closed : State) → WaitsOff closed new answer → HasNoPassiveOn new
-  closed_off closed waits = none_off (ap (λ (s : State). s.session) waits.new_is ∙ waits.off)
+  closed_off : {answer : Reply} (closed : ScriptState) → WaitsOff closed new answer → HasNoPassiveOn new
+  closed_off closed waits = none_off (ap (λ (s : ScriptState). s.session) waits.new_is ∙ waits.off)
 
   wait_off : {answer : Reply} → WaitDoes old new answer → HasNoPassiveOn new
   wait_off (WaitsWhileOff waits) = closed_off old waits
@@ -252,7 +242,7 @@ module _ (old new : State) (off : HasNoPassiveOn old) where
   arrange_off : {answer : Reply} (disk : ℕ) (what : Arrange) → ArrangeDoes disk what old new answer → HasNoPassiveOn new
   arrange_off disk what (NotThere beyond is) = same_off is.1
   arrange_off disk what (NotPlanned there unplanned is) = same_off is.1
-  arrange_off disk what (IsArranged there planned is same) = session_same (ap (λ (s : State). s.session) same)
+  arrange_off disk what (IsArranged there planned is same) = session_same (ap (λ (s : ScriptState). s.session) same)
 
   cut_off : {answer : Reply} (log : Log) (word : ℕ) → CutDoes log word old new answer → HasNoPassiveOn new
   cut_off log word (CutNotPlanned unplanned is) = same_off is.1
@@ -269,8 +259,8 @@ module _ (old new : State) (off : HasNoPassiveOn old) where
     comes_off core none on = some_off core on (finds core.descriptor.id core.descriptor (held_found new.moment.device core (begun_by old new core none on begins).held told))
 
     mkvg_off : {answer : Reply} (log : Log) (room : Room) (force : Bool) (name : List ℕ) (mib : Option ℕ) (disks : List ℕ) → MkvgDoes log room force name mib disks old new answer → HasNoPassiveOn new
-    mkvg_off log room force name mib disks (NoMemoryForLine none says asked) = session_same (ap (λ (s : State). s.session) asked.same)
-    mkvg_off log room force name mib disks (NoMkvgWhileOn on says asked) = session_same (ap (λ (s : State). s.session) asked.same)
+    mkvg_off log room force name mib disks (NoMemoryForLine none says asked) = session_same (ap (λ (s : ScriptState). s.session) asked.same)
+    mkvg_off log room force name mib disks (NoMkvgWhileOn on says asked) = session_same (ap (λ (s : ScriptState). s.session) asked.same)
     mkvg_off {answer} log room force name mib disks (Makes brings) = by_given brings.given brings.left
       where
         by_given : (given : Result Core Cause) → IsLeft brings.shelf brings.history old new answer given → HasNoPassiveOn new
@@ -278,7 +268,7 @@ module _ (old new : State) (off : HasNoPassiveOn old) where
         by_given (Err why) left = none_off left.after
 
     varyon_off : {answer : Reply} (log : Log) (room : Room) (name : List ℕ) → VaryonDoes log room name old new answer → HasNoPassiveOn new
-    varyon_off log room name (NoVaryonWhileOn on says asked) = session_same (ap (λ (s : State). s.session) asked.same)
+    varyon_off log room name (NoVaryonWhileOn on says asked) = session_same (ap (λ (s : ScriptState). s.session) asked.same)
     varyon_off {answer} log room name (Varies brings) = by_given brings.given brings.left
       where
         by_given : (given : Result Core Cause) → IsLeft brings.shelf brings.history old new answer given → HasNoPassiveOn new
@@ -329,7 +319,7 @@ module _ (old new : State) (off : HasNoPassiveOn old) where
       rmlvcopy_off name copies (RemovesCopies core left mid lv some drains its done is) = done_off false core left mid some drains done
       rmlvcopy_off name copies (RmlvcopyFails core left mid lv why some drains its done is) = done_off (ends_session why) core left mid some drains done
 
-pub session_off : (log : Log) (room : Room) (answer : Reply) (old new : State) → HasNoPassiveOn old → IfNone old.session (IfSome new.session (HasBegunHeld new.moment.device)) → IsSome new.moment.device.media → FindsNoPassive new.moment.device
+pub session_off : (log : Log) (room : Room) (answer : Reply) (old new : ScriptState) → HasNoPassiveOn old → IfNone old.session (IfSome new.session (HasBegunHeld new.moment.device)) → IsSome new.moment.device.media → FindsNoPassive new.moment.device
     → LeavesDescriptors old.moment.device → IfSome old.session (λ core. core.history.run ≡ log.run) → (read : Result (Option Command) Misfit) → StoodBefore log.run (role_of read) old new → LineDoes log room read old new answer → HasNoPassiveOn new
 session_off log room answer old new off begins told finds leaves named (Err misfit) stood does = same_off old new off does.1
 session_off log room answer old new off begins told finds leaves named (Ok None) stood does = same_off old new off does.1

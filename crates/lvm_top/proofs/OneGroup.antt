@@ -33,8 +33,8 @@ use Rattle.lvm_kept.specs.Moments.{Moment}
 use Rattle.lvm_core.specs.Leaves.{EntersVolumes, Scope, is_of_volume}
 use Rattle.lvm_volume_plan.specs.declared.new_volume.NewVolume.{NewVolume}
 use Rattle.lvm_core.specs.Leaves.{MayBeFound}
-use Rattle.lvm_line.specs.passed.Group.{NewGroup, new_group, Refuses, IfShown, HasGroup}
-use Rattle.lvm_line.specs.passed.Stage.{patience_of_line, Asks, IsAllowed, IsAlone, OfGroup, OfRequests, Role, IsStuck, State, IsTimely, StandsAlone, log_with}
+use Rattle.lvm_line.specs.passed.Group.{NewGroup, new_group, MkvgRefuses, IfShown, HasGroup}
+use Rattle.lvm_line.specs.passed.Stage.{patience_of_line, Asks, IsAllowed, IsAlone, OfGroup, OfRequests, Role, IsStuck, ScriptState, IsTimely, StandsAlone, log_with}
 use Rattle.lvm_line.specs.passed.Stage.{Reply}
 use Rattle.lvm_line.specs.passed.GroupLines.{IsLeft, MkvgDoes, NoMemoryForLine, NoMkvgWhileOn, Makes, asked_for, itself, outcome_of}
 use Rattle.lvm_line.specs.Lines.{LineDoes, role_of}
@@ -111,7 +111,7 @@ none_found device still free id k it = by_media device.media refl free it.1
 
 module _ (w : NewGroup) (old left : Device) (patience : ℕ) (was is : Log) where
   -- it left what there was, or none that may not give way was there
-  refused_either : (why : Cause) → (why ≡ cause.Stuck → ⊥) → Refuses w patience was is old left why → NothingNew old left ⊎ IfShown old (λ c. HasGroup c w.force → ⊥)
+  refused_either : (why : Cause) → (why ≡ cause.Stuck → ⊥) → MkvgRefuses w patience was is old left why → NothingNew old left ⊎ IfShown old (λ c. HasGroup c w.force → ⊥)
   refused_either (cause.NoDisk disk) rests refuses = inl (same_nothing old left refuses.0.shelf)
   refused_either (cause.TooMany limit) rests refuses = inl (same_nothing old left refuses.0.shelf)
   refused_either (cause.TooSmall disk) rests refuses = inl (same_nothing old left refuses.0.shelf)
@@ -134,7 +134,7 @@ its_one group old new none finds v w g h is also = its v g is ∙ sym (its w h a
     its : (id : ℕ) (k : Descriptor) → MayBeFound new id k → id ≡ group.id
     its id k it = ⊎_elim (λ before. absurd (none id k before)) (λ (new : IsIts group id k). new.0) (finds id k it)
 
-module _ (log : Log) (old new : State) (answer : Reply) (shelf : IsShelf old.moment.device) (leaves : LeavesDescriptors old.moment.device) (heard : IsStuck answer → ⊥) (timely : IsTimely log.run old)
+module _ (log : Log) (old new : ScriptState) (answer : Reply) (shelf : IsShelf old.moment.device) (leaves : LeavesDescriptors old.moment.device) (heard : IsStuck answer → ⊥) (timely : IsTimely log.run old)
     (named : IfSome old.session (λ core. core.history.run ≡ log.run)) (told : IsSome old.moment.device.media) (one : FindsOneGroup old.moment.device) where
   abbrev was : Device
   was = old.moment.device
@@ -143,7 +143,7 @@ module _ (log : Log) (old new : State) (answer : Reply) (shelf : IsShelf old.mom
   now = new.moment.device
 
   same_one : new ≡ old → FindsOneGroup now
-  same_one same = nothing_one was now (same_nothing was now (ap (λ (s : State). s.moment.device) same)) one
+  same_one same = nothing_one was now (same_nothing was now (ap (λ (s : ScriptState). s.moment.device) same)) one
 
   -- ---- `mkvg`
 
@@ -260,22 +260,22 @@ module _ (log : Log) (old new : State) (answer : Reply) (shelf : IsShelf old.mom
 -- ---- the lines of a script
 
 -- where one group may be found, with such volumes, and a session has no other
-pub alone_so : (role : Role) (old new : State) → IsAllowed role old → FindsOneGroup old.moment.device → HasNoPassiveOn old → IsAlone role old new
+pub alone_so : (role : Role) (old new : ScriptState) → IsAllowed role old → FindsOneGroup old.moment.device → HasNoPassiveOn old → IsAlone role old new
 alone_so role old new allowed one off = record { enters = λ enters. one_by_all old.moment.device one; acts = λ acting. by_session old.session off; allowed = allowed }
   where
     by_session : (o : Option Core) → IfSome o (λ core. HasNoPassive core.descriptor) → IfSome o (StandsAlone old.moment.device)
     by_session None off = tt
     by_session (Some core) off = λ none some. (one_by_all old.moment.device one, off)
 
-module _ (log : Log) (room : Room) (past : List Fact) (first : State) (begin : MayStart log.run past first) (one : FindsOneGroup first.moment.device) (off : FindsNoPassive first.moment.device) where
+module _ (log : Log) (room : Room) (past : List Fact) (first : ScriptState) (begin : MayStart log.run past first) (one : FindsOneGroup first.moment.device) (off : FindsNoPassive first.moment.device) where
   -- all that is so of the lines
-  pub record ScriptOff {lines : List (List ℕ)} {replies : List Reply} {last : State} (script : Script log room first lines replies last) : Type 0 where
+  pub record ScriptOff {lines : List (List ℕ)} {replies : List Reply} {last : ScriptState} (script : Script log room first lines replies last) : Type 0 where
     pub alone : StaysAlone script
     pub finds_one : FindsOneGroup last.moment.device
     pub finds_off : FindsNoPassive last.moment.device
     pub session : HasNoPassiveOn last
 
-  pub script_one : {lines : List (List ℕ)} {replies : List Reply} {last : State} (script : Script log room first lines replies last) → AreUnforced script → AreAllowed script → ScriptOff script
+  pub script_one : {lines : List (List ℕ)} {replies : List Reply} {last : ScriptState} (script : Script log room first lines replies last) → AreUnforced script → AreAllowed script → ScriptOff script
   script_one NoLine unforced allowed = record { alone = tt; finds_one = one; finds_off = off; session = subst (λ (s : Option Core). IfSome s (λ core. HasNoPassive core.descriptor)) (sym begin.off) tt }
   script_one (NextLine {mid = mid} {new = new} line answer said heard says before it) unforced allowed =
       let so_far = script_one before unforced.0 allowed.0 in
@@ -296,14 +296,14 @@ module _ (log : Log) (room : Room) (past : List Fact) (first : State) (begin : M
         session = session_off log room answer mid new so_far.session (it.goes.begins timely) told_new off_new leaves it.named (line_of line) stood_so it.does;
       }
 
-  ends_alone : {mid last : State} {done : List (List ℕ)} {said : List Reply} {front : List ℕ} (ends : Ends log room mid last done said front) → EndsAllowed ends → FindsOneGroup mid.moment.device → HasNoPassiveOn mid → EndsAlone ends
+  ends_alone : {mid last : ScriptState} {done : List (List ℕ)} {said : List Reply} {front : List ℕ} (ends : Ends log room mid last done said front) → EndsAllowed ends → FindsOneGroup mid.moment.device → HasNoPassiveOn mid → EndsAlone ends
   ends_alone (AtLine same) allowed found session = tt
   ends_alone {mid = mid} {last = last} (InLine line answer said front rest says split it) allowed found session = alone_so (role_of (line_of line)) mid last allowed found session
 
   -- what is so where they end, unless nothing was heard of a transfer
-  ends_one : {lines : List (List ℕ)} {replies : List Reply} {mid last : State} {done : List (List ℕ)} {said : List Reply} {front : List ℕ} (script : Script log room first lines replies mid) → ScriptOff script → AreUnforced script → AreAllowed script
+  ends_one : {lines : List (List ℕ)} {replies : List Reply} {mid last : ScriptState} {done : List (List ℕ)} {said : List Reply} {front : List ℕ} (script : Script log room first lines replies mid) → ScriptOff script → AreUnforced script → AreAllowed script
       → (ends : Ends log room mid last done said front) → EndsHeard ends → EndsUnforced ends → EndsAllowed ends → FindsOneGroup last.moment.device × HasNoPassiveOn last
-  ends_one script so_far before were (AtLine same) heard unforced allowed = (subst (λ (s : State). FindsOneGroup s.moment.device) (sym same) so_far.finds_one, subst HasNoPassiveOn (sym same) so_far.session)
+  ends_one script so_far before were (AtLine same) heard unforced allowed = (subst (λ (s : ScriptState). FindsOneGroup s.moment.device) (sym same) so_far.finds_one, subst HasNoPassiveOn (sym same) so_far.session)
   ends_one script so_far before were (InLine line answer said front rest says split it) heard unforced allowed =
       let all = script_one (NextLine line answer said heard says script it) (before, unforced) (were, allowed) in
       (all.finds_one, all.session)

@@ -17,7 +17,7 @@ use Rattle.lvm_line.specs.passed.Quiesce.{Quiesces}
 use Rattle.lvm_line.specs.passed.Recover.{HasNoPassive}
 use Rattle.lvm_line.specs.passed.RefusalVariants as refusal
 use Rattle.lvm_line.specs.passed.ReplyVariants as reply
-use Rattle.lvm_line.specs.passed.Stage.{State, Reply}
+use Rattle.lvm_line.specs.passed.Stage.{ScriptState, Reply}
 use Rattle.lvm_line.specs.passed.Varyon.{IsRecovered}
 use Rattle.lvm_line.proofs.Causing.{nothing_written, varyon_restates}
 use Rattle.lvm_line.proofs.passed.Quiesce.{still_ends}
@@ -36,18 +36,18 @@ is_only : {A : Type 0} (xs : List A) (x only : A) → xs ++ x ∷ [] ≡ only �
 is_only [] x only e = (refl, cc e)
 is_only (first ∷ xs) x only e = absurd (none_behind xs x (let rest : xs ++ x ∷ [] ≡ [] = cc e in rest))
 
-no_line : {log : Log} {room : Room} {first last : State} {lines : List (List ℕ)} {replies : List Reply} → Script log room first lines replies last → lines ≡ [] → last ≡ first
+no_line : {log : Log} {room : Room} {first last : ScriptState} {lines : List (List ℕ)} {replies : List Reply} → Script log room first lines replies last → lines ≡ [] → last ≡ first
 no_line NoLine e = refl
 no_line (NextLine {lines = lines} line answer said heard says earlier it) e = absurd (none_behind lines line e)
 
 -- the one line, by what was written for it
-record IsOneLine (log : Log) (room : Room) (first last : State) (line : List ℕ) (said : Reply) : Type 0 where
+record IsOneLine (log : Log) (room : Room) (first last : ScriptState) (line : List ℕ) (said : Reply) : Type 0 where
   answer : Reply
   says : Says answer said
   it : IsLine log room line answer first last
 
 -- it is the last
-one_so : {log : Log} {room : Room} {first mid last : State} {lines : List (List ℕ)} {replies : List Reply} → Script log room first lines replies mid → (line only : List ℕ) (answer said one : Reply) → Says answer said → IsLine log room line answer mid last
+one_so : {log : Log} {room : Room} {first mid last : ScriptState} {lines : List (List ℕ)} {replies : List Reply} → Script log room first lines replies mid → (line only : List ℕ) (answer said one : Reply) → Says answer said → IsLine log room line answer mid last
     → lines ++ line ∷ [] ≡ only ∷ [] → replies ++ said ∷ [] ≡ one ∷ [] → IsOneLine log room first last only one
 one_so {log = log} {room = room} {first = first} {mid = mid} {last = last} {lines = lines} {replies = replies} script line only answer said one says it is told =
     let own = is_only lines line only is in
@@ -55,20 +55,20 @@ one_so {log = log} {room = room} {first = first} {mid = mid} {last = last} {line
     record {
       answer = answer;
       says = subst (Says answer) its.1 says;
-      it = subst (λ (l : List ℕ). IsLine log room l answer first last) own.1 (subst (λ (s : State). IsLine log room line answer s last) (no_line script own.0) it);
+      it = subst (λ (l : List ℕ). IsLine log room l answer first last) own.1 (subst (λ (s : ScriptState). IsLine log room line answer s last) (no_line script own.0) it);
     }
 
 -- it was answered whole
-one_whole : {log : Log} {room : Room} {first last : State} {lines : List (List ℕ)} {replies : List Reply} → Script log room first lines replies last → (only : List ℕ) (one : Reply)
+one_whole : {log : Log} {room : Room} {first last : ScriptState} {lines : List (List ℕ)} {replies : List Reply} → Script log room first lines replies last → (only : List ℕ) (one : Reply)
     → lines ++ [] ≡ only ∷ [] → replies ++ [] ≡ one ∷ [] → IsOneLine log room first last only one
 one_whole NoLine only one is told = absurd (cc is)
 one_whole (NextLine {lines = lines} {replies = replies} line answer said heard says earlier it) only one is told =
     one_so earlier line only answer said one says it (sym (append-nil (lines ++ line ∷ [])) ∙ is) (sym (append-nil (replies ++ said ∷ [])) ∙ told)
 
 -- or perhaps in part
-one_line : {log : Log} {room : Room} {first mid last : State} {lines done : List (List ℕ)} {replies said : List Reply} {front : List ℕ} → Script log room first lines replies mid → Ends log room mid last done said front
+one_line : {log : Log} {room : Room} {first mid last : ScriptState} {lines done : List (List ℕ)} {replies said : List Reply} {front : List ℕ} → Script log room first lines replies mid → Ends log room mid last done said front
     → (only : List ℕ) (one : Reply) → lines ++ done ≡ only ∷ [] → replies ++ said ≡ one ∷ [] → IsOneLine log room first last only one
-one_line {log = log} {room = room} {first = first} script (AtLine same) only one is told = subst (λ (s : State). IsOneLine log room first s only one) (sym same) (one_whole script only one is told)
+one_line {log = log} {room = room} {first = first} script (AtLine same) only one is told = subst (λ (s : ScriptState). IsOneLine log room first s only one) (sym same) (one_whole script only one is told)
 one_line script (InLine line answer said front rest says split it) only one is told = one_so script line only answer said one says it is told
 
 -- what was written is its answer, if it doesn't say that no memory was found
@@ -82,7 +82,7 @@ module _ (r : Run) (ran : IsRun r) (line name : List ℕ) (said : Reply) (is : l
   abbrev log : Log
   log = empty_log r.named r.room
 
-  abbrev first : State
+  abbrev first : ScriptState
   first = entry_state r.entry r.named
 
   one : IsOneLine log r.room first ran.end line said

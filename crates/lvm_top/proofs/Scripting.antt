@@ -23,7 +23,7 @@ use Rattle.lvm_line.proofs.passed.Quiesce.{still_is_behind_each, each_is_behind}
 use Rattle.lvm_line.specs.passed.Tie.{LeavesDescriptors}
 use Rattle.lvm_posts.specs.declared.posts.Post.{Post}
 use Rattle.lvm_line.specs.Lines.{IsLine, role_of}
-use Rattle.lvm_line.specs.passed.Stage.{IsRequesting, Role, Aside, OfGroup, OfGroupWhere, OfRequests, reply_text, refusals_of, most_refusals, IsStuck, State}
+use Rattle.lvm_line.specs.passed.Stage.{IsRequesting, Role, Aside, OfGroup, OfGroupWhere, OfRequests, reply_text, refusals_of, most_refusals, IsStuck, ScriptState}
 use Rattle.lvm_line.specs.passed.Stage.{IsAtRest, IsTimely, StandsBy, Reply}
 use Rattle.lvm_top.specs.Script.{Stream, Passage, Says, Script, NoLine, NextLine, StaysAlone, Ends, AtLine, InLine, EndsAlone, EndsHeard, AreBefore, AreDone, AreAllRead, AreDoneBut, ComesBehind, IsLineLeft, MakeRequests, is_made_late, is_requesting, texts_of, refusals_in, entry_state}
 use Rattle.lvm_top.specs.Statuses.{GoesUntil}
@@ -37,7 +37,7 @@ abbrev pub nothing_read : Reading
 nothing_read = record { front = []; block = []; given = 0 }
 
 -- what a run has done so far
-pub record RunSoFar (log : Log) (room : Room) (first now : State) (reading : Reading) (input left before after : Option (List ℕ)) (refused lines_done : ℕ) : Type 0 where
+pub record RunSoFar (log : Log) (room : Room) (first now : ScriptState) (reading : Reading) (input left before after : Option (List ℕ)) (refused lines_done : ℕ) : Type 0 where
   pub lines : List (List ℕ)
   pub replies : List Reply
   pub script : Script log room first lines replies now
@@ -54,7 +54,7 @@ pub record RunSoFar (log : Log) (room : Room) (first now : State) (reading : Rea
 abbrev pub through : Option (List ℕ) → ℕ → Option (List ℕ) → ℕ → Passage
 through a f b g = record { before = record { content = a; faults = f }; after = record { content = b; faults = g } }
 
-pub at_start : (log : Log) (room : Room) (first : State) (input before : Option (List ℕ)) → first.posts ≡ [] → RunSoFar log room first first nothing_read input input before before 0 0
+pub at_start : (log : Log) (room : Room) (first : ScriptState) (input before : Option (List ℕ)) → first.posts ≡ [] → RunSoFar log room first first nothing_read input input before before 0 0
 at_start log room first input before none = record {
   lines = [];
   replies = [];
@@ -133,10 +133,10 @@ one_before lines line bytes mid rest (inl is) (clean, inr (all, none, some)) = i
 one_before lines line bytes mid rest (inr (lacks, empty)) (clean, inl fed) = absurd (nothing_fed line rest (sym fed ∙ empty))
 one_before lines line bytes mid rest (inr (lacks, empty)) (clean, inr (all, none, some)) = absurd (let e : length line ≡ 0 = ap length (sym all ∙ empty) in omega (arith, e, some))
 
-module _ (log : Log) (room : Room) (first now : State) (reading : Reading) (input left before after : Option (List ℕ)) (refused lines_done : ℕ) (so_far : RunSoFar log room first now reading input left before after refused lines_done) where
+module _ (log : Log) (room : Room) (first now : ScriptState) (reading : Reading) (input left before after : Option (List ℕ)) (refused lines_done : ℕ) (so_far : RunSoFar log room first now reading input left before after refused lines_done) where
   -- one line more was read, done and answered
   pub line_answered :
-      (new : State) (reading' : Reading) (left' after' : Option (List ℕ)) (refused' : ℕ) (line : List ℕ) (answer said : Reply) → (IsStuck answer → ⊥) → Says answer said → IsLine log room line answer now new
+      (new : ScriptState) (reading' : Reading) (left' after' : Option (List ℕ)) (refused' : ℕ) (line : List ℕ) (answer said : Reply) → (IsStuck answer → ⊥) → Says answer said → IsLine log room line answer now new
       → WhereTold (to_come reading left) (to_come reading' left') (TakesFirst line) → CountsGiven reading reading' left left' → lines_left reading' < lines_left reading → reading'.given ≤ 16777216
       → WhereTold after after' (λ a b. b ≡ a ++ reply_text said) → refused' ≡ refused + refusals_of said → refused' + length new.posts ≤ lines_done + 1
       → RunSoFar log room first new reading' input left' before after' refused' (lines_done + 1)
@@ -258,7 +258,7 @@ module _ (log : Log) (room : Room) (first now : State) (reading : Reading) (inpu
 
   -- the run stops in one line more
   pub stops_in_line :
-      (why : Option Stop) (last : State) (reading' : Reading) (left' after' : Option (List ℕ)) (f g h k refused' : ℕ) (line : List ℕ) (answer said : Reply) (text : Wrote (reply_text said) (through after h after' k)) → Says answer said → IsLine log room line answer now last
+      (why : Option Stop) (last : ScriptState) (reading' : Reading) (left' after' : Option (List ℕ)) (f g h k refused' : ℕ) (line : List ℕ) (answer said : Reply) (text : Wrote (reply_text said) (through after h after' k)) → Says answer said → IsLine log room line answer now last
       → WhereTold (to_come reading left) (to_come reading' left') (TakesFirst line) → CountsGiven reading reading' left left' → reading'.given ≤ 16777216 → refused' ≡ refused + refusals_of said
       → (why ≡ None → ⊥) → (why ≡ Some stop.SourceFault → ⊥) → (why ≡ Some stop.TooLong → ⊥) → ((why ≡ Some stop.SinkFault → ⊥) → why ≡ Some stop.Stuck) → (why ≡ Some stop.SinkFault → Rose h k) → (why ≡ Some stop.Stuck → IsStuck answer) → (IsStuck answer → why ≡ Some stop.Stuck) → g ≡ f
       → GoesUntil why log room first last (through input f left' g) (through before h after' k) refused'
@@ -306,7 +306,7 @@ module _ (log : Log) (room : Room) (first now : State) (reading : Reading) (inpu
 
   -- the run goes on
   pub line_told :
-      (new : State) (reading' : Reading) (left' after' : Option (List ℕ)) (f g h k refused' : ℕ) (line : List ℕ) (answer : Reply) (why : Option Stop) → is_some why ≡ false → IsLine log room line answer now new
+      (new : ScriptState) (reading' : Reading) (left' after' : Option (List ℕ)) (f g h k refused' : ℕ) (line : List ℕ) (answer : Reply) (why : Option Stop) → is_some why ≡ false → IsLine log room line answer now new
       → ReadsLine reading reading' (through left f left' g) line → Tells answer refused refused' (through after h after' k) why → RunSoFar log room first new reading' input left' before after' refused' (lines_done + 1)
   line_told new reading' left' after' f g h k refused' line answer (Some why) none does read tells = absurd (cc (none))
   line_told new reading' left' after' f g h k refused' line answer None none does read tells =
@@ -315,7 +315,7 @@ module _ (log : Log) (room : Room) (first now : State) (reading : Reading) (inpu
 
   -- it ends
   pub line_ends :
-      (last : State) (reading' : Reading) (left' after' : Option (List ℕ)) (f g h k refused' : ℕ) (line : List ℕ) (answer : Reply) (why : Option Stop) → is_some why ≡ true → IsLine log room line answer now last
+      (last : ScriptState) (reading' : Reading) (left' after' : Option (List ℕ)) (f g h k refused' : ℕ) (line : List ℕ) (answer : Reply) (why : Option Stop) → is_some why ≡ true → IsLine log room line answer now last
       → ReadsLine reading reading' (through left f left' g) line → Tells answer refused refused' (through after h after' k) why → GoesUntil why log room first last (through input f left' g) (through before h after' k) refused'
   line_ends last reading' left' after' f g h k refused' line answer None some does read tells = absurd (cc (some))
   line_ends last reading' left' after' f g h k refused' line answer (Some why) some does read tells = ended tells.ends
@@ -361,7 +361,7 @@ no_requests lines line none asking = none (last_requests lines line (asks (role_
 -- From one state to a later one, where the clock is ahead of each crash image at the first: it stays ahead; where no other group was found at a line that asks for
 -- one, a span goes on, and the disks go on standing by the session. No transfer goes to a slot of descriptors where none did, and nothing is under way where no line
 -- made requests.
-pub record Went (run : ℕ) (Alone Requests : Type 0) (first last : State) : Type 0 where
+pub record Went (run : ℕ) (Alone Requests : Type 0) (first last : ScriptState) : Type 0 where
   pub timely : IsTimely run first → IsTimely run last
   pub keeps : IsTimely run first → Alone → (begun : Moment) → Keeps run begun first.moment → StandsBy run begun first → Keeps run begun last.moment × StandsBy run begun last
   pub leaves : LeavesDescriptors first.moment.device → LeavesDescriptors last.moment.device
@@ -370,7 +370,7 @@ pub record Went (run : ℕ) (Alone Requests : Type 0) (first last : State) : Typ
   pub power : first.moment.device.power ≡ true → last.moment.device.power ≡ true
   pub clock : first.last ≤ last.last
 
-pub script_went : (log : Log) (room : Room) (first : State) {lines : List (List ℕ)} {replies : List Reply} {last : State} (script : Script log room first lines replies last) → Went log.run (StaysAlone script) (MakeRequests lines) first last
+pub script_went : (log : Log) (room : Room) (first : ScriptState) {lines : List (List ℕ)} {replies : List Reply} {last : ScriptState} (script : Script log room first lines replies last) → Went log.run (StaysAlone script) (MakeRequests lines) first last
 script_went log room first NoLine =
     record { timely = λ timely. timely; keeps = λ timely alone begun span stands. (span, stands); leaves = λ leaves. leaves; rests = λ none rest. rest; waits = omega arith; power = λ on. on; clock = omega arith }
 script_went log room first (NextLine {lines = lines} {mid = mid} {new = new} line answer said heard says script it) =
@@ -389,7 +389,7 @@ script_went log room first (NextLine {lines = lines} {mid = mid} {new = new} lin
     }
 
 -- the same to a run's last state, behind which nothing may have been heard of a transfer
-pub record Ended (run : ℕ) (Alone Requests Heard : Type 0) (first last : State) : Type 0 where
+pub record Ended (run : ℕ) (Alone Requests Heard : Type 0) (first last : ScriptState) : Type 0 where
   pub left : IsTimely run first → IsAhead run (last.last + 1) last.moment.device last.moment.facts
   pub timely : Heard → IsTimely run first → IsTimely run last
   pub keeps : IsTimely run first → Alone → (begun : Moment) → Keeps run begun first.moment → StandsBy run begun first → Keeps run begun last.moment × (Heard → StandsBy run begun last)
@@ -399,21 +399,21 @@ pub record Ended (run : ℕ) (Alone Requests Heard : Type 0) (first last : State
   pub clock : first.last ≤ last.last
 
 -- what is ahead of each crash image is ahead of the disks
-pub timely_ahead : (run : ℕ) (s : State) → IsTimely run s → IsAhead run (s.last + 1) s.moment.device s.moment.facts
+pub timely_ahead : (run : ℕ) (s : ScriptState) → IsTimely run s → IsAhead run (s.last + 1) s.moment.device s.moment.facts
 timely_ahead run s timely = record { run_is = timely.ahead.run_is; later = timely.ahead.later; behind = each_is_behind (s.last + 1) s.moment.device timely.ahead.behind }
 
-ends_went : (log : Log) (room : Room) (Alone : Type 0) (lines : List (List ℕ)) (first mid last : State) {done : List (List ℕ)} {said : List Reply} {front : List ℕ} → Went log.run Alone (MakeRequests lines) first mid → (ends : Ends log room mid last done said front)
+ends_went : (log : Log) (room : Room) (Alone : Type 0) (lines : List (List ℕ)) (first mid last : ScriptState) {done : List (List ℕ)} {said : List Reply} {front : List ℕ} → Went log.run Alone (MakeRequests lines) first mid → (ends : Ends log room mid last done said front)
     → Ended log.run (Alone × EndsAlone ends) (MakeRequests (lines ++ done)) (EndsHeard ends) first last
 ends_went log room Alone lines first mid last went (AtLine is) = record {
   left = λ timely. timely_ahead log.run last (subst (IsTimely log.run) (sym is) (went.timely timely));
   timely = λ heard timely. subst (IsTimely log.run) (sym is) (went.timely timely);
   keeps = λ timely alone begun span stands.
       let kept = went.keeps timely alone.0 begun span stands in
-      (subst (λ (s : State). Keeps log.run begun s.moment) (sym is) kept.0, λ heard. subst (λ (s : State). StandsBy log.run begun s) (sym is) kept.1);
+      (subst (λ (s : ScriptState). Keeps log.run begun s.moment) (sym is) kept.0, λ heard. subst (λ (s : ScriptState). StandsBy log.run begun s) (sym is) kept.1);
   rests = λ heard none rest. subst IsAtRest (sym is) (went.rests (λ some. none (more_requests lines [] some)) rest);
-  leaves = λ heard leaves. subst (λ (s : State). LeavesDescriptors s.moment.device) (sym is) (went.leaves leaves);
-  power = λ on. subst (λ (s : State). s.moment.device.power ≡ true) (sym is) (went.power on);
-  clock = subst (λ (s : State). first.last ≤ s.last) (sym is) went.clock;
+  leaves = λ heard leaves. subst (λ (s : ScriptState). LeavesDescriptors s.moment.device) (sym is) (went.leaves leaves);
+  power = λ on. subst (λ (s : ScriptState). s.moment.device.power ≡ true) (sym is) (went.power on);
+  clock = subst (λ (s : ScriptState). first.last ≤ s.last) (sym is) went.clock;
 }
 ends_went log room Alone lines first mid last went (InLine line answer said front rest says split it) = record {
   left = λ timely. it.goes.left (went.timely timely);
@@ -427,27 +427,27 @@ ends_went log room Alone lines first mid last went (InLine line answer said fron
   clock = let a = went.clock in let b = it.goes.clock in omega (arith, a, b);
 }
 
-pub lines_ended : (log : Log) (room : Room) (first last : State) (input output : Passage) (refused : ℕ) (lines : AreDone log room first last input output refused)
+pub lines_ended : (log : Log) (room : Room) (first last : ScriptState) (input output : Passage) (refused : ℕ) (lines : AreDone log room first last input output refused)
     → Ended log.run (StaysAlone lines.script × EndsAlone lines.ends) (MakeRequests (lines.lines ++ lines.done)) (EndsHeard lines.ends) first last
 lines_ended log room first last input output refused lines = ends_went log room (StaysAlone lines.script) lines.lines first lines.mid last (script_went log room first lines.script) lines.ends
 
 -- a run that has done no line
-pub nothing_done : (log : Log) (room : Room) (first : State) (input output : Stream) → first.posts ≡ [] → AreDone log room first first (record { before = input; after = input }) (record { before = output; after = output }) 0
+pub nothing_done : (log : Log) (room : Room) (first : ScriptState) (input output : Stream) → first.posts ≡ [] → AreDone log room first first (record { before = input; after = input }) (record { before = output; after = output }) 0
 nothing_done log room first input output none =
     lines_so_far log room first first nothing_read input.content input.content output.content output.content 0 0 (at_start log room first input.content output.content none) input input.faults output.faults output.faults
 
 -- in which no line was broken off
-pub nothing_broken : (log : Log) (room : Room) (first : State) (input output : Stream) (none : first.posts ≡ []) → (nothing_done log room first input output none).done ≡ []
+pub nothing_broken : (log : Log) (room : Room) (first : ScriptState) (input output : Stream) (none : first.posts ≡ []) → (nothing_done log room first input output none).done ≡ []
 unfolding nothing_done lines_so_far
 nothing_broken log room first input output none = refl
 
 -- nor is a line left of what was read
-pub nothing_left : (log : Log) (room : Room) (first : State) (input output : Stream) (none : first.posts ≡ []) (most : ℕ) → AreDoneBut most (nothing_done log room first input output none) (record { before = input; after = input })
+pub nothing_left : (log : Log) (room : Room) (first : ScriptState) (input output : Stream) (none : first.posts ≡ []) (most : ℕ) → AreDoneBut most (nothing_done log room first input output none) (record { before = input; after = input })
 unfolding nothing_done lines_so_far at_start
 nothing_left log room first input output none most = told_same input.content (λ a b. ComesBehind [] most a b) (λ a. record { front = []; block = []; clean = refl; few = omega arith; whole = inl refl })
 
 -- nor was anything not heard of
-pub nothing_heard : (log : Log) (room : Room) (first : State) (input output : Stream) (none : first.posts ≡ []) → EndsHeard (nothing_done log room first input output none).ends
+pub nothing_heard : (log : Log) (room : Room) (first : ScriptState) (input output : Stream) (none : first.posts ≡ []) → EndsHeard (nothing_done log room first input output none).ends
 unfolding nothing_done lines_so_far
 nothing_heard log room first input output none = tt
 

@@ -24,7 +24,7 @@ use Rattle.lvm_line.specs.passed.Quiesce.{RefusedAtOnce, StayedOut, VaryonOnceQu
 use Rattle.lvm_line.proofs.passed.Quiesce.{ends_only}
 use Rattle.lvm_core.specs.Leaves.{MayBeFound}
 use Rattle.lvm_line.specs.passed.GroupLines.{IsLeft, VaryonDoes, NoVaryonWhileOn, Varies, itself, outcome_of}
-use Rattle.lvm_line.specs.passed.Stage.{patience_of_line, IsAlone, Role, IsStuck, StandsAlone, StandsBy, State, log_with, Reply}
+use Rattle.lvm_line.specs.passed.Stage.{patience_of_line, IsAlone, Role, IsStuck, StandsAlone, StandsBy, ScriptState, log_with, Reply}
 use Rattle.lvm_line.specs.Lines.{LineDoes, IsLine, role_of}
 use Rattle.lvm_line.specs.passed.ReplyVariants as reply
 use Rattle.lvm_top.specs.Script.{Says, Script, NoLine, NextLine, StaysAlone, Ends, AtLine, InLine, EndsAlone, EndsHeard, entry_state, empty_log, facts_of}
@@ -42,27 +42,27 @@ use Rattle.lvm_top.proofs.Varying.{was_found}
 -- ---- the lines
 
 -- no transfer goes to a slot of descriptors after lines where none did before them
-pub script_leaves : (log : Log) (room : Room) (first : State) {lines : List (List ℕ)} {replies : List Reply} {last : State} → Script log room first lines replies last → LeavesDescriptors first.moment.device → LeavesDescriptors last.moment.device
+pub script_leaves : (log : Log) (room : Room) (first : ScriptState) {lines : List (List ℕ)} {replies : List Reply} {last : ScriptState} → Script log room first lines replies last → LeavesDescriptors first.moment.device → LeavesDescriptors last.moment.device
 script_leaves log room first script leaves = (script_went log room first script).leaves leaves
 
-module _ (log : Log) (room : Room) (past : List Fact) (first : State) (begin : MayStart log.run past first) where
+module _ (log : Log) (room : Room) (past : List Fact) (first : ScriptState) (begin : MayStart log.run past first) where
   -- no group is on at first, so no disks stand by a session
   pub first_stands : StandsBy log.run first.moment first
   first_stands before begins = subst (λ (s : Option Core). IfSome s (λ core. StandsAlone first.moment.device core → StandsAfterPast before first.moment.device core)) (sym begin.off) tt
 
-  pub went_so : {lines : List (List ℕ)} {replies : List Reply} {last : State} (script : Script log room first lines replies last) → StaysAlone script → Keeps log.run first.moment last.moment × StandsBy log.run first.moment last
+  pub went_so : {lines : List (List ℕ)} {replies : List Reply} {last : ScriptState} (script : Script log room first lines replies last) → StaysAlone script → Keeps log.run first.moment last.moment × StandsBy log.run first.moment last
   went_so script alone = (script_went log room first script).keeps begin.timely alone first.moment (keeps_still log.run first.moment) first_stands
 
   -- each crash image is kept with the history
-  images_kept : {lines : List (List ℕ)} {replies : List Reply} {last : State} (script : Script log room first lines replies last) → StaysAlone script → ImagesKept last.moment.device (past ++ last.moment.facts)
+  images_kept : {lines : List (List ℕ)} {replies : List Reply} {last : ScriptState} (script : Script log room first lines replies last) → StaysAlone script → ImagesKept last.moment.device (past ++ last.moment.facts)
   images_kept script alone = (last-path (went_so script alone).0 past begin.begins).kept
 
   -- what stands before the next line
-  pub stood : {lines : List (List ℕ)} {replies : List Reply} {mid : State} (script : Script log room first lines replies mid) → StaysAlone script → (role : Role) (new : State) → IsAlone role mid new → StoodBefore log.run role mid new
+  pub stood : {lines : List (List ℕ)} {replies : List Reply} {mid : ScriptState} (script : Script log room first lines replies mid) → StaysAlone script → (role : Role) (new : ScriptState) → IsAlone role mid new → StoodBefore log.run role mid new
   stood script alone role new now = StandsSince past first.moment (went_so script alone).1 begin.begins now
 
   -- what an acknowledged group command leaves
-  acknowledged : {lines : List (List ℕ)} {replies : List Reply} {mid new : State} (line : List ℕ) (answer said : Reply) (heard : IsStuck answer → ⊥) (says : Says answer said) (before : Script log room first lines replies mid) (it : IsLine log room line answer mid new)
+  acknowledged : {lines : List (List ℕ)} {replies : List Reply} {mid new : ScriptState} (line : List ℕ) (answer said : Reply) (heard : IsStuck answer → ⊥) (says : Says answer said) (before : Script log room first lines replies mid) (it : IsLine log room line answer mid new)
       → StaysAlone (NextLine line answer said heard says before it) → is_acknowledged (line_of line) answer ≡ true
       → (id : ℕ) (k : Descriptor) → MayBeFound new.moment.device id k → MayStand before id k ⊎ MayHaveCommitted (line_of line) answer mid new id k
       → IsSomeAnd new.session (λ core. StandsOf core (MayStand before) id k)
@@ -76,7 +76,7 @@ module _ (log : Log) (room : Room) (past : List Fact) (first : State) (begin : M
       (⊎_elim (λ stood. inl stood) (λ committed. inr (committed.own, on.own k committed.is)) which))
 
   -- what a line leaves of which something was heard
-  line_stands : {lines : List (List ℕ)} {replies : List Reply} {mid new : State} (line : List ℕ) (answer said : Reply) (says : Says answer said) (before : Script log room first lines replies mid) (it : IsLine log room line answer mid new)
+  line_stands : {lines : List (List ℕ)} {replies : List Reply} {mid new : ScriptState} (line : List ℕ) (answer said : Reply) (says : Says answer said) (before : Script log room first lines replies mid) (it : IsLine log room line answer mid new)
       → (IsStuck answer → ⊥) → StaysAlone before × IsAlone (role_of (line_of line)) mid new → ((id : ℕ) (k : Descriptor) → MayBeFound mid.moment.device id k → MayStand before id k)
       → (id : ℕ) (k : Descriptor) → MayBeFound new.moment.device id k → StandsAfter (is_acknowledged (line_of line) answer) (line_of line) answer mid new (MayStand before) id k
   line_stands {mid = mid} {new = new} line answer said says before it heard alone stands_so id k found =
@@ -92,14 +92,14 @@ module _ (log : Log) (room : Room) (past : List Fact) (first : State) (begin : M
       by_answer true acked which = acknowledged line answer said heard says before it alone acked id k found which
       by_answer false other which = which
 
-  pub stands : {lines : List (List ℕ)} {replies : List Reply} {last : State} (script : Script log room first lines replies last) → StaysAlone script
+  pub stands : {lines : List (List ℕ)} {replies : List Reply} {last : ScriptState} (script : Script log room first lines replies last) → StaysAlone script
       → (id : ℕ) (k : Descriptor) → MayBeFound last.moment.device id k → MayStand script id k
   stands NoLine alone id k it = it
   stands (NextLine line answer said heard says before it) alone id k found =
       line_stands line answer said says before it heard alone (stands before alone.0) id k found
 
   -- what is told at first is told after the lines
-  pub last_told : {lines : List (List ℕ)} {replies : List Reply} {last : State} (script : Script log room first lines replies last) → StaysAlone script → IsSome last.moment.device.media
+  pub last_told : {lines : List (List ℕ)} {replies : List Reply} {last : ScriptState} (script : Script log room first lines replies last) → StaysAlone script → IsSome last.moment.device.media
   last_told script alone = span_told (went_so script alone).0 begin.begins.told
 
 pub script_finds : ScriptFindsWhatStands
@@ -150,11 +150,11 @@ pub run_may_start : RunMayStart
 run_may_start run entry past few ready behind earlier = record { off = refl; few = few; leaves = none_flies entry ready.flights; timely = begins_timely run entry ready.flights behind; begins = begins_run run entry past earlier }
 
 -- where it ends
-module _ (log : Log) (room : Room) (past : List Fact) (first : State) (begin : MayStart log.run past first) {lines : List (List ℕ)} {replies : List Reply} {mid : State}
+module _ (log : Log) (room : Room) (past : List Fact) (first : ScriptState) (begin : MayStart log.run past first) {lines : List (List ℕ)} {replies : List Reply} {mid : ScriptState}
     (script : Script log room first lines replies mid) where
-  end_stands : {last : State} {done : List (List ℕ)} {said : List Reply} {front : List ℕ} (ends : Ends log room mid last done said front) → EndsHeard ends → StaysAlone script × EndsAlone ends
+  end_stands : {last : ScriptState} {done : List (List ℕ)} {said : List Reply} {front : List ℕ} (ends : Ends log room mid last done said front) → EndsHeard ends → StaysAlone script × EndsAlone ends
       → (id : ℕ) (k : Descriptor) → MayBeFound last.moment.device id k → MayStandAtEnd ends (MayStand script) id k
-  end_stands (AtLine same) heard alone id k found = stands log room past first begin script alone.0 id k (subst (λ (s : State). MayBeFound s.moment.device id k) same found)
+  end_stands (AtLine same) heard alone id k found = stands log room past first begin script alone.0 id k (subst (λ (s : ScriptState). MayBeFound s.moment.device id k) same found)
   end_stands (InLine line answer said front rest says split it) heard alone id k found =
       line_stands log room past first begin line answer said says script it heard alone (stands log room past first begin script alone.0) id k found
 

@@ -8,7 +8,7 @@ use Rattle.lvm_vol.specs.Log.{Log}
 use Rattle.lvm_stamps.specs.Behind.{IsBehind, IsAhead}
 use Rattle.lvm_stamps.proofs.Stamps.{later_is_ahead_too}
 use Rattle.lvm_core.specs.declared.parts.Room.{Room}
-use Rattle.lvm_line.specs.passed.Stage.{shelf_in, history_in, moment_in, session_in, state_in, IsBetweenStage, Stage, IsAtRest, IsBetween, State}
+use Rattle.lvm_line.specs.passed.Stage.{shelf_in, history_in, moment_in, session_in, state_in, IsBetweenStage, Stage, IsAtRest, IsBetween, ScriptState}
 use Rattle.lvm_line.specs.passed.Stage.{without_facts}
 use Rattle.std.specs.Global.{Vec}
 use Rattle.lvm_posts.specs.declared.posts.Post.{Post}
@@ -95,7 +95,7 @@ nothing_ran last room device input output ready = record {
   power = ready.power;
 }
 
-module _ (run last : ℕ) (room : Room) (entry exit : Device) (input output : Passage) (log : Log) (made : log ≡ record (empty_log run room) { facts = log.facts }) (end : State) (why : Option Stop) (refused : ℕ) where
+module _ (run last : ℕ) (room : Room) (entry exit : Device) (input output : Passage) (log : Log) (made : log ≡ record (empty_log run room) { facts = log.facts }) (end : ScriptState) (why : Option Stop) (refused : ℕ) where
   -- a run of lines that ended so
   abbrev ran_so : ExitStatus → Run
   ran_so status = record { named = run; last = last; room = room; entry = entry; exit = exit; input = input; output = output; history = Some log; status = status; refused = refused }
@@ -169,7 +169,7 @@ first_state device shelf history posts bytes begun run room is none last =
 pub first_between : {S : Type 0} (device : S → Device) (shelf : S) (history : Log) (posts : Vec Post) (bytes : Vec ℕ) (run : ℕ) (room : Room) → history ≡ empty_log run room → posts.items ≡ [] → IsReady (device shelf)
     → IsBetweenStage device (record { holder = holder.Off shelf history; posts = posts; bytes = bytes })
 first_between device shelf history posts bytes run room is none ready =
-    subst (λ (s : State). IsBetween s.moment s.session s.posts) (sym (first_state device shelf history posts bytes run run room is none refl)) (entry_between (device shelf) run ready)
+    subst (λ (s : ScriptState). IsBetween s.moment s.session s.posts) (sym (first_state device shelf history posts bytes run run room is none refl)) (entry_between (device shelf) run ready)
 
 module _ {S : Type 0} (device : S → Device) (entry : Device) (run begun last : ℕ) (room : Room) (start : Stage S) (first_is : state_in device start begun ≡ entry_state entry run) (made : without_facts (history_in start) ≡ empty_log run room)
     (it : Stage S) (closed : S) (kept : Log) (concludes : Concludes (history_in it).run (moment_in device it) (record { device = device closed; facts = kept.facts }) (session_in it)) (kept_is : without_facts kept ≡ without_facts (history_in it))
@@ -198,7 +198,7 @@ module _ {S : Type 0} (device : S → Device) (entry : Device) (run begun last :
 
   module _ (input output : Passage) (refused : ℕ) (goes : GoesUntil why (without_facts (history_in start)) room (state_in device start begun) (state_in device it last) input output refused) (ready : IsReady entry) where
     pub the_lines : GoesUntil why (empty_log run room) room (entry_state entry run) (state_in device it last) input output refused
-    the_lines = subst (λ (s : State). GoesUntil why (empty_log run room) room s (state_in device it last) input output refused) first_is
+    the_lines = subst (λ (s : ScriptState). GoesUntil why (empty_log run room) room s (state_in device it last) input output refused) first_is
         (subst (λ (l : Log). GoesUntil why l room (state_in device start begun) (state_in device it last) input output refused) made goes)
 
     they_went : Ended run (StaysAlone the_lines.lines.script × EndsAlone the_lines.lines.ends) (MakeRequests (the_lines.lines.lines ++ the_lines.lines.done)) (EndsHeard the_lines.lines.ends) (entry_state entry run) (state_in device it last)

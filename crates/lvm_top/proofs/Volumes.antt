@@ -27,7 +27,7 @@ use Rattle.lvm_line.specs.passed.Tie.{LeavesDescriptors, IsGood, IsTied}
 use Rattle.lvm_line.proofs.passed.TieGroups.{tied_holds}
 use Rattle.lvm_line.specs.passed.TieCommands.{StandsAfter}
 use Rattle.lvm_line.proofs.passed.TieCommands.{rests}
-use Rattle.lvm_line.specs.passed.Stage.{IsBrokenOff, OfGroup, OfGroupWhere, State, StandsAlone, Reply}
+use Rattle.lvm_line.specs.passed.Stage.{IsBrokenOff, OfGroup, OfGroupWhere, ScriptState, StandsAlone, Reply}
 use Rattle.lvm_line.specs.passed.VolumeLines.{Drains, IsDone, IsUndrained, StaysOn, MklvDoes, RmlvDoes, NoGroupForMklv, BusyMklv, UndrainedMklv}
 use Rattle.lvm_line.specs.passed.VolumeLines.{MakesVolume, MklvFails, NoGroupForRmlv, BusyRmlv, UndrainedRmlv, NoVolumeForRmlv, RemovesVolume}
 use Rattle.lvm_line.specs.passed.VolumeLines.{RmlvFails, MklvEnds, RmlvEnds, ends_session, refusal_for, wanted}
@@ -46,11 +46,11 @@ some_of (Some x) some = (x, refl)
 some_of None some = absurd (cc (some))
 
 -- what stands before a line that asks for more stands before a command on the group
-pub as_group : (run : ℕ) (Holds : Session → Type 0) (old new : State) → StoodBefore run (OfGroupWhere Holds) old new → StoodBefore run OfGroup old new
+pub as_group : (run : ℕ) (Holds : Session → Type 0) (old new : ScriptState) → StoodBefore run (OfGroupWhere Holds) old new → StoodBefore run OfGroup old new
 as_group run Holds old new (HeldAtRest rest held) = HeldAtRest rest held
 as_group run Holds old new (StandsSince past first stands begins alone) = StandsSince past first stands begins (record { enters = alone.enters; acts = alone.acts; allowed = tt })
 
-module _ (run : ℕ) (old new : State) (leaves : LeavesDescriptors old.moment.device) (named : IfSome old.session (λ core. core.history.run ≡ run)) (stood : StoodBefore run OfGroup old new) where
+module _ (run : ℕ) (old new : ScriptState) (leaves : LeavesDescriptors old.moment.device) (named : IfSome old.session (λ core. core.history.run ≡ run)) (stood : StoodBefore run OfGroup old new) where
   -- ---- before the command
 
   -- turns make nothing found
@@ -142,8 +142,8 @@ module _ (run : ℕ) (old new : State) (leaves : LeavesDescriptors old.moment.de
         failed_mklv _ says done id k it = inl (idle_nothing core left mid done.left drains done.gives.0 done.leaves id k it)
 
       pub mklv_finds : MklvDoes (wanted name copies mode policy lps) group old new answer → FoundByMklv
-      mklv_finds (NoGroupForMklv none is) id k it = inl (same_nothing old.moment.device new.moment.device (ap (λ (s : State). s.moment.device) is.1) id k it)
-      mklv_finds (BusyMklv on busy is) id k it = inl (same_nothing old.moment.device new.moment.device (ap (λ (s : State). s.moment.device) is.1) id k it)
+      mklv_finds (NoGroupForMklv none is) id k it = inl (same_nothing old.moment.device new.moment.device (ap (λ (s : ScriptState). s.moment.device) is.1) id k it)
+      mklv_finds (BusyMklv on busy is) id k it = inl (same_nothing old.moment.device new.moment.device (ap (λ (s : ScriptState). s.moment.device) is.1) id k it)
       mklv_finds (UndrainedMklv core why some on un) id k it = inl (undrained_nothing core why answer un id k it)
       mklv_finds (MakesVolume core left mid number some on drains done is) id k it = tried_mklv core left mid some drains (Ok number) false (inl is) done id k it
       mklv_finds (MklvFails core left mid why some on drains done is) id k it = failed_mklv core left mid some drains why is done id k it
@@ -177,8 +177,8 @@ module _ (run : ℕ) (old new : State) (leaves : LeavesDescriptors old.moment.de
         failed_rmlv _ says done id k it = absurd done.gives
 
       pub rmlv_finds : RmlvDoes name old new answer → FoundByRmlv
-      rmlv_finds (NoGroupForRmlv none is) id k it = inl (same_nothing old.moment.device new.moment.device (ap (λ (s : State). s.moment.device) is.1) id k it)
-      rmlv_finds (BusyRmlv busy is) id k it = inl (same_nothing old.moment.device new.moment.device (ap (λ (s : State). s.moment.device) is.1) id k it)
+      rmlv_finds (NoGroupForRmlv none is) id k it = inl (same_nothing old.moment.device new.moment.device (ap (λ (s : ScriptState). s.moment.device) is.1) id k it)
+      rmlv_finds (BusyRmlv busy is) id k it = inl (same_nothing old.moment.device new.moment.device (ap (λ (s : ScriptState). s.moment.device) is.1) id k it)
       rmlv_finds (UndrainedRmlv core why some un) id k it = inl (undrained_nothing core why answer un id k it)
       rmlv_finds (NoVolumeForRmlv core left mid some drains none stays last says) id k it = inl (idle_nothing core left mid mid drains refl stays id k it)
       rmlv_finds (RemovesVolume core left mid lv some drains its done is) id k it = tried_rmlv core left mid some drains lv its (Ok tt) false (inl is) done id k it
@@ -191,7 +191,7 @@ not_empty [] y ys none = cc none
 not_empty (x ∷ xs) y ys none = cc none
 
 -- it leaves a session on whose group has a volume
-pub mklv_serves : (log : Log) (room : Room) (line : List ℕ) (old new : State) (name : List ℕ) (copies : ℕ) (mode : Mode) (policy : Policy) (group : List ℕ) (lps : ℕ)
+pub mklv_serves : (log : Log) (room : Room) (line : List ℕ) (old new : ScriptState) (name : List ℕ) (copies : ℕ) (mode : Mode) (policy : Policy) (group : List ℕ) (lps : ℕ)
     → line_of line ≡ Ok (Some (command.Mklv name copies mode policy group lps)) → IsLine log room line reply.Ok old new → (core : Core) × (new.session ≡ Some core) × (core.descriptor.lvs ≡ [] → ⊥)
 mklv_serves log room line old new name copies mode policy group lps reads it = by (subst (λ (read : Result (Option Command) Misfit). LineDoes log room read old new reply.Ok) reads it.does)
   where

@@ -15,7 +15,7 @@ use Rattle.lvm_session.specs.State.{Core}
 use Rattle.lvm_line.specs.Causes.{IsBroughtBack}
 use Rattle.lvm_line.specs.Lines.{IsLine, role_of}
 use Rattle.lvm_line.specs.passed.Quiesce.{Quiesces}
-use Rattle.lvm_line.specs.passed.Stage.{IsStuck, State, IsTimely, Reply}
+use Rattle.lvm_line.specs.passed.Stage.{IsStuck, ScriptState, IsTimely, Reply}
 use Rattle.lvm_line.specs.passed.Tie.{LeavesDescriptors}
 use Rattle.lvm_line.specs.passed.ReplyVariants as reply
 use Rattle.lvm_top.specs.declared.status.ExitStatus.{ExitStatus}
@@ -29,13 +29,13 @@ use Rattle.lvm_top.specs.Standing.{MayHaveCommitted, MayStand, MayStandAtEnd, Ha
 -- and something was heard of all, the clock is ahead of each crash image, and the disks stand by a session.
 abbrev pub LineFindsNoMore : Type 0
 LineFindsNoMore =
-    (log : Log) (room : Room) (line : List ℕ) (answer : Reply) (old new : State) → IsLine log room line answer old new
+    (log : Log) (room : Room) (line : List ℕ) (answer : Reply) (old new : ScriptState) → IsLine log room line answer old new
     → HasFewDisks old.moment.device → LeavesDescriptors old.moment.device → (IsStuck answer → ⊥) → IsTimely log.run old → StoodBefore log.run (role_of (line_of line)) old new
     → (id : ℕ) (k : Descriptor) → MayBeFound new.moment.device id k → MayBeFound old.moment.device id k ⊎ MayHaveCommitted (line_of line) answer old new id k
 
 -- A state from which a script may begin: no group is on, no transfer that is out goes to a slot of descriptors, the clock is ahead of each crash image of the
 -- disks, of which there are at most 128, and an earlier history is kept with them.
-pub record MayStart (run : ℕ) (past : List Fact) (first : State) : Type 0 where
+pub record MayStart (run : ℕ) (past : List Fact) (first : ScriptState) : Type 0 where
   pub off : first.session ≡ None
   pub few : HasFewDisks first.moment.device
   pub leaves : LeavesDescriptors first.moment.device
@@ -45,16 +45,16 @@ pub record MayStart (run : ℕ) (past : List Fact) (first : State) : Type 0 wher
 -- Whatever may be found after the lines of a script may stand, where no other group is found at the lines that ask for that.
 abbrev pub ScriptFindsWhatStands : Type 0
 ScriptFindsWhatStands =
-    (log : Log) (room : Room) (past : List Fact) (first : State) (lines : List (List ℕ)) (replies : List Reply) (last : State) (script : Script log room first lines replies last)
+    (log : Log) (room : Room) (past : List Fact) (first : ScriptState) (lines : List (List ℕ)) (replies : List Reply) (last : ScriptState) (script : Script log room first lines replies last)
     → MayStart log.run past first → StaysAlone script
     → (id : ℕ) (k : Descriptor) → MayBeFound last.moment.device id k → MayStand script id k
 
 -- So a group that a `varyonvg` varies on thereafter has a descriptor that may stand.
 abbrev pub VaryonFindsWhatStands : Type 0
 VaryonFindsWhatStands =
-    (log : Log) (room : Room) (past : List Fact) (first : State) (lines : List (List ℕ)) (replies : List Reply) (last : State) (script : Script log room first lines replies last)
+    (log : Log) (room : Room) (past : List Fact) (first : ScriptState) (lines : List (List ℕ)) (replies : List Reply) (last : ScriptState) (script : Script log room first lines replies last)
     → MayStart log.run past first → StaysAlone script
-    → (line name : List ℕ) (new : State) → line_of line ≡ Ok (Some (command.Varyon name)) → IsLine log room line reply.Ok last new
+    → (line name : List ℕ) (new : ScriptState) → line_of line ≡ Ok (Some (command.Varyon name)) → IsLine log room line reply.Ok last new
     → IsSomeAnd new.session (λ core. MayStand script core.descriptor.id core.descriptor)
 
 -- A run may start where nothing is under way, its moment is later than what stands on the disks, and they are kept with an earlier history.
@@ -71,8 +71,8 @@ RunFindsWhatStands =
 -- After any lines of a script a `varyonvg` that is answered `ok` brings its group back, from the shelf on which what was out has ended.
 abbrev pub VaryonsRecover : Type 0
 VaryonsRecover =
-    (log : Log) (room : Room) (first : State) (lines : List (List ℕ)) (replies : List Reply) (last : State) → Script log room first lines replies last → IsTimely log.run first
-    → (line name : List ℕ) (new : State) → line_of line ≡ Ok (Some (command.Varyon name)) → IsLine log room line reply.Ok last new
+    (log : Log) (room : Room) (first : ScriptState) (lines : List (List ℕ)) (replies : List Reply) (last : ScriptState) → Script log room first lines replies last → IsTimely log.run first
+    → (line name : List ℕ) (new : ScriptState) → line_of line ≡ Ok (Some (command.Varyon name)) → IsLine log room line reply.Ok last new
     → (core : Core) × (new.session ≡ Some core) × ((quiet : Device) × Quiesces last.moment.device quiet × IsBroughtBack quiet new.moment.device core.descriptor)
 
 -- 0, 1, 5 and 7: the script was done, no memory was found, or it was too long

@@ -11,7 +11,7 @@ use Rattle.lvm_stamps.specs.Behind.{IsBehind}
 use Rattle.lvm_core.specs.declared.parts.Room.{Room}
 use Rattle.lvm_core.specs.Leaves.{MayBeFound}
 use Rattle.lvm_line.specs.passed.Recover.{HasNoPassive}
-use Rattle.lvm_line.specs.passed.Stage.{State, Reply}
+use Rattle.lvm_line.specs.passed.Stage.{ScriptState, Reply}
 use Rattle.lvm_top.specs.Run.{Run, IsRun, RanAlone}
 use Rattle.lvm_top.specs.Script.{Script, NoLine, NextLine, AreAllowed, EndsAllowed, StaysAlone, Ends, AtLine, InLine}
 use Rattle.lvm_top.specs.Blank.{IsToldBlank}
@@ -31,12 +31,12 @@ abbrev pub IsUnforced : List ℕ → Type 0
 IsUnforced line = (name : List ℕ) (mib : Option ℕ) (disks : List ℕ) → line_of line ≡ Ok (Some (command.Mkvg true name mib disks)) → ⊥
 
 -- so is each line of the script,
-abbrev pub AreUnforced : {log : Log} {room : Room} {first : State} {lines : List (List ℕ)} {replies : List Reply} {last : State} → Script log room first lines replies last → Type 0
+abbrev pub AreUnforced : {log : Log} {room : Room} {first : ScriptState} {lines : List (List ℕ)} {replies : List Reply} {last : ScriptState} → Script log room first lines replies last → Type 0
 AreUnforced NoLine = Unit {0}
 AreUnforced (NextLine line answer said heard says before does) = AreUnforced before × IsUnforced line
 
 -- and the one in which it ended
-abbrev pub EndsUnforced : {log : Log} {room : Room} {mid last : State} {done : List (List ℕ)} {said : List Reply} {front : List ℕ} → Ends log room mid last done said front → Type 0
+abbrev pub EndsUnforced : {log : Log} {room : Room} {mid last : ScriptState} {done : List (List ℕ)} {said : List Reply} {front : List ℕ} → Ends log room mid last done said front → Type 0
 EndsUnforced (AtLine same) = Unit {0}
 EndsUnforced (InLine line answer said front rest says split does) = IsUnforced line
 
@@ -51,7 +51,7 @@ RanAllowed ran = AreAllowed ran.lines.script × EndsAllowed ran.lines.ends
 -- made or removed, or acted on, if what the lines ask for besides holds.
 abbrev pub UnforcedStaysAlone : Type 0
 UnforcedStaysAlone =
-    (log : Log) (room : Room) (past : List Fact) (first : State) (lines : List (List ℕ)) (replies : List Reply) (last : State) (script : Script log room first lines replies last)
+    (log : Log) (room : Room) (past : List Fact) (first : ScriptState) (lines : List (List ℕ)) (replies : List Reply) (last : ScriptState) (script : Script log room first lines replies last)
     → MayStart log.run past first → FindsOneGroup first.moment.device → FindsNoPassive first.moment.device → AreUnforced script → AreAllowed script
     → StaysAlone script × FindsOneGroup last.moment.device × FindsNoPassive last.moment.device
 

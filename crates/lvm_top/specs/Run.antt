@@ -14,7 +14,7 @@ use Rattle.lvm_core.specs.declared.parts.Room.{Room}
 use Rattle.lvm_line.specs.passed.Recover.{HasNoPassive}
 use Rattle.lvm_line.specs.passed.RefusalVariants as refusal
 use Rattle.lvm_line.specs.passed.ReplyVariants as reply
-use Rattle.lvm_line.specs.passed.Stage.{IsAlone, OfRequests, Reply, State}
+use Rattle.lvm_line.specs.passed.Stage.{IsAlone, OfRequests, Reply, ScriptState}
 use Rattle.lvm_line.specs.passed.Varyon.{IsRecovered}
 use Rattle.lvm_top.specs.Ending.{Concludes}
 use Rattle.lvm_top.specs.Refused.{AreForCause, EndsForCause}
@@ -43,19 +43,19 @@ ran room entry exit input output last history status refused =
     record { named = run_of history; last = last; room = room; entry = entry; exit = exit; input = input; output = output; history = history; status = status; refused = refused }
 
 -- the run's state once it has ended
-abbrev pub exit_state : Device → Option Log → State → State
+abbrev pub exit_state : Device → Option Log → ScriptState → ScriptState
 exit_state exit history end = record { moment = record { device = exit; facts = facts_of history }; session = None; posts = []; last = end.last }
 
 -- What the run does behind its last line: turns, where a session is on that has any to make. Where no line made requests of volumes nothing happens, and nothing is
 -- under way then unless nothing was heard of a transfer. The clock was last asked by a line, or at the beginning.
-pub record IsConcluded (run : ℕ) (exit : Device) (history : Option Log) (last : ℕ) (end : State) (Requests Stuck : Type 0) : Type 0 where
+pub record IsConcluded (run : ℕ) (exit : Device) (history : Option Log) (last : ℕ) (end : ScriptState) (Requests Stuck : Type 0) : Type 0 where
   pub concludes : Concludes run end.moment (record { device = exit; facts = facts_of history }) end.session
   pub still : (Requests → ⊥) → record { device = exit; facts = facts_of history } ≡ end.moment
   pub rests : (Requests → ⊥) → (Stuck → ⊥) → IsReady exit
   pub clock : IfSome history (λ log. end.last ≡ last)
 
 -- the lines of the run, from its first state to its last
-abbrev pub LinesOf : Run → State → Type 0
+abbrev pub LinesOf : Run → ScriptState → Type 0
 LinesOf r end = AreDone (empty_log r.named r.room) r.room (entry_state r.entry r.named) end r.input r.output r.refused
 
 -- The lines that were done are the input's first, each as it should be. At the input's end all of it was read and done, and the status says whether a line
@@ -70,7 +70,7 @@ pub record IsRun (r : Run) : Type 0 where
   pub none : IfNone r.history ((r.status ≡ ended.Memory) × (r.refused ≡ 0) × (r.exit ≡ r.entry) × (r.output.after ≡ r.output.before) × (r.input.after ≡ r.input.before))
   pub read_words : r.status ≡ ended.Usage → ⊥
   pub counted : IsAtEnd r.status → r.status ≡ at_end r.refused
-  pub end : State
+  pub end : ScriptState
   pub lines : LinesOf r end
   pub concluded : IsConcluded r.named r.exit r.history r.last end (MakeRequests (lines.lines ++ lines.done)) (r.status ≡ ended.Stuck)
   pub whole : IsAtEnd r.status → AreAllRead lines r.input

@@ -10,7 +10,7 @@ use Rattle.lvm_vol.specs.Log.{Log}
 use Rattle.lvm_core.specs.declared.parts.Room.{Room}
 use Rattle.lvm_parse.specs.Grammar.{line_of}
 use Rattle.lvm_line.specs.Lines.{IsLine, role_of}
-use Rattle.lvm_line.specs.passed.Stage.{IsAllowed, IsAlone, Role, Aside, OfGroup, OfGroupWhere, OfRequests, reply_text, refusals_of, IsStuck, State, Reply}
+use Rattle.lvm_line.specs.passed.Stage.{IsAllowed, IsAlone, Role, Aside, OfGroup, OfGroupWhere, OfRequests, reply_text, refusals_of, IsStuck, ScriptState, Reply}
 use Rattle.lvm_line.specs.passed.RefusalVariants as refusal
 use Rattle.lvm_line.specs.passed.ReplyVariants as reply
 
@@ -26,20 +26,20 @@ abbrev pub Says : Reply → Reply → Type 0
 Says answer said = (said ≡ answer) ⊎ (IsTrue (is_made_late answer) × (said ≡ reply.Refused refusal.Memory))
 
 -- these lines have these replies, one after another
-pub data Script (log : Log) (room : Room) (first : State) : List (List ℕ) → List Reply → State → Type 0 where
+pub data Script (log : Log) (room : Room) (first : ScriptState) : List (List ℕ) → List Reply → ScriptState → Type 0 where
   NoLine : Script log room first [] [] first
-  NextLine : {lines : List (List ℕ)} {replies : List Reply} {mid new : State} (line : List ℕ) (answer said : Reply) → (IsStuck answer → ⊥) → Says answer said
+  NextLine : {lines : List (List ℕ)} {replies : List Reply} {mid new : ScriptState} (line : List ℕ) (answer said : Reply) → (IsStuck answer → ⊥) → Says answer said
       → Script log room first lines replies mid → IsLine log room line answer mid new → Script log room first (lines ++ line ∷ []) (replies ++ said ∷ []) new
 
 -- In each of the lines that enters a volume's making or removal, or acts on the session of a group with volumes, at most one group has a quorum among all disks,
 -- and no volume of that group is in mode passive; and what a line asks for besides holds of its session.
-abbrev pub StaysAlone : {log : Log} {room : Room} {first : State} {lines : List (List ℕ)} {replies : List Reply} {last : State} → Script log room first lines replies last → Type 0
+abbrev pub StaysAlone : {log : Log} {room : Room} {first : ScriptState} {lines : List (List ℕ)} {replies : List Reply} {last : ScriptState} → Script log room first lines replies last → Type 0
 StaysAlone NoLine = Unit {0}
 StaysAlone (NextLine {mid = mid} {new = new} line answer said goes says before does) = StaysAlone before × IsAlone (role_of (line_of line)) mid new
 
 -- what each of the lines asks for of its session holds: where `rmlvcopy` leaves a volume fewer copies, a fresh one is kept of each logical partition on a member
 -- that shows the group; other lines ask for nothing
-abbrev pub AreAllowed : {log : Log} {room : Room} {first : State} {lines : List (List ℕ)} {replies : List Reply} {last : State} → Script log room first lines replies last → Type 0
+abbrev pub AreAllowed : {log : Log} {room : Room} {first : ScriptState} {lines : List (List ℕ)} {replies : List Reply} {last : ScriptState} → Script log room first lines replies last → Type 0
 AreAllowed NoLine = Unit {0}
 AreAllowed (NextLine {mid = mid} line answer said goes says before does) = AreAllowed before × IsAllowed (role_of (line_of line)) mid
 
@@ -66,25 +66,25 @@ MakeRequests lines = IsTrue (list_any (λ line. is_requesting (role_of (line_of 
 -- ---- the end of the lines
 
 -- what follows the lines that were answered whole: nothing, or one line more whose reply was written in part, or after which nothing was heard
-pub data Ends (log : Log) (room : Room) (mid last : State) : List (List ℕ) → List Reply → List ℕ → Type 0 where
+pub data Ends (log : Log) (room : Room) (mid last : ScriptState) : List (List ℕ) → List Reply → List ℕ → Type 0 where
   AtLine : last ≡ mid → Ends log room mid last [] [] []
   InLine : (line : List ℕ) (answer said : Reply) (front rest : List ℕ) → Says answer said → reply_text said ≡ front ++ rest → IsLine log room line answer mid last → Ends log room mid last (line ∷ []) (said ∷ []) front
 
-abbrev pub EndsAlone : {log : Log} {room : Room} {mid last : State} {done : List (List ℕ)} {said : List Reply} {front : List ℕ} → Ends log room mid last done said front → Type 0
+abbrev pub EndsAlone : {log : Log} {room : Room} {mid last : ScriptState} {done : List (List ℕ)} {said : List Reply} {front : List ℕ} → Ends log room mid last done said front → Type 0
 EndsAlone (AtLine same) = Unit {0}
 EndsAlone {mid = mid} {last = last} (InLine line answer said front rest says split does) = IsAlone (role_of (line_of line)) mid last
 
-abbrev pub EndsAllowed : {log : Log} {room : Room} {mid last : State} {done : List (List ℕ)} {said : List Reply} {front : List ℕ} → Ends log room mid last done said front → Type 0
+abbrev pub EndsAllowed : {log : Log} {room : Room} {mid last : ScriptState} {done : List (List ℕ)} {said : List Reply} {front : List ℕ} → Ends log room mid last done said front → Type 0
 EndsAllowed (AtLine same) = Unit {0}
 EndsAllowed {mid = mid} (InLine line answer said front rest says split does) = IsAllowed (role_of (line_of line)) mid
 
 -- nothing was heard of a transfer in the line after which no more were done
-abbrev pub EndsStuck : {log : Log} {room : Room} {mid last : State} {done : List (List ℕ)} {said : List Reply} {front : List ℕ} → Ends log room mid last done said front → Type 0
+abbrev pub EndsStuck : {log : Log} {room : Room} {mid last : ScriptState} {done : List (List ℕ)} {said : List Reply} {front : List ℕ} → Ends log room mid last done said front → Type 0
 EndsStuck (AtLine same) = ⊥
 EndsStuck (InLine line answer said front rest says split does) = IsStuck answer
 
 -- something was heard of each in the line after which no more were done
-abbrev pub EndsHeard : {log : Log} {room : Room} {mid last : State} {done : List (List ℕ)} {said : List Reply} {front : List ℕ} → Ends log room mid last done said front → Type 0
+abbrev pub EndsHeard : {log : Log} {room : Room} {mid last : ScriptState} {done : List (List ℕ)} {said : List Reply} {front : List ℕ} → Ends log room mid last done said front → Type 0
 EndsHeard (AtLine same) = Unit {0}
 EndsHeard (InLine line answer said front rest says split does) = IsStuck answer → ⊥
 
@@ -107,10 +107,10 @@ passage content faults old new = record { before = stream (content old) (faults 
 
 -- The lines that were done are the first of the source's, and what was written is their replies: each whole, but that of the last a front where the sink
 -- failed.
-pub record AreDone (log : Log) (room : Room) (first last : State) (input output : Passage) (refused : ℕ) : Type 0 where
+pub record AreDone (log : Log) (room : Room) (first last : ScriptState) (input output : Passage) (refused : ℕ) : Type 0 where
   pub lines : List (List ℕ)
   pub replies : List Reply
-  pub mid : State
+  pub mid : ScriptState
   pub script : Script log room first lines replies mid
   pub done : List (List ℕ)
   pub said : List Reply
@@ -122,11 +122,11 @@ pub record AreDone (log : Log) (room : Room) (first last : State) (input output 
   pub counted : refused ≡ refusals_in (replies ++ said)
 
 -- All that the source had was read, at most 16 MiB, and done.
-abbrev pub AreAllRead : {log : Log} {room : Room} {first last : State} {input output : Passage} {refused : ℕ} → AreDone log room first last input output refused → Passage → Type 0
+abbrev pub AreAllRead : {log : Log} {room : Room} {first last : ScriptState} {input output : Passage} {refused : ℕ} → AreDone log room first last input output refused → Passage → Type 0
 AreAllRead lines input = (lines.done ≡ []) × WhereTold input.before.content input.after.content (λ a b. (lines_of a ≡ lines.lines) × (b ≡ []) × (length a ≤ 16777216))
 
 -- A line of the source was left, where its lines are told.
-abbrev pub IsLineLeft : {log : Log} {room : Room} {first last : State} {input output : Passage} {refused : ℕ} → AreDone log room first last input output refused → Passage → Type 0
+abbrev pub IsLineLeft : {log : Log} {room : Room} {first last : ScriptState} {input output : Passage} {refused : ℕ} → AreDone log room first last input output refused → Passage → Type 0
 IsLineLeft lines input = WhereTold input.before.content input.after.content (λ a b. lines_of a ≡ lines.lines → ⊥)
 
 -- The bytes are these lines, each with its line feed, and the rest behind them; or the last of the lines has none, and nothing is behind it.
@@ -142,7 +142,7 @@ pub record ComesBehind (lines : List (List ℕ)) (most : ℕ) (bytes left : List
   pub whole : AreBefore lines bytes (front ++ (block ++ left))
 
 -- Each line of what was read was done, but for those that end in at most so many of its last bytes, where its lines are told.
-abbrev pub AreDoneBut : {log : Log} {room : Room} {first last : State} {input output : Passage} {refused : ℕ} → ℕ → AreDone log room first last input output refused → Passage → Type 0
+abbrev pub AreDoneBut : {log : Log} {room : Room} {first last : ScriptState} {input output : Passage} {refused : ℕ} → ℕ → AreDone log room first last input output refused → Passage → Type 0
 AreDoneBut most lines input = WhereTold input.before.content input.after.content (λ a b. ComesBehind lines.lines most a b)
 
 -- the entries of a history, if there is one
@@ -160,5 +160,5 @@ run_of None = 0
 run_of (Some log) = log.run
 
 -- a run's first state: its shelf at entry and the moment that the clock has just answered
-abbrev pub entry_state : Device → ℕ → State
+abbrev pub entry_state : Device → ℕ → ScriptState
 entry_state device run = record { moment = record { device = device; facts = [] }; session = None; posts = []; last = run }

@@ -19,7 +19,7 @@ use Rattle.lvm_line.specs.passed.Volumes.{IsWith}
 use Rattle.lvm_line.specs.passed.Mirrors.{IsWithFirst, IsWithMore}
 use Rattle.lvm_core.specs.Leaves.{MayBeFound}
 use Rattle.lvm_line.specs.passed.GroupLines.{asked_for}
-use Rattle.lvm_line.specs.passed.Stage.{IsAlone, IsBrokenOff, Role, IsAtRest, StandsBy, State, Reply}
+use Rattle.lvm_line.specs.passed.Stage.{IsAlone, IsBrokenOff, Role, IsAtRest, StandsBy, ScriptState, Reply}
 use Rattle.lvm_line.specs.passed.VolumeLines.{Drains, wanted}
 use Rattle.lvm_line.specs.passed.ReplyVariants as reply
 use Rattle.lvm_top.specs.Script.{Script, NoLine, NextLine, Ends, AtLine, InLine}
@@ -28,13 +28,13 @@ use Rattle.lvm_volume_plan.specs.NewVolume.{without_volume}
 -- ---- one line
 
 -- the session on which a command was made: that which was on, after the turns by which what was under way in it was ended; none where nothing was
-pub record WasDrained (old : State) (core : Core) (mid : Session) : Type 0 where
+pub record WasDrained (old : ScriptState) (core : Core) (mid : Session) : Type 0 where
   pub on : old.session ≡ Some core
   pub left : ℕ
   pub drains : Drains core old left mid
 
 -- the descriptor that a line was to commit: of the group that is made, or of that which is on with a volume more or without one, or with more or fewer copies
-abbrev pub IsToCommit : Result (Option Command) Misfit → State → State → Descriptor → Type 0
+abbrev pub IsToCommit : Result (Option Command) Misfit → ScriptState → ScriptState → Descriptor → Type 0
 IsToCommit (Ok (Some (command.Mkvg force name mib disks))) old new k = k ≡ new_group old.moment.device.sizes (asked_for name mib disks force new.last)
 IsToCommit (Ok (Some (command.Mklv name copies mode policy group lps))) old new k = (core : Core) × (mid : Session) × WasDrained old core mid × IsWith (wanted name copies mode policy lps) mid.core k
 IsToCommit (Ok (Some (command.Rmlv name))) old new k = IsSomeAnd old.session (λ core. (lv : ℕ) × IsNumberOf core.descriptor.lvs name lv × (k ≡ without_volume core.descriptor lv))
@@ -43,18 +43,18 @@ IsToCommit (Ok (Some (command.Rmlvcopy name copies))) old new k = IsSomeAnd old.
 IsToCommit other old new k = ⊥
 
 -- The line was answered as done or as broken off, and was to commit this descriptor of the group.
-pub record MayHaveCommitted (read : Result (Option Command) Misfit) (answer : Reply) (old new : State) (id : ℕ) (k : Descriptor) : Type 0 where
+pub record MayHaveCommitted (read : Result (Option Command) Misfit) (answer : Reply) (old new : ScriptState) (id : ℕ) (k : Descriptor) : Type 0 where
   pub tried : (answer ≡ reply.Ok) ⊎ IsBrokenOff answer
   pub own : id ≡ k.id
   pub is : IsToCommit read old new k
 
 -- the disks of a session hold what it says is committed
-abbrev pub AreHeld : State → Type 0
+abbrev pub AreHeld : ScriptState → Type 0
 AreHeld s = IfSome s.session (λ core. IsHeld s.moment.device core)
 
 -- What stands before a line that acts on the session so: nothing is under way, and the disks hold what the session says; or they stand by it after some earlier
 -- history, and no other group has a quorum where that is asked.
-pub data StoodBefore (run : ℕ) (role : Role) (old new : State) : Type 0 where
+pub data StoodBefore (run : ℕ) (role : Role) (old new : ScriptState) : Type 0 where
   HeldAtRest : IsAtRest old → AreHeld old → StoodBefore run role old new
   StandsSince : (past : List Fact) (first : Moment) → StandsBy run first old → Begins run past first → IsAlone role old new → StoodBefore run role old new
 
@@ -80,7 +80,7 @@ pub data StandsOf (core : Core) (Before : ℕ → Descriptor → Type 0) (id : �
 
 -- What may stand after a line, by what may stand before it: an acknowledged group command leaves of its group what it has committed alone; after another
 -- line there may be what there was, or what the line may have committed.
-abbrev pub StandsAfter : Bool → Result (Option Command) Misfit → Reply → State → State → (ℕ → Descriptor → Type 0) → ℕ → Descriptor → Type 0
+abbrev pub StandsAfter : Bool → Result (Option Command) Misfit → Reply → ScriptState → ScriptState → (ℕ → Descriptor → Type 0) → ℕ → Descriptor → Type 0
 StandsAfter true read answer old new Before id k = IsSomeAnd new.session (λ core. StandsOf core Before id k)
 StandsAfter false read answer old new Before id k = Before id k ⊎ MayHaveCommitted read answer old new id k
 
@@ -88,12 +88,12 @@ StandsAfter false read answer old new Before id k = Before id k ⊎ MayHaveCommi
 
 -- What may stand of a group after these lines: what could be found before the first of them; since the last acknowledged command on it what that has
 -- committed, and what was being committed since.
-abbrev pub MayStand : {log : Log} {room : Room} {first : State} {lines : List (List ℕ)} {replies : List Reply} {last : State} → Script log room first lines replies last → ℕ → Descriptor → Type 0
+abbrev pub MayStand : {log : Log} {room : Room} {first : ScriptState} {lines : List (List ℕ)} {replies : List Reply} {last : ScriptState} → Script log room first lines replies last → ℕ → Descriptor → Type 0
 MayStand {first = first} NoLine id k = MayBeFound first.moment.device id k
 MayStand (NextLine {mid = mid} {new = new} line answer said goes says before does) id k = StandsAfter (is_acknowledged (line_of line) answer) (line_of line) answer mid new (MayStand before) id k
 
 -- What may stand once a run has ended behind these lines, perhaps in one line more whose reply wasn't written in full.
-abbrev pub MayStandAtEnd : {log : Log} {room : Room} {mid last : State} {done : List (List ℕ)} {said : List Reply} {front : List ℕ} → Ends log room mid last done said front → (ℕ → Descriptor → Type 0) → ℕ → Descriptor → Type 0
+abbrev pub MayStandAtEnd : {log : Log} {room : Room} {mid last : ScriptState} {done : List (List ℕ)} {said : List Reply} {front : List ℕ} → Ends log room mid last done said front → (ℕ → Descriptor → Type 0) → ℕ → Descriptor → Type 0
 MayStandAtEnd (AtLine same) Before id k = Before id k
 MayStandAtEnd {mid = mid} {last = last} (InLine line answer said front rest says split does) Before id k = StandsAfter (is_acknowledged (line_of line) answer) (line_of line) answer mid last Before id k
 

@@ -4,7 +4,7 @@ use Rattle.lvm_io.specs.Count.{Rose}
 use Rattle.lvm_io.specs.Stream.{WhereTold}
 use Rattle.lvm_vol.specs.Log.{Log}
 use Rattle.lvm_core.specs.declared.parts.Room.{Room}
-use Rattle.lvm_line.specs.passed.Stage.{State}
+use Rattle.lvm_line.specs.passed.Stage.{ScriptState}
 use Rattle.lvm_top.specs.Script.{Passage, AreDone, AreAllRead, AreDoneBut, IsLineLeft, EndsHeard, EndsStuck}
 use Rattle.lvm_top.specs.declared.status.ExitStatus.{ExitStatus}
 use Rattle.lvm_top.specs.declared.status.ExitStatus.TheVariants as ended
@@ -42,7 +42,7 @@ status_of (Some stop.Stuck) refused = ended.Stuck
 status_of (Some stop.TooLong) refused = ended.TooLong
 
 -- The lines of a source were done until all was read, or as many as were done before the run stopped for this.
-pub record GoesUntil (why : Option Stop) (log : Log) (room : Room) (first last : State) (input output : Passage) (refused : ℕ) : Type 0 where
+pub record GoesUntil (why : Option Stop) (log : Log) (room : Room) (first last : ScriptState) (input output : Passage) (refused : ℕ) : Type 0 where
   pub lines : AreDone log room first last input output refused
   pub whole : why ≡ None → AreAllRead lines input
   pub between : (why ≡ Some stop.SinkFault → ⊥) → (why ≡ Some stop.Stuck → ⊥) → lines.done ≡ []

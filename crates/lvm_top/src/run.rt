@@ -98,13 +98,6 @@ fn at_rest<S: Shelf>(driver: Driver<S>) -> (Driver<S>, bool)
     (Driver::from_parts(shelf, session), rests)
 }
 
-// The session of a driver is sound.
-fn is_sound<S: Shelf>(driver: &Driver<S>)
-    ensures { IsSound (state_of S.device driver.now) }
-{
-    let _ = driver.power();
-}
-
 /// Makes turns until one doesn't move.
 pub fn run_on<S: Shelf>(driver: &mut Driver<S>)
     requires unstuck { driver.old.1.power ≡ power.Stuck → ⊥ }
@@ -116,7 +109,7 @@ pub fn run_on<S: Shelf>(driver: &mut Driver<S>)
         match driver.turn() {
             Turned::Moved => {}
             _ => {
-                is_sound(driver);
+                driver.is_sound();
                 return;
             }
         }

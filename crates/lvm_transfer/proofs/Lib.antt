@@ -1,3 +1,8 @@
+pub mod handed
 pub mod Waiting
 pub mod Ending
 pub mod Effects
+pub mod Joining
+pub mod Transferring
+pub mod Following
+pub mod Fronts

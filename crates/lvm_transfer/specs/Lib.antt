@@ -1,1 +1,3 @@
+pub mod handed
 pub mod Transfer
+pub mod Reading

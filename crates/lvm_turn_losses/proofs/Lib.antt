@@ -1,3 +1,4 @@
+pub mod handed
 pub mod Losing
 pub mod Votes
 pub mod Statuses

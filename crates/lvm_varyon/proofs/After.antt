@@ -21,8 +21,8 @@ use Rattle.lvm_kept.proofs.Finding.{images_within}
 use Rattle.lvm_stamps.specs.Behind.{StampsBefore, beginning_at, IsBehind}
 use Rattle.lvm_rec.specs.declared.homes.Homes.{Homes}
 use Rattle.lvm_write.specs.Homes.{SparesNewest}
-use Rattle.lvm_commit.specs.Committed.{ShowsCommitted}
-use Rattle.lvm_commit.proofs.Found.{newest_is_beginning}
+use Rattle.lvm_varyon_plan.specs.handed.Names.{ShowsCommitted, LogsOnly}
+use Rattle.lvm_varyon_plan.proofs.handed.Names.{newest_is_beginning, only_planned}
 use Rattle.lvm_steps.specs.VaryingOn.{HasNewest}
 use Rattle.lvm_steps.proofs.Following.{restamp_is_newest}
 use Rattle.lvm_steps.proofs.VaryingOn.{restamp_keeps, restate_keeps}
@@ -35,10 +35,8 @@ use Rattle.lvm_begin.proofs.Newest.{all_find_newest, again_is_found, status_is_l
 use Rattle.lvm_begin.proofs.Shown.{again_is_shown, media_by}
 use Rattle.lvm_next.specs.Next.{IsNextStatus}
 use Rattle.lvm_next.specs.Restated.{Restated}
-use Rattle.lvm_recovery.specs.Copying.{LogsOnly}
-use Rattle.lvm_recovery.proofs.Logged.{only_planned}
 use Rattle.lvm_varyon.specs.Found.{records_on}
-use Rattle.lvm_varyon.specs.Chosen.{answering}
+use Rattle.lvm_varyon_plan.specs.Chosen.{answering}
 use Rattle.lvm_varyon.specs.Varied.{HasWritten}
 use Rattle.lvm_varyon.specs.Writing.{beginning, AllWritten}
 use Rattle.lvm_varyon.proofs.Grouping.{same_voters}

@@ -36,20 +36,21 @@ use Rattle.lvm_write.proofs.Shows.{descriptor_may_be_written, status_may_be_writ
 use Rattle.lvm_survey.specs.declared.row.SurveyRow.{SurveyRow}
 use Rattle.lvm_survey.specs.declared.row.Survey.{Survey}
 use Rattle.lvm_survey.specs.Surveyed.{surveyed}
-use Rattle.lvm_area.specs.Reading.{under}
-use Rattle.lvm_core.specs.declared.parts.Room.{Room}
+use Rattle.lvm_survey.specs.handed.Names.{under}
+use Rattle.lvm_varyon_plan.specs.handed.Names.{Room}
 use Rattle.lvm_begin.specs.Beginning.{Beginning, describes, states, MayBeginAgain}
 use Rattle.lvm_next.specs.Next.{IsNextStatus, is_passive, has_passive}
 use Rattle.lvm_next.proofs.Building.{copy_is_placed, is_member_of}
-use Rattle.lvm_varyon.specs.declared.plan.Plan.{Plan}
+use Rattle.lvm_varyon_plan.specs.declared.plan.Plan.{Plan}
 use Rattle.lvm_varyon.specs.Found.{records_on}
-use Rattle.lvm_varyon.specs.Chosen.{MayComeOn}
-use Rattle.lvm_varyon.specs.Parts.{IsSurveyOf, IsPlan}
+use Rattle.lvm_varyon_plan.specs.Chosen.{MayComeOn}
+use Rattle.lvm_varyon_plan.specs.Planned.{IsPlan}
+use Rattle.lvm_varyon.specs.Parts.{IsSurveyOf}
 use Rattle.lvm_varyon.specs.Writing.{beginning}
 use Rattle.lvm_varyon.proofs.Seeing.{answered_by, read_row, shows_records, row_answers}
 use Rattle.lvm_varyon.proofs.Grouping.{same_voters, same_status, holds_finds}
 use Rattle.lvm_varyon.proofs.Placing.{one_place}
-use Rattle.lvm_core.proofs.Sizes.{descriptor_fits}
+use Rattle.lvm_varyon_plan.proofs.handed.Names.{descriptor_fits}
 use Rattle.lvm_varyon.proofs.Sizes.{status_fits}
 
 both : (a b : Bool) → a ≡ true → b ≡ true → a && b ≡ true

@@ -4,14 +4,12 @@ use Rattle.lvm_num.specs.Buffer.{Buffer}
 use Rattle.lvm_num.specs.Disks.{Disks}
 use Rattle.lvm_disk.specs.Counts.{Rose}
 use Rattle.lvm_disk.specs.Device.{Device}
-use Rattle.lvm_area.specs.Reading.{IsCutOff}
+use Rattle.lvm_transfer.specs.Reading.{IsCutOff}
 use Rattle.lvm_write.specs.Parts.{Spends}
 use Rattle.lvm_write.proofs.Transfers.{spends_then, spent_then}
 use Rattle.lvm_begin.specs.declared.begin.Begun.{Begun}
 use Rattle.lvm_begin.specs.declared.begin.Begun.TheVariants as begun
-use Rattle.lvm_recovery.specs.declared.copying.Recopy.{Recopy}
-use Rattle.lvm_recovery.specs.Copying.{AllGive, StopsAtOne}
-use Rattle.lvm_recovery.specs.Equalising.{EqualiseGives}
+use Rattle.lvm_varyon_plan.specs.handed.Names.{Recopy, AllGive, StopsAtOne, EqualiseGives}
 use Rattle.lvm_varyon.specs.Equal.{CopyFailed, ForgettingFailed, HaveBeenCopied, MakesEqual, StopsEqualling}
 use Rattle.lvm_varyon.specs.Writing.{IsStillOut}
 

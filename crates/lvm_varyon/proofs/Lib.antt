@@ -1,10 +1,10 @@
+pub mod handed
 pub mod Seeing
 pub mod Grouping
 pub mod Placing
 pub mod Sizes
 pub mod Beginning
 pub mod Placed
-pub mod Choosing
 pub mod After
 pub mod Beside
 pub mod Equalled

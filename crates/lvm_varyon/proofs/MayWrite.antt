@@ -6,13 +6,12 @@ use Rattle.lvm_num.specs.Record.{longest_content}
 use Rattle.lvm_disk.specs.Device.{Device}
 use Rattle.lvm_survey.specs.declared.row.Survey.{Survey}
 use Rattle.lvm_survey.specs.Surveyed.{surveyed}
-use Rattle.lvm_core.specs.declared.parts.Room.{Room}
-use Rattle.lvm_core.proofs.Sizes.{descriptor_fits}
-use Rattle.lvm_recovery.proofs.Ending.{planned_may_be_made}
-use Rattle.lvm_recovery.proofs.Planned.{planned_are_apart}
-use Rattle.lvm_varyon.specs.declared.plan.Plan.{Plan}
+use Rattle.lvm_varyon_plan.specs.handed.Names.{Room}
+use Rattle.lvm_varyon_plan.proofs.handed.Names.{descriptor_fits, planned_may_be_made, planned_are_apart}
+use Rattle.lvm_varyon_plan.specs.declared.plan.Plan.{Plan}
 use Rattle.lvm_varyon.specs.Equal.{MayWritePlan}
-use Rattle.lvm_varyon.specs.Parts.{IsSurveyOf, IsPlan}
+use Rattle.lvm_varyon_plan.specs.Planned.{IsPlan}
+use Rattle.lvm_varyon.specs.Parts.{IsSurveyOf}
 use Rattle.lvm_varyon.proofs.Beginning.{targets_have_room}
 use Rattle.lvm_varyon.proofs.Placed.{have_sectors}
 use Rattle.lvm_varyon.proofs.Sizes.{status_fits}

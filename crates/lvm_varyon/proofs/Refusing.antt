@@ -2,22 +2,20 @@
 use Rattle.std.proofs.Common.{◌≡◌, ◌≤◌, ℕ, List, Err, sym, subst}
 use Rattle.lvm_disk.specs.Device.{Device}
 use Rattle.lvm_vol.specs.Log.{Log, spare_entries}
-use Rattle.lvm_core.specs.declared.parts.Room.{Room}
-use Rattle.lvm_core.specs.declared.refused.Cause.{Cause}
-use Rattle.lvm_core.specs.declared.refused.Cause.TheVariants as cause
-use Rattle.lvm_core.specs.declared.refused.Refused.{Refused}
-use Rattle.lvm_varyon.specs.Varied.{Refuses, VaryonStops, VariesOnAt, log_after}
+use Rattle.lvm_varyon_plan.specs.handed.Names.{Room, Cause, Refused}
+use Rattle.lvm_varyon_plan.specs.handed.CoreRefusedCause as cause
+use Rattle.lvm_varyon.specs.Varied.{VaryonRefuses, VaryonStops, VariesOnAt, log_after}
 
 -- where the history has room it is refused for what stops it
-pub refuses_so : (old new : Device) (name : List ℕ) (moment patience : ℕ) (log : Log) (why : Cause) → 1 ≤ spare_entries log → VaryonStops old new name moment patience why → Refuses old new name moment patience log why
+pub refuses_so : (old new : Device) (name : List ℕ) (moment patience : ℕ) (log : Log) (why : Cause) → 1 ≤ spare_entries log → VaryonStops old new name moment patience why → VaryonRefuses old new name moment patience log why
 refuses_so old new name moment patience log cause.HistoryFull spare stops = absurd stops
 refuses_so old new name moment patience log _ spare stops = (spare, stops)
 
 -- nothing is said of a session then
 pub refused_gives : {S : Type 0} (device : S → Device) (old : Device) (log : Log) (name : List ℕ) (moment : ℕ) (room : Room) (patience : ℕ) (why : Cause) (refused : Refused S) → refused.cause ≡ why → refused.history ≡ log_after why log
-    → Refuses old (device refused.shelf) name moment patience log why → VariesOnAt device log name moment room patience old (Err refused)
+    → VaryonRefuses old (device refused.shelf) name moment patience log why → VariesOnAt device log name moment room patience old (Err refused)
 refused_gives device old log name moment room patience why refused is history refuses = record {
-  gives = subst (λ (c : Cause). Refuses old (device refused.shelf) name moment patience log c × (refused.history ≡ log_after c log)) (sym is) (refuses, history);
+  gives = subst (λ (c : Cause). VaryonRefuses old (device refused.shelf) name moment patience log c × (refused.history ≡ log_after c log)) (sym is) (refuses, history);
   restated = tt;
   recovered = tt;
 }

@@ -1,5 +1,6 @@
+pub mod handed
+pub mod passed
 pub mod Found
-pub mod Chosen
 pub mod Writing
 pub mod Restated
 pub mod Varied

@@ -12,26 +12,14 @@ use Rattle.lvm_kept.specs.Contents.{Contents, contents_of}
 use Rattle.lvm_kept.specs.Recovered.{Recovered}
 use Rattle.lvm_stamps.specs.Behind.{ClockIsAhead, IsBehind}
 use Rattle.lvm_rec.specs.declared.homes.Homes.{Homes}
-use Rattle.lvm_quorum.specs.Choosing.{HasNoRecord, HasRecord, IsAmbiguous, LacksQuorum}
-use Rattle.lvm_area.specs.Reading.{IsUnwritten, IsRested, IsCutOff}
-use Rattle.lvm_core.specs.declared.parts.Room.{Room}
-use Rattle.lvm_core.specs.declared.refused.Cause.{Cause}
-use Rattle.lvm_core.specs.declared.refused.Refused.{Refused}
-use Rattle.lvm_core.specs.declared.refused.Cause.TheVariants as cause
-use Rattle.lvm_session_start.specs.declared.parts.Parts.{Parts}
-use Rattle.lvm_core.specs.Starting.{IsReservedFor}
-use Rattle.lvm_session.specs.Placed.{ArePlaced}
-use Rattle.lvm_session_start.specs.Beginning.{first_core}
-use Rattle.lvm_session.specs.State.{Core}
+use Rattle.lvm_varyon_plan.specs.handed.Names.{HasNoRecord, HasRecord, IsAmbiguous, LacksQuorum, Room, Cause, Refused, Parts, IsReservedFor, ArePlaced, first_core, Core, HasNoPassive, Recopy, ArePlannedInOrder, ArePlanned}
+use Rattle.lvm_transfer.specs.Reading.{IsUnwritten, IsRested, IsCutOff}
+use Rattle.lvm_varyon_plan.specs.handed.CoreRefusedCause as cause
 use Rattle.lvm_begin.specs.Beginning.{Beginning, MayBeginAgain}
 use Rattle.lvm_varyon.specs.Found.{Found, HaveAnswered}
 use Rattle.lvm_next.specs.Next.{IsNextStatus}
-use Rattle.lvm_varyon.specs.Chosen.{answering, MayComeOn, IsClockBehindGroup}
+use Rattle.lvm_varyon_plan.specs.Chosen.{answering, MayComeOn, IsClockBehindGroup}
 use Rattle.lvm_next.specs.Restated.{Restated}
-use Rattle.lvm_recover.specs.Recovered.{HasNoPassive}
-use Rattle.lvm_recovery.specs.declared.copying.Recopy.{Recopy}
-use Rattle.lvm_recovery.specs.Plan.{ArePlannedInOrder}
-use Rattle.lvm_recovery.specs.Planned.{ArePlanned}
 use Rattle.lvm_varyon.specs.Writing.{beginning, Writes, IsStillOut}
 use Rattle.lvm_varyon.specs.Equal.{IsEqualled, OneFailed, BrokeOff}
 use Rattle.lvm_varyon.specs.Restated.{WhereTold}
@@ -110,9 +98,9 @@ module _ (old new : Device) (name : List ℕ) (moment patience : ℕ) where
   VaryonStops _ = ⊥
 
   -- Why none came on: the history is full, or it isn't and this.
-  abbrev pub Refuses : Log → Cause → Type 0
-  Refuses log cause.HistoryFull = (spare_entries log ≡ 0) × (new ≡ old)
-  Refuses log why = (1 ≤ spare_entries log) × VaryonStops why
+  abbrev pub VaryonRefuses : Log → Cause → Type 0
+  VaryonRefuses log cause.HistoryFull = (spare_entries log ≡ 0) × (new ≡ old)
+  VaryonRefuses log why = (1 ≤ spare_entries log) × VaryonStops why
 
 -- the history after a refusal: a cut of the power is entered
 abbrev pub log_after : Cause → Log → Log
@@ -122,7 +110,7 @@ log_after _ log = log
 -- The group on its shelf, or the shelf and the history again, and why.
 abbrev pub VaryonGives : {S : Type 0} → (S → Device) → Device → Log → List ℕ → ℕ → Room → ℕ → Result (S × Core) (Refused S) → Type 0
 VaryonGives device old log name moment room patience (Ok driver) = ComesOn old (device driver.0) log name moment room driver.1
-VaryonGives device old log name moment room patience (Err refused) = Refuses old (device refused.shelf) name moment patience log refused.cause × (refused.history ≡ log_after refused.cause log)
+VaryonGives device old log name moment room patience (Err refused) = VaryonRefuses old (device refused.shelf) name moment patience log refused.cause × (refused.history ≡ log_after refused.cause log)
 
 -- So it is, and where the clock's moments rise the disks show what the session says: the group is restated, and without volumes in mode passive recovered.
 pub record VariesOnAt {S : Type 0} (device : S → Device) (log : Log) (name : List ℕ) (moment : ℕ) (room : Room) (patience : ℕ) (old : Device) (outcome : Result (S × Core) (Refused S)) : Type 0 where
@@ -151,6 +139,6 @@ BringGives old new name moment patience room (Ok got) = IsBrought old new name m
 BringGives old new name moment patience room (Err why) = VaryonStops old new name moment patience why
 
 -- what the session of these parts begins with, where its records were written
-abbrev pub brought_of : Parts → Result Homes Cause → Result (Parts × Homes) Cause
+abbrev pub brought_of : {T : Type 0} → T → Result Homes Cause → Result (T × Homes) Cause
 brought_of parts (Ok homes) = Ok (parts, homes)
 brought_of parts (Err why) = Err why

@@ -1,7 +1,6 @@
-//! The varying on of a volume group: which group a name chooses, its next status, its records under a new moment, and its copies made equal.
+//! The varying on of a volume group: its records under a new moment, and its copies made equal.
 #![tactic(auto)]
 
-mod plan;
 mod vary;
 mod writes;
 

@@ -4,25 +4,21 @@ ghost use Rattle.lvm_disk.specs.Device.{IsReady};
 ghost use Rattle.lvm_disk.specs.Paths.{DeviceStep, Path};
 ghost use Rattle.lvm_steps.specs.Moments.{StaysKept};
 ghost use Rattle.lvm_stamps.specs.Behind.{IsBehind};
-ghost use Rattle.lvm_session_start.specs.Beginning.{AreFaults};
-ghost use Rattle.lvm_core.specs.Sound.{HaveAllLanded};
-ghost use Rattle.lvm_core.specs.Starting.{IsRoom};
-ghost use Rattle.lvm_core.specs.State.{state_of};
-ghost use Rattle.lvm_core.specs.Coming.{BringsOn, IsStarted, shelf_left, history_left};
+ghost use Rattle.lvm_varyon_plan.specs.handed.Names.{AreFaults, HaveAllLanded, IsRoom, state_of, BringsOn, IsStarted, shelf_left, history_left};
 ghost use Rattle.lvm_varyon.specs.Varied.{VariesOnAt, BringGives, IsAheadOfDisks, brought_of, log_after, VaryonStops};
-ghost use Rattle.lvm_area.specs.Reading.{OnlyReads};
+ghost use Rattle.lvm_transfer.specs.Reading.{OnlyReads};
 ghost use Rattle.lvm_write.specs.Parts.{Spends};
 ghost use Rattle.lvm_varyon.specs.Parts.{IsPlannedBy, plan_beginning};
 ghost use Rattle.lvm_varyon.specs.Equal.{AllWritesGive, AllWritesKeep, MayWritePlan};
 
-use crate::plan::{Plan, plan_of};
 use crate::writes::{make_equal, read_disks, write_plan};
-use lvm_core::{Cause, Driver, Parts, Refused, Room};
 use lvm_disk::Shelf;
 use lvm_history::History;
 use lvm_num::{Name, Pbuf, Stamp};
 use lvm_rec::Homes;
 use lvm_transfer::Patience;
+use lvm_varyon_plan::lower::{Cause, Driver, Parts, Refused, Room};
+use lvm_varyon_plan::{Plan, plan_of};
 use std::alloc::Global;
 
 /// Varies the group of a name on: reads the records of all disks of the shelf, chooses the group's newest
@@ -138,8 +134,22 @@ fn write_all<S: Shelf>(
 fn begin_with(plan: Plan, written: Result<Homes, Cause>) -> Result<(Parts, Homes), Cause>
     ensures { result ≡ brought_of plan.parts written }
 {
-    match written {
-        Ok(homes) => Ok((plan.parts, homes)),
+    with_homes(parts_of(plan), written)
+}
+
+// The parts of its session alone.
+fn parts_of(plan: Plan) -> Parts
+    ensures { result ≡ plan.parts }
+{
+    plan.parts
+}
+
+// What begins with these parts and these homes, where there are some.
+fn with_homes<P: Drop>(parts: P, homes: Result<Homes, Cause>) -> Result<(P, Homes), Cause>
+    ensures { result ≡ brought_of parts homes }
+{
+    match homes {
+        Ok(homes) => Ok((parts, homes)),
         Err(why) => Err(why),
     }
 }

@@ -11,7 +11,7 @@ use Rattle.lvm_num.specs.Descriptor.{IsMember}
 use Rattle.lvm_num.specs.DescriptorBytes.{is_at}
 use Rattle.lvm_vgda.specs.declared.used.UsedPps.{UsedPps}
 use Rattle.lvm_vgda.specs.Used.{has, Uses}
-use Rattle.lvm_fields.proofs.FieldLaws.{both}
+use Rattle.lvm_descriptor.proofs.handed.Names.{both}
 
 or_nothing : (b : Bool) → b || false ≡ b
 or_nothing true = refl

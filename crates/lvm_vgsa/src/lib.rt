@@ -2,6 +2,7 @@
 #![tactic(auto)]
 
 mod laws;
+pub mod lower;
 mod putting;
 mod reading;
 mod writing;

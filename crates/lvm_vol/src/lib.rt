@@ -4,6 +4,7 @@
 
 mod entry;
 pub mod laws;
+pub mod lower;
 mod shown;
 
 pub use entry::{Entry, Outcome, Vol};

@@ -31,15 +31,12 @@ use Rattle.lvm_core.specs.Settled.{IsSettled as IsSettledCore}
 use Rattle.lvm_core.specs.Sound.{HaveAllLanded, IsSoundBetween}
 use Rattle.lvm_commit.specs.LawsOfVolumes.{IsOneByAllOn}
 use Rattle.lvm_range_lines.proofs.passed.Quiesce.{each_is_behind, still_is_behind_each}
-use Rattle.lvm_posts.specs.declared.posts.Post.{Post}
-use Rattle.lvm_posts.specs.Posts.{AreAnswered, AreHeld, ended_with}
+use Rattle.lvm_range_lines.specs.handed.Names.{Post, AreAnswered, AreHeld, ended_with}
 use Rattle.lvm_range_lines.specs.passed.Running.{IsBefore, LeavesSession}
 use Rattle.lvm_range_lines.specs.passed.Tie.{IsStamped, IsGood}
 use Rattle.lvm_range_lines.specs.passed.TieCommands.{IsAloneAtFirst, MayBeCommanded, StandsAfter, StandsSince}
-use Rattle.lvm_range_lines.specs.passed.Stage.{GoesOn, HasBegunHeld, IsAllowed, IsAlone, Role, IsStuck, most_refusals, posts_ended, ArePosted, IsBetween}
-use Rattle.lvm_range_lines.specs.passed.Stage.{IsOnBetween, IsTimely, StandsAlone, StandsBy, State, Reply}
-use Rattle.lvm_range_lines.proofs.passed.Stage.{relit_path, was_session, ready_is_lit, still_leaves_descriptors, LeavesAnswers, end_posts, none_held}
-use Rattle.lvm_range_lines.proofs.passed.Stage.{on_posts}
+use Rattle.lvm_range_lines.specs.passed.Stage.{GoesOn, HasBegunHeld, IsAllowed, IsAlone, Role, IsStuck, most_refusals, posts_ended, ArePosted, IsBetween, IsOnBetween, IsTimely, StandsAlone, StandsBy, ScriptState, Reply}
+use Rattle.lvm_range_lines.proofs.passed.Stage.{relit_path, was_session, ready_is_lit, still_leaves_descriptors, LeavesAnswers, end_posts, none_held, on_posts}
 
 -- ---- what a command promises, whatever its answer
 
@@ -63,14 +60,14 @@ promised_by scope before after old new leaves = record {
 
 -- a line of this role acts on the session that is on, which stands alone
 abbrev pub Acts : Role → Type 0
-Acts role = (old new : State) → IsAlone role old new → IfSome old.session (StandsAlone old.moment.device)
+Acts role = (old new : ScriptState) → IsAlone role old new → IfSome old.session (StandsAlone old.moment.device)
 
 pub empty_or : {X : Type 0} (xs : List X) → (xs ≡ []) ⊎ (xs ≢ [])
 empty_or [] = inl refl
 empty_or (x ∷ xs) = inr (λ e. cc (e))
 
 -- The session of the state has come to rest so.
-pub record AtMid (old : State) (core : Core) (mid : Session) : Type 0 where
+pub record AtMid (old : ScriptState) (core : Core) (mid : Session) : Type 0 where
   pub session : old.session ≡ Some core
   pub facts : old.moment.facts ≡ core.history.facts
   pub none : core.requests ≡ []
@@ -82,7 +79,7 @@ pub record AtMid (old : State) (core : Core) (mid : Session) : Type 0 where
   pub rest : IsSoundBetween mid
   pub answers : LeavesAnswers core.history.facts mid.core.history.facts
 
-module _ (old : State) (core : Core) (mid : Session) (its : AtMid old core mid) where
+module _ (old : ScriptState) (core : Core) (mid : Session) (its : AtMid old core mid) where
   abbrev run : ℕ
   run = core.history.run
 
@@ -116,7 +113,7 @@ module _ (old : State) (core : Core) (mid : Session) (its : AtMid old core mid) 
 
   -- ---- what stands
 
-  module _ (role : Role) (acts : Acts role) (new : State) (alone : IsAlone role old new) (first : Moment) (span : Keeps run first old.moment) (stands : StandsBy run first old) where
+  module _ (role : Role) (acts : Acts role) (new : ScriptState) (alone : IsAlone role old new) (first : Moment) (span : Keeps run first old.moment) (stands : StandsBy run first old) where
     stands_first : StandsSince run first first_session
     stands_first past begins =
         subst (λ (o : Option Core). IfSome o (λ (c : Core). StandsAlone old.moment.device c → StandsAfter past old.moment.device c)) its.session (stands past begins)
@@ -245,7 +242,7 @@ closes_lit answer left new power freed ready lit = subst (ClosesWell answer left
 
 -- ---- after it
 
-module _ (role : Role) (acts : Acts role) (old : State) (core : Core) (mid left : Session) (its : AtMid old core mid) (promised : Promised mid left) (answers : LeavesAnswers mid.core.history.facts left.core.history.facts) (answer : Reply) (new : State)
+module _ (role : Role) (acts : Acts role) (old : ScriptState) (core : Core) (mid left : Session) (its : AtMid old core mid) (promised : Promised mid left) (answers : LeavesAnswers mid.core.history.facts left.core.history.facts) (answer : Reply) (new : ScriptState)
     (facts : new.moment.facts ≡ left.core.history.facts) (clock : new.last ≡ old.last) (few : most_refusals answer ≤ 1)
     (spans : IsAllowed role old → (first : Moment) → MayBeCommanded core.history.run first mid → IsAloneAtFirst mid left → Keeps core.history.run first (moment_of left)) where
   answers_left : LeavesAnswers old.moment.facts left.core.history.facts
@@ -314,7 +311,7 @@ module _ (role : Role) (acts : Acts role) (old : State) (core : Core) (mid left 
   module _ (now : Core) (is : now ≡ record left.core { origin = now.origin }) (session : new.session ≡ Some now) (device : new.moment.device ≡ left.device) (posts : new.posts ≡ old.posts)
       (ready : IsReady left.device) (settled : IsSettledCore left.core) (landed : HaveAllLanded left.core.history.facts) (sound : IsSound (state left.device now)) (rows : HasItsRows now.descriptor now.origin.table)
       (standing : IsAllowed role old → (first : Moment) → MayBeCommanded core.history.run first mid → IsAloneAtFirst mid left → (past : List Fact) → Begins core.history.run past first → StandsAfter past left.device now) where
-    abbrev next : State
+    abbrev next : ScriptState
     next = record { moment = moment_of left; session = Some now; posts = old.posts; last = old.last }
 
     next_is : new ≡ next

@@ -20,11 +20,9 @@ use Rattle.lvm_disk.proofs.Paths.{last-path}
 use Rattle.lvm_range_lines.specs.passed.Running.{LeavesSession}
 use Rattle.lvm_range_lines.specs.passed.TieCommands.{IsAloneAtFirst, IsLeftStanding, IsLeftStandingSince, MayBeCommanded, HoldsEmpty, StandsAfter}
 use Rattle.lvm_range_lines.specs.passed.Volumes.{IfOn, StillHeld}
-use Rattle.lvm_volume_plan.specs.declared.fault.GroupFault.{GroupFault}
-use Rattle.lvm_volume_plan.specs.declared.fault.GroupFault.TheVariants as fault
-use Rattle.lvm_range_lines.specs.passed.Stage.{CommandEnds, EndsUnasked, patience_of_line, GoesOn, IsAllowed, Role, HaveRooms, IsBetweenStage, IsFitting}
-use Rattle.lvm_range_lines.specs.passed.Stage.{IsOfKind, history_of, open_in, session_in, session_of, shelf_in, history_in, state_in, IsAtRest}
-use Rattle.lvm_range_lines.specs.passed.Stage.{IsOnBetween, State, without_facts, Holder, Reply, Stage}
+use Rattle.lvm_range_lines.specs.handed.Names.{GroupFault}
+use Rattle.lvm_range_lines.specs.handed.VolumePlanFaultGroupFault as fault
+use Rattle.lvm_range_lines.specs.passed.Stage.{CommandEnds, EndsUnasked, patience_of_line, GoesOn, IsAllowed, Role, HaveRooms, IsBetweenStage, IsFitting, IsOfKind, history_of, open_in, session_in, session_of, shelf_in, history_in, state_in, IsAtRest, IsOnBetween, ScriptState, without_facts, Holder, Reply, Stage}
 use Rattle.lvm_range_lines.specs.passed.HolderVariants as holder
 use Rattle.lvm_range_lines.proofs.passed.Stage.{LeavesAnswers}
 use Rattle.lvm_volume_lines.specs.Commands.{HasRested, IsCarriedOut, IsHeldAgain, IsLeftAs, IsLeftOff, IsLeftOn}
@@ -283,7 +281,7 @@ module _ {S : Type 0} (device : S → Device) (stage : Stage S) (fits : IsFittin
             (λ allowed m may alone past begins. stands_again device (added given) done.left on.by on.held past (if_on given (IsLeftStandingSince run m left) ((known last).goes allowed m may alone).1 lasts (sectors done.left.0) past begins))
 
         -- the line ends so, by what it does
-        pub ends_so : (Does : Log → State → State → Reply → Type 0)
+        pub ends_so : (Does : Log → ScriptState → ScriptState → Reply → Type 0)
             → ((last : ℕ) → IsDone (λ was is. Gives was is given) scope (is_over given) mid (state_in device stage last) (state_in device it last) → Does (without_facts (history_in stage)) (state_in device stage last) (state_in device it last) (volume_reply given))
             → EndsUnasked device Does ⊥ role stage it answer
         ends_so Does does = λ last. subst (λ (a : Reply). CommandEnds device Does ⊥ role stage it a last last) (sym done.says) (record {

@@ -11,18 +11,16 @@ use Rattle.lvm_session.specs.Sound.{is_dark}
 use Rattle.lvm_session.specs.declared.open.Power.{Power}
 use Rattle.lvm_session.specs.declared.open.Power.TheVariants as power
 use Rattle.lvm_session.specs.State.{Core, State as Session, state, votes_there}
-use Rattle.lvm_turn_losses.proofs.Votes.{votes_go}
+use Rattle.lvm_range_lines.proofs.handed.Names.{votes_go}
 use Rattle.lvm_core.specs.Settled.{IsSettled as IsSettledCore}
 use Rattle.lvm_core.specs.Sound.{HaveAllLanded}
 use Rattle.lvm_core.specs.State.{state_of}
 use Rattle.lvm_range_lines.specs.passed.Driver.{DrainFault, FailsSo}
 use Rattle.lvm_range_lines.specs.passed.DrainFaultVariants as drain_fault
-use Rattle.lvm_posts.specs.Posts.{AreAnswered, ended_with}
+use Rattle.lvm_range_lines.specs.handed.Names.{AreAnswered, ended_with}
 use Rattle.lvm_range_lines.specs.passed.Running.{LeavesSession}
 use Rattle.lvm_range_lines.proofs.passed.Running.{stays_unstuck}
-use Rattle.lvm_range_lines.specs.passed.Stage.{EndsUnasked, patience_of_line, GoesOn, Role, IsStuck, most_refusals, HaveRooms, IsBetweenStage}
-use Rattle.lvm_range_lines.specs.passed.Stage.{IsClosed, IsEnded, IsFitting, IsOfKind, history_in, open_in, posts_ended, session_in, session_of}
-use Rattle.lvm_range_lines.specs.passed.Stage.{shelf_in, state_in, ArePosted, IsAtRest, State, without_facts, Holder, Reply, Stage}
+use Rattle.lvm_range_lines.specs.passed.Stage.{EndsUnasked, patience_of_line, GoesOn, Role, IsStuck, most_refusals, HaveRooms, IsBetweenStage, IsClosed, IsEnded, IsFitting, IsOfKind, history_in, open_in, posts_ended, session_in, session_of, shelf_in, state_in, ArePosted, IsAtRest, ScriptState, without_facts, Holder, Reply, Stage}
 use Rattle.lvm_range_lines.specs.passed.HolderVariants as holder
 use Rattle.lvm_range_lines.specs.passed.ReplyVariants as reply
 use Rattle.lvm_range_lines.proofs.passed.Stage.{one_refused, LeavesAnswers, end_posts, none_held, IsRun, over_goes, over_landed}
@@ -177,7 +175,7 @@ module _ {S : Type 0} (role : Role) (acts : Acts role) (device : S → Device) (
     says = says;
   }
 
-  pub undrained_ends : (Does : Log → State → State → Reply → Type 0)
+  pub undrained_ends : (Does : Log → ScriptState → ScriptState → Reply → Type 0)
       → ((last : ℕ) → IsUndrained core (state_in device stage last) (state_in device it last) why answer → Does (without_facts (history_in stage)) (state_in device stage last) (state_in device it last) answer)
       → EndsUnasked device Does ⊥ role stage it answer
   undrained_ends Does does = λ last. record {

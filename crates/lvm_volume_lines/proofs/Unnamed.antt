@@ -11,13 +11,11 @@ use Rattle.lvm_range_lines.specs.passed.Handover.{IsCommanded}
 use Rattle.lvm_range_lines.specs.passed.TieCopies.{MayServeWith}
 use Rattle.lvm_range_lines.proofs.passed.Handover.{mklv_serves}
 use Rattle.lvm_range_lines.proofs.passed.TieCommands.{mklv_goes_on}
-use Rattle.lvm_volume_plan.specs.declared.fault.GroupFault.{GroupFault}
-use Rattle.lvm_volume_plan.specs.declared.fault.GroupFault.TheVariants as fault
-use Rattle.lvm_volume_plan.specs.declared.new_volume.NewVolume.{NewVolume}
+use Rattle.lvm_range_lines.specs.handed.Names.{GroupFault, NewVolume}
+use Rattle.lvm_range_lines.specs.handed.VolumePlanFaultGroupFault as fault
 use Rattle.lvm_range_lines.specs.passed.Volumes.{MklvGives, to_make}
 use Rattle.lvm_range_lines.proofs.passed.Volumes.{keeps_none, leaves_none}
-use Rattle.lvm_range_lines.specs.passed.Stage.{EndsUnasked, patience_of_line, GoesOn, Role, HaveRooms, IsBetweenStage, IsFitting, IsOfKind}
-use Rattle.lvm_range_lines.specs.passed.Stage.{history_in, open_in, session_in, shelf_in, state_in, State, without_facts, Holder, Reply, Stage}
+use Rattle.lvm_range_lines.specs.passed.Stage.{EndsUnasked, patience_of_line, GoesOn, Role, HaveRooms, IsBetweenStage, IsFitting, IsOfKind, history_in, open_in, session_in, shelf_in, state_in, ScriptState, without_facts, Holder, Reply, Stage}
 use Rattle.lvm_range_lines.specs.passed.RefusalVariants as refusal
 use Rattle.lvm_range_lines.specs.passed.ReplyVariants as reply
 use Rattle.lvm_volume_lines.specs.Commands.{HasRested, IsHeldAgain}
@@ -88,7 +86,7 @@ module _ {S : Type 0} (device : S → Device) (stage : Stage S) (fits : IsFittin
         (rows_again device [] driver by held (rows_mid old core mid mids))
         (λ allowed m may alone past begins. stands_again device [] driver by held past ((mklv_goes_on core.history.run m asked patience patience mid mid given may alone commanded gives).1 (sectors driver.0) past begins))
 
-    pub unnamed_ends : (Does : Log → State → State → Reply → Type 0)
+    pub unnamed_ends : (Does : Log → ScriptState → ScriptState → Reply → Type 0)
         → ((last : ℕ) → Drains core (state_in device stage last) patience mid → StaysOn mid (state_in device stage last) (state_in device it last) → Does (without_facts (history_in stage)) (state_in device stage last) (state_in device it last) answer)
         → EndsUnasked device Does ⊥ role stage it answer
     unnamed_ends Does does = λ last. record {

@@ -10,7 +10,7 @@ use Rattle.lvm_write.specs.Written.{KeepsShelf}
 use Rattle.lvm_session.specs.Judging.{is_missing}
 use Rattle.lvm_session.specs.Sound.{IsSound}
 use Rattle.lvm_session.specs.State.{Core, State as Session, state, is_there}
-use Rattle.lvm_turn_losses.specs.Losing.{LosesVotesByFaults}
+use Rattle.lvm_range_lines.specs.handed.Names.{LosesVotesByFaults, GroupFault, NewVolume}
 use Rattle.lvm_core.specs.Held.{IsHeld}
 use Rattle.lvm_core.specs.Leaves.{IsOfCommand, KeepsStatus, FindsOnly, Scope}
 use Rattle.lvm_core.specs.Looking.{IsNumberOf, HasNoVolumeNamed}
@@ -18,11 +18,9 @@ use Rattle.lvm_core.specs.Settled.{IsSettled}
 use Rattle.lvm_range_lines.specs.passed.Driver.{DrainFault, FailsSo, IsAny, IsTurn}
 use Rattle.lvm_range_lines.specs.passed.DrainFaultVariants as drain_fault
 use Rattle.lvm_range_lines.specs.passed.Running.{RunsOn}
-use Rattle.lvm_volume_plan.specs.declared.fault.GroupFault.{GroupFault}
-use Rattle.lvm_volume_plan.specs.declared.fault.GroupFault.TheVariants as fault
-use Rattle.lvm_volume_plan.specs.declared.new_volume.NewVolume.{NewVolume}
+use Rattle.lvm_range_lines.specs.handed.VolumePlanFaultGroupFault as fault
 use Rattle.lvm_range_lines.specs.passed.Volumes.{MklvGives, RmlvGives, to_make, to_remove}
-use Rattle.lvm_range_lines.specs.passed.Stage.{patience_of_line, IsRefused, IsOn, IsNotOn, open_in, posts_ended, IsAtRest, State, Refusal, Reply}
+use Rattle.lvm_range_lines.specs.passed.Stage.{patience_of_line, IsRefused, IsOn, IsNotOn, open_in, posts_ended, IsAtRest, ScriptState, Refusal, Reply}
 use Rattle.lvm_range_lines.specs.passed.RefusalVariants as refusal
 use Rattle.lvm_range_lines.specs.passed.ReplyVariants as reply
 
@@ -68,7 +66,7 @@ is_over (Err why) = ends_session why
 -- ---- what is left of a session
 
 -- The session goes on, and counts the members that are missing by now as missing since it began.
-pub record StaysOn (left : Session) (old new : State) : Type 0 where
+pub record StaysOn (left : Session) (old new : ScriptState) : Type 0 where
   pub core : Core
   pub is : core ≡ record left.core { origin = core.origin }
   pub session : new.session ≡ Some core
@@ -77,14 +75,14 @@ pub record StaysOn (left : Session) (old new : State) : Type 0 where
   pub posts : new.posts ≡ old.posts
 
 -- The session is over: it is closed without a write, its posts have ended, and the power is on.
-pub record IsOver (left : Session) (old new : State) : Type 0 where
+pub record IsOver (left : Session) (old new : ScriptState) : Type 0 where
   pub lit : Relights left.device new.moment.device
   pub facts : new.moment.facts ≡ left.core.history.facts
   pub session : new.session ≡ None
   pub posts : new.posts ≡ posts_ended (Some left.core) old.posts
 
 -- one or the other
-abbrev pub IsLeft : Bool → Session → State → State → Type 0
+abbrev pub IsLeft : Bool → Session → ScriptState → ScriptState → Type 0
 IsLeft true left old new = IsOver left old new
 IsLeft false left old new = StaysOn left old new
 
@@ -92,7 +90,7 @@ IsLeft false left old new = StaysOn left old new
 
 -- No request is open. Where the group has a volume turns were made until nothing was left, and so much patience is; else, and at rest, nothing has changed. A
 -- missing disk stays missing.
-pub record Drains (core : Core) (old : State) (left : ℕ) (mid : Session) : Type 0 where
+pub record Drains (core : Core) (old : ScriptState) (left : ℕ) (mid : Session) : Type 0 where
   pub none : core.requests ≡ []
   pub turns : Path IsTurn IsAny (state old.moment.device core) mid
   pub runs : RunsOn (state old.moment.device core) mid
@@ -105,7 +103,7 @@ pub record Drains (core : Core) (old : State) (left : ℕ) (mid : Session) : Typ
   pub waited : RoseBy (patience_of_line - left) old.moment.device.counts.waits mid.device.counts.waits
 
 -- No request is open, and the turns ended before nothing was left, for this. They lose the votes by faults alone.
-pub record IsUndrained (core : Core) (old new : State) (why : DrainFault) (answer : Reply) : Type 0 where
+pub record IsUndrained (core : Core) (old new : ScriptState) (why : DrainFault) (answer : Reply) : Type 0 where
   pub none : core.requests ≡ []
   pub end : Session
   pub turns : Path IsTurn IsAny (state old.moment.device core) end
@@ -130,7 +128,7 @@ wanted name copies mode policy lps = record { name = name; copies = copies; mode
 -- be before, but the one that was to be committed. Only statuses of the session, that descriptor, and zeros in partitions that it may fill were written to
 -- members; a member became missing only after a transfer to it had failed, and only partitions that it may mark were made stale or fresh. Where the session goes
 -- on it is at rest, and its disks hold what it says, where they did.
-pub record IsDone (Gives : Session → Session → Type 0) (scope : Core → Scope) (over : Bool) (mid : Session) (old new : State) : Type 0 where
+pub record IsDone (Gives : Session → Session → Type 0) (scope : Core → Scope) (over : Bool) (mid : Session) (old new : ScriptState) : Type 0 where
   pub left : Session
   pub gives : Gives mid left
   pub leaves : IsLeft over left old new
@@ -142,17 +140,17 @@ pub record IsDone (Gives : Session → Session → Type 0) (scope : Core → Sco
   pub clock : new.last ≡ old.last
 
 -- so was `mklv`, with so much patience
-abbrev pub MklvEnds : NewVolume → Result ℕ GroupFault → Bool → ℕ → Session → State → State → Type 0
+abbrev pub MklvEnds : NewVolume → Result ℕ GroupFault → Bool → ℕ → Session → ScriptState → ScriptState → Type 0
 MklvEnds w given over patience mid old new = IsDone (λ was is. MklvGives w patience was is given) (to_make w) over mid old new
 
 -- so was `rmlv`
-abbrev pub RmlvEnds : ℕ → Result (Unit {0}) GroupFault → Bool → ℕ → Session → State → State → Type 0
+abbrev pub RmlvEnds : ℕ → Result (Unit {0}) GroupFault → Bool → ℕ → Session → ScriptState → ScriptState → Type 0
 RmlvEnds lv given over patience mid old new = IsDone (λ was is. RmlvGives lv patience was is given) (to_remove lv) over mid old new
 
 -- ---- the lines
 
 -- `mklv`
-pub data MklvDoes (w : NewVolume) (group : List ℕ) (old new : State) (answer : Reply) : Type 0 where
+pub data MklvDoes (w : NewVolume) (group : List ℕ) (old new : ScriptState) (answer : Reply) : Type 0 where
   NoGroupForMklv : IsNotOn group old.session → IsRefused refusal.NoGroup answer old new → MklvDoes w group old new answer
   BusyMklv : IfSome old.session (IsOn group) → 1 ≤ open_in old.session → IsRefused refusal.Busy answer old new → MklvDoes w group old new answer
   UndrainedMklv : (core : Core) (why : DrainFault) → old.session ≡ Some core → IsOn group core → IsUndrained core old new why answer → MklvDoes w group old new answer
@@ -162,7 +160,7 @@ pub data MklvDoes (w : NewVolume) (group : List ℕ) (old new : State) (answer :
       → answer ≡ reply.Refused (refusal_for why) → MklvDoes w group old new answer
 
 -- `rmlv`, of the volume that has the name
-pub data RmlvDoes (name : List ℕ) (old new : State) (answer : Reply) : Type 0 where
+pub data RmlvDoes (name : List ℕ) (old new : ScriptState) (answer : Reply) : Type 0 where
   NoGroupForRmlv : old.session ≡ None → IsRefused refusal.NoGroup answer old new → RmlvDoes name old new answer
   BusyRmlv : 1 ≤ open_in old.session → IsRefused refusal.Busy answer old new → RmlvDoes name old new answer
   UndrainedRmlv : (core : Core) (why : DrainFault) → old.session ≡ Some core → IsUndrained core old new why answer → RmlvDoes name old new answer

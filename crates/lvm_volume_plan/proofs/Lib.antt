@@ -1,3 +1,4 @@
+pub mod handed
 pub mod Numbers
 pub mod Sublists
 pub mod NewDescriptor

@@ -1,3 +1,4 @@
+pub mod handed
 pub mod NewVolume
 pub mod Faults
 pub mod PlannedVolume

@@ -2,6 +2,7 @@
 #![tactic(auto)]
 
 mod fault;
+pub mod lower;
 mod new_volume;
 mod next;
 

@@ -4,7 +4,7 @@ ghost use Rattle.lvm_num.specs.declared.descriptor.LvRow.{LvRow};
 ghost use Rattle.lvm_num.specs.Descriptor.{IsValid};
 ghost use Rattle.lvm_volume_plan.specs.NewVolume.{IsLowestFree, IsInOrder, with_volume, without_volume};
 
-use lvm_num::{Descriptor, LvRow, Memory, Rows, copy_of_volume, copy_of_volumes, with_volumes};
+use lvm_num::{Descriptor, LvRow, Memory, Rows, clone_volume, clone_volumes, with_volumes};
 use std::alloc::Global;
 
 /// The lowest number from 1 that no volume of the group has.
@@ -30,7 +30,7 @@ pub fn with_volume(alloc: Global, d: &Descriptor, row: LvRow) -> Result<Descript
     ensures { IfOk result (λ next. next ≡ with_volume d.now row) }
 {
     let place = usize::from(row.number - 1);
-    let mut lvs = copy_of_volumes(alloc, d.lvs.as_slice())?;
+    let mut lvs = clone_volumes(alloc, d.lvs.as_slice())?;
     lvs.insert(place, row)?;
     with_volumes(alloc, d, Rows::new(lvs))
 }
@@ -42,7 +42,7 @@ pub fn without_volume(alloc: Global, d: &Descriptor, lv: u16) -> Result<Descript
     let mut lvs = Vec::new(alloc);
     for row in d.lvs.as_slice() {
         if row.number != lv {
-            lvs.push(copy_of_volume(alloc, row)?)?;
+            lvs.push(clone_volume(alloc, row)?)?;
         }
     }
     with_volumes(alloc, d, Rows::new(lvs))

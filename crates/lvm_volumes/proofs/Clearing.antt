@@ -14,15 +14,10 @@ use Rattle.lvm_map.specs.FirstFit.{is_on}
 use Rattle.lvm_steps.proofs.Booleans.{either}
 use Rattle.lvm_stale.specs.Table.{is_pp}
 use Rattle.lvm_status.specs.Update.{members_there}
-use Rattle.lvm_commit.specs.LawsOfData.{IsFree}
-use Rattle.lvm_commit.proofs.Copies.{one_place}
-use Rattle.lvm_commit.specs.Settling.{NoneIsLeft}
-use Rattle.lvm_core.specs.declared.fault.CommitFault.{CommitFault}
-use Rattle.lvm_core.specs.declared.fault.CommitFault.TheVariants as commit
+use Rattle.lvm_volume_plan.specs.handed.Names.{IsFree, NoneIsLeft, CommitFault, IsSettled, is_among, Restates, HasStated, RecordsEnd, MarkEnds, NoDescriptor, Leaves, marking}
+use Rattle.lvm_volume_plan.proofs.handed.Names.{one_place}
+use Rattle.lvm_volume_plan.specs.handed.CoreFaultCommitFault as commit
 use Rattle.lvm_session.specs.State.{Core, State, is_there}
-use Rattle.lvm_core.specs.Settled.{IsSettled}
-use Rattle.lvm_core.specs.Committing.{is_among, Restates, HasStated, RecordsEnd, MarkEnds}
-use Rattle.lvm_core.specs.Leaves.{NoDescriptor, Leaves, marking}
 use Rattle.lvm_volumes.specs.Endings.{StillHeld, KeepsFresh, commanding}
 use Rattle.lvm_volumes.specs.Stages.{IfGoesOn, AreUnusedOn, IsLowestMissing, CommandBroke, DiskFailsFirst, ZerosEnd, ClearEnds}
 use Rattle.lvm_volumes.specs.Volumes.{AreZeroed}

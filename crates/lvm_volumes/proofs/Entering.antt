@@ -17,18 +17,9 @@ use Rattle.lvm_kept.specs.Contents.{contents_of}
 use Rattle.lvm_kept.specs.Moments.{Moment}
 use Rattle.lvm_steps.specs.Entering.{OpensNone}
 use Rattle.lvm_steps.proofs.Entering.{calm_goes_on}
-use Rattle.lvm_write.proofs.Transfers.{keeps_here, spends_none}
-use Rattle.lvm_commit.specs.Committed.{HoldsCommitted, ShowsCommitted}
-use Rattle.lvm_commit.specs.LawsOfVolumes.{IsOnlyGroupSince, LeavesCommitted}
-use Rattle.lvm_commit.specs.Settling.{many_there, NoneIsLeft, MarksLeft}
-use Rattle.lvm_commit.proofs.Still.{still_holds_committed}
+use Rattle.lvm_volume_plan.proofs.handed.Names.{keeps_here, spends_none, still_holds_committed, keeps_fact, same_status}
+use Rattle.lvm_volume_plan.specs.handed.Names.{HoldsCommitted, ShowsCommitted, IsOnlyGroupSince, LeavesCommitted, many_there, NoneIsLeft, MarksLeft, IsHeld, IsSettled, HasSpareNumbers, moment_of, SpanGoesOn, LetsCommit, HasStated, NoPartition, IsHeldSince, IsOfCommand, Leaves, committing, IsOfVolume}
 use Rattle.lvm_session.specs.State.{Core, State, is_there}
-use Rattle.lvm_core.specs.Held.{IsHeld}
-use Rattle.lvm_core.specs.Settled.{IsSettled, HasSpareNumbers}
-use Rattle.lvm_core.specs.Committing.{moment_of, SpanGoesOn, LetsCommit, HasStated}
-use Rattle.lvm_core.specs.Leaves.{NoPartition, IsHeldSince, IsOfCommand, Leaves, committing}
-use Rattle.lvm_core.specs.Entering.{IsOfVolume}
-use Rattle.lvm_core.proofs.LeavesLemmas.{keeps_fact, same_status}
 use Rattle.lvm_volumes.specs.Endings.{StillHeld, IfAlone, commanding}
 use Rattle.lvm_volumes.specs.Stages.{with_entry}
 use Rattle.lvm_volumes.proofs.Holding.{still_by}

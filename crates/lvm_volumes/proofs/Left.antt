@@ -11,8 +11,8 @@ use Rattle.lvm_kept.specs.Group.{IsOneOf}
 use Rattle.lvm_stale.specs.Table.{is_pp}
 use Rattle.lvm_status.specs.Update.{Stored}
 use Rattle.lvm_steps.proofs.Booleans.{either, clash}
-use Rattle.lvm_commit.specs.Settling.{there, NoneIsLeft, MarksLeft}
-use Rattle.lvm_commit.proofs.Copies.{contains, of_map, of_rows}
+use Rattle.lvm_volume_plan.specs.handed.Names.{there, NoneIsLeft, MarksLeft}
+use Rattle.lvm_volume_plan.proofs.handed.Names.{contains, of_map, of_rows}
 use Rattle.lvm_volume_plan.specs.declared.new_volume.NewVolume.{NewVolume}
 use Rattle.lvm_volume_plan.specs.NewVolume.{row_for, with_volume, without_volume}
 use Rattle.lvm_volume_plan.proofs.Sublists.{one_insert, one_filter}

@@ -1,3 +1,4 @@
+pub mod handed
 pub mod Left
 pub mod Places
 pub mod Fresh

@@ -1,3 +1,4 @@
+pub mod handed
 pub mod Endings
 pub mod Volumes
 pub mod Stages

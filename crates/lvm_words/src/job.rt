@@ -1,7 +1,7 @@
 //! What the words of the command line may ask for.
 
 /// What the words of the command line ask for.
-#[derive(Clone, Copy, Debug, PartialEq, Eq)]
+#[derive(Clone, Copy, PartialEq, Eq)]
 pub enum Job {
     /// `script`: a script over the image files of the current folder.
     Script,

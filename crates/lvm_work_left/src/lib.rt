@@ -2,6 +2,7 @@
 #![tactic(auto)]
 
 mod copy;
+pub mod lower;
 mod requests;
 mod status;
 mod work;

@@ -1,3 +1,4 @@
+pub mod handed
 pub mod Writing
 pub mod Pieces
 pub mod Transfers

@@ -1,3 +1,4 @@
+pub mod handed
 pub mod Homes
 pub mod Written
 pub mod Parts

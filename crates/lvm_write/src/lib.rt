@@ -3,6 +3,7 @@
 
 mod homes;
 mod laws;
+pub mod lower;
 mod notes;
 mod write;
 

@@ -8,7 +8,7 @@ pub use Rattle.lvm_stage.specs.Replies.{InFull, IsRefused, IsStuck, Shows, Witho
 pub use Rattle.lvm_stage.specs.Stages.{ComesTo, GivesBack, HaveRooms, IsBetweenStage, IsCarried, IsClosed, IsEnded, IsFitting, IsLeftBy, IsNotOn}
 pub use Rattle.lvm_stage.specs.Stages.{IsOfKind, IsOn, history_in, history_of, moment_in, open_in, posts_ended, session_in, session_of, shelf_in}
 pub use Rattle.lvm_stage.specs.Stages.{shelf_of, state_in}
-pub use Rattle.lvm_stage.specs.State.{ArePosted, IsAtRest, IsBetween, IsOnBetween, IsPosted, IsTimely, StandsAlone, StandsBy, State, log_with}
+pub use Rattle.lvm_stage.specs.State.{ArePosted, IsAtRest, IsBetween, IsOnBetween, IsPosted, IsTimely, StandsAlone, StandsBy, ScriptState, log_with}
 pub use Rattle.lvm_stage.specs.State.{without_facts}
 pub use Rattle.lvm_stage.specs.declared.holder.Holder.{Holder}
 pub use Rattle.lvm_stage.specs.declared.reply.Refusal.{Refusal}

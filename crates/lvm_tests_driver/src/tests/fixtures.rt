@@ -8,13 +8,12 @@ ghost use Rattle.lvm_kept.specs.Examples.{row_of};
 ghost use Rattle.lvm_media.specs.Media.{blank_disks_of, sizes_of};
 ghost use Rattle.lvm_memory.specs.Memory.{device_of};
 ghost use Rattle.lvm_session.specs.declared.open.Power.TheVariants as power;
-ghost use Rattle.lvm_session_start.specs.Parts.{IsRoom};
+ghost use Rattle.lvm_session_start.specs.Parts.{IsSessionRoom};
 ghost use Rattle.lvm_session.specs.Sound.{IsLit};
 ghost use Rattle.lvm_session.specs.Worked.{status_of};
 ghost use Rattle.lvm_vol.specs.Log.{empty_log, spare_entries};
 
 use lvm_disk::{Arrange, Shelf};
-use lvm_driver::laws::whole_groups_begin;
 use lvm_faults::{Planned, names_disks};
 use lvm_history::History;
 use lvm_memory::MemShelf;
@@ -24,6 +23,7 @@ use lvm_num::{
 };
 use lvm_path::Ask;
 use lvm_ranges::below::driver::{Closed, DrainFault, Driver};
+use lvm_ranges::lower::whole_groups_begin;
 use lvm_rec::Homes;
 use lvm_session::{AskFault, CopyFault, CopyState, Power, Taken, Turned};
 use lvm_session_start::{Room, take_parts};
@@ -209,7 +209,7 @@ fn shelf(rt: &(impl Abort + AllocGlobal), mib: u16, plan: &[Planned]) -> MemShel
 }
 
 fn room(rt: &impl Abort, setup: &Setup) -> Room
-    ensures { IsRoom result }
+    ensures { IsSessionRoom result }
 {
     assert!(rt; setup.table <= 1024);
     assert!(rt; 1 <= setup.pool && setup.pool <= 1024);

@@ -8,14 +8,12 @@ ghost use Rattle.lvm_kept.specs.Examples.{row_of};
 ghost use Rattle.lvm_media.specs.Media.{blank_disks_of, sizes_of};
 ghost use Rattle.lvm_memory.specs.Memory.{device_of};
 ghost use Rattle.lvm_session.specs.declared.open.Power.TheVariants as power;
-ghost use Rattle.lvm_session_start.specs.Parts.{IsRoom};
+ghost use Rattle.lvm_session_start.specs.Parts.{IsSessionRoom};
 ghost use Rattle.lvm_session.specs.Sound.{IsLit};
 ghost use Rattle.lvm_session.specs.Worked.{status_of};
 ghost use Rattle.lvm_vol.specs.Log.{empty_log, spare_entries};
 
 use lvm_disk::{Arrange, Shelf};
-use lvm_driver::laws::whole_groups_begin;
-use lvm_driver::{Closed, DrainFault, Driver};
 use lvm_faults::{Planned, names_disks};
 use lvm_history::History;
 use lvm_memory::MemShelf;
@@ -25,6 +23,7 @@ use lvm_num::{
 };
 use lvm_path::Ask;
 use lvm_rec::Homes;
+use lvm_resync::lower::{Closed, DrainFault, Driver, whole_groups_begin};
 use lvm_resync::{SyncFault, sync_volume};
 use lvm_session::{AskFault, CopyFault, CopyState, Power, Taken, Turned};
 use lvm_session_start::{Room, take_parts};
@@ -194,7 +193,7 @@ fn shelf(rt: &(impl Abort + AllocGlobal), plan: &[Planned]) -> MemShelf
 }
 
 fn room(rt: &impl Abort, pool: u32) -> Room
-    ensures { IsRoom result }
+    ensures { IsSessionRoom result }
 {
     assert!(rt; 1 <= pool && pool <= 1024);
     Room { table: 16, pool }

@@ -4,9 +4,9 @@ use crate::tests::fixtures::{
     turn, write,
 };
 use lvm_disk::{Arrange, Shelf};
-use lvm_driver::{DrainFault, Driver};
 use lvm_faults::{Act, Planned};
 use lvm_num::Mode;
+use lvm_resync::lower::{DrainFault, Driver};
 use lvm_session::{CopyState, Taken};
 use std::process::Abort;
 

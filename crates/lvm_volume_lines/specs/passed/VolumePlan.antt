@@ -1,2 +1,2 @@
 -- Passed on from `lvm_volume_plan`.
-pub use Rattle.lvm_volume_plan.specs.declared.fault.GroupFault.{GroupFault}
+pub use Rattle.lvm_range_lines.specs.handed.Names.{GroupFault}

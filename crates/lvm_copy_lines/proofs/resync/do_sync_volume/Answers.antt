@@ -1,4 +1,4 @@
-use Rattle.std.proofs.Common.{ap, subst}
+use Rattle.std.proofs.Common.{◌∙◌, ap, subst}
 use Rattle.lvm_volume_lines.specs.passed.HolderVariants as holder
 use Rattle.lvm_volume_lines.specs.passed.RefusalVariants as refusal
 use Rattle.lvm_volume_lines.specs.passed.Stage.{IsOfKind, session_of}
@@ -8,7 +8,7 @@ use Rattle.lvm_copy_lines.proofs.resync.do_sync_volume.Goals as goal
 
 pub returns-in-Off : goal.returns-in-Off
 returns-in-Off g c =
-    refused_as g.S.Shelf.device (λ log. SyncVolumeDoes c.args.name) c.args.stage c.requires.fits c.requires.between (holder.Off c.in-Off.shelf c.in-Off.history) c.in-Off.is c.refused.result.stage c.refused.result.reply c.refused.ensures.stage
+    refused_as g.S.Shelf.device (λ log. SyncVolumeDoes c.args.name) c.args.stage c.requires.fits c.requires.between (holder.Off c.in-Off.shelf c.in-Off.history) c.in-Off.is c.refused.result.stage c.refused.result.reply (c.refused.ensures.stage ∙ c.off.ensures)
     refusal.NoGroup c.refused.ensures.reply (λ last refused. NoGroupForSync (ap session_of c.in-Off.is) refused)
 
 pub returns-in-Empty : goal.returns-in-Empty

@@ -1,20 +1,15 @@
-use Rattle.std.proofs.Common.{◌∙◌, List, length, ap, arith}
-use Rattle.lvm_flights.specs.Flights.{passed}
+use Rattle.std.proofs.Common.{◌∙◌, sym, ap}
+use Rattle.std.specs.List.{remove}
 use Rattle.lvm_flights.specs.Flights.{flight_of, flights_of, delays_of}
 use Rattle.lvm_flights.specs.declared.flying.Flying.{Flying}
-use Rattle.lvm_flights.proofs.Queues.{written_over, remove-map}
+use Rattle.lvm_flights.proofs.Queues.{remove-map, none_removed, passed_none}
 use Rattle.lvm_flights.proofs.queue.take_flight.Goals as goal
 
-pub returns-clause-flights : goal.returns-clause-flights
-returns-clause-flights c =
-    let left = c.remove-flying.new.self in
-    let same = ap (λ (l : List Flying). length l) c.deref_mut.ensures.value in
-    ap flights_of (written_over left.len c.pass_over.new.flights left.items (omega (arith, same, c.deref_mut.ensures.len)) (omega (arith, same, c.pass_over.auto.flights))) ∙ c.pass_over.ensures.flights
-    ∙ ap flights_of (c.deref_mut.ensures.value ∙ c.remove-flying.ensures.items) ∙ remove-map flight_of c.args.flights.now.items c.args.place
+pub returns-else-delayed-clause-flights : goal.returns-else-delayed-clause-flights
+returns-else-delayed-clause-flights c = ap flights_of c.remove.ensures.items ∙ remove-map flight_of c.args.flights.now.items c.args.place
 
-pub returns-clause-delays : goal.returns-clause-delays
-returns-clause-delays c =
-    let left = c.remove-flying.new.self in
-    let same = ap (λ (l : List Flying). length l) c.deref_mut.ensures.value in
-    ap delays_of (written_over left.len c.pass_over.new.flights left.items (omega (arith, same, c.deref_mut.ensures.len)) (omega (arith, same, c.pass_over.auto.flights))) ∙ c.pass_over.ensures.delays
-    ∙ ap (λ (l : List Flying). passed (delays_of l)) (c.deref_mut.ensures.value ∙ c.remove-flying.ensures.items) ∙ ap passed (remove-map (λ (f : Flying). f.delay) c.args.flights.now.items c.args.place)
+pub returns-else-delayed-clause-delays : goal.returns-else-delayed-clause-delays
+returns-else-delayed-clause-delays c =
+    let old = c.args.flights.now.items in
+    ap delays_of c.remove.ensures.items ∙ remove-map (λ (f : Flying). f.delay) old c.args.place
+    ∙ sym (passed_none (remove (delays_of old) c.args.place) (none_removed (delays_of old) c.args.place (c.requires.delayed c.if-delayed.false)))

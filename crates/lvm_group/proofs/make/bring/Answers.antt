@@ -3,14 +3,11 @@ use Rattle.std.specs.Prelude.{IfOk, IfErr}
 use Rattle.std.proofs.lemmas.Result.{err_from_is_err_and}
 use Rattle.lvm_vol.specs.Log.{Log, spare_entries}
 use Rattle.lvm_rec.specs.declared.homes.Homes.{Homes}
-use Rattle.lvm_core.specs.Coming.{BringsOn}
-use Rattle.lvm_core.specs.Held.{StartsHeld}
-use Rattle.lvm_session_start.specs.Beginning.{first_core}
-use Rattle.lvm_core.specs.declared.refused.Cause.{Cause}
-use Rattle.lvm_group.specs.NewGroup.{NewGroup}
-use Rattle.lvm_group.specs.Planned.{asked_group, IsPlannedFor}
-use Rattle.lvm_group.specs.Made.{Refuses}
-use Rattle.lvm_group.specs.Steps.{cut_at, Stands}
+use Rattle.lvm_group_plan.specs.handed.Names.{BringsOn, StartsHeld, first_core, Cause}
+use Rattle.lvm_group_plan.specs.NewGroup.{NewGroup}
+use Rattle.lvm_group_plan.specs.Planned.{IsPlannedFor}
+use Rattle.lvm_group.specs.Made.{MkvgRefuses}
+use Rattle.lvm_group.specs.Steps.{asked_group, cut_at, Stands}
 use Rattle.lvm_group.proofs.Composing.{refuses_reading}
 use Rattle.lvm_group.proofs.Midst.{read_leaves, descriptor_long, status_long, have_room, refuses_written, stands_written, written_leaves, written_held}
 use Rattle.lvm_group.proofs.make.bring.Goals as goal
@@ -74,7 +71,7 @@ returns g c =
     let given = sym c.give_up.ensures in
     record {
       made = subst (λ (l : Log). IfOk r (λ (next : Homes). Stands w room was l old new (record { parts = plan.parts; homes = next }))) given (stands_written w room was old mid free plan its.may found its.planned its.size before left after new only leaves r gives);
-      refused = subst (λ (l : Log). IfErr r (Refuses w before was (cut_at r l) old new)) given (refuses_written w room was old mid free plan its.may found its.planned its.size before left after new only leaves r gives);
+      refused = subst (λ (l : Log). IfErr r (MkvgRefuses w before was (cut_at r l) old new)) given (refuses_written w room was old mid free plan its.may found its.planned its.size before left after new only leaves r gives);
       held = λ clock.
           subst (λ (l : Log). IfOk r (λ (next : Homes). StartsHeld new (first_core plan.parts l (record { epoch = w.moment; seq = 2 }) next []))) given
           (written_held w room was old mid free plan its.may found its.planned its.size before left after new only leaves was.run fits whole clock r gives);

@@ -6,14 +6,12 @@ use Rattle.lvm_steps.specs.Requests.{at}
 use Rattle.lvm_steps.proofs.Spans.{keeps_still}
 use Rattle.lvm_stamps.proofs.Clock.{all_is_behind_next}
 use Rattle.lvm_write.proofs.Transfers.{spends_none}
-use Rattle.lvm_core.specs.declared.refused.Cause.{Cause}
-use Rattle.lvm_core.specs.Held.{StartsHeld}
-use Rattle.lvm_session_start.specs.Beginning.{first_core}
+use Rattle.lvm_group_plan.specs.handed.Names.{Cause, StartsHeld, Parts, first_core}
 use Rattle.lvm_group.specs.declared.make.Standing.{Standing}
-use Rattle.lvm_group.specs.NewGroup.{NewGroup}
-use Rattle.lvm_group.specs.Planned.{asked_group, IsPlannedFor, RefusesPlan}
-use Rattle.lvm_group.specs.Made.{Refuses}
-use Rattle.lvm_group.specs.Steps.{Stands}
+use Rattle.lvm_group_plan.specs.NewGroup.{NewGroup}
+use Rattle.lvm_group_plan.specs.Planned.{IsPlannedFor, RefusesPlan}
+use Rattle.lvm_group.specs.Made.{MkvgRefuses}
+use Rattle.lvm_group.specs.Steps.{asked_group, Stands}
 use Rattle.lvm_group.proofs.Composing.{refuses_plan}
 use Rattle.lvm_group.proofs.Midst.{made_then, refused_then, held_then, leaves_then}
 use Rattle.lvm_group.proofs.make.make.Goals as goal
@@ -63,10 +61,10 @@ returns g c =
     let says = c.bring-brought.ensures in
     let started = sym c.start_with.ensures in
     record {
-      made = subst (λ (s : Result Standing Cause). IfOk s (Stands w room was is old new)) started (made_then w room before after was mid is old new parts r c.enter_cut.ensures says.made);
-      refused = subst (λ (s : Result Standing Cause). IfErr s (Refuses w before was is old new)) started (refused_then w room before after was mid is old new parts r c.enter_cut.ensures says.refused);
+      made = subst (λ (s : Result (Standing Parts) Cause). IfOk s (Stands w room was is old new)) started (made_then w room before after was mid is old new parts r c.enter_cut.ensures says.made);
+      refused = subst (λ (s : Result (Standing Parts) Cause). IfErr s (MkvgRefuses w before was is old new)) started (refused_then w room before after was mid is old new parts r c.enter_cut.ensures says.refused);
       held = λ clock.
-          subst (λ (s : Result Standing Cause). IfOk s (λ (standing : Standing). StartsHeld new (first_core standing.parts is (record { epoch = c.args.moment; seq = 2 }) standing.homes []))) started
+          subst (λ (s : Result (Standing Parts) Cause). IfOk s (λ (standing : Standing Parts). StartsHeld new (first_core standing.parts is (record { epoch = c.args.moment; seq = 2 }) standing.homes []))) started
           (held_then w room before after was mid is old new parts (record { epoch = c.args.moment; seq = 2 }) r c.enter_cut.ensures (says.held clock));
       leaves = leaves_then w room before after was mid is old new parts was.run r c.enter_cut.ensures says.leaves;
     }

@@ -1,11 +1,8 @@
 use Rattle.std.proofs.Common.{sym, subst}
 use Rattle.lvm_vol.specs.Log.{Log}
 use Rattle.lvm_steps.specs.Requests.{at}
-use Rattle.lvm_session.specs.State.{Core}
-use Rattle.lvm_session_start.specs.Beginning.{AreFaults}
-use Rattle.lvm_core.specs.Held.{StartsHeld}
-use Rattle.lvm_core.specs.Coming.{BringsOn}
-use Rattle.lvm_group.specs.NewGroup.{NewGroup}
+use Rattle.lvm_group_plan.specs.handed.Names.{Core, AreFaults, StartsHeld, BringsOn}
+use Rattle.lvm_group_plan.specs.NewGroup.{NewGroup}
 use Rattle.lvm_group.specs.Made.{IsMade}
 use Rattle.lvm_group.specs.Steps.{Stands}
 use Rattle.lvm_group.proofs.Starting.{spare_left, still_landed, placed, made, settles, keeps_on, calm_on, none_left}

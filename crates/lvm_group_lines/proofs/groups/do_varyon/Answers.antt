@@ -1,57 +1,58 @@
-use Rattle.std.proofs.Common.{ℕ, IfErr, ap, sym, subst}
+use Rattle.std.proofs.Common.{ℕ, IfErr, ◌∙◌, sym, subst}
 use Rattle.lvm_disk_lines.specs.passed.Quiesce.{CauseRose, VaryonOnceQuiet}
 use Rattle.lvm_group_lines.specs.Groups.{VaryonDoes, NoVaryonWhileOn, Varies, itself}
-use Rattle.lvm_disk_lines.specs.passed.Stage.{CommandEnds, Aside, Holder}
+use Rattle.lvm_disk_lines.specs.passed.Stage.{CommandEnds, Aside}
 use Rattle.lvm_disk_lines.specs.passed.HolderVariants as holder
 use Rattle.lvm_disk_lines.specs.passed.RefusalVariants as refusal
 use Rattle.lvm_disk_lines.proofs.passed.Stage.{asked_ends, ends_as, one_refused, asked_stays, between_as, fits_as}
-use Rattle.lvm_group_lines.proofs.Coming.{Left, dark_still, held, on_unless, outcome_ends}
+use Rattle.lvm_group_lines.proofs.Coming.{Left, dark_still, held, outcome_ends}
 use Rattle.lvm_group_lines.proofs.Lines.{all_serve, all_stand, brings, may_hold}
 use Rattle.lvm_group_lines.proofs.Varying.{came, itself_gives, serves, stands, stayed}
 use Rattle.lvm_group_lines.proofs.Quieting.{device_outcome}
 use Rattle.lvm_group_lines.proofs.groups.do_varyon.Goals as goal
 
-pub returns-in_default-clause-ends : goal.returns-in_default-clause-ends
-returns-in_default-clause-ends g c =
-    let asked = asked_stays g.S.Shelf.device c.args.stage c.refused.result.stage (g.C.Clock.last c.args.clock.now) (g.C.Clock.last c.now-moment.new.self) c.now-moment.result c.now-moment.ensures.later c.now-moment.ensures.last c.refused.ensures.stage in
-    asked_ends g.S.Shelf.device (λ log. VaryonDoes log c.args.room c.args.name) ⊥ Aside c.args.stage c.refused.result.stage c.refused.result.reply c.requires.fits c.requires.between c.refused.ensures.stage
-    (one_refused c.refused.result.reply refusal.GroupOn c.refused.ensures.reply) _ _ asked (NoVaryonWhileOn (on_unless c.args.stage.holder c.in_default.not-Off) c.refused.ensures.reply asked)
+pub returns-in-Err-clause-ends : goal.returns-in-Err-clause-ends
+returns-in-Err-clause-ends g c =
+    let still = c.refused.ensures.stage ∙ c.in-Err.ensures.kept in
+    let asked = asked_stays g.S.Shelf.device c.args.stage c.refused.result.stage (g.C.Clock.last c.args.clock.now) (g.C.Clock.last c.now-moment.new.self) c.now-moment.result c.now-moment.ensures.later c.now-moment.ensures.last still in
+    asked_ends g.S.Shelf.device (λ log. VaryonDoes log c.args.room c.args.name) ⊥ Aside c.args.stage c.refused.result.stage c.refused.result.reply c.requires.fits c.requires.between still
+    (one_refused c.refused.result.reply refusal.GroupOn c.refused.ensures.reply) _ _ asked (NoVaryonWhileOn c.in-Err.ensures.on c.refused.ensures.reply asked)
 
 pub left-holder-requires-clause-may : goal.left-holder-requires-clause-may
 left-holder-requires-clause-may g c =
-    let shelf = c.in-Off.shelf in
-    let log = c.in-Off.history in
+    let shelf = c.in-Ok.closed.shelf in
+    let log = c.in-Ok.closed.history in
     may_hold g.S.Shelf.device log.run c.now-moment.result (g.S.Shelf.device shelf) log c.varyon.result
-    (serves g.S.Shelf.device shelf log c.args.name c.now-moment.result _ c.args.room c.varyon.result c.varyon.ensures.gives (record { ordered = c.run.ensures.ordered; few = (fits_as c.args.stage (held (holder.Off shelf log) c.args.stage.posts c.args.stage.bytes) (ap (λ (h : Holder g.row.S.Denot). held h c.args.stage.posts c.args.stage.bytes) c.in-Off.is) c.requires.fits).few }))
+    (serves g.S.Shelf.device shelf log c.args.name c.now-moment.result _ c.args.room c.varyon.result c.varyon.ensures.gives (record { ordered = c.in-Ok.ensures.ordered; few = (fits_as c.args.stage (held (holder.Off shelf log) c.in-Ok.posts c.in-Ok.bytes) c.in-Ok.ensures.off c.requires.fits).few }))
     c.varyon.ensures.starts
 
 pub left-holder-requires-clause-still : goal.left-holder-requires-clause-still
 left-holder-requires-clause-still g c =
-    dark_still g.S.Shelf.device c.in-Off.shelf c.in-Off.history c.varyon.result (stayed g.S.Shelf.device c.in-Off.shelf c.in-Off.history c.args.name c.now-moment.result _ c.args.room c.varyon.result c.varyon.ensures.gives)
+    dark_still g.S.Shelf.device c.in-Ok.closed.shelf c.in-Ok.closed.history c.varyon.result (stayed g.S.Shelf.device c.in-Ok.closed.shelf c.in-Ok.closed.history c.args.name c.now-moment.result _ c.args.room c.varyon.result c.varyon.ensures.gives)
 
-pub returns-in-Off-clause-ends : goal.returns-in-Off-clause-ends
-returns-in-Off-clause-ends g c =
+pub returns-in-Ok-clause-ends : goal.returns-in-Ok-clause-ends
+returns-in-Ok-clause-ends g c =
     let device = g.S.Shelf.device in
-    let shelf = c.in-Off.shelf in
-    let log = c.in-Off.history in
-    let posts = c.args.stage.posts in
-    let bytes = c.args.stage.bytes in
+    let shelf = c.in-Ok.closed.shelf in
+    let log = c.in-Ok.closed.history in
+    let posts = c.in-Ok.posts in
+    let bytes = c.in-Ok.bytes in
     let moment = c.now-moment.result in
     let last = g.C.Clock.last c.args.clock.now in
     let outcome = c.varyon.result in
     let by = c.left-holder.result.0 in
     let answer = c.left-holder.result.1 in
-    let was = ap (λ (h : Holder g.row.S.Denot). held h posts bytes) c.in-Off.is in
+    let was = c.in-Ok.ensures.off in
     let fits = fits_as c.args.stage (held (holder.Off shelf log) posts bytes) was c.requires.fits in
     let left : Left device outcome by answer = record { on = c.left-holder.ensures.on; off = c.left-holder.ensures.off } in
-    let may = serves device shelf log c.args.name c.now-moment.result _ c.args.room outcome c.varyon.ensures.gives (record { ordered = c.run.ensures.ordered; few = fits.few }) in
+    let may = serves device shelf log c.args.name c.now-moment.result _ c.args.room outcome c.varyon.ensures.gives (record { ordered = c.in-Ok.ensures.ordered; few = fits.few }) in
     let serving = all_serve device log.run moment (device shelf) log outcome by answer may c.varyon.ensures.starts left in
     let gives = subst (λ (n : ℕ). VaryonOnceQuiet itself log c.args.name moment c.args.room n (device shelf) (device_outcome device outcome)) c.whole-patience.ensures (itself_gives device shelf log c.args.name c.now-moment.result _ c.args.room outcome c.varyon.ensures.gives) in
     let causes = subst (λ (n : ℕ). IfErr outcome (λ refused. CauseRose n (device shelf).counts (device refused.shelf).counts refused.cause)) c.whole-patience.ensures c.varyon.ensures.causes in
     ends_as device (λ log. VaryonDoes log c.args.room c.args.name) ⊥ Aside c.args.stage (held (holder.Off shelf log) posts bytes) c.answered.result.stage (held by posts bytes) c.answered.result.reply answer _ _
     was c.answered.ensures.stage c.answered.ensures.reply
     (subst (λ (n : ℕ). CommandEnds device (λ log. VaryonDoes log c.args.room c.args.name) ⊥ Aside (held (holder.Off shelf log) posts bytes) (held by posts bytes) answer last n) (sym c.now-moment.ensures.last)
-    (outcome_ends device shelf log posts bytes moment last _ _ by answer c.now-moment.ensures.later fits (between_as device c.args.stage (held (holder.Off shelf log) posts bytes) was c.requires.between) c.run.ensures.ordered
+    (outcome_ends device shelf log posts bytes moment last _ _ by answer c.now-moment.ensures.later fits (between_as device c.args.stage (held (holder.Off shelf log) posts bytes) was c.requires.between) c.in-Ok.ensures.ordered
     (λ log. VaryonDoes log c.args.room c.args.name) outcome
     (record {
       starts = c.varyon.ensures.starts;

@@ -18,7 +18,7 @@ returns-clause-lands c device =
       lands = c.requires.lands o there;
       is = landing_is device core c.args.place c.args.how o o c.index_mut.result.now c.land_open-got.new.open c.has_started-started.result c.count.result c.land_open-got.result
           c.enter_landing.new.history c.leave.new.self c.give_back.new.pool c.unpin.new.cache
-          refl write c.has_started-started.ensures c.count.ensures c.land_open-got.ensures.got c.land_open-got.ensures.open c.enter_landing.ensures.enters c.leave.ensures c.give_back.ensures c.unpin.ensures;
+          refl write c.has_started-started.ensures c.count.ensures c.land_open-got.ensures.got c.land_open-got.ensures.open c.enter_landing.ensures c.leave.ensures c.give_back.ensures c.unpin.ensures;
     }
 
 pub enter_landing-requires-clause-open : goal.enter_landing-requires-clause-open

@@ -1,13 +1,19 @@
 use Rattle.std.proofs.Common.{◌∙◌, ap}
 use Rattle.std.proofs.lemmas.Result.{IfOk-weaker}
-use Rattle.clap.specs.Words.{App, with_subcommand}
-use Rattle.lvm_language.specs.CommandLine.{script_app, sim_app, gen_app, image_app, weave_app}
+use Rattle.clap.specs.Simple.{on_top}
+use Rattle.clap.specs.Words.{App, new_app, with_subcommand}
+use Rattle.std.specs.Prelude.{codes}
+use Rattle.lvm_language.specs.CommandLine.{lvm_settings, script_app, sim_app, gen_app, image_app, weave_app}
 use Rattle.lvm_language.proofs.language.command_line.Goals as goal
 
 pub returns : goal.returns
 returns c =
-    let with_script = c.in_ok-program.ensures ∙ ap (λ (a : App). with_subcommand a script_app.top) c.without_jobs.ensures in
-    let with_sim = c.in_ok-program-2.ensures sim_app c.sim.ensures.app ∙ ap (λ (a : App). with_subcommand a sim_app.top) with_script in
-    let with_gen = c.in_ok-program-3.ensures gen_app c.generate.ensures.app ∙ ap (λ (a : App). with_subcommand a gen_app.top) with_sim in
-    let with_weave = c.in_ok-program-4.ensures weave_app c.weave.ensures.app ∙ ap (λ (a : App). with_subcommand a weave_app.top) with_gen in
-    IfOk-weaker c.with_job-4.result _ _ (λ line adds. adds ∙ ap (λ (a : App). with_subcommand a image_app.top) with_weave) (c.with_job-4.ensures image_app c.image.ensures.app)
+    let script : App = with_subcommand (on_top lvm_settings (new_app (codes "lvm"))) script_app.top in
+    let sim : App = with_subcommand script sim_app.top in
+    let gen : App = with_subcommand sim gen_app.top in
+    let weave : App = with_subcommand gen weave_app.top in
+    let with_script = IfOk-weaker c.with_script-program.result _ _ (λ line is. is ∙ ap (λ (a : App). with_subcommand a script_app.top) c.without_jobs.ensures) c.with_script-program.ensures in
+    let with_sim = c.with_job-program.ensures script sim_app with_script c.with_numbers-sim.ensures.app in
+    let with_gen = c.with_job-program-2.ensures sim gen_app with_sim c.with_numbers-generate.ensures.app in
+    let with_weave = c.with_job-program-3.ensures gen weave_app with_gen c.weave.ensures.app in
+    c.with_job.ensures weave image_app with_weave c.with_numbers-image.ensures.app

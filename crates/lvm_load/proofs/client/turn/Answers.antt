@@ -5,9 +5,9 @@ use Rattle.lvm_vol.specs.Log.{Log}
 use Rattle.lvm_session.specs.Left.{left_of}
 use Rattle.lvm_keeps_turn.specs.Turning.{is_last}
 use Rattle.lvm_driver.specs.Answers.{state_of}
-use Rattle.lvm_running.proofs.Running.{runs_both}
+use Rattle.lvm_driver.proofs.handed.Names.{runs_both}
 use Rattle.lvm_load.specs.Waiting.{OthersWait}
-use Rattle.lvm_load.specs.Weaving.{TakesWhere, idle_after, may_land, turns_left}
+use Rattle.lvm_load.specs.Weaving.{TakesWhere, idle_after, might_have_landed, turns_left}
 use Rattle.lvm_load.proofs.Going.{landed_leaves, shrinks, turn_leaves}
 use Rattle.lvm_load.proofs.Others.{others_wait}
 use Rattle.lvm_load.proofs.client.turn.Goals as goal
@@ -19,7 +19,7 @@ only_one false b some none = absurd (cc)
 pub take_behind-requires-clause-grown : goal.take_behind-requires-clause-grown
 take_behind-requires-clause-grown g c goes =
     let after : c.len.result ≡ length c.turn-answer.new.self.1.history.facts = c.len.ensures ∙ ap (λ (log : Log). length log.facts) c.history-2.ensures in
-    let grew : nat_lt c.len-before.result c.len.result ≡ true = only_one (nat_lt c.len-before.result c.len.result) (is_last c.turn-answer.result) (sym c.may_land.ensures ∙ c.if-may_land.true) goes in
+    let grew : nat_lt c.len-before.result c.len.result ≡ true = only_one (nat_lt c.len-before.result c.len.result) (is_last c.turn-answer.result) (sym c.might_have_landed.ensures ∙ c.if-might_have_landed.true) goes in
     omega (arith, ltb-true c.len-before.result c.len.result grew, after)
 
 pub take_behind-requires-clause-waiting : goal.take_behind-requires-clause-waiting
@@ -30,25 +30,25 @@ take_behind-requires-clause-waiting g c goes =
     let before : c.len-before.result ≡ length old.core.history.facts = c.len-before.ensures ∙ ap (λ (log : Log). length log.facts) c.history.ensures in
     subst (λ n. OthersWait n mid.core c.args.clients.now) (sym before) (others_wait old mid c.args.clients.now c.is_sound.ensures c.requires.waiting c.turn-answer.result c.turn-answer.ensures.makes goes)
 
-pub returns-then-may_land-clause-turns : goal.returns-then-may_land-clause-turns
-returns-then-may_land-clause-turns g c =
+pub returns-then-might_have_landed-clause-turns : goal.returns-then-might_have_landed-clause-turns
+returns-then-might_have_landed-clause-turns g c =
     let device = g.S.Shelf.device in
     let old = state_of device c.args.driver.now in
     let mid = state_of device c.turn-answer.new.self in
     let before : c.len-before.result ≡ length old.core.history.facts = c.len-before.ensures ∙ ap (λ (log : Log). length log.facts) c.history.ensures in
     let after : c.len.result ≡ length mid.core.history.facts = c.len.ensures ∙ ap (λ (log : Log). length log.facts) c.history-2.ensures in
-    let lands : may_land old mid c.turn-answer.result ≡ c.may_land.result = ap₂ (λ m n. nat_lt m n || is_last c.turn-answer.result) (sym before) (sym after) ∙ sym c.may_land.ensures in
+    let lands : might_have_landed old mid c.turn-answer.result ≡ c.might_have_landed.result = ap₂ (λ m n. nat_lt m n || is_last c.turn-answer.result) (sym before) (sym after) ∙ sym c.might_have_landed.ensures in
     record {
       sound = c.is_sound.ensures;
       mid = mid;
       answer = c.turn-answer.result;
       made = c.turn-answer.ensures.makes;
       idle_is = c.idle_after.ensures;
-      takes = subst (λ (b : Bool). TakesWhere b mid (state_of device c.take_behind.new.driver) c.args.clients.now c.take_behind.new.clients) (sym (lands ∙ c.if-may_land.true)) c.take_behind.ensures.takes;
+      takes = subst (λ (b : Bool). TakesWhere b mid (state_of device c.take_behind.new.driver) c.args.clients.now c.take_behind.new.clients) (sym (lands ∙ c.if-might_have_landed.true)) c.take_behind.ensures.takes;
     }
 
-pub returns-then-may_land-clause-less : goal.returns-then-may_land-clause-less
-returns-then-may_land-clause-less g c =
+pub returns-then-might_have_landed-clause-less : goal.returns-then-might_have_landed-clause-less
+returns-then-might_have_landed-clause-less g c =
     let device = g.S.Shelf.device in
     let old = state_of device c.args.driver.now in
     let mid = state_of device c.turn-answer.new.self in
@@ -58,24 +58,24 @@ returns-then-may_land-clause-less g c =
     subst (λ n. turns_left new.core n < turns_left old.core c.args.idle.now) (sym c.idle_after.ensures)
     (shrinks (left_of old.core) (left_of mid.core) (left_of new.core) c.args.idle.now (idle_after c.turn-answer.result c.args.idle.now) less fewer)
 
-pub returns-then-may_land-clause-runs : goal.returns-then-may_land-clause-runs
-returns-then-may_land-clause-runs g c =
+pub returns-then-might_have_landed-clause-runs : goal.returns-then-might_have_landed-clause-runs
+returns-then-might_have_landed-clause-runs g c =
     let device = g.S.Shelf.device in
     runs_both (state_of device c.args.driver.now) (state_of device c.turn-answer.new.self) (state_of device c.take_behind.new.driver) c.turn-answer.ensures.runs c.take_behind.ensures.runs
 
-pub returns-else-may_land-clause-turns : goal.returns-else-may_land-clause-turns
-returns-else-may_land-clause-turns g c =
+pub returns-else-might_have_landed-clause-turns : goal.returns-else-might_have_landed-clause-turns
+returns-else-might_have_landed-clause-turns g c =
     let device = g.S.Shelf.device in
     let old = state_of device c.args.driver.now in
     let mid = state_of device c.turn-answer.new.self in
     let before : c.len-before.result ≡ length old.core.history.facts = c.len-before.ensures ∙ ap (λ (log : Log). length log.facts) c.history.ensures in
     let after : c.len.result ≡ length mid.core.history.facts = c.len.ensures ∙ ap (λ (log : Log). length log.facts) c.history-2.ensures in
-    let lands : may_land old mid c.turn-answer.result ≡ c.may_land.result = ap₂ (λ m n. nat_lt m n || is_last c.turn-answer.result) (sym before) (sym after) ∙ sym c.may_land.ensures in
+    let lands : might_have_landed old mid c.turn-answer.result ≡ c.might_have_landed.result = ap₂ (λ m n. nat_lt m n || is_last c.turn-answer.result) (sym before) (sym after) ∙ sym c.might_have_landed.ensures in
     record {
       sound = c.is_sound.ensures;
       mid = mid;
       answer = c.turn-answer.result;
       made = c.turn-answer.ensures.makes;
       idle_is = c.idle_after.ensures;
-      takes = subst (λ (b : Bool). TakesWhere b mid mid c.args.clients.now c.args.clients.now) (sym (lands ∙ c.if-may_land.false)) (refl, refl);
+      takes = subst (λ (b : Bool). TakesWhere b mid mid c.args.clients.now c.args.clients.now) (sym (lands ∙ c.if-might_have_landed.false)) (refl, refl);
     }

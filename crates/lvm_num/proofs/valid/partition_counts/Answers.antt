@@ -7,7 +7,7 @@ use Rattle.lvm_num.specs.Descriptor.{IsMember}
 use Rattle.lvm_num.specs.Marks.{AreCounts}
 use Rattle.lvm_num.proofs.MembersLemmas.{counts-none, small-none, members-more, counts-more, counts-nothing}
 use Rattle.lvm_num.proofs.valid.partition_counts.Goals as goal
-use Rattle.lvm_num.proofs.valid.partition_counts.Goals.{then-disk-ge-DISKS-via-then-disk-ge-DISKS, then-disk-ge-DISKS-via-else-disk-ge-DISKS+then-row-eq0, then-disk-ge-DISKS-via-else-disk-ge-DISKS+else-row-eq0+then-row-gt-MOST_PPS, then-disk-ge-DISKS-via-else-disk-ge-DISKS+else-row-eq0+else-row-gt-MOST_PPS+then-counts-disk-ne0}
+use Rattle.lvm_num.proofs.valid.partition_counts.Goals.{then-disk-ge-PLACES-via-then-disk-ge-PLACES, then-disk-ge-PLACES-via-else-disk-ge-PLACES+then-row-eq0, then-disk-ge-PLACES-via-else-disk-ge-PLACES+else-row-eq0+then-row-gt-MOST_PPS, then-disk-ge-PLACES-via-else-disk-ge-PLACES+else-row-eq0+else-row-gt-MOST_PPS+then-counts-disk-ne0}
 
 abbrev no_row : PvRow
 no_row = record { disk = 0; pps = 0; spare = false }
@@ -15,18 +15,18 @@ no_row = record { disk = 0; pps = 0; spare = false }
 pub loop-row-init : goal.loop-row-init
 loop-row-init c = (record { each = λ k d lt. absurd (omega (arith, lt)); disks_differ = λ i j d less lt. absurd (omega (arith, lt)) }, counts-none 128, small-none 128, refl)
 
-pub returns-then-disk-ge-DISKS-clause-members : goal.returns-then-disk-ge-DISKS-clause-members
-returns-then-disk-ge-DISKS-clause-members c = (
+pub returns-then-disk-ge-PLACES-clause-members : goal.returns-then-disk-ge-PLACES-clause-members
+returns-then-disk-ge-PLACES-clause-members c = (
   λ e. absurd (false≢true e),
   λ all.
       let pvs = c.args.pvs.now in
       let i = c.loop-row.row-index in
       let here = all.each i no_row (omega arith) in
-      absurd (elim c.then-disk-ge-DISKS.branch [
-        | then-disk-ge-DISKS-via-then-disk-ge-DISKS w ↦ omega (arith, here.disk, w.if-disk-ge-DISKS.true)
-        | then-disk-ge-DISKS-via-else-disk-ge-DISKS+then-row-eq0 w ↦ omega (arith, here.a_partition, w.if-row-eq0.true)
-        | then-disk-ge-DISKS-via-else-disk-ge-DISKS+else-row-eq0+then-row-gt-MOST_PPS w ↦ omega (arith, here.partitions, w.if-row-gt-MOST_PPS.true)
-        | then-disk-ge-DISKS-via-else-disk-ge-DISKS+else-row-eq0+else-row-gt-MOST_PPS+then-counts-disk-ne0 w ↦
+      absurd (elim c.then-disk-ge-PLACES.branch [
+        | then-disk-ge-PLACES-via-then-disk-ge-PLACES w ↦ omega (arith, here.disk, w.if-disk-ge-PLACES.true)
+        | then-disk-ge-PLACES-via-else-disk-ge-PLACES+then-row-eq0 w ↦ omega (arith, here.a_partition, w.if-row-eq0.true)
+        | then-disk-ge-PLACES-via-else-disk-ge-PLACES+else-row-eq0+then-row-gt-MOST_PPS w ↦ omega (arith, here.partitions, w.if-row-gt-MOST_PPS.true)
+        | then-disk-ge-PLACES-via-else-disk-ge-PLACES+else-row-eq0+else-row-gt-MOST_PPS+then-counts-disk-ne0 w ↦
             w.if-counts-disk-ne0.true (ap (λ n. get_or c.loop-row.counts n 0) c.from-disk.ensures ∙ counts-nothing pvs i c.loop-row.counts no_row (omega arith) all c.loop-row.invariant.1)
       ]),
 )

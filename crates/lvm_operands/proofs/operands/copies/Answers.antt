@@ -1,11 +1,10 @@
-use Rattle.std.proofs.Common.{Err, ap, sym, ◌∙◌}
+use Rattle.std.proofs.Common.{sym, subst}
 use Rattle.lvm_literals.specs.Words.{copies_in}
-use Rattle.lvm_operands.specs.Rests.{left, word_at}
-use Rattle.lvm_operands.proofs.NextWord.{operand_fits, operand_misfits}
+use Rattle.lvm_operands.specs.Reading.{operand}
+use Rattle.lvm_operands.specs.Rests.{left, word_at, Reads}
+use Rattle.lvm_operands.proofs.NextWord.{operand_is}
 use Rattle.lvm_operands.proofs.operands.copies.Goals as goal
 
-pub returns-in-Some : goal.returns-in-Some
-returns-in-Some c = operand_fits copies_in (left c.args.rest) (word_at c.in_ok-word.word) (left c.in_ok-word.rest) c.in-Some.copies c.in_ok-word.ensures (sym c.in-Some.ensures)
-
-pub returns-in-None : goal.returns-in-None
-returns-in-None c = operand_misfits copies_in (left c.args.rest) (word_at c.in_ok-word.word) (left c.in_ok-word.rest) c.in_ok-word.ensures (sym c.in-None.ensures) ∙ sym (ap Err c.misfit.ensures)
+pub returns : goal.returns
+returns c =
+    subst (Reads (operand copies_in (left c.args.rest))) (sym c.fit.ensures) (operand_is copies_in (left c.args.rest) (word_at c.in_ok-word.word) c.in_ok-word.rest c.copies_of.result c.in_ok-word.ensures c.copies_of.ensures)

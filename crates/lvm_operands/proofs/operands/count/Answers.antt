@@ -1,11 +1,10 @@
-use Rattle.std.proofs.Common.{Err, ap, sym, ◌∙◌}
+use Rattle.std.proofs.Common.{sym, subst}
 use Rattle.lvm_literals.specs.Words.{count_in}
-use Rattle.lvm_operands.specs.Rests.{left, word_at}
-use Rattle.lvm_operands.proofs.NextWord.{operand_fits, operand_misfits}
+use Rattle.lvm_operands.specs.Reading.{operand}
+use Rattle.lvm_operands.specs.Rests.{left, word_at, Reads}
+use Rattle.lvm_operands.proofs.NextWord.{operand_is}
 use Rattle.lvm_operands.proofs.operands.count.Goals as goal
 
-pub returns-in-Some : goal.returns-in-Some
-returns-in-Some c = operand_fits count_in (left c.args.rest) (word_at c.in_ok-word.word) (left c.in_ok-word.rest) c.in-Some.count c.in_ok-word.ensures (sym c.in-Some.ensures)
-
-pub returns-in-None : goal.returns-in-None
-returns-in-None c = operand_misfits count_in (left c.args.rest) (word_at c.in_ok-word.word) (left c.in_ok-word.rest) c.in_ok-word.ensures (sym c.in-None.ensures) ∙ sym (ap Err c.misfit.ensures)
+pub returns : goal.returns
+returns c =
+    subst (Reads (operand count_in (left c.args.rest))) (sym c.fit.ensures) (operand_is count_in (left c.args.rest) (word_at c.in_ok-word.word) c.in_ok-word.rest c.count_of.result c.in_ok-word.ensures c.count_of.ensures)

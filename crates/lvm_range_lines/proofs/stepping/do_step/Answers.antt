@@ -1,4 +1,4 @@
-use Rattle.std.proofs.Common.{◌≤◌, sym, ap, subst, arith}
+use Rattle.std.proofs.Common.{◌≤◌, sym, ◌∙◌, ap, subst, arith}
 use Rattle.lvm_group_lines.specs.passed.HolderVariants as holder
 use Rattle.lvm_group_lines.specs.passed.RefusalVariants as refusal
 use Rattle.lvm_group_lines.specs.passed.Stage.{Reply, most_refusals, IsOfKind, session_of}
@@ -8,7 +8,7 @@ use Rattle.lvm_range_lines.proofs.stepping.do_step.Goals as goal
 
 pub returns-in-Off : goal.returns-in-Off
 returns-in-Off g c =
-    refused_as g.S.Shelf.device (λ log. StepDoes c.args.turns) c.args.stage c.requires.fits c.requires.between (holder.Off c.in-Off.shelf c.in-Off.history) c.in-Off.is c.refused.result.stage c.refused.result.reply c.refused.ensures.stage
+    refused_as g.S.Shelf.device (λ log. StepDoes c.args.turns) c.args.stage c.requires.fits c.requires.between (holder.Off c.in-Off.shelf c.in-Off.history) c.in-Off.is c.refused.result.stage c.refused.result.reply (c.refused.ensures.stage ∙ c.off.ensures)
     refusal.NoGroup c.refused.ensures.reply (λ last refused. NoStepWhileOff (ap session_of c.in-Off.is) refused)
 
 pub returns-in-Empty : goal.returns-in-Empty

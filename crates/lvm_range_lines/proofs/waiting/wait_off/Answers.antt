@@ -29,8 +29,8 @@ returns g c =
     record {
       waits = is_behind device c.args.stage c.requires.off c.requires.fits c.close-shelf.result.0.shelf c.close-shelf.result.0.history c.take_off-answers.new.history c.deref.result.now c.clear.new.self c.close-shelf.result.2 c.take_off-answers.result
           c.answered.result.stage c.answered.result.reply (closed.off c.requires.off) closed.history items taken.takes taken.rooms taken.keeps taken.later
-          (λ endings gathers. subst (Tells endings) (sym c.answered.ensures.reply) (c.reply.ensures endings gathers)) c.clear.ensures.items rooms1 c.answered.ensures.stage;
+          (λ endings gathers. subst (Tells endings) (sym c.answered.ensures.reply) (c.reply.ensures endings gathers)) c.clear.ensures.items rooms1 (c.answered.ensures.stage ∙ c.off.ensures);
       fits = fits_behind device c.args.stage c.requires.off c.requires.fits c.close-shelf.result.0.shelf c.close-shelf.result.0.history c.take_off-answers.new.history c.deref.result.now c.clear.new.self c.close-shelf.result.2 c.take_off-answers.result
           c.answered.result.stage c.answered.result.reply (closed.off c.requires.off) closed.history items taken.takes taken.rooms taken.keeps taken.later
-          (λ endings gathers. subst (Tells endings) (sym c.answered.ensures.reply) (c.reply.ensures endings gathers)) c.clear.ensures.items rooms1 c.answered.ensures.stage;
+          (λ endings gathers. subst (Tells endings) (sym c.answered.ensures.reply) (c.reply.ensures endings gathers)) c.clear.ensures.items rooms1 (c.answered.ensures.stage ∙ c.off.ensures);
     }

@@ -4,11 +4,9 @@ use Rattle.lvm_disk.specs.Paths.{Here}
 use Rattle.lvm_vol.specs.Log.{Log, spare_entries}
 use Rattle.lvm_stamps.proofs.Clock.{all_is_behind_next}
 use Rattle.lvm_write.proofs.Transfers.{spends_none}
-use Rattle.lvm_session_start.specs.Beginning.{AreFaults}
-use Rattle.lvm_core.specs.Coming.{BringsOn}
-use Rattle.lvm_core.specs.Held.{StartsHeld}
-use Rattle.lvm_core.specs.declared.refused.Cause.TheVariants as cause
-use Rattle.lvm_varyon.specs.Varied.{ComesOn, IsRestated, IsRecovered, Refuses}
+use Rattle.lvm_varyon_plan.specs.handed.Names.{AreFaults, BringsOn, StartsHeld}
+use Rattle.lvm_varyon_plan.specs.handed.CoreRefusedCause as cause
+use Rattle.lvm_varyon.specs.Varied.{ComesOn, IsRestated, IsRecovered, VaryonRefuses}
 use Rattle.lvm_varyon.proofs.Refusing.{refused_gives, refuses_so}
 use Rattle.lvm_varyon.proofs.Spanning.{ahead_of, refused_keeps, refused_calm, comes_on, starts_held, none_left, settles, is_restated, is_recovered, on_keeps, on_calm}
 use Rattle.lvm_varyon.proofs.vary.varyon.Goals as goal
@@ -92,7 +90,7 @@ returns-in-Err-clause-gives g c =
     let old = g.S.Shelf.device c.args.shelf in
     let left = c.args.patience.now.left in
     refused_gives g.S.Shelf.device old c.args.history c.args.name c.args.moment c.args.room left c.in-Err.cause c.refused-in-Err.result c.refused-in-Err.ensures.cause c.refused-in-Err.ensures.history
-    (subst (λ (d : Device). Refuses old d c.args.name c.args.moment left c.args.history c.in-Err.cause) (sym (ap g.S.Shelf.device c.refused-in-Err.ensures.shelf))
+    (subst (λ (d : Device). VaryonRefuses old d c.args.name c.args.moment left c.args.history c.in-Err.cause) (sym (ap g.S.Shelf.device c.refused-in-Err.ensures.shelf))
     (refuses_so old (g.S.Shelf.device c.bring.new.shelf) c.args.name c.args.moment left c.args.history c.in-Err.cause spare c.in-Err.ensures.gives))
 
 pub returns-in-Err-clause-leaves : goal.returns-in-Err-clause-leaves

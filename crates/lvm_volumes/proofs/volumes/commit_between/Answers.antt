@@ -2,12 +2,8 @@ use Rattle.std.proofs.Common.{◌≡◌, ◌≤◌, [], Err, refl, sym, ap, subs
 use Rattle.std.proofs.lemmas.Result.{err_from_is_err_and}
 use Rattle.lvm_num.specs.declared.descriptor.Descriptor.{Descriptor}
 use Rattle.lvm_vol.specs.Log.{Log, plain_fact, spare_entries}
-use Rattle.lvm_commit.specs.Settling.{MarksLeft}
+use Rattle.lvm_volume_plan.specs.handed.Names.{MarksLeft, state_of, IsSettled, HasSpareNumbers, HasCommitted, CommitEnds, Leaves, committing}
 use Rattle.lvm_session.specs.State.{Core, State}
-use Rattle.lvm_core.specs.State.{state_of}
-use Rattle.lvm_core.specs.Settled.{IsSettled, HasSpareNumbers}
-use Rattle.lvm_core.specs.Committing.{HasCommitted, CommitEnds}
-use Rattle.lvm_core.specs.Leaves.{Leaves, committing}
 use Rattle.lvm_volumes.specs.Stages.{with_entry}
 use Rattle.lvm_volumes.proofs.Entering.{settled_entered, spare_more, needs_one}
 use Rattle.lvm_volumes.proofs.volumes.commit_between.Goals as goal

@@ -1,5 +1,5 @@
 use Rattle.lvm_num.specs.Disks.{has}
-use Rattle.lvm_kept.specs.Torn.{IsOfNote}
+use Rattle.lvm_survey.specs.handed.Names.{IsOfNote}
 use Rattle.lvm_write.specs.Notes.{empty_note_sector, NoteTold}
 use Rattle.lvm_write.proofs.Tried.{TriedDisks}
 use Rattle.lvm_write.proofs.notes.empty_notes.Given as goal

@@ -1,9 +1,10 @@
-use Rattle.std.proofs.Common.{ℕ, length, refl, sym, ap}
-use Rattle.lvm_media.specs.Media.{media_of, sizes_of}
+use Rattle.std.proofs.Common.{ℕ, length, refl, sym, ap, subst, ◌∙◌}
+use Rattle.lvm_media.specs.Media.{media_of, sizes_of, written_by}
 use Rattle.lvm_flights.specs.Tally.{counts_of}
-use Rattle.lvm_flights.specs.Flights.{flight_of, flights_of}
+use Rattle.lvm_flights.specs.Flights.{flight_of, flights_of, NoDelays}
 use Rattle.lvm_memory.specs.Memory.{device_of}
 use Rattle.lvm_flights.specs.declared.flying.Flying.{Flying}
+use Rattle.lvm_flights.proofs.Queues.{none_passed, none_removed}
 use Rattle.lvm_memory.proofs.Arriving.{sound_arrived, failed, done}
 use Rattle.lvm_memory.proofs.memory.MemShelf.arrive.Goals as goal
 
@@ -14,6 +15,7 @@ pub invariant_of-self : goal.invariant_of-self
 invariant_of-self c = record {
   sound = sound_arrived _ _ _ _ _ _ _ _ _ _ _ _ c.args.place c.args.self.now.sound c.tear_flight.ensures.disks.sizes c.tear_flight.ensures.disks.sectors c.take_flight-flying.ensures.flights
       c.take_flight-flying.ensures.capacity (ap (λ l. length {A = ℕ} l) c.count_failure.ensures.starts) c.count_failure.ensures.misses c.count_failure.ensures.faults;
+  delays = λ off. subst NoDelays (sym c.take_flight-flying.ensures.delays) (none_passed _ (none_removed _ c.args.place (c.args.self.now.delays off)));
 }
 
 pub returns-then-fails-clause-gives : goal.returns-then-fails-clause-gives
@@ -24,6 +26,24 @@ returns-then-fails-clause-gives c =
     (flights_of c.take_flight-flying.new.flights.items) (counts_of c.count_failure.new.self) c.requires.power refl c.take_flight-flying.ensures.there c.tear_flight.ensures.disks.sizes
     c.take_flight-flying.ensures.flights c.tear_flight.ensures.torn refl c.count_failure.ensures.counted
 
+pub returns-then-fails-clause-planned : goal.returns-then-fails-clause-planned
+returns-then-fails-clause-planned c =
+    let flight = flight_of c.take_flight-flying.result in
+    record {
+      place = c.args.place;
+      flight = flight;
+      power = c.requires.power;
+      first = c.requires.first;
+      there = c.take_flight-flying.ensures.there;
+      its = refl;
+      failed_is = sym c.if-fails.ensures;
+      picked = λ is d s. c.tear_flight.ensures.torn d s ∙ ap (λ (word : ℕ). written_by word 0 flight (media_of c.args.self.now.disks.items) d s) c.pick.ensures;
+      flights = c.take_flight-flying.ensures.flights;
+      delays = c.take_flight-flying.ensures.delays;
+      injection = refl;
+      room = refl;
+    }
+
 pub finish_flight-requires-clause-lies : goal.finish_flight-requires-clause-lies
 finish_flight-requires-clause-lies c = c.args.self.now.sound.lie c.args.place _ c.take_flight-flying.ensures.there
 
@@ -31,6 +51,7 @@ pub invariant_of-self-2 : goal.invariant_of-self-2
 invariant_of-self-2 c = record {
   sound = sound_arrived _ _ _ _ _ _ _ _ _ _ _ _ c.args.place c.args.self.now.sound c.finish_flight.ensures.disks.sizes c.finish_flight.ensures.disks.sectors c.take_flight-flying.ensures.flights
       c.take_flight-flying.ensures.capacity refl refl refl;
+  delays = λ off. subst NoDelays (sym c.take_flight-flying.ensures.delays) (none_passed _ (none_removed _ c.args.place (c.args.self.now.delays off)));
 }
 
 pub returns-clause-gives : goal.returns-clause-gives
@@ -41,3 +62,19 @@ returns-clause-gives c =
     (sizes_of c.finish_flight.new.disks.items) (flights_of c.take_flight-flying.new.flights.items) (sym (ap (λ (f : Flying). f.ticket) c.finish_flight.ensures.same)) c.requires.power refl
     c.take_flight-flying.ensures.there c.finish_flight.ensures.disks.sizes c.take_flight-flying.ensures.flights c.finish_flight.ensures.puts c.finish_flight.ensures.kept c.finish_flight.ensures.read
     c.finish_flight.ensures.rest
+
+pub returns-clause-planned : goal.returns-clause-planned
+returns-clause-planned c = record {
+  place = c.args.place;
+  flight = flight_of c.take_flight-flying.result;
+  power = c.requires.power;
+  first = c.requires.first;
+  there = c.take_flight-flying.ensures.there;
+  its = sym (ap (λ (f : Flying). f.ticket) c.finish_flight.ensures.same);
+  failed_is = sym c.if-fails.ensures;
+  picked = λ is. absurd (cc (is));
+  flights = c.take_flight-flying.ensures.flights;
+  delays = c.take_flight-flying.ensures.delays;
+  injection = refl;
+  room = refl;
+}

@@ -1,11 +1,11 @@
 use Rattle.std.proofs.Common.{◌≡◌, ◌++◌, ◌∷◌, [], ◌∙◌, List, false, subst, ap}
-use Rattle.lvm_flights.specs.Flights.{flight_of, flights_of}
+use Rattle.lvm_flights.specs.Flights.{flight_of, flights_of, delays_of}
 use Rattle.lvm_flights.specs.Tally.{counts_of}
 use Rattle.lvm_flights.specs.Tickets.{has_ticket}
 use Rattle.lvm_memory.specs.Memory.{device_of}
 use Rattle.lvm_flights.specs.declared.flying.Flying.{Flying}
-use Rattle.lvm_flights.proofs.Starting.{started, flights_more, range_lies}
-use Rattle.lvm_memory.proofs.Departing.{sound_departed}
+use Rattle.lvm_flights.proofs.Starting.{started, flights_more, delays_more, range_lies}
+use Rattle.lvm_memory.proofs.Departing.{sound_departed, delays_departed}
 use Rattle.lvm_memory.proofs.memory.MemShelf.depart.Goals as goal
 
 pub invariant_of-self : goal.invariant_of-self
@@ -14,7 +14,10 @@ invariant_of-self c =
     let flying : Flying =
     record { ticket = c.free_ticket-ticket.result; disk = c.args.disk; first = c.args.first; count = c.args.count; write = c.args.write; buf = c.args.buf; delay = c.take_delay-delay.result } in
     let is : flights_of c.push.new.self.items ≡ flights_of s.flights.items ++ flight_of flying ∷ [] = ap flights_of c.in-Ok.ensures.items ∙ flights_more s.flights.items flying in
-    record { sound = sound_departed _ _ _ _ _ _ _ _ _ _ _ _ s.sound (flight_of flying) (range_lies (device_of s) (flight_of flying) c.requires.range) c.requires.few c.requires.power c.push.ensures.capacity is c.count_start.ensures.long c.count_start.ensures.same c.take_delay-delay.ensures.none }
+    record {
+      sound = sound_departed _ _ _ _ _ _ _ _ _ _ _ _ s.sound (flight_of flying) (range_lies (device_of s) (flight_of flying) c.requires.range) c.requires.few c.requires.power c.push.ensures.capacity is c.count_start.ensures.long c.count_start.ensures.same c.take_delay-delay.ensures.none;
+      delays = delays_departed s.delayed c.take_delay-delay.result (delays_of s.flights.items) (delays_of c.push.new.self.items) s.delays (ap delays_of c.in-Ok.ensures.items ∙ delays_more s.flights.items flying);
+    }
 
 pub returns-clause-starts : goal.returns-clause-starts
 returns-clause-starts c =

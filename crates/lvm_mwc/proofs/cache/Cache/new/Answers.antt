@@ -1,32 +1,19 @@
-use Rattle.std.proofs.Common.{◌≡◌, [], ap, sym, true, false, arith}
-use Rattle.arrayvec.specs.ArrayVec.{ArrayVec}
-use Rattle.lvm_num.specs.declared.record.NoteEntry.{NoteEntry}
-use Rattle.lvm_num.specs.Disks.{has}
-use Rattle.std.proofs.lemmas.List.Elements.{All-push}
-use Rattle.lvm_mwc.specs.declared.notes.DiskNotes.{DiskNotes}
-use Rattle.lvm_mwc.proofs.NotesLemmas.{one_more, none_more, new_disks}
+use Rattle.std.proofs.Common.{◌≡◌, ◌∙◌, List, Bool, false, length, replicate, ap, arith}
+use Rattle.std.proofs.lemmas.List.{length-replicate}
+use Rattle.lvm_mwc.specs.Notes.{disks_of}
+use Rattle.lvm_mwc.proofs.EntriesLemmas.{no_entries}
+use Rattle.lvm_mwc.proofs.FiltersLemmas.{filters_blank}
 use Rattle.lvm_mwc.proofs.cache.Cache.new.Goals as goal
-use Rattle.lvm_mwc.proofs.cache.Cache.new.Goals.{then-has+in_ok-push, else-has}
 
-pub loop-disk-preserved : goal.loop-disk-preserved
-loop-disk-preserved c =
-    elim c.if-has.branch [
-      | then-has+in_ok-push w ↦
-          let there : has c.args.disks c.loop-disk.disk ≡ true = sym w.if-has.ensures.member in
-          let written : w.new.result ≡ record { items = [] } = ap (λ items. let v : ArrayVec NoteEntry = record { items = items } in v) w.new.ensures in
-          record {
-            first = rw (w.notes-is, w.in_ok-push.ensures.items, written) (one_more c.args.disks c.loop-disk.disk c.loop-disk.notes.items there c.loop-disk.invariant.first);
-            few = λ _. c.has.ensures.disks;
-            blank = rw (w.notes-is, w.in_ok-push.ensures.items) (All-push (λ (n : DiskNotes). n.written.items ≡ []) c.loop-disk.notes.items _ c.loop-disk.invariant.blank w.new.ensures);
-          }
-      | else-has w ↦
-          let not_there : has c.args.disks c.loop-disk.disk ≡ false = sym w.if-has.ensures.member in
-          record {
-            first = rw w.notes-is (none_more c.args.disks c.loop-disk.disk c.loop-disk.notes.items not_there c.loop-disk.invariant.first);
-            few = λ _. c.has.ensures.disks;
-            blank = rw w.notes-is c.loop-disk.invariant.blank;
-          }
-    ]
+pub invariant_of-result : goal.invariant_of-result
+invariant_of-result c =
+    let notes = c.in_ok-notes.notes.items in
+    let filters = c.in_ok-filters.filters.items in
+    let long : length filters ≡ length notes = omega (arith, ap (λ (l : List (List Bool)). length l) c.in_ok-filters.ensures, length-replicate c.len.result (replicate 512 false), c.len.ensures) in (
+      no_entries c.new.result.items c.new.ensures,
+      filters_blank notes filters long c.in_ok-notes.ensures.blank,
+      c.in_ok-disks.ensures ∙ ap disks_of c.deref.ensures.value,
+    )
 
 pub returns : goal.returns
-returns c = new_disks c.args.disks c.loop-disk.disk c.new-2.result.items c.loop-disk.notes.items c.loop-disk-test.false (c.loop-disk.invariant.few (omega (arith, c.loop-disk-test.false))) c.new-2.ensures c.loop-disk.invariant.first
+returns c = record { entries = c.new.ensures; notes = c.in_ok-notes.ensures.new.notes }

@@ -1,7 +1,7 @@
 use Rattle.std.proofs.Common.{◌∙◌, sym, ap, Some, None}
 use Rattle.std.specs.List.{position}
 use Rattle.lvm_mwc.specs.declared.notes.DiskNotes.{DiskNotes}
-use Rattle.lvm_mwc.specs.Notes.{is_on}
+use Rattle.lvm_mwc.specs.Notes.{is_of_disk}
 use Rattle.lvm_mwc.specs.Cache.{Cached}
 use Rattle.lvm_mwc.proofs.FiltersLemmas.{filters_kept}
 use Rattle.lvm_mwc.proofs.FirstsLemmas.{first_at}
@@ -18,7 +18,7 @@ returns-clause-cache c =
           w.index_mut.ensures.value w.note_of.ensures)
       | in_default w ↦ rw (w.self-inside-is, c.self.view_is)
           (not_started c.args.self.now c.args.disk
-          (ap (λ (s : Cached). position (is_on c.args.disk) s.notes) (sym c.self.view_is) ∙ looked_up c.args.disk c.self.inside.notes.items c.self.inside.disks.items c.deref.result.now None c.self.invariant.2 c.deref.ensures.value w.in_default.ensures))
+          (ap (λ (s : Cached). position (is_of_disk c.args.disk) s.notes) (sym c.self.view_is) ∙ looked_up c.args.disk c.self.inside.notes.items c.self.inside.disks.items c.deref.result.now None c.self.invariant.2 c.deref.ensures.value w.in_default.ensures))
     ]
 
 pub invariant_of-self : goal.invariant_of-self
@@ -27,7 +27,7 @@ invariant_of-self c =
       | in-Some w ↦
           let notes = c.self.inside.notes.items in
           let row = w.index_mut.result.now in
-          let first = first_at (is_on c.args.disk) notes row w.in-Some.place (looked_up c.args.disk notes c.self.inside.disks.items c.deref.result.now (Some w.in-Some.place) c.self.invariant.2 c.deref.ensures.value w.in-Some.ensures) in
+          let first = first_at (is_of_disk c.args.disk) notes row w.in-Some.place (looked_up c.args.disk notes c.self.inside.disks.items c.deref.result.now (Some w.in-Some.place) c.self.invariant.2 c.deref.ensures.value w.in-Some.ensures) in
           rw w.self-inside-is (
             c.self.invariant.0,
             filters_kept notes c.self.inside.filters.items w.in-Some.place _ c.self.invariant.1 first.within row (ap (λ (n : DiskNotes). n.written) w.index_mut.ensures.value),

@@ -9,11 +9,11 @@ use Rattle.lvm_num.proofs.descriptor.Descriptor.votes.Goals.{else-first-via-then
 abbrev no_row : PvRow
 no_row = record { disk = 0; pps = 0; spare = false }
 
-pub returns-then-not-is_among : goal.returns-then-not-is_among
-returns-then-not-is_among c =
+pub returns-then-not-has_member : goal.returns-then-not-has_member
+returns-then-not-has_member c =
     let d = c.args.self.now in
     let none : list_any (λ (row : PvRow). row.disk == c.args.disk) d.pvs ≡ false =
-    ap (list_any (λ (row : PvRow). row.disk == c.args.disk)) (sym c.as_slice-pvs.ensures) ∙ sym c.is_among.ensures ∙ c.if-not-is_among.true in
+    ap (list_any (λ (row : PvRow). row.disk == c.args.disk)) (sym c.as_slice-pvs.ensures) ∙ sym c.has_member.ensures ∙ c.if-not-has_member.true in
     sym (votes_by-none d.even d.pvs c.args.disk none)
 
 pub returns-then-not-self : goal.returns-then-not-self
@@ -29,7 +29,7 @@ returns-else-first c =
     let size = ap (length {A = PvRow}) c.as_slice-pvs.ensures in
     let first = ap (λ (rows : List PvRow). (get_or rows 0 no_row).disk) (sym c.as_slice-pvs.ensures) in
     let is : list_any (λ (row : PvRow). row.disk == c.args.disk) d.pvs ≡ true =
-    ap (list_any (λ (row : PvRow). row.disk == c.args.disk)) (sym c.as_slice-pvs.ensures) ∙ sym c.is_among.ensures ∙ c.if-not-is_among.false in
+    ap (list_any (λ (row : PvRow). row.disk == c.args.disk)) (sym c.as_slice-pvs.ensures) ∙ sym c.has_member.ensures ∙ c.if-not-has_member.false in
     let other = votes_by-other d.even d.pvs no_row c.args.disk is in
     sym (elim c.else-first.branch [
       | else-first-via-then-first+then-pvs-lt3+else-not-self w ↦ other (inr (inr (w.if-not-self.false, c.requires.head.even w.if-not-self.false)))

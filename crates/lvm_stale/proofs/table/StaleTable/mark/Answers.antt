@@ -1,34 +1,21 @@
-use Rattle.std.proofs.Common.{◌≡◌, refl, length, List, subst, arith}
+use Rattle.std.proofs.Common.{refl}
 use Rattle.lvm_num.specs.declared.status.StatusRow.{StatusRow}
-use Rattle.lvm_stale.specs.Rows.{IsRowAt}
-use Rattle.lvm_stale.specs.Table.{SameMembers}
-use Rattle.lvm_stale.proofs.Places.{with_row, with_row-members, with_row-same, marked}
+use Rattle.lvm_stale.proofs.Places.{with_row_at-same, marked}
 use Rattle.lvm_stale.proofs.table.StaleTable.mark.Goals as goal
 
 -- the row that is put over the one there
-abbrev row : goal.After-set → StatusRow
-row c = record { disk = c.row_at-place.result.1.disk; missing = c.row_at-place.result.1.missing; stale = c.set_bit.new.bits }
+abbrev row : goal.After-put → StatusRow
+row c = record { disk = c.row_of-place.result.1.disk; missing = c.row_of-place.result.1.missing; stale = c.set_bit.new.bits }
 
-there : (c : goal.After-set) → IsRowAt c.self.inside.status.rows c.args.pp.disk c.row_at-place.result.0 c.row_at-place.result.1
-there c = subst (λ (rows : List StatusRow). IsRowAt rows c.args.pp.disk c.row_at-place.result.0 c.row_at-place.result.1) c.as_slice.ensures c.row_at-place.ensures
-
-members : (c : goal.After-set) → SameMembers c.self.inside.status (with_row c.self.inside.status c.row_at-place.result.0 (row c))
-members c =
-    let size : length (row c).stale ≡ 127 = omega arith in
-    with_row-members c.self.inside.status c.args.pp.disk c.row_at-place.result.0 c.row_at-place.result.1 (row c) c.self.invariant (there c) refl size
-
-pub invariant_of-self : goal.invariant_of-self
-invariant_of-self c = rw c.set.ensures (members c).valid
-
-pub returns-clause-members : goal.returns-clause-members
-returns-clause-members c = rw (← c.self.view_is, c.set.ensures) (members c)
+pub put-requires : goal.put-requires
+put-requires c = let at = c.row_of-place.ensures.at in (c.row_of-place.result.1, record { within = at.within; there = at.there; its = refl })
 
 pub returns-clause-stale : goal.returns-clause-stale
 returns-clause-stale c =
-    rw (← c.self.view_is, c.set.ensures)
-    (marked c.self.inside.status c.args.pp c.row_at-place.result.0 c.row_at-place.result.1 (row c) c.self.invariant (there c) refl (rw (← c.from.ensures) c.set_bit.ensures))
+    rw c.put.ensures.is
+    (marked c.args.self.now c.args.pp c.row_of-place.result.0 c.row_of-place.result.1 (row c) c.row_of-place.ensures.valid c.row_of-place.ensures.at refl (rw (← c.from.ensures) c.set_bit.ensures))
 
 pub returns-clause-missing : goal.returns-clause-missing
 returns-clause-missing c =
-    rw (← c.self.view_is, c.set.ensures)
-    (with_row-same c.self.inside.status c.args.pp.disk c.row_at-place.result.0 c.row_at-place.result.1 (row c) c.self.invariant (there c) refl (λ (r : StatusRow). r.missing) refl)
+    rw c.put.ensures.is
+    (with_row_at-same c.args.self.now c.args.pp.disk c.row_of-place.result.0 c.row_of-place.result.1 (row c) c.row_of-place.ensures.valid c.row_of-place.ensures.at refl (λ (r : StatusRow). r.missing) refl)

@@ -1,0 +1,3 @@
+pub mod handed
+pub mod NewGroup
+pub mod Planned

@@ -1,0 +1,5 @@
+use Rattle.lvm_load.proofs.Leaving.{workloads_leave_open}
+use Rattle.lvm_load.proofs.laws.workloads_leave_open.Goals as goal
+
+pub returns : goal.returns
+returns c = workloads_leave_open

@@ -1,0 +1,3 @@
+pub mod CopyPlanFewer
+pub mod CopyPlanMore
+pub mod Names

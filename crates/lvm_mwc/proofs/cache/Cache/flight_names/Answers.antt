@@ -1,0 +1,19 @@
+use Rattle.std.proofs.Common.{◌≡◌, ◌∙◌, sym, ap, Some, None}
+use Rattle.std.specs.List.{position}
+use Rattle.lvm_mwc.specs.Notes.{is_of_disk, is_in_flight}
+use Rattle.lvm_mwc.specs.Cache.{Cached, flight_names}
+use Rattle.lvm_mwc.proofs.NotesLemmas.{cached, flying_at, looked_up, not_flying}
+use Rattle.lvm_mwc.proofs.cache.Cache.flight_names.Goals as goal
+
+pub returns-in-None : goal.returns-in-None
+returns-in-None c =
+    sym (not_flying c.args.self.now c.args.disk c.args.lv c.args.group
+    (ap (λ (s : Cached). position (is_of_disk c.args.disk) s.notes) (sym c.self.view_is) ∙ looked_up c.args.disk c.self.inside.notes.items c.self.inside.disks.items c.deref.result.now None c.self.invariant.2 c.deref.ensures.value c.in-None.ensures))
+
+pub returns-in-Some : goal.returns-in-Some
+returns-in-Some c =
+    let notes = c.self.inside.notes.items in
+    let n = c.index.result.now in
+    let at : position (is_of_disk c.args.disk) notes ≡ Some c.in-Some.place = looked_up c.args.disk notes c.self.inside.disks.items c.deref.result.now (Some c.in-Some.place) c.self.invariant.2 c.deref.ensures.value c.in-Some.ensures in
+    c.is_in_flight.ensures ∙ ap (is_in_flight c.args.lv c.args.group) c.index.ensures ∙ sym (flying_at (cached c.self.inside.entries.items notes) c.args.disk c.args.lv c.args.group c.in-Some.place n at)
+    ∙ ap (λ (s : Cached). flight_names s c.args.disk c.args.lv c.args.group) c.self.view_is

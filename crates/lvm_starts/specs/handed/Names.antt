@@ -1,0 +1,3 @@
+-- Handed on from the crates below.
+pub use Rattle.lvm_launch.specs.Launching.{StartGives}
+pub use Rattle.lvm_launch.specs.handed.Names.{AreInHand, IsOutIf, MayEnd}

@@ -1,0 +1,2 @@
+pub mod handed
+pub mod Choosing

@@ -1,0 +1,3 @@
+pub mod handed
+pub mod Chosen
+pub mod Planned
