@@ -26,7 +26,7 @@ use Rattle.lvm_kept.proofs.Finding.{some_same, finding_reads, images_within}
 use Rattle.lvm_commit.specs.Committed.{ShowsCommitted}
 use Rattle.lvm_commit.proofs.Found.{only_found, status_read}
 use Rattle.lvm_invariant.specs.State.{has_notes, has_mark, Marks, Queued, ModelCopy, ModelState, Live, stale_in, told}
-use Rattle.lvm_invariant.specs.Sound.{MayDiffer, Agree, Settled, Sound}
+use Rattle.lvm_invariant.specs.Sound.{MayDiffer, Agree, Quiescent, Sound}
 use Rattle.lvm_invariant.specs.Found.{Votes, Found}
 use Rattle.lvm_invariant.specs.Good.{Good}
 use Rattle.lvm_crash.specs.Session.{as_marks, marks_shown, AreVotesOf, members_showing, GroupStands, HasVolumes, Describes}
@@ -250,16 +250,16 @@ module _ (votes : Votes) (s : ModelState) (group : Descriptor) (status : Status)
     ]
     equal_by Off is (inr loose) = inr (inl (loose_uncut b (told s row.number b) (closed row lp b one inside) loose))
 
-    settled_at : Settled s row.number b
+    settled_at : Quiescent s row.number b
     settled_at = record {
       calm = λ i r started over. no_request i r started.there;
       allowed = allowed;
       equal = subst (λ (x : Bool). Agree s row.number b ⊎ MayDiffer s row.number b x) (sym (sees.copies.notes row one)) (equal_by row.mode refl all_members);
     }
 
-  settled : (lv b : ℕ) → Settled s lv b
+  settled : (lv b : ℕ) → Quiescent s lv b
   settled lv b = elim (block_in group lv b) [
-    | inl at ↦ subst (λ (n : ℕ). Settled s n b) at.number (settled_at at.row at.lp b at.volume at.inside)
+    | inl at ↦ subst (λ (n : ℕ). Quiescent s n b) at.number (settled_at at.row at.lp b at.volume at.inside)
     | inr none ↦ record {
       calm = λ i r started over. no_request i r started.there;
       allowed = λ p live. absurd (none (sees.copies.inside lv b p live.copy));
