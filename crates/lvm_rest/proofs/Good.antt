@@ -17,7 +17,7 @@ use Rattle.lvm_num.specs.Votes.{all_disks, CanWrite}
 use Rattle.lvm_disk.specs.Device.{Flight, IsInFlight, image_of}
 use Rattle.lvm_vol.specs.declared.entry.Vol.TheVariants.{Lv}
 use Rattle.lvm_vol.specs.May.{Known, known, cut, is_off, IsValue}
-use Rattle.lvm_vol.specs.Standing.{Standing, Absent, Open, Settled as IsMade, Shape, volumes_in}
+use Rattle.lvm_vol.specs.Standing.{Standing, Absent, Open, Settled, Shape, volumes_in}
 use Rattle.lvm_kept.specs.Contents.{Contents, contents_of}
 use Rattle.lvm_kept.specs.Group.{status_among, ReadsBy, status_by, is_stale_by, fresh_on, block_at, IsBlockOf, is_named, IsOneOf, IsSome, HoldOne}
 use Rattle.lvm_kept.specs.Kept.{StandsAs, MayDiffer as MayDifferOn, IsBlockKept, BlocksKept}
@@ -89,7 +89,7 @@ shown_parts id (Some t) r is = by (t.value.id == id) refl is
 
 -- a volume that is found has its shape
 its_shape : (mib : ℕ) (standing : Standing) (shape : Option Shape) (row : LvRow) → StandsAs mib standing shape (Some row) → shape ≡ Some (record { blocks = volume_blocks mib row.lps; mode = row.mode })
-its_shape mib IsMade shape row stands = stands
+its_shape mib Settled shape row stands = stands
 its_shape mib Open shape row stands = stands
 its_shape mib Absent shape row stands = absurd stands
 
