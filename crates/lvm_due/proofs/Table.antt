@@ -35,7 +35,7 @@ use Rattle.lvm_due.specs.Making.{might_make_admission, might_make_data, might_ma
 use Rattle.lvm_due.proofs.Alike.{admission_alike, data_alike, landing_alike, note_alike, pinning_alike}
 use Rattle.lvm_due.proofs.Telling.{facts_but, fails_beside, is_unsettled, note_same, pending_read}
 use Rattle.lvm_due.proofs.Unmade.{admit_none, land_none, note_none, pin_none, start_none}
-use Rattle.lvm_due.proofs.Spanning.{Keeps, adds_keep, not_both, out_of}
+use Rattle.lvm_due.proofs.Spanning.{KeepsSpan, adds_keep, not_both, out_of}
 
 -- ---- one begins
 
@@ -121,7 +121,7 @@ module _ (old new : Core) (client : ℕ) (ask : Ask) (bytes : Option (List ℕ))
       ∙ ap (λ (b : Bool). let l : Facts = record (facts_of old o.request) { blocked = b } in l) (begun_behind k o there)
 
   module _ (s t : Span) where
-    begun_keeps : (was now : ℕ → Open → Option Event) → Keeps now fresh (length old.requests) (length new.requests) s t → ((k : ℕ) (o : Open) → slice_get old.requests k ≡ Some o → was k o ≡ None → now k o ≡ None)
+    begun_keeps : (was now : ℕ → Open → Option Event) → KeepsSpan now fresh (length old.requests) (length new.requests) s t → ((k : ℕ) (o : Open) → slice_get old.requests k ≡ Some o → was k o ≡ None → now k o ≡ None)
         → Spans was old.requests s → Spans now new.requests t
     begun_keeps was now keeps same spans = record {
       within = keeps.within (let within = spans.within in let long = long_begun in omega (arith, within, long));
