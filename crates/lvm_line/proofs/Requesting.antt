@@ -17,7 +17,7 @@ use Rattle.lvm_copy_lines.specs.passed.AskRangeFaultVariants as ask
 use Rattle.lvm_copy_lines.specs.Resyncing.{IsSynced, NoGroupForSync, NoVolumeForSync, NothingSyncs, OtherGroupForSync, SyncGroupDoes, SyncVolumeDoes, SyncsGroup, SyncsVolume, sync_reply}
 use Rattle.lvm_copy_lines.specs.passed.Resync.{Copy, SyncCause, SyncFault, group_copies, group_fault, volume_copies, volume_fault}
 use Rattle.lvm_copy_lines.specs.passed.SyncFaultVariants as sync
-use Rattle.lvm_copy_lines.specs.passed.RangeLines.{FailsBy, FailsIf, LeavesBy, StopsAs, session_over}
+use Rattle.lvm_copy_lines.specs.passed.RangeLines.{FailsBy, FailsIf, CarriesBy, StopsAs, session_over}
 use Rattle.lvm_copy_lines.specs.passed.RangeLines.{Tells, TellsAll, TellsNone, Ending, ask_refusal, range_refusal, EndsWell, Fails, IsFinished}
 use Rattle.lvm_copy_lines.specs.passed.RangeLines.{Finishes, NoMemory, NotBegun, NotPosted, NotThere, OnVolume, Posted, Posts, PostDoes, RdDoes}
 use Rattle.lvm_copy_lines.specs.passed.RangeLines.{ShowsBlocks, ShowsThem, There, WhileOff, WrDoes, NoStepWhileOff, NothingMoves, StepDoes, Steps}
@@ -64,7 +64,7 @@ module _ (old new : ScriptState) (between : IsBetween old.moment old.session old
     range_told : (why : RangeFault) → IsFinished write lv at count core old new end asked (Err why) → Told (range_refusal why) old new
     range_told why its = by why its.caused its.ends
       where
-        counts : LeavesBy end.core.power end old.posts old.last new → new.moment.device.counts ≡ end.device.counts
+        counts : CarriesBy end.core.power end old.posts old.last new → new.moment.device.counts ≡ end.device.counts
         counts left = leaves_counts end old.posts old.last new left
 
         by : (w : RangeFault) → RangeCause lv its.left (session_over old core) end w → FailsBy w end old.posts old.last new → Told (range_refusal w) old new

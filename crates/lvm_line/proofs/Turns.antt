@@ -12,7 +12,7 @@ use Rattle.lvm_session.specs.Sound.{IsSound, is_dark}
 use Rattle.lvm_session.specs.State.{Core, State as Session, state}
 use Rattle.lvm_turn_losses.specs.Losing.{LostForFaults}
 use Rattle.lvm_copy_lines.specs.passed.Ranges.{AnyFailed}
-use Rattle.lvm_copy_lines.specs.passed.RangeLines.{FailsIf, IsOverWith, LeavesBy}
+use Rattle.lvm_copy_lines.specs.passed.RangeLines.{FailsIf, IsOverWith, CarriesBy}
 use Rattle.lvm_copy_lines.specs.passed.Running.{LeavesSession}
 use Rattle.lvm_copy_lines.specs.passed.Stage.{IsBetween, IsClosed, ScriptState, patience_of_line}
 use Rattle.lvm_line.specs.Causes.{HasFailedInSession}
@@ -27,13 +27,13 @@ module _ (end : Session) (posts : List Post) (last : ℕ) (new : ScriptState) wh
   pub over_counts : IsOverWith end posts last new → new.moment.device.counts ≡ end.device.counts
   over_counts over = closed_counts end.core.power end.device new.moment.device over.shelf
 
-  left_counts : (p : Power) → LeavesBy p end posts last new → new.moment.device.counts ≡ end.device.counts
+  left_counts : (p : Power) → CarriesBy p end posts last new → new.moment.device.counts ≡ end.device.counts
   left_counts power.On is = ap (λ (s : ScriptState). s.moment.device.counts) is
   left_counts power.Off over = over_counts over
   left_counts power.Dark over = over_counts over
   left_counts power.Stuck over = over_counts over
 
-  pub leaves_counts : LeavesBy end.core.power end posts last new → new.moment.device.counts ≡ end.device.counts
+  pub leaves_counts : CarriesBy end.core.power end posts last new → new.moment.device.counts ≡ end.device.counts
   leaves_counts left = left_counts end.core.power left
 
   pub fails_counts : (b : Bool) → FailsIf b end posts last new → new.moment.device.counts ≡ end.device.counts

@@ -32,7 +32,7 @@ use Rattle.lvm_group_lines.specs.passed.HolderVariants as holder
 use Rattle.lvm_group_lines.specs.passed.RefusalVariants as refusal
 use Rattle.lvm_group_lines.specs.passed.ReplyVariants as reply
 use Rattle.lvm_group_lines.proofs.passed.Stage.{end_posts, IsRun, before_end, later_end, over_goes, run_goes, spanned}
-use Rattle.lvm_range_lines.specs.Leaving.{IsOverWith, Leaves, LeavesBy, serving}
+use Rattle.lvm_range_lines.specs.Leaving.{IsOverWith, CarriesTo, CarriesBy, serving}
 
 -- ---- as states
 
@@ -40,14 +40,14 @@ pub ended_is_over : {S : Type 0} (device : S → Device) (end : S × Core) (post
 ended_is_over device end posts stage last ended = record { shelf = ended.shelf; facts = ap (λ (log : Log). log.facts) ended.history; session = ended.session; posted = ended.posted; clock = refl }
 
 carried_leaves_by : {S : Type 0} (device : S → Device) (end : S × Core) (posts : Vec Post) (bytes : Vec ℕ) (p : Power) (stage : Stage S) (last : ℕ) → end.1.power ≡ p → IsCarried device end posts bytes p stage
-    → LeavesBy p (state_of device end) posts.items last (state_in device stage last)
+    → CarriesBy p (state_of device end) posts.items last (state_in device stage last)
 carried_leaves_by device end posts bytes power.On stage last is carried = ap (λ (s : Stage _). state_in device s last) carried
 carried_leaves_by device end posts bytes power.Off stage last is carried = ended_is_over device end posts.items stage last carried
 carried_leaves_by device end posts bytes power.Dark stage last is carried = ended_is_over device end posts.items stage last carried
 carried_leaves_by device end posts bytes power.Stuck stage last is carried = ended_is_over device end posts.items stage last carried
 
 pub carried_leaves : {S : Type 0} (device : S → Device) (end : S × Core) (posts : Vec Post) (bytes : Vec ℕ) (stage : Stage S) (last : ℕ) → IsCarried device end posts bytes end.1.power stage
-    → Leaves (state_of device end) posts.items last (state_in device stage last)
+    → CarriesTo (state_of device end) posts.items last (state_in device stage last)
 carried_leaves device end posts bytes stage last carried = carried_leaves_by device end posts bytes end.1.power stage last refl carried
 
 -- ---- what fits

@@ -32,26 +32,26 @@ pub record IsOverWith (end : Session) (posts : List Post) (last : ℕ) (new : Sc
   pub clock : new.last ≡ last
 
 -- It goes on where it is on, and is closed where it is over.
-abbrev pub LeavesBy : Power → Session → List Post → ℕ → ScriptState → Type 0
-LeavesBy power.On end posts last new = GoesOnWith end posts last new
-LeavesBy power.Off end posts last new = IsOverWith end posts last new
-LeavesBy power.Dark end posts last new = IsOverWith end posts last new
-LeavesBy power.Stuck end posts last new = IsOverWith end posts last new
+abbrev pub CarriesBy : Power → Session → List Post → ℕ → ScriptState → Type 0
+CarriesBy power.On end posts last new = GoesOnWith end posts last new
+CarriesBy power.Off end posts last new = IsOverWith end posts last new
+CarriesBy power.Dark end posts last new = IsOverWith end posts last new
+CarriesBy power.Stuck end posts last new = IsOverWith end posts last new
 
-abbrev pub Leaves : Session → List Post → ℕ → ScriptState → Type 0
-Leaves end posts last new = LeavesBy end.core.power end posts last new
+abbrev pub CarriesTo : Session → List Post → ℕ → ScriptState → Type 0
+CarriesTo end posts last new = CarriesBy end.core.power end posts last new
 
 -- so it does behind a range that failed; one that is stuck is closed
 abbrev pub FailsIf : Bool → Session → List Post → ℕ → ScriptState → Type 0
 FailsIf true end posts last new = IsOverWith end posts last new
-FailsIf false end posts last new = Leaves end posts last new
+FailsIf false end posts last new = CarriesTo end posts last new
 
 abbrev pub FailsBy : RangeFault → Session → List Post → ℕ → ScriptState → Type 0
 FailsBy why end posts last new = FailsIf (is_stuck why) end posts last new
 
 -- and behind one that was waited for
 abbrev pub EndsBy : {A : Type 0} → Result A RangeFault → Session → List Post → ℕ → ScriptState → Type 0
-EndsBy (Ok done) end posts last new = Leaves end posts last new
+EndsBy (Ok done) end posts last new = CarriesTo end posts last new
 EndsBy (Err why) end posts last new = FailsBy why end posts last new
 
 -- the patience of a line went with answers that nothing had ended, and so much of it is left

@@ -13,7 +13,7 @@ use Rattle.lvm_group_lines.specs.passed.Ranges.{StepEnds}
 use Rattle.lvm_group_lines.specs.passed.Stage.{ScriptState, IsRefused, Reply}
 use Rattle.lvm_group_lines.specs.passed.RefusalVariants as refusal
 use Rattle.lvm_group_lines.specs.passed.ReplyVariants as reply
-use Rattle.lvm_range_lines.specs.Leaving.{Leaves, session_over}
+use Rattle.lvm_range_lines.specs.Leaving.{CarriesTo, session_over}
 
 -- the reply where so many turns have moved, and the last one answered so
 abbrev pub step_reply : ℕ → Session → Turned → Reply
@@ -39,7 +39,7 @@ pub record IsStepped (turns : ℕ) (core : Core) (old new : ScriptState) (answer
   pub votes : LosesVotesByFaults (session_over old core) end
   pub runs : RunsOn (session_over old core) end
   pub sound : IsSound end
-  pub leaves : Leaves end old.posts old.last new
+  pub leaves : CarriesTo end old.posts old.last new
   pub says : answer ≡ step_reply moved end how
 
 -- It is refused while no group is on. In a group without volumes nothing is under way, so no turn moves. Else the turns are made.

@@ -23,7 +23,7 @@ use Rattle.lvm_posts.specs.declared.asked.Asked.{Asked}
 use Rattle.lvm_posts.specs.declared.posts.Post.{Post}
 use Rattle.lvm_posts.specs.declared.fault.RangeFault.{RangeFault}
 use Rattle.lvm_posts.specs.declared.fault.RangeFault.TheVariants as range_fault
-use Rattle.lvm_line.specs.passed.RangeLines.{EndsBy, GoesOnWith, IsOverWith, LeavesBy, OnVolume, WhileOff, NotThere as VolumeNotThere, There}
+use Rattle.lvm_line.specs.passed.RangeLines.{EndsBy, GoesOnWith, IsOverWith, CarriesBy, OnVolume, WhileOff, NotThere as VolumeNotThere, There}
 use Rattle.lvm_line.specs.passed.RangeLines.{IsNotAsked, Posts, NotPosted, Posted, IsFinished, Finishes, NotBegun, EndsWell, Fails, StepDoes}
 use Rattle.lvm_line.specs.passed.RangeLines.{NoStepWhileOff, NothingMoves, Steps}
 use Rattle.lvm_line.specs.passed.RangeLinesWaiting.{WaitDoes, WhileOff as WaitsWhileOff, AtRest, Awaits, WaitsOff, WaitsOn, WaitEnds, Goes, Over}
@@ -97,7 +97,7 @@ module _ (old new : ScriptState) (answer : Reply) (leaves : LeavesDescriptors ol
   over_nothing : (end : Session) (posts : List Post) (last : ℕ) (closed : ScriptState) → IsOverWith end posts last closed → NothingNew end.device closed.moment.device
   over_nothing end posts last closed over = closed_nothing end.core.power end.device closed.moment.device over.shelf
 
-  leaves_nothing : (p : Power) (end : Session) (posts : List Post) (last : ℕ) → LeavesBy p end posts last new → NothingNew end.device new.moment.device
+  leaves_nothing : (p : Power) (end : Session) (posts : List Post) (last : ℕ) → CarriesBy p end posts last new → NothingNew end.device new.moment.device
   leaves_nothing power.On end posts last left = goes_on_nothing end posts last left
   leaves_nothing power.Off end posts last left = over_nothing end posts last new left
   leaves_nothing power.Dark end posts last left = over_nothing end posts last new left

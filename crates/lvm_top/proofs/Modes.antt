@@ -43,7 +43,7 @@ use Rattle.lvm_line.specs.passed.GroupLines.{Varies, NoVaryoff, BusyVaryoff, Var
 use Rattle.lvm_line.specs.passed.DiskLines.{ReadDoes, WriteDoes, NoWriteWhileOn, WriteGoes, NoReadWhileOn, ReadGoes, ArrangeDoes, CutDoes, NotThere}
 use Rattle.lvm_line.specs.passed.DiskLines.{NotPlanned, IsArranged, CutNotPlanned, PowerIsCut}
 use Rattle.lvm_disk.specs.declared.shelf.Arrange.{Arrange}
-use Rattle.lvm_line.specs.passed.RangeLines.{EndsBy, GoesOnWith, LeavesBy, OnVolume, WhileOff, NotThere as VolumeNotThere, There, Posts, NotPosted}
+use Rattle.lvm_line.specs.passed.RangeLines.{EndsBy, GoesOnWith, CarriesBy, OnVolume, WhileOff, NotThere as VolumeNotThere, There, Posts, NotPosted}
 use Rattle.lvm_line.specs.passed.RangeLines.{Posted, Finishes, NotBegun, EndsWell, Fails, StepDoes, NoStepWhileOff, NothingMoves, Steps}
 use Rattle.lvm_line.specs.passed.RangeLinesWaiting.{WaitDoes, WhileOff as WaitsWhileOff, AtRest, Awaits, WaitsOff, WaitsOn, WaitEnds, Goes, Over}
 use Rattle.lvm_line.specs.passed.CopyLines.{IsSynced, NoGroupForSync, NoVolumeForSync, NothingSyncs, OtherGroupForSync, SyncGroupDoes, SyncVolumeDoes}
@@ -162,7 +162,7 @@ module _ (old new : ScriptState) (off : HasNoPassiveOn old) where
   goes_off : (end : Session) (posts : List Post) (last : ℕ) → HasNoPassive end.core.descriptor → GoesOnWith end posts last new → HasNoPassiveOn new
   goes_off end posts last its goes = some_off end.core (ap (λ (s : ScriptState). s.session) goes) its
 
-  leaves_off : (p : Power) (end : Session) (posts : List Post) (last : ℕ) → HasNoPassive end.core.descriptor → LeavesBy p end posts last new → HasNoPassiveOn new
+  leaves_off : (p : Power) (end : Session) (posts : List Post) (last : ℕ) → HasNoPassive end.core.descriptor → CarriesBy p end posts last new → HasNoPassiveOn new
   leaves_off power.On end posts last its left = goes_off end posts last its left
   leaves_off power.Off end posts last its left = none_off left.session
   leaves_off power.Dark end posts last its left = none_off left.session
