@@ -35,7 +35,7 @@ use Rattle.lvm_disk_lines.specs.passed.Stage.{IsOfKind, history_of, session_of, 
 use Rattle.lvm_disk_lines.specs.passed.Stage.{without_facts, Holder, Reply, Stage}
 use Rattle.lvm_disk_lines.specs.passed.HolderVariants as holder
 use Rattle.lvm_disk_lines.specs.passed.ReplyVariants as reply
-use Rattle.lvm_disk_lines.proofs.passed.Stage.{ahead_later, Leaves, Rests, lit_up, ready_is_lit, still_leaves_descriptors, Bears, landed_bears}
+use Rattle.lvm_disk_lines.proofs.passed.Stage.{ahead_later, RefusalLeaves, Rests, lit_up, ready_is_lit, still_leaves_descriptors, Bears, landed_bears}
 use Rattle.lvm_disk_lines.proofs.passed.Stage.{later_bears, open_more, LeavesAnswers, answered_bears, answered_on, off_posts, on_posts}
 
 -- ---- the clock
@@ -72,7 +72,7 @@ pub record CameOn (moment : ℕ) (old new : Device) (log : Log) (core : Core) : 
 
 -- none has, for this
 pub record StayedOff (why : Cause) (old left : Device) (log is : Log) : Type 0 where
-  pub leaves : Leaves why old left
+  pub leaves : RefusalLeaves why old left
   pub stays : Stays log.facts is.facts
   pub rooms : without_facts is ≡ without_facts log
 
@@ -107,7 +107,7 @@ module _ (run : ℕ) (old : ScriptState) (off : old.session ≡ None) (between :
   next = earlier (moment + 1) (let e = rose.later in omega (arith, e))
 
   -- it was refused
-  pub left_off : (why : Cause) (left : Moment) (new : Device) → Promises run moment old.moment left → Leaves why old.moment.device left.device → IsRelit why left.device new
+  pub left_off : (why : Cause) (left : Moment) (new : Device) → Promises run moment old.moment left → RefusalLeaves why old.moment.device left.device → IsRelit why left.device new
       → Stays old.moment.facts left.facts → GoesOn run Aside (reply.Refused (refusal_of why)) old (record { moment = at new left.facts; session = None; posts = old.posts; last = moment })
   left_off why left new promises leaves lit more =
       let up = lit_up why old.moment.device left.device new (record { lit = between.lit; descriptors = between.descriptors }) leaves.rests lit in
