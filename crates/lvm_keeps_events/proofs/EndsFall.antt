@@ -14,7 +14,7 @@ use Rattle.lvm_num.specs.Status.{calls_missing}
 use Rattle.lvm_mwc.specs.declared.notes.DiskNotes.{DiskNotes}
 use Rattle.lvm_mwc.proofs.NamedLemmas.{named_after_all}
 use Rattle.lvm_mwc.specs.Notes.{both_name, names_group}
-use Rattle.lvm_mwc.specs.Runs.{Ending}
+use Rattle.lvm_mwc.specs.Runs.{NoteEnds}
 use Rattle.lvm_mwc.specs.Cache.{after_end, ended, ended_as, flight_names, is_named, notes_on}
 use Rattle.lvm_mwc.specs.Entries.{pins_of}
 use Rattle.lvm_status.specs.Update.{Stored}
@@ -127,7 +127,7 @@ module _ (core : Core) (going : IsGoing core) (disk at : ℕ) (row : Flown) (the
       unnamed = is_false (is_named after.cache t.pp.disk (lv_of r.ask) (group_of r.ask)) b.1
 
       by : (n f : Bool) → is_named core.cache t.pp.disk (lv_of r.ask) (group_of r.ask) ≡ n → flight_names core.cache t.pp.disk (lv_of r.ask) (group_of r.ask) ≡ f → lacks_note core r t ≡ true
-      by true f i j = not_so (sym unnamed ∙ named_after_all core.cache (Ending disk true ∷ []) t.pp.disk (lv_of r.ask) (group_of r.ask) (keep (both r.pinned (not (is_missing core t.pp.disk)) b.0).0, tt) i)
+      by true f i j = not_so (sym unnamed ∙ named_after_all core.cache (NoteEnds disk true ∷ []) t.pp.disk (lv_of r.ask) (group_of r.ask) (keep (both r.pinned (not (is_missing core t.pp.disk)) b.0).0, tt) i)
       by false true i j = of_disk (t.pp.disk == disk) refl
         where
           of_disk : (s : Bool) → (t.pp.disk == disk) ≡ s → lacks_note core r t ≡ true
