@@ -44,11 +44,11 @@ use Rattle.lvm_keeps_events.proofs.Copies.{at_end, by_review, ends_so, goes_on, 
 use Rattle.lvm_keeps_events.proofs.FallsStatus.{falls, left_is, phase_less, request_by}
 use Rattle.lvm_keeps_events.proofs.Finding.{length_taken}
 use Rattle.lvm_keeps_events.proofs.NoteFail.{note_follows}
-use Rattle.lvm_keeps_events.proofs.Review.{Ending as Changed, and_of, mid}
+use Rattle.lvm_keeps_events.proofs.Review.{WriteEnd, and_of, mid}
 use Rattle.lvm_keeps_events.proofs.StatusEnd.{status_follows}
 
 -- whatever the review makes of the copy
-reviewed_falls : (e : Changed) (new : Core) → e.core.power ≡ power.On → Reviews (mid e) new → ((d : ℕ) → is_missing (mid e) d ≡ false → notes_on (mid e).cache d ≡ notes_on e.core.cache d) → length e.flying + 1 ≡ length e.core.flying → left_of new < left_of e.core
+reviewed_falls : (e : WriteEnd) (new : Core) → e.core.power ≡ power.On → Reviews (mid e) new → ((d : ℕ) → is_missing (mid e) d ≡ false → notes_on (mid e).cache d ≡ notes_on e.core.cache d) → length e.flying + 1 ≡ length e.core.flying → left_of new < left_of e.core
 reviewed_falls e new on reviews noted shorter = by_review e new reviews (λ (k : Core). left_of k < left_of e.core)
     (λ still. falls e (going_on e new.status reviews.marks still) (goes_on e new.status reviews.marks still) noted shorter on)
     (λ c is how ends at queue its. falls e (at_end e new.status reviews.marks c is how ends at queue its) (ends_so e new.status reviews.marks c is how ends at queue its) noted shorter on)

@@ -42,7 +42,7 @@ use Rattle.lvm_keeps_events.proofs.Copies.{Brings, Fewer}
 use Rattle.lvm_keeps_events.proofs.Finding.{any_known, count_with, sum_on}
 use Rattle.lvm_keeps_events.proofs.Follows.{in_flight_of}
 use Rattle.lvm_keeps_events.proofs.Keeping.{dirty_same, there_by}
-use Rattle.lvm_keeps_events.proofs.Review.{Ending, Reviewed, and_of, flies_is, mid, missing_is, missing_on, nothing_new, now, of_now, settled_on, was_there}
+use Rattle.lvm_keeps_events.proofs.Review.{WriteEnd, Reviewed, and_of, flies_is, mid, missing_is, missing_on, nothing_new, now, of_now, settled_on, was_there}
 
 -- ---- what a copy may still make of a write
 
@@ -177,7 +177,7 @@ at_most_update : (b : Bool) → if_so b update_work ≤ 256
 at_most_update true = omega arith
 at_most_update false = omega arith
 
-module _ (e : Ending) (r : Reviewed e) (brings : Brings e r) (noted : (d : ℕ) → is_missing (mid e) d ≡ false → notes_on (mid e).cache d ≡ notes_on e.core.cache d) (shorter : length e.flying + 1 ≡ length e.core.flying) where
+module _ (e : WriteEnd) (r : Reviewed e) (brings : Brings e r) (noted : (d : ℕ) → is_missing (mid e) d ≡ false → notes_on (mid e).cache d ≡ notes_on e.core.cache d) (shorter : length e.flying + 1 ≡ length e.core.flying) where
   abbrev core : Core
   core = e.core
 

@@ -34,7 +34,7 @@ use Rattle.lvm_keeps_events.proofs.Follows.{Follows, Loses, in_flight_of}
 -- ---- what has ended
 
 -- A session that goes on, and what the end of a write changes of it before the review.
-pub record Ending : Type 0 where
+pub record WriteEnd : Type 0 where
   pub core : Core
   pub going : IsGoing core
   pub disk : ℕ
@@ -46,15 +46,15 @@ pub record Ending : Type 0 where
   pub homes : Homes
 
 -- the session between the end and its review
-abbrev pub mid : Ending → Core
+abbrev pub mid : WriteEnd → Core
 mid e = record e.core { flying = e.flying; pool = e.pool; status = e.next; cache = record e.core.cache { notes = e.notes }; homes = e.homes }
 
 -- what the review wants stale
-abbrev pub due : Ending → Pp → Bool
+abbrev pub due : WriteEnd → Pp → Bool
 due e p = is_entailed (mid e) p || marked_by_end (mid e) (copy_ends (mid e)) p
 
 -- What the review leaves of the status, the hold queue, the copy and the pool.
-pub record Reviewed (e : Ending) : Type 0 where
+pub record Reviewed (e : WriteEnd) : Type 0 where
   pub status : Stored
   pub marks : WantsStale (due e) e.next status
   pub queue : Waiting
@@ -62,7 +62,7 @@ pub record Reviewed (e : Ending) : Type 0 where
   pub pool : List Bool
 
 -- the session after the review
-abbrev pub now : (e : Ending) → Reviewed e → Core
+abbrev pub now : (e : WriteEnd) → Reviewed e → Core
 now e r = record e.core { flying = e.flying; pool = r.pool; status = r.status; cache = record e.core.cache { notes = e.notes }; homes = e.homes; queue = r.queue; copy = r.copy }
 
 -- ---- tests
@@ -178,7 +178,7 @@ entailed_on one two p same fresh gone replaces is = subst (λ d. list_any (λ (r
 
 -- ---- before the review
 
-module _ (e : Ending) where
+module _ (e : WriteEnd) where
   abbrev core : Core
   core = e.core
 
@@ -317,7 +317,7 @@ module _ (e : Ending) where
 
 -- ---- after it
 
-module _ (e : Ending) (r : Reviewed e) where
+module _ (e : WriteEnd) (r : Reviewed e) where
   abbrev old : Core
   old = e.core
 
