@@ -25,7 +25,7 @@ use Rattle.lvm_resync.specs.Turning.{GoesBeside, StopsFor}
 use Rattle.lvm_volume_lines.specs.passed.Driver.{state_of}
 use Rattle.lvm_volume_lines.specs.passed.RangeLines.{FailsIf, serving}
 use Rattle.lvm_volume_lines.specs.passed.HolderVariants as holder
-use Rattle.lvm_volume_lines.specs.passed.Stage.{ArePosted, ComesTo, EndsUnasked, HaveRooms, IsBetweenStage, IsCarried, IsEnded, IsFitting, OfRequests, Reply, Stage, ScriptState, is_unheard, most_refusals, patience_of_line, state_in, without_facts}
+use Rattle.lvm_volume_lines.specs.passed.Stage.{ArePosted, ComesTo, EndsUnasked, HaveRooms, IsBetweenStage, IsCarried, IsEnded, IsFittingStage, OfRequests, Reply, Stage, ScriptState, is_unheard, most_refusals, patience_of_line, state_in, without_facts}
 use Rattle.lvm_volume_lines.specs.passed.RefusalVariants as refusal
 use Rattle.lvm_volume_lines.specs.passed.ReplyVariants as reply
 use Rattle.lvm_volume_lines.proofs.passed.RangeLines.{RunsTo, carried_ends, carried_leaves, ended_is_over, over_ends, stuck_ends, table_posts, unstuck}
@@ -169,7 +169,7 @@ fails_if device end posts bytes stage last true ended = ended_is_over device end
 
 -- ---- the line
 
-module _ {S : Type 0} (device : S → Device) (first : S × Core) (posts : Vec Post) (bytes : Vec ℕ) (fits : IsFitting (serving first posts bytes)) (between : IsBetweenStage device (serving first posts bytes))
+module _ {S : Type 0} (device : S → Device) (first : S × Core) (posts : Vec Post) (bytes : Vec ℕ) (fits : IsFittingStage (serving first posts bytes)) (between : IsBetweenStage device (serving first posts bytes))
     (end : S × Core) (left : ℕ) (beside : GoesBeside (state_of device first) (state_of device end) patience_of_line left) (sound : IsSound (state_of device end))
     (Does : Log → ScriptState → ScriptState → Reply → Type 0) (stage : Stage S) (answer : Reply) (few : most_refusals answer ≤ 1) (rooms : HaveRooms first.1.history.room stage.posts stage.bytes)
     (does : (last : ℕ) → Does (without_facts first.1.history) (state_in device (serving first posts bytes) last) (state_in device stage last) answer) where

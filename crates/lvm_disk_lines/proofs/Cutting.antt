@@ -39,7 +39,7 @@ use Rattle.lvm_stage.specs.Ends.{EndsUnasked}
 use Rattle.lvm_stage.specs.Moments.{Aside, GoesOn, HasBegunHeld}
 use Rattle.lvm_disk_lines.specs.Shelves.{IsCut, CutDoes, PowerIsCut}
 use Rattle.lvm_stage.specs.Replies.{most_refusals}
-use Rattle.lvm_stage.specs.Stages.{GivesBack, HaveRooms, IsBetweenStage, IsFitting, history_after, history_in, history_of, posts_ended, session_in, session_of, shelf_in, shelf_of, state_in}
+use Rattle.lvm_stage.specs.Stages.{GivesBack, HaveRooms, IsBetweenStage, IsFittingStage, history_after, history_in, history_of, posts_ended, session_in, session_of, shelf_in, shelf_of, state_in}
 use Rattle.lvm_stage.specs.State.{ArePosted, IsBetween, IsOnBetween, IsTimely, StandsAlone, ScriptState, log_with, without_facts}
 use Rattle.lvm_stage.specs.declared.holder.Holder.{Holder}
 use Rattle.lvm_stage.specs.declared.reply.Reply.{Reply}
@@ -219,7 +219,7 @@ closed_still dark closed (inr back) none = ap (λ (d : Device). d.flights) back 
 pub closed_flights : (old dark closed : Device) (word : ℕ) → old.power ≡ true → Arranges old dark (arrange.Cut word) → GivesBack dark closed → closed.flights ≡ []
 closed_flights old dark closed word on cut gives = closed_still dark closed gives (ap (λ (d : Device). d.flights) (gone_dark (with_order old (arrange.Cut word)) dark on cut.1).new_is)
 
-module _ {S : Type 0} (device : S → Device) (old : Stage S) (by : Holder S) (word : ℕ) (fits : IsFitting old) (between : IsBetweenStage device old)
+module _ {S : Type 0} (device : S → Device) (old : Stage S) (by : Holder S) (word : ℕ) (fits : IsFittingStage old) (between : IsBetweenStage device old)
     (shelf : ArrangeGives (device (shelf_in old)) (device (shelf_of by)) (arrange.Cut word) true)
     (session : session_of by ≡ option_map (after_arrange (arrange.Cut word) true) (session_in old))
     (history : history_of by ≡ history_after (arrange.Cut word) true (history_in old) (session_in old))
@@ -254,6 +254,6 @@ module _ {S : Type 0} (device : S → Device) (old : Stage S) (by : Holder S) (w
           (cut_goes (without_facts (history_in old)) word (state_in device old last) (state_in device (off last_shelf log posts bytes) last) between (stage_cut last) (whose old.holder) shelf.0 answer
           (subst (λ (a : Reply). most_refusals a ≤ 1) (sym says) (omega arith)));
       rooms = ap (λ (s : Stage S). without_facts (history_in s)) is ∙ rooms_are;
-      fits = subst IsFitting (sym is) (record { kind = tt; few = subst (λ (n : ℕ). n < 2 ^ 32) (sym room_is) fits.few; rooms = subst (λ (n : ℕ). HaveRooms n posts bytes) (sym room_is) (rooms (history_in old).room fits.rooms) });
+      fits = subst IsFittingStage (sym is) (record { kind = tt; few = subst (λ (n : ℕ). n < 2 ^ 32) (sym room_is) fits.few; rooms = subst (λ (n : ℕ). HaveRooms n posts bytes) (sym room_is) (rooms (history_in old).room fits.rooms) });
       orders = λ none. absurd (none tt);
     }

@@ -30,7 +30,7 @@ use Rattle.lvm_posts.specs.Posts.{AreAnswered}
 use Rattle.lvm_disk_lines.specs.passed.Quiesce.{ClockIsAheadEach, IsAheadEach, BringsOnEach, IsStartedEach}
 use Rattle.lvm_disk_lines.proofs.passed.Quiesce.{still_is_behind_each}
 use Rattle.lvm_group_lines.specs.Groups.{IsHeldBy, IsLeftBy}
-use Rattle.lvm_disk_lines.specs.passed.Stage.{CommandEnds, IsRelit, refusal_of, Aside, GoesOn, HasBegunHeld, HaveRooms, IsBetweenStage, IsFitting}
+use Rattle.lvm_disk_lines.specs.passed.Stage.{CommandEnds, IsRelit, refusal_of, Aside, GoesOn, HasBegunHeld, HaveRooms, IsBetweenStage, IsFittingStage}
 use Rattle.lvm_disk_lines.specs.passed.Stage.{IsOfKind, history_of, session_of, shelf_of, state_in, ArePosted, IsBetween, StandsAlone, ScriptState}
 use Rattle.lvm_disk_lines.specs.passed.Stage.{without_facts, Holder, Reply, Stage}
 use Rattle.lvm_disk_lines.specs.passed.HolderVariants as holder
@@ -204,7 +204,7 @@ pub record Outcome {S : Type 0} (device : S → Device) (shelf : S) (log : Log) 
   pub left : Left device outcome by answer
 
 module _ {S : Type 0} (device : S → Device) (shelf : S) (log : Log) (posts : Vec Post) (bytes : Vec ℕ) (moment last before after : ℕ) (by : Holder S) (answer : Reply) (rose : Rose last moment)
-    (fits : IsFitting (held (holder.Off shelf log) posts bytes)) (between : IsBetweenStage device (held (holder.Off shelf log) posts bytes)) (ordered : Ordered log.run [] log.facts) where
+    (fits : IsFittingStage (held (holder.Off shelf log) posts bytes)) (between : IsBetweenStage device (held (holder.Off shelf log) posts bytes)) (ordered : Ordered log.run [] log.facts) where
   abbrev first_state : ScriptState
   first_state = state_in device (held (holder.Off shelf log) posts bytes) last
 
@@ -255,7 +255,7 @@ module _ {S : Type 0} (device : S → Device) (shelf : S) (log : Log) (posts : V
   kind (Ok driver) ended = ended.left.on.kind
   kind (Err refused) ended = ended.left.off.kind
 
-  fits_then : (outcome : Result (S × Core) (Refused S)) → Ended outcome → IsFitting (held by posts bytes)
+  fits_then : (outcome : Result (S × Core) (Refused S)) → Ended outcome → IsFittingStage (held by posts bytes)
   fits_then outcome ended =
       let room = ap (λ (l : Log). l.room) (rooms outcome ended) in
       record { kind = kind outcome ended; few = subst (λ (n : ℕ). n < 2 ^ 32) (sym room) fits.few; rooms = subst (λ (n : ℕ). HaveRooms n posts bytes) (sym room) fits.rooms }

@@ -8,7 +8,7 @@ ghost use Rattle.lvm_core.specs.Sound.{IsSoundBetween};
 ghost use Rattle.lvm_core.specs.Starting.{IsRoom};
 ghost use Rattle.lvm_core.specs.State.{state_of};
 ghost use Rattle.lvm_group_lines.specs.Groups.{IsHeldBy, IsLeftBy, MkvgDoes, VaryonDoes, VaryoffDoes};
-ghost use Rattle.lvm_disk_lines.specs.passed.Stage.{IsRelit, refusal_of, CommandEnds, EndsUnasked, Aside, IsBetweenStage, IsFitting, IsOfKind};
+ghost use Rattle.lvm_disk_lines.specs.passed.Stage.{IsRelit, refusal_of, CommandEnds, EndsUnasked, Aside, IsBetweenStage, IsFittingStage, IsOfKind};
 ghost use Rattle.lvm_disk_lines.specs.passed.Stage.{history_of, session_of, shelf_of};
 
 use lvm_core::{Cause, Closed, Driver, Refused, Room};
@@ -109,7 +109,7 @@ pub fn do_mkvg<S: Shelf, C: Clock>(
     mib: Option<u16>,
     disks: &[u16],
 ) -> Answered<S>
-    requires fits { IsFitting stage }
+    requires fits { IsFittingStage stage }
     requires between { IsBetweenStage S.device stage }
     requires room { IsRoom room }
     requires a_disk { 1 ≤ length disks.now }
@@ -154,7 +154,7 @@ pub fn do_varyon<S: Shelf, C: Clock>(
     room: Room,
     name: Name,
 ) -> Answered<S>
-    requires fits { IsFitting stage }
+    requires fits { IsFittingStage stage }
     requires between { IsBetweenStage S.device stage }
     requires room { IsRoom room }
     ensures asked { C.asked clock.new ≡ next_count (C.asked clock.old) }
@@ -187,7 +187,7 @@ pub fn do_varyon<S: Shelf, C: Clock>(
 
 /// Varies the group of the name off, if it is on and none of its requests is open. Transfers that are out stay so.
 pub fn do_varyoff<S: Shelf>(stage: Stage<S>, name: Name) -> Answered<S>
-    requires fits { IsFitting stage }
+    requires fits { IsFittingStage stage }
     requires between { IsBetweenStage S.device stage }
     ensures { EndsUnasked S.device (λ _. VaryoffDoes name) ⊥ Aside stage result.stage result.reply }
 {

@@ -26,7 +26,7 @@ use Rattle.lvm_group_lines.specs.passed.Ranges.{AskRangeGives, Asks, IsAskedFor,
 use Rattle.lvm_group_lines.specs.passed.Ranges.{KeepsOthers, IsUnfinished, RangeCause}
 use Rattle.lvm_group_lines.proofs.passed.Ranges.{range_cause}
 use Rattle.lvm_group_lines.specs.passed.Stage.{Reply, Stage, EndsUnasked, OfRequests, InFull, Shows, WithoutMemory, most_refusals, HaveRooms}
-use Rattle.lvm_group_lines.specs.passed.Stage.{ComesTo, IsBetweenStage, IsCarried, IsFitting, state_in, ArePosted, ScriptState, is_unheard}
+use Rattle.lvm_group_lines.specs.passed.Stage.{ComesTo, IsBetweenStage, IsCarried, IsFittingStage, state_in, ArePosted, ScriptState, is_unheard}
 use Rattle.lvm_group_lines.specs.passed.HolderVariants as holder
 use Rattle.lvm_group_lines.specs.passed.ReplyVariants as reply
 use Rattle.lvm_group_lines.proofs.passed.Stage.{over_landed}
@@ -84,7 +84,7 @@ only_stuck (fault.NoFresh lp) e = absurd (cc e)
 
 -- ---- the line
 
-module _ {S : Type 0} (device : S → Device) (first : S × Core) (posts : Vec Post) (bytes : Vec ℕ) (fits : IsFitting (serving first posts bytes)) (between : IsBetweenStage device (serving first posts bytes))
+module _ {S : Type 0} (device : S → Device) (first : S × Core) (posts : Vec Post) (bytes : Vec ℕ) (fits : IsFittingStage (serving first posts bytes)) (between : IsBetweenStage device (serving first posts bytes))
     (name : List ℕ) (write : Option ℕ) (at count : ℕ) (Says : Session → Asked → Reply → Type 0)
     (mid : S × Core) (asked : Asked) (asks : AsksByName name write at count first.1 mid.1 (Ok asked)) (its : IsAskedFor write count first.1 mid.1 asked) (shelf : mid.0 ≡ first.0) (kept : KeepsPosts first.1 mid.1)
     (begins : RunsOn (state_of device first) (state_of device mid))

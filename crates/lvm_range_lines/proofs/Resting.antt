@@ -13,7 +13,7 @@ use Rattle.lvm_group_lines.specs.passed.Driver.{state_of}
 use Rattle.lvm_group_lines.specs.passed.Running.{RunsOn}
 use Rattle.lvm_posts.specs.declared.posts.Post.{Post}
 use Rattle.lvm_group_lines.specs.passed.TieCommands.{StandsAfter}
-use Rattle.lvm_group_lines.specs.passed.Stage.{Reply, Stage, EndsUnasked, GoesOn, OfRequests, HaveRooms, IsBetweenStage, IsFitting, history_in}
+use Rattle.lvm_group_lines.specs.passed.Stage.{Reply, Stage, EndsUnasked, GoesOn, OfRequests, HaveRooms, IsBetweenStage, IsFittingStage, history_in}
 use Rattle.lvm_group_lines.specs.passed.Stage.{session_in, shelf_in, state_in, ArePosted, IsOnBetween, ScriptState, without_facts}
 use Rattle.lvm_group_lines.specs.passed.ReplyVariants as reply
 use Rattle.lvm_group_lines.proofs.passed.Stage.{still_goes, IsToldOf, posts_few}
@@ -49,7 +49,7 @@ few_posts log on posts ordered few told posted =
 
 -- ---- while no session is on
 
-module _ {S : Type 0} (device : S → Device) (old stage : Stage S) (answer : Reply) (off : session_in old ≡ None) (between : IsBetweenStage device old) (waits : WaitsBehind device old stage answer) (fits : IsFitting stage) where
+module _ {S : Type 0} (device : S → Device) (old stage : Stage S) (answer : Reply) (off : session_in old ≡ None) (between : IsBetweenStage device old) (waits : WaitsBehind device old stage answer) (fits : IsFittingStage stage) where
   pub off_ends : EndsUnasked device (λ log. WaitDoes) ⊥ OfRequests old stage answer
   off_ends last = record {
     does = WhileOff (waits_off device old stage answer waits off last);
@@ -62,7 +62,7 @@ module _ {S : Type 0} (device : S → Device) (old stage : Stage S) (answer : Re
 
 -- ---- a session without volumes
 
-module _ {S : Type 0} (device : S → Device) (first : S × Core) (posts : Vec Post) (bytes : Vec ℕ) (fits : IsFitting (resting first posts bytes)) (between : IsBetweenStage device (resting first posts bytes))
+module _ {S : Type 0} (device : S → Device) (first : S × Core) (posts : Vec Post) (bytes : Vec ℕ) (fits : IsFittingStage (resting first posts bytes)) (between : IsBetweenStage device (resting first posts bytes))
     (end : S × Core) (enters : Enters (state_of device first) (state_of device end)) (endings : List Ending) (takes : TakesPosts (state_of device first) posts.items (state_of device end) endings)
     (runs : RunsOn (state_of device first) (state_of device end)) (sound : IsSound (state_of device end)) (none : Vec Post) (empty : none.items ≡ []) (rooms : HaveRooms first.1.history.room none bytes)
     (stage : Stage S) (is : stage ≡ resting end none bytes) (answer : Reply) (tells : Tells endings answer) where
@@ -137,7 +137,7 @@ module _ {S : Type 0} (device : S → Device) (first : S × Core) (posts : Vec P
     does = AtRest first.1 refl no_volume (record { answers = endings; end = state_of device end; takes = takes; runs = runs; sound = sound; goes = goes_as last; tells = tells });
     goes = subst (GoesOn first.1.history.run OfRequests answer (state_in device old last)) (sym (after_is last)) (goes_there last);
     rooms = ap (λ (s : Stage S). without_facts (history_in s)) is ∙ ap without_facts log_is;
-    fits = subst IsFitting (sym is) (record {
+    fits = subst IsFittingStage (sym is) (record {
       kind = ap (λ (s : Session). s.core.descriptor.lvs) enters.is ∙ no_volume;
       few = subst (λ n. n < 2 ^ 32) (sym (ap (λ (log : Log). log.room) log_is)) fits.few;
       rooms = subst (λ n. HaveRooms n none bytes) (sym (ap (λ (log : Log). log.room) log_is)) rooms;

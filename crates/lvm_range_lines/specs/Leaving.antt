@@ -9,7 +9,7 @@ use Rattle.lvm_session.specs.State.{Core, State as Session, state}
 use Rattle.lvm_posts.specs.declared.fault.RangeFault.{RangeFault}
 use Rattle.lvm_posts.specs.declared.posts.Post.{Post}
 use Rattle.lvm_group_lines.specs.passed.HolderVariants as holder
-use Rattle.lvm_group_lines.specs.passed.Stage.{Reply, Stage, EndsUnasked, OfRequests, patience_of_line, IsBetweenStage, IsClosed, IsFitting, IsLeftBy}
+use Rattle.lvm_group_lines.specs.passed.Stage.{Reply, Stage, EndsUnasked, OfRequests, patience_of_line, IsBetweenStage, IsClosed, IsFittingStage, IsLeftBy}
 use Rattle.lvm_group_lines.specs.passed.Stage.{posts_ended, ArePosted, ScriptState}
 use Rattle.lvm_range_lines.specs.Refusals.{is_stuck}
 
@@ -75,7 +75,7 @@ EndsInPlace device Does old kept answer = (stage : Stage _) → IsLeftBy device 
 -- So it does in this session, whatever posts stand there.
 abbrev pub EndsInSession : {S : Type 0} → (S → Device) → (ScriptState → ScriptState → Reply → Type 0) → S × Core → Vec ℕ → S × Core → Vec ℕ → Reply → Type 0
 EndsInSession device Does old bytes kept bytes1 answer =
-    (posts : Vec Post) → IsFitting (serving old posts bytes) → IsBetweenStage device (serving old posts bytes) → EndsInPlace device Does (serving old posts bytes) (serving kept posts bytes1) answer
+    (posts : Vec Post) → IsFittingStage (serving old posts bytes) → IsBetweenStage device (serving old posts bytes) → EndsInPlace device Does (serving old posts bytes) (serving kept posts bytes1) answer
 
 -- posts stay what they are
 abbrev pub KeepsPosts : Core → Core → Type 0

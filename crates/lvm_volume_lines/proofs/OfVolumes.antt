@@ -22,7 +22,7 @@ use Rattle.lvm_range_lines.specs.passed.TieCommands.{IsAloneAtFirst, IsLeftStand
 use Rattle.lvm_range_lines.specs.passed.Volumes.{IfOn, StillHeld}
 use Rattle.lvm_volume_plan.specs.declared.fault.GroupFault.{GroupFault}
 use Rattle.lvm_volume_plan.specs.declared.fault.GroupFault.TheVariants as fault
-use Rattle.lvm_range_lines.specs.passed.Stage.{CommandEnds, EndsUnasked, patience_of_line, GoesOn, IsAllowed, Role, HaveRooms, IsBetweenStage, IsFitting}
+use Rattle.lvm_range_lines.specs.passed.Stage.{CommandEnds, EndsUnasked, patience_of_line, GoesOn, IsAllowed, Role, HaveRooms, IsBetweenStage, IsFittingStage}
 use Rattle.lvm_range_lines.specs.passed.Stage.{IsOfKind, history_of, open_in, session_in, session_of, shelf_in, history_in, state_in, IsAtRest}
 use Rattle.lvm_range_lines.specs.passed.Stage.{IsOnBetween, ScriptState, without_facts, Holder, Reply, Stage}
 use Rattle.lvm_range_lines.specs.passed.HolderVariants as holder
@@ -87,7 +87,7 @@ history_is (holder.Off shelf history) core its = absurd (cc (its))
 history_is (holder.Empty driver) core its = let same : driver.1 ≡ core = cc (its) in ap (λ (c : Core). c.history) same
 history_is (holder.Serving driver) core its = let same : driver.1 ≡ core = cc (its) in ap (λ (c : Core). c.history) same
 
-module _ {S : Type 0} (device : S → Device) (stage : Stage S) (fits : IsFitting stage) (between : IsBetweenStage device stage) (none : open_in (session_in stage) ≡ 0) where
+module _ {S : Type 0} (device : S → Device) (stage : Stage S) (fits : IsFittingStage stage) (between : IsBetweenStage device stage) (none : open_in (session_in stage) ≡ 0) where
   -- the session that is on
   module _ (core : Core) (its : session_in stage ≡ Some core) where
     pub no_requests : core.requests ≡ []
@@ -207,7 +207,7 @@ module _ {S : Type 0} (device : S → Device) (stage : Stage S) (fits : IsFittin
         orders true over = (closed over).orders ∙ promised.orders ∙ rested.turned.runs.orders
         orders false goes = ap (λ (s : Stage S). (device (shelf_in s)).orders) (left_on goes).is ∙ ap (λ (s : S). (device s).orders) (left_on goes).held.shelf ∙ promised.orders ∙ rested.turned.runs.orders
 
-        fits_then : (b : Bool) → is_over given ≡ b → IsFitting it
+        fits_then : (b : Bool) → is_over given ≡ b → IsFittingStage it
         fits_then true over = record {
           kind = (left_off over).kind;
           few = subst (λ (l : Log). l.room < 2 ^ 32) (sym rooms) fits.few;

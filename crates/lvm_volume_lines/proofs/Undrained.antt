@@ -21,7 +21,7 @@ use Rattle.lvm_posts.specs.Posts.{AreAnswered, ended_with}
 use Rattle.lvm_range_lines.specs.passed.Running.{LeavesSession}
 use Rattle.lvm_range_lines.proofs.passed.Running.{stays_unstuck}
 use Rattle.lvm_range_lines.specs.passed.Stage.{EndsUnasked, patience_of_line, GoesOn, Role, IsStuck, most_refusals, HaveRooms, IsBetweenStage}
-use Rattle.lvm_range_lines.specs.passed.Stage.{IsClosed, IsEnded, IsFitting, IsOfKind, history_in, open_in, posts_ended, session_in, session_of}
+use Rattle.lvm_range_lines.specs.passed.Stage.{IsClosed, IsEnded, IsFittingStage, IsOfKind, history_in, open_in, posts_ended, session_in, session_of}
 use Rattle.lvm_range_lines.specs.passed.Stage.{shelf_in, state_in, ArePosted, IsAtRest, ScriptState, without_facts, Holder, Reply, Stage}
 use Rattle.lvm_range_lines.specs.passed.HolderVariants as holder
 use Rattle.lvm_range_lines.specs.passed.ReplyVariants as reply
@@ -37,7 +37,7 @@ none_of_kind (holder.Off shelf history) none = tt
 none_of_kind (holder.Empty driver) none = absurd (cc (none))
 none_of_kind (holder.Serving driver) none = absurd (cc (none))
 
-module _ {S : Type 0} (role : Role) (acts : Acts role) (device : S → Device) (stage : Stage S) (fits : IsFitting stage) (between : IsBetweenStage device stage) (none : open_in (session_in stage) ≡ 0) (patience : ℕ) (driver : S × Core) (why : DrainFault)
+module _ {S : Type 0} (role : Role) (acts : Acts role) (device : S → Device) (stage : Stage S) (fits : IsFittingStage stage) (between : IsBetweenStage device stage) (none : open_in (session_in stage) ≡ 0) (patience : ℕ) (driver : S × Core) (why : DrainFault)
     (broken : HasBrokenOff device stage.holder patience_of_line patience driver why) (it : Stage S) (answer : Reply) (ended : IsEnded device driver stage.posts.items it)
     (rooms : (entries : ℕ) → HaveRooms entries stage.posts stage.bytes → HaveRooms entries it.posts it.bytes) (says : answer ≡ reply.Refused (drain_refusal why)) where
   abbrev core : Core
