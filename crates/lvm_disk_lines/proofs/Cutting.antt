@@ -22,7 +22,7 @@ use Rattle.lvm_transfer.specs.Transfer.{Relights}
 use Rattle.lvm_session.specs.declared.open.Open.{Open}
 use Rattle.lvm_session.specs.Dark.{after_arrange, all_dark}
 use Rattle.lvm_session.specs.Sound.{IsSound, waits}
-use Rattle.lvm_session.specs.State.{Core, State as Session, state, votes_there}
+use Rattle.lvm_session.specs.State.{Core, State, state, votes_there}
 use Rattle.lvm_session.specs.Turns.{ArrangesSession}
 use Rattle.lvm_keeps.proofs.Orders.{order_keeps}
 use Rattle.lvm_core.specs.Sound.{HaveAllLanded}
@@ -119,10 +119,10 @@ module _ (log : Log) (word : ℕ) (old new : ScriptState) (between : IsBetween o
 
   -- else they land as Dark
   module _ (core : Core) (is : old.session ≡ Some core) (history : core.history ≡ log_with log old.moment.facts) (more : core.requests ≡ [] → ⊥) (takes : first_device.arranges ≡ true) (answer : Reply) (one : most_refusals answer ≤ 1) where
-    abbrev begun : Session
+    abbrev begun : State
     begun = state first_device core
 
-    abbrev end : Session
+    abbrev end : State
     end = state cut.dark (all_dark core)
 
     on : IsOnBetween first_device core

@@ -11,7 +11,7 @@ use Rattle.lvm_steps.specs.Requests.{at}
 use Rattle.lvm_core.specs.Leaves.{is_of_volume}
 use Rattle.lvm_core.specs.Sound.{HaveAllLanded}
 use Rattle.lvm_keeps.proofs.Lists.{count_cons}
-use Rattle.lvm_session.specs.State.{Core, State as Session}
+use Rattle.lvm_session.specs.State.{Core, State}
 use Rattle.lvm_group_lines.specs.passed.Quiesce.{IsBehindEach}
 use Rattle.lvm_stamps.specs.Behind.{IsBehind}
 use Rattle.lvm_session.specs.Sound.{IsLit}
@@ -41,7 +41,7 @@ gone_long NoGone = refl
 gone_long (OneGone {posts} {facts} {answers} before post have total answer ended ends) =
     let was = gone_long before in let a = length-append answers (answer ∷ []) in let b = length-append posts (post ∷ []) in omega (arith, was, a, b)
 
-posts_long : {first now : Session} {posts : List Post} {endings : List Ending} → TakesPosts first posts now endings → length endings ≡ length posts
+posts_long : {first now : State} {posts : List Post} {endings : List Ending} → TakesPosts first posts now endings → length endings ≡ length posts
 posts_long NoPost = refl
 posts_long (OnePost {posts} {mid} {answers} before post new answer takes) =
     let was = posts_long before in let a = length-append answers (answer ∷ []) in let b = length-append posts (post ∷ []) in omega (arith, was, a, b)
@@ -49,7 +49,7 @@ posts_long (OnePost {posts} {mid} {answers} before post new answer takes) =
 pub gone_few : {first now : List Fact} {posts : List Post} {endings : List Ending} → TakesGone first posts now endings → (answer : Reply) → Tells endings answer → most_refusals answer ≤ length posts + 1
 gone_few takes answer tells = tells_few _ answer _ (gone_long takes) tells
 
-pub posts_few : {first now : Session} {posts : List Post} {endings : List Ending} → TakesPosts first posts now endings → (answer : Reply) → Tells endings answer → most_refusals answer ≤ length posts + 1
+pub posts_few : {first now : State} {posts : List Post} {endings : List Ending} → TakesPosts first posts now endings → (answer : Reply) → Tells endings answer → most_refusals answer ≤ length posts + 1
 posts_few takes answer tells = tells_few _ answer _ (posts_long takes) tells
 
 -- an answer that tells of posts is none of being stuck

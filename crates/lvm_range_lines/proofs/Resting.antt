@@ -6,7 +6,7 @@ use Rattle.lvm_vol.specs.Facts.{Fact, Begun, Landed, Taken, Making, Made, Split,
 use Rattle.lvm_vol.specs.Log.{Log}
 use Rattle.lvm_vol.specs.Order.{Ordered}
 use Rattle.lvm_steps.specs.Requests.{at}
-use Rattle.lvm_session.specs.State.{Core, State as Session, state}
+use Rattle.lvm_session.specs.State.{Core, State, state}
 use Rattle.lvm_session.specs.Sound.{IsSound}
 use Rattle.lvm_core.specs.Settled.{IsSettled as IsSettledCore}
 use Rattle.lvm_group_lines.specs.passed.Driver.{state_of}
@@ -91,16 +91,16 @@ module _ {S : Type 0} (device : S → Device) (first : S × Core) (posts : Vec P
   sound_then = subst IsSound enters.is sound
 
   log_is : end.1.history ≡ record first.1.history { facts = facts }
-  log_is = ap (λ (s : Session). s.core.history) enters.is
+  log_is = ap (λ (s : State). s.core.history) enters.is
 
-  abbrev behind : Session → ℕ → ScriptState
+  abbrev behind : State → ℕ → ScriptState
   behind s last = record { moment = at s.device s.core.history.facts; session = Some s.core; posts = []; last = last }
 
   goes_as : (last : ℕ) → state_in device stage last ≡ behind (state_of device end) last
   goes_as last = ap (λ (s : Stage S). state_in device s last) is ∙ ap (λ (ps : List Post). record { moment = at (device end.0) end.1.history.facts; session = Some end.1; posts = ps; last = last }) empty
 
   after_is : (last : ℕ) → state_in device stage last ≡ behind (state (device first.0) core) last
-  after_is last = goes_as last ∙ ap (λ (s : Session). behind s last) enters.is
+  after_is last = goes_as last ∙ ap (λ (s : State). behind s last) enters.is
 
   still_stands : (past : List Fact) → StandsAfter past (device first.0) first.1 → StandsAfter past (device first.0) core
   still_stands past stands = record {
@@ -138,9 +138,9 @@ module _ {S : Type 0} (device : S → Device) (first : S × Core) (posts : Vec P
     goes = subst (GoesOn first.1.history.run OfRequests answer (state_in device old last)) (sym (after_is last)) (goes_there last);
     rooms = ap (λ (s : Stage S). without_facts (history_in s)) is ∙ ap without_facts log_is;
     fits = subst IsFittingStage (sym is) (record {
-      kind = ap (λ (s : Session). s.core.descriptor.lvs) enters.is ∙ no_volume;
+      kind = ap (λ (s : State). s.core.descriptor.lvs) enters.is ∙ no_volume;
       few = subst (λ n. n < 2 ^ 32) (sym (ap (λ (log : Log). log.room) log_is)) fits.few;
       rooms = subst (λ n. HaveRooms n none bytes) (sym (ap (λ (log : Log). log.room) log_is)) rooms;
     });
-    orders = λ none. ap (λ (s : Stage S). (device (shelf_in s)).orders) is ∙ ap (λ (s : Session). s.device.orders) enters.is;
+    orders = λ none. ap (λ (s : Stage S). (device (shelf_in s)).orders) is ∙ ap (λ (s : State). s.device.orders) enters.is;
   }

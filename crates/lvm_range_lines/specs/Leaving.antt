@@ -5,7 +5,7 @@ use Rattle.lvm_disk.specs.Counts.{RoseBy}
 use Rattle.lvm_disk.specs.Device.{Device}
 use Rattle.lvm_session.specs.declared.open.Power.{Power}
 use Rattle.lvm_session.specs.declared.open.Power.TheVariants as power
-use Rattle.lvm_session.specs.State.{Core, State as Session, state}
+use Rattle.lvm_session.specs.State.{Core, State, state}
 use Rattle.lvm_posts.specs.declared.fault.RangeFault.{RangeFault}
 use Rattle.lvm_posts.specs.declared.posts.Post.{Post}
 use Rattle.lvm_group_lines.specs.passed.HolderVariants as holder
@@ -16,15 +16,15 @@ use Rattle.lvm_range_lines.specs.Refusals.{is_stuck}
 -- ---- states
 
 -- the session over the shelf of a state
-abbrev pub session_over : ScriptState → Core → Session
+abbrev pub session_over : ScriptState → Core → State
 session_over s core = state s.moment.device core
 
 -- it goes on with these posts
-abbrev pub GoesOnWith : Session → List Post → ℕ → ScriptState → Type 0
+abbrev pub GoesOnWith : State → List Post → ℕ → ScriptState → Type 0
 GoesOnWith end posts last new = new ≡ record { moment = record { device = end.device; facts = end.core.history.facts }; session = Some end.core; posts = posts; last = last }
 
 -- it is closed, and its posts have ended; after a power cut the power is on again
-pub record IsOverWith (end : Session) (posts : List Post) (last : ℕ) (new : ScriptState) : Type 0 where
+pub record IsOverWith (end : State) (posts : List Post) (last : ℕ) (new : ScriptState) : Type 0 where
   pub shelf : IsClosed end.core.power end.device new.moment.device
   pub facts : new.moment.facts ≡ end.core.history.facts
   pub session : new.session ≡ None
@@ -32,30 +32,30 @@ pub record IsOverWith (end : Session) (posts : List Post) (last : ℕ) (new : Sc
   pub clock : new.last ≡ last
 
 -- It goes on where it is on, and is closed where it is over.
-abbrev pub CarriesBy : Power → Session → List Post → ℕ → ScriptState → Type 0
+abbrev pub CarriesBy : Power → State → List Post → ℕ → ScriptState → Type 0
 CarriesBy power.On end posts last new = GoesOnWith end posts last new
 CarriesBy power.Off end posts last new = IsOverWith end posts last new
 CarriesBy power.Dark end posts last new = IsOverWith end posts last new
 CarriesBy power.Stuck end posts last new = IsOverWith end posts last new
 
-abbrev pub CarriesTo : Session → List Post → ℕ → ScriptState → Type 0
+abbrev pub CarriesTo : State → List Post → ℕ → ScriptState → Type 0
 CarriesTo end posts last new = CarriesBy end.core.power end posts last new
 
 -- so it does behind a range that failed; one that is stuck is closed
-abbrev pub FailsIf : Bool → Session → List Post → ℕ → ScriptState → Type 0
+abbrev pub FailsIf : Bool → State → List Post → ℕ → ScriptState → Type 0
 FailsIf true end posts last new = IsOverWith end posts last new
 FailsIf false end posts last new = CarriesTo end posts last new
 
-abbrev pub FailsBy : RangeFault → Session → List Post → ℕ → ScriptState → Type 0
+abbrev pub FailsBy : RangeFault → State → List Post → ℕ → ScriptState → Type 0
 FailsBy why end posts last new = FailsIf (is_stuck why) end posts last new
 
 -- and behind one that was waited for
-abbrev pub EndsBy : {A : Type 0} → Result A RangeFault → Session → List Post → ℕ → ScriptState → Type 0
+abbrev pub EndsBy : {A : Type 0} → Result A RangeFault → State → List Post → ℕ → ScriptState → Type 0
 EndsBy (Ok done) end posts last new = CarriesTo end posts last new
 EndsBy (Err why) end posts last new = FailsBy why end posts last new
 
 -- the patience of a line went with answers that nothing had ended, and so much of it is left
-abbrev pub Waited : ℕ → Session → Session → Type 0
+abbrev pub Waited : ℕ → State → State → Type 0
 Waited left old new = RoseBy (patience_of_line - left) old.device.counts.waits new.device.counts.waits
 
 -- ---- stages

@@ -9,7 +9,7 @@ use Rattle.lvm_vol.specs.Log.{Log}
 use Rattle.lvm_kept.specs.Moments.{Moment}
 use Rattle.lvm_steps.specs.Moments.{Keeps}
 use Rattle.lvm_status.specs.Members.{HasItsRows}
-use Rattle.lvm_session.specs.State.{Core, State as Session, state}
+use Rattle.lvm_session.specs.State.{Core, State, state}
 use Rattle.lvm_core.specs.Committing.{moment_of}
 use Rattle.lvm_core.specs.Held.{IsHeld}
 use Rattle.lvm_core.specs.Leaves.{FindsOnly, Scope}
@@ -72,7 +72,7 @@ module _ {S : Type 0} (device : S → Device) (added : List Pp) (driver : S × C
       }
 
 -- what is known of the command by what it gives, where it is allowed
-pub record IsKnown {X : Type 0} (Allowed : Type 0) (run patience : ℕ) (mid left : Session) (given : Result X GroupFault) : Type 0 where
+pub record IsKnown {X : Type 0} (Allowed : Type 0) (run patience : ℕ) (mid left : State) (given : Result X GroupFault) : Type 0 where
   pub facts : Facts given patience mid left
   pub landed : HaveAllLanded left.core.history.facts
   pub answers : LeavesAnswers mid.core.history.facts left.core.history.facts
@@ -105,10 +105,10 @@ module _ {S : Type 0} (device : S → Device) (stage : Stage S) (fits : IsFittin
     abbrev core : Core
     core = rested.turned.core
 
-    abbrev mid : Session
+    abbrev mid : State
     mid = state_of device driver
 
-    abbrev first : Session
+    abbrev first : State
     first = state (device (shelf_in stage)) core
 
     its : session_in stage ≡ Some core
@@ -164,9 +164,9 @@ module _ {S : Type 0} (device : S → Device) (stage : Stage S) (fits : IsFittin
 
     -- ---- and a command has been carried out
 
-    module _ {X : Type 0} (role : Role) (acts : Acts role) (Gives : Session → Session → Result X GroupFault → Type 0) (added : Result X GroupFault → List Pp) (scope : Core → Scope) (it : Stage S) (answer : Reply)
+    module _ {X : Type 0} (role : Role) (acts : Acts role) (Gives : State → State → Result X GroupFault → Type 0) (added : Result X GroupFault → List Pp) (scope : Core → Scope) (it : Stage S) (answer : Reply)
         (done : IsCarriedOut device Gives added (scope driver.1) patience driver stage.posts stage.bytes it answer) (sectors : (shelf : S) → HasSectors (device shelf)) where
-      abbrev left : Session
+      abbrev left : State
       left = state_of device done.left
 
       abbrev run : ℕ

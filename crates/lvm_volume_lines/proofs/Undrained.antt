@@ -10,7 +10,7 @@ use Rattle.lvm_session.specs.Causes.{is_over}
 use Rattle.lvm_session.specs.Sound.{is_dark}
 use Rattle.lvm_session.specs.declared.open.Power.{Power}
 use Rattle.lvm_session.specs.declared.open.Power.TheVariants as power
-use Rattle.lvm_session.specs.State.{Core, State as Session, state, votes_there}
+use Rattle.lvm_session.specs.State.{Core, State, state, votes_there}
 use Rattle.lvm_turn_losses.proofs.Votes.{votes_go}
 use Rattle.lvm_core.specs.Settled.{IsSettled as IsSettledCore}
 use Rattle.lvm_core.specs.Sound.{HaveAllLanded}
@@ -43,10 +43,10 @@ module _ {S : Type 0} (role : Role) (acts : Acts role) (device : S → Device) (
   abbrev core : Core
   core = broken.turned.core
 
-  abbrev end : Session
+  abbrev end : State
   end = state_of device driver
 
-  abbrev first : Session
+  abbrev first : State
   first = state (device (shelf_in stage)) core
 
   abbrev leaves : LeavesSession first end
@@ -144,8 +144,8 @@ module _ {S : Type 0} (role : Role) (acts : Acts role) (device : S → Device) (
       }
 
       by : (end ≡ first) ⊎ (end.core.power ≡ power.Dark) → IsAtRest (state_in device it last)
-      by (inl same) = closed_rests (ap (λ (s : Session). s.device.flights) same ∙ rest.ready.flights)
-          (subst (λ (s : Session). HaveAllLanded s.core.history.facts) (sym same) (subst (λ (l : Log). HaveAllLanded l.facts) (its_history device stage fits between none core its) rest.landed))
+      by (inl same) = closed_rests (ap (λ (s : State). s.device.flights) same ∙ rest.ready.flights)
+          (subst (λ (s : State). HaveAllLanded s.core.history.facts) (sym same) (subst (λ (l : Log). HaveAllLanded l.facts) (its_history device stage fits between none core its) rest.landed))
       by (inr dark) = closed_rests (broken.turned.sound.dark (ap is_dark dark)).flights (over_landed end broken.turned.sound (ap is_over dark))
 
   -- ---- so the line ends

@@ -4,7 +4,7 @@ use Rattle.lvm_num.specs.declared.descriptor.Mode.TheVariants.{Off}
 use Rattle.lvm_num.specs.declared.descriptor.Policy.TheVariants as policy
 use Rattle.lvm_disk.specs.Device.{Device, HasSectors}
 use Rattle.lvm_vol.specs.Log.{Log}
-use Rattle.lvm_session.specs.State.{Core, State as Session}
+use Rattle.lvm_session.specs.State.{Core, State}
 use Rattle.lvm_core.specs.Looking.{HasNoVolumeNamed}
 use Rattle.lvm_core.specs.State.{state_of}
 use Rattle.lvm_range_lines.specs.passed.Handover.{IsCommanded}
@@ -30,7 +30,7 @@ module _ {S : Type 0} (device : S → Device) (stage : Stage S) (fits : IsFittin
   abbrev core : Core
   core = rested.turned.core
 
-  abbrev mid : Session
+  abbrev mid : State
   mid = state_of device driver
 
   -- it is as a making that is refused, which changes nothing
