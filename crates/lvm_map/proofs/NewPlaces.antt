@@ -12,7 +12,7 @@ use Rattle.lvm_num.specs.declared.descriptor.Descriptor.{Descriptor}
 use Rattle.lvm_num.specs.Descriptor.{IsValid, member_of, partitions_used}
 use Rattle.lvm_num.specs.Disks.{Disks}
 use Rattle.lvm_num.proofs.Pairs.{AllPairs-right}
-use Rattle.lvm_map.specs.FirstFit.{is_among, is_on, partitions_of, free_of, may_take, choices, Asked, others_in, kept_next, IsFirstFit}
+use Rattle.lvm_map.specs.FirstFit.{is_among, has_partition_on, partitions_of, free_of, may_take, choices, Asked, others_in, kept_next, IsFirstFit}
 use Rattle.lvm_map.specs.Laws.{IsNewPlace}
 use Rattle.lvm_map.proofs.FreeLists.{free-head_disk, partitions-at, partitions-size, AllPairs-first}
 use Rattle.lvm_map.proofs.Fitting.{get-within}
@@ -125,7 +125,7 @@ new_place d usable asked pps k pp valid fits is new =
     let choice = choice_of (may_take usable (others_in asked front)) (partitions_used d ++ front) d.pvs pp next in
     let row = choice.row in
     let disk : pp.disk ≡ row.disk = free-head_disk (partitions_used d ++ front) row pp choice.rest choice.free in
-    let takes = and_parts (usable row.disk) row.spare (is_on (others_in asked front) row.disk) choice.takes in
+    let takes = and_parts (usable row.disk) row.spare (has_partition_on (others_in asked front) row.disk) choice.takes in
     let unused = or_parts (is_among (partitions_used d) pp) (is_among front pp)
     (sym (list_any-append (λ (p : Pp). p.disk == pp.disk && p.pp == pp.pp) (partitions_used d) front) ∙ head_free (partitions_used d ++ front) row pp choice.rest choice.free) in
     let member = member_is d.pvs choice.place row valid.members.disks_differ choice.within choice.there in
@@ -137,5 +137,5 @@ new_place d usable asked pps k pp valid fits is new =
       no_spare = takes.1;
       free = unused.0;
       new = unused.1;
-      apart = ap (is_on (others_in asked front)) disk ∙ takes.2;
+      apart = ap (has_partition_on (others_in asked front)) disk ∙ takes.2;
     }

@@ -14,7 +14,7 @@ use Rattle.lvm_num.specs.declared.descriptor.Descriptor.{Descriptor}
 use Rattle.lvm_num.specs.Descriptor.{IsVolume, AreVolumes, IsPartitionOf, IsLaidOut, AreMaps, IsValid, copies_of, most_volumes, partitions_in, partitions_used}
 use Rattle.lvm_num.specs.Disks.{Disks}
 use Rattle.lvm_num.proofs.Pairs.{All-left, All-right, AllPairs-left, AllPairs-right, AllPairs-across, AllPairs-append}
-use Rattle.lvm_map.specs.FirstFit.{is_among, is_on, choices, Asked, kept_next, others_in, IsFirstFit, IsAllocated, new_volume, more_copies}
+use Rattle.lvm_map.specs.FirstFit.{is_among, has_partition_on, choices, Asked, kept_next, others_in, IsFirstFit, IsAllocated, new_volume, more_copies}
 use Rattle.lvm_map.specs.Laws.{IsNewPlace}
 use Rattle.lvm_map.proofs.FreeLists.{is_pp-same}
 use Rattle.lvm_map.proofs.Fitting.{get-within, get-get_or}
@@ -232,10 +232,10 @@ module _ (d : Descriptor) (valid : IsValid d) (usable : Disks) (asked : Asked) (
               let start : length before - length before % c ≡ lp * c = ap (λ n. n - n % c) before-size ∙ omega (arith, b-parts.1) in
               let others : others_in asked before ≡ drop (lp * c) before = ap (λ n. drop n before) start in
               let a-there : get_or (drop (lp * c) before) a e ≡ get_or pps a-k e = get_or-drop (lp * c) before a e ∙ get_or-take b-k pps a-k e (omega arith) in
-              let on : is_on (drop (lp * c) before) (get_or pps b-k e).disk ≡ true =
+              let on : has_partition_on (drop (lp * c) before) (get_or pps b-k e).disk ≡ true =
               list_any_at (λ (p : Pp). p.disk == (get_or pps b-k e).disk) (drop (lp * c) before) a e (omega (arith, length-drop (lp * c) before))
               (eq-eqb (get_or (drop (lp * c) before) a e).disk (get_or pps b-k e).disk (ap (λ (p : Pp). p.disk) a-there ∙ disks)) in
-              false≢true (sym it.apart ∙ ap (λ (them : List Pp). is_on them (get_or pps b-k e).disk) others ∙ on)
+              false≢true (sym it.apart ∙ ap (λ (them : List Pp). has_partition_on them (get_or pps b-k e).disk) others ∙ on)
         ]
 
 -- ---- the maps of all volumes

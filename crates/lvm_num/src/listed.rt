@@ -24,7 +24,7 @@ pub fn has_member(members: &[PvRow], disk: u16) -> bool
 }
 
 /// Whether one of the partitions is on the disk.
-pub fn is_on(pps: &[Pp], disk: u16) -> bool
+pub fn has_partition_on(pps: &[Pp], disk: u16) -> bool
     ensures { result ≡ list_any (λ (pp : Pp). pp.disk == disk) pps.now }
 {
     pps.iter().any(|pp| pp.disk == disk)
