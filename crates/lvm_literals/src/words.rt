@@ -67,7 +67,7 @@ pub fn turns_of(word: &[u8]) -> Option<u32>
 }
 
 /// How many copies.
-pub fn copies_of(word: &[u8]) -> Option<u8>
+pub fn copy_count_of(word: &[u8]) -> Option<u8>
     ensures { result ≡ copies_in word.now }
 {
     let copies = number_within(word, 0, 9)?;

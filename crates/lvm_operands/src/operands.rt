@@ -7,8 +7,8 @@ ghost use Rattle.lvm_operands.specs.Rests.{left, word_at, with_word, fitted, Rea
 use crate::rest::{Misfit, Rest, Word};
 use crate::scan::next_word;
 use lvm_literals::{
-    copies_of, count_of, disk_of, hex_word, mode_of, name_of, number_of, partitions_of, policy_of,
-    size_of, turns_of,
+    copy_count_of, count_of, disk_of, hex_word, mode_of, name_of, number_of, partitions_of,
+    policy_of, size_of, turns_of,
 };
 use lvm_num::{Mode, Name, Policy};
 
@@ -117,7 +117,7 @@ pub fn copies(rest: Rest<'_>) -> Result<(u8, Rest<'_>), Misfit>
     ensures { Reads (operand copies_in (left rest.entry)) result }
 {
     let (word, rest) = word(rest)?;
-    fit(copies_of(word.bytes), word.column, rest)
+    fit(copy_count_of(word.bytes), word.column, rest)
 }
 
 /// The mode of a volume.
