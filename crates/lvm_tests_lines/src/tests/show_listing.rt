@@ -12,7 +12,7 @@ use lvm_tests_values::{Member, Volume, group, table, volume};
 use std::process::Abort;
 
 // Members of six partitions on the first disks.
-const DISKS: [Member; 3] = [(0, 6, false), (1, 6, false), (2, 6, true)];
+const MEMBERS: [Member; 3] = [(0, 6, false), (1, 6, false), (2, 6, true)];
 
 const VOLUMES: [Volume; 2] = [
     (1, "lv00", 2, 2, &[(0, 0), (1, 0), (0, 1), (1, 1)]),
@@ -133,7 +133,7 @@ fn empty(rt: &(impl Abort + AllocGlobal), members: &[Member], quorum: bool) -> D
 
 // The listing of a new group of the first so many members.
 fn new_listing(rt: &(impl Abort + AllocGlobal), count: usize, disks: &[u16], quorum: bool) -> Text {
-    let members = DISKS.get(..count).expect(rt, "members");
+    let members = MEMBERS.get(..count).expect(rt, "members");
     let d = empty(rt, members, quorum);
     all(rt, &d, &fresh(rt, disks))
 }
@@ -148,7 +148,7 @@ fn a_new_group_is_listed(rt: HostRuntime) {
 
 #[test]
 fn a_group_without_volumes_lists_none(rt: HostRuntime) {
-    let d = empty(&rt, &DISKS, true);
+    let d = empty(&rt, &MEMBERS, true);
     let shown = volumes(&rt, &d, &fresh(&rt, &[0, 1, 2]));
     check(&rt, shown.as_str().is_empty(), "no line");
 }
@@ -180,7 +180,7 @@ static LISTS: [(List, &str); 7] = [
 
 #[test]
 fn a_group_with_stale_partitions_and_a_missing_disk_is_listed(rt: HostRuntime) {
-    let d = group(rt.alloc(), &DISKS, &VOLUMES).expect(&rt, "a group");
+    let d = group(rt.alloc(), &MEMBERS, &VOLUMES).expect(&rt, "a group");
     let t = stale(&rt);
     for (list, text) in &LISTS {
         let shown = listed(&rt, &d, &t, list);
