@@ -43,7 +43,7 @@ fn refusal_of(cause: Cause) -> Refusal
 }
 
 // Puts the power on again where it was cut.
-fn relight_after<S: Shelf>(shelf: &mut S, cause: Cause)
+fn relight_after_refusal<S: Shelf>(shelf: &mut S, cause: Cause)
     requires { cause ≡ Cause.Dark → (S.device shelf.old).flights ≡ [] }
     ensures { IsRelit cause (S.device shelf.old) (S.device shelf.new) }
 {
@@ -88,7 +88,7 @@ fn left<S: Shelf>(outcome: Result<Driver<S>, Refused<S>>) -> (Holder<S>, Reply)
                 history,
                 cause,
             } = refused;
-            relight_after(&mut shelf, cause);
+            relight_after_refusal(&mut shelf, cause);
             (
                 Holder::Off { shelf, history },
                 Reply::Refused(refusal_of(cause)),

@@ -81,7 +81,7 @@ fn ends_session(why: GroupFault) -> bool
 }
 
 // Puts the power on again where it was cut.
-fn relight_after<S: Shelf>(shelf: &mut S, why: GroupFault)
+fn relight_after_fault<S: Shelf>(shelf: &mut S, why: GroupFault)
     requires { why ≡ GroupFault.Dark → (S.device shelf.old).flights ≡ [] }
     ensures dark { why ≡ GroupFault.Dark → Relights (S.device shelf.old) (S.device shelf.new) }
     ensures other { (why ≡ GroupFault.Dark → ⊥) → S.device shelf.new ≡ S.device shelf.old }
@@ -111,7 +111,7 @@ fn close_after<S: Shelf>(
     }
     .close();
     let Closed { mut shelf, history } = closed;
-    relight_after(&mut shelf, why);
+    relight_after_fault(&mut shelf, why);
     Stage {
         holder: Holder::Off { shelf, history },
         posts,
