@@ -2,7 +2,7 @@
 ghost use Rattle.std.specs.Prelude.{◌≡◌, IfErr};
 ghost use Rattle.lvm_session.specs.Sound.{IsSound};
 ghost use Rattle.lvm_core.specs.Looking.{IsNumberOf};
-ghost use Rattle.lvm_volume_lines.specs.passed.Driver.{state_of};
+ghost use Rattle.lvm_session.specs.State.{state_of};
 ghost use Rattle.lvm_volume_lines.specs.passed.RangeLines.{serving};
 ghost use Rattle.lvm_volume_lines.specs.passed.Stage.{EndsUnasked, OfRequests, IsBetweenStage, IsFittingStage};
 ghost use Rattle.lvm_copy_lines.specs.Resyncing.{MayCome, SyncGroupDoes, SyncVolumeDoes, numbers_reply, sync_refusal, sync_reply};

@@ -5,7 +5,7 @@ ghost use Rattle.lvm_session.specs.declared.open.Power.TheVariants as power;
 ghost use Rattle.lvm_session.specs.Left.{left_of};
 ghost use Rattle.lvm_keeps_turn.specs.Turning.{is_last};
 ghost use Rattle.lvm_running.specs.Running.{RunsOn};
-ghost use Rattle.lvm_driver.specs.Answers.{state_of};
+ghost use Rattle.lvm_session.specs.State.{state_of};
 ghost use Rattle.lvm_draws.specs.Draws.{after_draw};
 ghost use Rattle.lvm_load.specs.Waiting.{AreWaiting, AreWaitingBut, OthersWait, landed_by};
 ghost use Rattle.lvm_load.specs.Weaving.{AsksDrawn, TakesFor, TakesEach, Turns, goes_on, idle_after, open_of, turns_left};

@@ -5,7 +5,7 @@ ghost use Rattle.lvm_disk.specs.Device.{IsReady};
 ghost use Rattle.lvm_core.specs.Starting.{IsRoom};
 ghost use Rattle.lvm_session.specs.declared.open.Power.TheVariants as power;
 ghost use Rattle.lvm_session.specs.Sound.{IsSound};
-ghost use Rattle.lvm_top.specs.passed.Driver.{state_of};
+ghost use Rattle.lvm_session.specs.State.{state_of};
 ghost use Rattle.lvm_top.specs.passed.Running.{RunsOn};
 ghost use Rattle.lvm_top.specs.passed.Stage.{IsBetweenStage, IsFittingStage, IsStuck, history_in, moment_in, most_refusals, session_in, state_in, without_facts};
 ghost use Rattle.lvm_top.specs.Run.{ran};

@@ -9,8 +9,7 @@ use Rattle.lvm_raw.specs.Pieces.{piece_count}
 use Rattle.lvm_session.specs.declared.open.Power.{Power}
 use Rattle.lvm_session.specs.declared.open.Power.TheVariants as power
 use Rattle.lvm_session.specs.Sound.{IsSound}
-use Rattle.lvm_session.specs.State.{Core, state}
-use Rattle.lvm_group_lines.specs.passed.Driver.{state_of}
+use Rattle.lvm_session.specs.State.{Core, state, state_of}
 use Rattle.lvm_group_lines.specs.passed.Running.{RunsOn}
 use Rattle.lvm_posts.specs.declared.asked.Asked.{Asked}
 use Rattle.lvm_posts.specs.declared.posts.Post.{Post}

@@ -18,8 +18,7 @@ use Rattle.lvm_session.specs.declared.open.Power.TheVariants as power
 use Rattle.lvm_session.specs.Causes.{is_over}
 use Rattle.lvm_session.specs.Sound.{IsLit, IsSound, is_dark}
 use Rattle.lvm_group_lines.specs.passed.Tie.{moment_of}
-use Rattle.lvm_session.specs.State.{Core, votes_there}
-use Rattle.lvm_group_lines.specs.passed.Driver.{state_of}
+use Rattle.lvm_session.specs.State.{Core, votes_there, state_of}
 use Rattle.lvm_group_lines.specs.passed.Running.{LeavesSession, RunsOn}
 use Rattle.lvm_group_lines.proofs.passed.Running.{stays_unstuck}
 use Rattle.lvm_posts.specs.declared.posts.Post.{Post}

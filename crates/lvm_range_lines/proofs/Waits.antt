@@ -10,8 +10,8 @@ use Rattle.lvm_session.specs.declared.open.Power.{Power}
 use Rattle.lvm_session.specs.declared.open.Power.TheVariants as power
 use Rattle.lvm_session.specs.Causes.{is_over}
 use Rattle.lvm_session.specs.Sound.{IsSound}
-use Rattle.lvm_session.specs.State.{Core}
-use Rattle.lvm_group_lines.specs.passed.Driver.{state_of, IsAny}
+use Rattle.lvm_session.specs.State.{Core, state_of}
+use Rattle.lvm_group_lines.specs.passed.Driver.{IsAny}
 use Rattle.lvm_group_lines.proofs.passed.Ranges.{answered_for}
 use Rattle.lvm_group_lines.specs.passed.Running.{RunsOn}
 use Rattle.lvm_group_lines.proofs.passed.Running.{runs_both}

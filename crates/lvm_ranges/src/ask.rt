@@ -5,7 +5,7 @@ ghost use Rattle.lvm_session.specs.declared.open.Power.TheVariants as power;
 ghost use Rattle.lvm_session.specs.Asking.{IsAsking};
 ghost use Rattle.lvm_session.specs.Calls.{ask_fault, has_numbers, submitted};
 ghost use Rattle.lvm_running.specs.Running.{RunsOn};
-ghost use Rattle.lvm_driver.specs.Answers.{state_of};
+ghost use Rattle.lvm_session.specs.State.{state_of};
 ghost use Rattle.lvm_ranges.specs.Asking.{AskRangeGives, Asks, IsAskedFor, StaysServing, fault_in, has_room, range_fault};
 ghost use Rattle.lvm_raw.specs.Pieces.{piece_count};
 ghost use Rattle.lvm_ranges.specs.Pieces.{Submits, piece_ask, with_piece};

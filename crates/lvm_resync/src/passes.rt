@@ -5,7 +5,7 @@ ghost use Rattle.lvm_num.specs.declared.descriptor.LvRow.{LvRow};
 ghost use Rattle.lvm_num.specs.Descriptor.{IsValid, volume_of};
 ghost use Rattle.lvm_session.specs.declared.open.Power.TheVariants as power;
 ghost use Rattle.lvm_session.specs.Judging.{copies_in};
-ghost use Rattle.lvm_driver.specs.Answers.{state_of};
+ghost use Rattle.lvm_session.specs.State.{state_of};
 ghost use Rattle.lvm_resync.specs.Syncing.{PassesAll, copies_at, copy_in, group_copies, partition_copies, volume_copies};
 ghost use Rattle.lvm_resync.specs.Turning.{GoesBeside};
 

@@ -6,7 +6,7 @@ ghost use Rattle.lvm_core.specs.Starting.{IsRoom};
 ghost use Rattle.lvm_session.specs.declared.open.Power.TheVariants as power;
 ghost use Rattle.lvm_session.specs.Fields.{core_of};
 ghost use Rattle.lvm_session.specs.Sound.{IsSound};
-ghost use Rattle.lvm_line.specs.passed.Driver.{state_of};
+ghost use Rattle.lvm_session.specs.State.{state_of};
 ghost use Rattle.lvm_line.specs.passed.Running.{RunsOn};
 ghost use Rattle.lvm_line.specs.passed.Stage.{history_in, moment_in, session_in, IsBetweenStage, IsClosed, IsFittingStage, without_facts};
 ghost use Rattle.lvm_top.specs.Ending.{Concludes, IsQuietNow, MakesTurns, RestsNow, RunsOut};
