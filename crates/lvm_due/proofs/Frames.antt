@@ -18,13 +18,14 @@ use Rattle.lvm_session.specs.declared.open.Open.{Open}
 use Rattle.lvm_session.specs.State.{Core}
 use Rattle.lvm_session.specs.Judging.{facts_of, is_beside, is_failing, is_held_back, is_pending, next_for}
 use Rattle.lvm_session.specs.Enabled.{admission_at, can_pin, data_at, is_admit, is_pin, landing_at, note_at, outcome_next, pinning_at, target_next}
+use Rattle.lvm_session.specs.Left.{is_held}
 use Rattle.lvm_session.specs.Requests.{wants_entry}
 use Rattle.lvm_firsts.proofs.Might.{pins_not}
-use Rattle.lvm_firsts.specs.Might.{might_pin, wants_entry as might_want}
+use Rattle.lvm_firsts.specs.Might.{might_pin}
 use Rattle.lvm_firsts.specs.declared.span.Span.{Span}
 use Rattle.lvm_firsts.specs.Spans.{is_in, Spans}
 use Rattle.lvm_due.specs.declared.due.Due.{Due}
-use Rattle.lvm_due.specs.Due.{is_held, AddsMaking, Covers, IsDue, Joins, Moves}
+use Rattle.lvm_due.specs.Due.{AddsMaking, Covers, IsDue, Joins, Moves}
 use Rattle.lvm_due.specs.Making.{might_make_admission, might_make_data, might_make_landing, might_make_note}
 use Rattle.lvm_due.proofs.Unmade.{admit_none, land_none, note_none, pin_none, start_none}
 use Rattle.lvm_due.proofs.Telling.{facts_but, failing_read, fails_beside, is_unsettled, note_same, pending_read}
@@ -57,14 +58,6 @@ any_set test (x ∷ os) zero was is there same =
     let its : x ≡ was = cc there in
     ap (λ (b : Bool). b || list_any test os) (same ∙ sym (ap test its))
 any_set test (x ∷ os) (suc place) was is there same = ap (λ (b : Bool). test x || b) (any_set test os place was is there same)
-
-same_phases : (p : Phase) → might_want p ≡ wants_entry p
-same_phases phase.Held = refl
-same_phases phase.WantEntry = refl
-same_phases phase.WantRecord = refl
-same_phases phase.Data = refl
-same_phases phase.WantStatus = refl
-same_phases phase.Landed = refl
 
 -- ---- one has changed
 
@@ -120,7 +113,7 @@ module _ (frees pins : Open → Bool) (old new : Core) (place : ℕ) (moves : Mo
       not_held phase.Landed is = refl
   pins_same k o kept false not_so was =
       ap (λ (b : Bool). if b && can_pin new.cache o.request.ask then Some (event.Pin k) else None)
-      (pins_not (facts_of new o.request) o.request o.request.phase (and_left (might_want o.request.phase) (not (facts_of new o.request).pinned) (same_phases o.request.phase ∙ not_so)))
+      (pins_not (facts_of new o.request) o.request o.request.phase (and_left (wants_entry o.request.phase) (not (facts_of new o.request).pinned) not_so))
 
   -- ---- a wider span of each kind
 
