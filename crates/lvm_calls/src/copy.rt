@@ -2,8 +2,7 @@
 ghost use Rattle.std.specs.Prelude.{◌≡◌, ◌&&◌, ℕ, not};
 ghost use Rattle.std.specs.List.{list_any};
 ghost use Rattle.lvm_num.specs.declared.place.Pp.{Pp};
-ghost use Rattle.lvm_num.specs.Descriptor.{IsLaidOut, IsValid};
-ghost use Rattle.lvm_stale.specs.Table.{is_pp};
+ghost use Rattle.lvm_num.specs.Descriptor.{IsLaidOut, IsValid, is_pp};
 ghost use Rattle.lvm_session.specs.Fields.{core_of};
 ghost use Rattle.lvm_session.specs.Rooms.{SameRooms};
 ghost use Rattle.lvm_session.specs.Bringing.{is_out};

@@ -1,9 +1,8 @@
 //! Where the copies of a volume are.
 ghost use Rattle.std.specs.Prelude.{◌≡◌};
 ghost use Rattle.std.specs.Option.{option_copied};
-ghost use Rattle.lvm_num.specs.Descriptor.{volume_of};
+ghost use Rattle.lvm_num.specs.Descriptor.{volume_of, is_pp};
 ghost use Rattle.lvm_num.specs.Geometry.{partition_blocks};
-ghost use Rattle.lvm_stale.specs.Table.{is_pp};
 
 use lvm_num::{Descriptor, LvRow, Pp};
 

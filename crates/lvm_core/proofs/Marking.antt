@@ -9,11 +9,11 @@ use Rattle.lvm_num.specs.declared.descriptor.PvRow.{PvRow}
 use Rattle.lvm_num.specs.declared.record.Stamp.{Stamp}
 use Rattle.lvm_num.specs.declared.status.Status.{Status}
 use Rattle.lvm_num.specs.Disks.{Disks}
-use Rattle.lvm_num.specs.Descriptor.{is_member}
+use Rattle.lvm_num.specs.Descriptor.{is_member, is_pp}
 use Rattle.lvm_num.specs.Votes.{CanWrite}
 use Rattle.lvm_disk.specs.Device.{Device}
 use Rattle.lvm_num.specs.Status.{calls_stale}
-use Rattle.lvm_stale.specs.Table.{is_pp, SameMembers, SameMissing}
+use Rattle.lvm_stale.specs.Table.{SameMembers, SameMissing}
 use Rattle.lvm_status.specs.declared.change.Change.TheVariants as change
 use Rattle.lvm_status.specs.Update.{Updates, Stored, seen, is_held, is_owed, no_disks}
 use Rattle.lvm_status.specs.Calls.{BecomesStale, BecomesFresh, IsMarkable, closed, with_wanted, given_up}

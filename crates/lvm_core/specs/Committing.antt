@@ -5,7 +5,7 @@ use Rattle.lvm_num.specs.declared.place.Pp.{Pp}
 use Rattle.lvm_num.specs.declared.descriptor.Descriptor.{Descriptor}
 use Rattle.lvm_num.specs.declared.status.Status.{Status}
 use Rattle.lvm_num.specs.declared.record.Kind.TheVariants as kind
-use Rattle.lvm_num.specs.Descriptor.{IsPartitionOf}
+use Rattle.lvm_num.specs.Descriptor.{IsPartitionOf, is_pp}
 use Rattle.lvm_num.specs.DescriptorBytes.{descriptor_bytes}
 use Rattle.lvm_num.specs.Status.{calls_stale}
 use Rattle.lvm_disk.specs.Device.{IsReady, image_of}
@@ -13,7 +13,6 @@ use Rattle.lvm_vol.specs.Facts.{Fact}
 use Rattle.lvm_kept.specs.Contents.{contents_of}
 use Rattle.lvm_kept.specs.Moments.{Moment}
 use Rattle.lvm_steps.specs.Moments.{Begins, Holds, Keeps}
-use Rattle.lvm_stale.specs.Table.{is_pp}
 use Rattle.lvm_stamps.specs.Behind.{IsBehind}
 use Rattle.lvm_write.specs.Written.{IsDarkened, IsGivenUp}
 use Rattle.lvm_commit.specs.LawsOfData.{IsFree}

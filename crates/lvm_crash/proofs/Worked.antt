@@ -8,7 +8,7 @@ use Rattle.lvm_num.specs.declared.descriptor.Mode.{Mode}
 use Rattle.lvm_num.specs.declared.descriptor.LvRow.{LvRow}
 use Rattle.lvm_num.specs.declared.descriptor.Descriptor.{Descriptor}
 use Rattle.lvm_num.specs.Bits.{has_bit}
-use Rattle.lvm_num.specs.Descriptor.{copies_of}
+use Rattle.lvm_num.specs.Descriptor.{copies_of, is_pp}
 use Rattle.lvm_num.specs.Record.{Stamped, newest_below}
 use Rattle.lvm_num.specs.Votes.{all_disks, votes_by, votes_in, is_enough_to_read, is_enough_to_write}
 use Rattle.lvm_num.proofs.BitsLemmas.{has-none, has-set}
@@ -23,7 +23,6 @@ use Rattle.lvm_kept.specs.Examples.{stamped, row_of, mirror, two, of_two, either
 use Rattle.lvm_kept.specs.Group.{descriptor_among, is_voter, has_quorum, Finds, IsFound, IsOneOf}
 use Rattle.lvm_kept.specs.Kept.{StandsAs}
 use Rattle.lvm_invariant.specs.State.{has_notes, has_mark}
-use Rattle.lvm_invariant.specs.Updates.{is_pp}
 use Rattle.lvm_invariant.specs.First.{two_disks, first_copy, second_copy, is_either, marks_with, at_rest}
 use Rattle.lvm_crash.specs.Session.{as_marks, members_showing, GroupStands, HasVolumes}
 use Rattle.lvm_crash.specs.Worked.{Shown, sizes, status_shown, GroupsHaveVotes}

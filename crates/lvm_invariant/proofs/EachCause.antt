@@ -9,7 +9,8 @@ use Rattle.lvm_vol.specs.Facts.{Fact, Begun, Landed as HasLanded, Taken}
 use Rattle.lvm_invariant.specs.State.{Marks, Stage, Todo, Flying, Badly, Queued, ModelCopy, ModelState, covers}
 use Rattle.lvm_invariant.specs.Found.{Votes}
 use Rattle.lvm_invariant.specs.Good.{Good}
-use Rattle.lvm_invariant.specs.Updates.{put, without, is_pp, staged}
+use Rattle.lvm_invariant.specs.Updates.{put, without, staged}
+use Rattle.lvm_num.specs.Descriptor.{is_pp}
 use Rattle.lvm_invariant.specs.Events.{Event, Submit, EnterStep, Admit, Pin, Read, StartWrite, Transfer, LandDone, LandLost, LandGot, LandReadFailed, LandNoFresh, EndStep, Take, TakeEarlier, Want, BeginUpdate, MoveStatus, CommitUpdate, EndUpdate, StartNote, EndNote, Open, CopyWrite, Clear, ModelStep}
 use Rattle.lvm_invariant.specs.LandNoFresh.{FindsNoFresh}
 use Rattle.lvm_invariant.specs.CopyWrite.{Passes}

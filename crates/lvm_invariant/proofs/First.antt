@@ -9,7 +9,7 @@ use Rattle.lvm_invariant.specs.First.{second_copy, first_copy, is_either, two_di
 use Rattle.lvm_invariant.specs.Found.{Votes}
 use Rattle.lvm_invariant.specs.Good.{Good}
 use Rattle.lvm_invariant.specs.Sound.{Sound}
-use Rattle.lvm_invariant.specs.Updates.{is_pp}
+use Rattle.lvm_num.specs.Descriptor.{is_pp}
 use Rattle.lvm_num.specs.Record.{Stamped}
 use Rattle.lvm_invariant.specs.State.{has_notes, has_mark, Marks, ModelCopy, ModelState}
 use Rattle.lvm_invariant.proofs.Small.{never}

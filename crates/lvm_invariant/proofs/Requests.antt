@@ -5,7 +5,8 @@ use Rattle.std.proofs.lemmas.Bool.{cases_lt}
 use Rattle.lvm_num.specs.declared.place.Pp.{Pp}
 use Rattle.lvm_invariant.specs.State.{Stage, ModelPhase, Held, Going, Queued, ModelState, covers, is_past, has_landed, Started}
 use Rattle.lvm_invariant.specs.Sound.{Conflict, Sound}
-use Rattle.lvm_invariant.specs.Updates.{put, is_pp, staged}
+use Rattle.lvm_invariant.specs.Updates.{put, staged}
+use Rattle.lvm_num.specs.Descriptor.{is_pp}
 
 some_is : {X : Type 0} (a b : X) → Some a ≡ Some b → a ≡ b
 some_is a b e = cc

@@ -7,7 +7,8 @@ use Rattle.lvm_num.specs.declared.descriptor.Mode.{Mode}
 use Rattle.lvm_num.specs.Geometry.{track_group_of}
 use Rattle.lvm_num.specs.Record.{Stamped, stamp_lt}
 use Rattle.lvm_invariant.specs.State.{Marks, Groups, Stage, Held, Queued, ModelCopy, ModelState}
-use Rattle.lvm_invariant.specs.Updates.{put, is_pp}
+use Rattle.lvm_invariant.specs.Updates.{put}
+use Rattle.lvm_num.specs.Descriptor.{is_pp}
 use Rattle.lvm_invariant.specs.Found.{Votes}
 use Rattle.lvm_invariant.specs.Good.{Good}
 use Rattle.lvm_invariant.specs.Submit.{IsPlaced}

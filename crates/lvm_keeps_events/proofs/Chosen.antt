@@ -10,11 +10,10 @@ use Rattle.std.proofs.lemmas.List.Kept.{AllPairs-cons, AllPairs-filter}
 use Rattle.lvm_num.specs.declared.place.Pp.{Pp}
 use Rattle.lvm_num.specs.declared.descriptor.LvRow.{LvRow}
 use Rattle.lvm_num.specs.declared.descriptor.Policy.{Policy}
-use Rattle.lvm_num.specs.Descriptor.{IsVolume, copies_of}
+use Rattle.lvm_num.specs.Descriptor.{IsVolume, copies_of, is_pp}
 use Rattle.lvm_num.specs.Status.{calls_missing, calls_stale}
 use Rattle.lvm_num.proofs.MapsLemmas.{find-Some}
 use Rattle.lvm_map.proofs.PlaceLemmas.{laid_out, lp_below, mib_positive}
-use Rattle.lvm_stale.specs.Table.{is_pp}
 use Rattle.lvm_vol.specs.declared.entry.Outcome.TheVariants as outcome
 use Rattle.lvm_sched.specs.Reads.{AreCopiesAbove, IsReadOrder, others}
 use Rattle.lvm_sched.specs.declared.writes.TargetState.TheVariants as stage

@@ -7,7 +7,7 @@ use Rattle.std.proofs.lemmas.Bool.{eq-eqb, eqb-true, eqb-false, ne_eqb}
 use Rattle.lvm_num.specs.declared.place.Pp.{Pp}
 use Rattle.lvm_num.specs.declared.descriptor.Mode.{Mode}
 use Rattle.lvm_num.specs.declared.descriptor.Mode.TheVariants as mode
-use Rattle.lvm_stale.specs.Table.{is_pp}
+use Rattle.lvm_num.specs.Descriptor.{is_pp}
 use Rattle.lvm_disk.specs.Device.{Device, Flight, Range}
 use Rattle.lvm_disk.specs.Steps.{IsFresh, Starts}
 use Rattle.lvm_vol.specs.Log.{is_open}

@@ -6,7 +6,7 @@ use Rattle.std.specs.Prelude.{AllPairs, count_by, slice_index_or}
 use Rattle.lvm_num.specs.declared.place.Pp.{Pp}
 use Rattle.lvm_sched.specs.declared.writes.TargetState.{TargetState}
 use Rattle.lvm_sched.specs.declared.writes.TargetState.TheVariants as stage
-use Rattle.lvm_stale.specs.Table.{is_pp}
+use Rattle.lvm_num.specs.Descriptor.{is_pp}
 use Rattle.lvm_path.specs.Asks.{is_write}
 use Rattle.lvm_path.specs.Targets.{are_over, is_done, is_failed, is_over as is_ended}
 use Rattle.lvm_path.specs.declared.request.Request.{Request}

@@ -10,7 +10,7 @@ use Rattle.lvm_num.specs.Geometry.{partition_blocks}
 use Rattle.lvm_num.specs.Status.{calls_stale}
 use Rattle.lvm_num.specs.declared.place.Pp.{Pp}
 use Rattle.lvm_hold.specs.Waiting.{Waiting}
-use Rattle.lvm_stale.specs.Table.{is_pp}
+use Rattle.lvm_num.specs.Descriptor.{is_pp}
 use Rattle.lvm_path.specs.Asks.{at_of, is_write}
 use Rattle.lvm_path.specs.Targets.{are_over, end_state, is_done, is_failed}
 use Rattle.lvm_path.specs.declared.request.Request.{Request}

@@ -9,12 +9,11 @@ use Rattle.lvm_num.specs.declared.descriptor.PvRow.{PvRow}
 use Rattle.lvm_num.specs.declared.place.Pp.{Pp}
 use Rattle.lvm_num.specs.declared.record.NoteEntry.{NoteEntry}
 use Rattle.lvm_num.specs.declared.status.Status.{Status}
-use Rattle.lvm_num.specs.Descriptor.{is_member}
+use Rattle.lvm_num.specs.Descriptor.{is_member, is_pp}
 use Rattle.lvm_num.specs.Disks.{has}
 use Rattle.lvm_num.specs.Status.{calls_stale}
 use Rattle.lvm_num.specs.Votes.{is_enough_to_write}
 use Rattle.lvm_num.proofs.VotesLemmas.{more_have_more, more_is_enough}
-use Rattle.lvm_stale.specs.Table.{is_pp}
 use Rattle.lvm_mwc.specs.Cache.{flight_names, is_named, notes_on}
 use Rattle.lvm_mwc.specs.Notes.{both_name, names_group}
 use Rattle.lvm_mwc.specs.declared.notes.DiskNotes.{DiskNotes}

@@ -13,7 +13,7 @@ use Rattle.lvm_disk.specs.Counts.{Counts, Rose}
 use Rattle.lvm_disk.specs.Device.{Device, Flight, Media}
 use Rattle.lvm_hold.specs.Waiting.{Waiting}
 use Rattle.lvm_sched.specs.declared.writes.TargetState.TheVariants as stage
-use Rattle.lvm_stale.specs.Table.{is_pp}
+use Rattle.lvm_num.specs.Descriptor.{is_pp}
 use Rattle.lvm_path.specs.Asks.{is_write, lv_of}
 use Rattle.lvm_path.specs.Targets.{are_over, end_state, is_done, is_failed, is_over as is_ended}
 use Rattle.lvm_path.specs.declared.ask.Ask.{Ask}

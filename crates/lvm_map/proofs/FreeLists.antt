@@ -9,13 +9,11 @@ use Rattle.std.proofs.lemmas.List.Folds.{list_any-append}
 use Rattle.std.proofs.lemmas.List.FromFn.{length-range_with_len, get_or-map-range_with_len}
 use Rattle.lvm_num.specs.declared.place.Pp.{Pp}
 use Rattle.lvm_num.specs.declared.descriptor.PvRow.{PvRow}
+use Rattle.lvm_num.specs.Descriptor.{is_pp}
 use Rattle.lvm_num.proofs.Pairs.{AllPairs-right}
 use Rattle.lvm_map.specs.FirstFit.{is_among, partitions_of, free_of}
 
 -- ---- one partition
-
-abbrev pub is_pp : Pp → Pp → Bool
-is_pp a b = a.disk == b.disk && a.pp == b.pp
 
 both_true : (a b : Bool) → a && b ≡ true → (a ≡ true) × (b ≡ true)
 both_true true b e = (refl, e)

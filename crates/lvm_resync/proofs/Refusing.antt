@@ -7,9 +7,8 @@ use Rattle.std.specs.Option.{option_map_or}
 use Rattle.lvm_num.specs.declared.descriptor.LvRow.{LvRow}
 use Rattle.lvm_num.specs.declared.place.Pp.{Pp}
 use Rattle.lvm_num.specs.declared.status.Status.{Status}
-use Rattle.lvm_num.specs.Descriptor.{copies_of, volume_of}
+use Rattle.lvm_num.specs.Descriptor.{copies_of, volume_of, is_pp}
 use Rattle.lvm_num.specs.Status.{calls_stale}
-use Rattle.lvm_stale.specs.Table.{is_pp}
 use Rattle.lvm_disk.specs.Counts.{Counts}
 use Rattle.lvm_session.specs.declared.answers.CopyFault.{CopyFault}
 use Rattle.lvm_session.specs.declared.answers.CopyFault.TheVariants as refusal

@@ -12,11 +12,11 @@ use Rattle.lvm_num.specs.declared.status.Status.{Status}
 use Rattle.lvm_num.specs.Disks.{Disks}
 use Rattle.std.proofs.lemmas.List.Concat.{get_or-flat_map}
 use Rattle.std.proofs.lemmas.List.Folds.{length-flat_map-take}
-use Rattle.lvm_num.specs.Descriptor.{copies_of, partitions_in}
+use Rattle.lvm_num.specs.Descriptor.{copies_of, partitions_in, is_pp}
 use Rattle.lvm_num.specs.Status.{IsValidStatus, calls_stale}
 use Rattle.lvm_num.specs.Among.{IsOneOf}
 use Rattle.lvm_num.proofs.ListLemmas.{one_of_left, one_of_right, one_of_either}
-use Rattle.lvm_stale.specs.Table.{has_row, is_pp, SameMembers, SameMissing}
+use Rattle.lvm_stale.specs.Table.{has_row, SameMembers, SameMissing}
 use Rattle.lvm_stale.specs.Marking.{is_served, IsLeft, IsLeftBelow, IsLeftIn, Marks, IsMarkable}
 
 -- ---- one of a list

@@ -7,10 +7,9 @@ use Rattle.std.proofs.lemmas.Bool.Decides.{nat_tests}
 use Rattle.lvm_num.specs.declared.place.Pp.{Pp}
 use Rattle.lvm_num.specs.declared.record.Stamp.{Stamp}
 use Rattle.lvm_num.specs.declared.status.Status.{Status}
-use Rattle.lvm_num.specs.Descriptor.{is_member}
+use Rattle.lvm_num.specs.Descriptor.{is_member, is_pp}
 use Rattle.lvm_num.specs.Record.{stamp_lt}
 use Rattle.lvm_num.specs.Status.{calls_stale, calls_missing}
-use Rattle.lvm_stale.specs.Table.{is_pp}
 use Rattle.lvm_status.specs.declared.change.Change.{Change}
 use Rattle.lvm_status.specs.declared.change.Change.TheVariants as change
 use Rattle.lvm_status.specs.Update.{Updates, no_disks, is_held, is_owed, is_settled_stale}

@@ -53,7 +53,8 @@ use Rattle.lvm_session.specs.Marks.{WantsDirty, WantsDirtyIf}
 use Rattle.lvm_session.specs.Requests.{IsPhase, IsRequest}
 use Rattle.lvm_session.specs.Sound.{IsSound}
 use Rattle.lvm_invariant.specs.State.{Marks, Stage, ModelPhase, Held, WantEntry, Ready, Going, Landed, ModelCopy, Queued, ModelState, covers, is_past, has_landed}
-use Rattle.lvm_invariant.specs.Updates.{is_pp, put}
+use Rattle.lvm_invariant.specs.Updates.{put}
+use Rattle.lvm_num.specs.Descriptor.{is_pp}
 use Rattle.lvm_invariant.specs.Sound.{Conflict}
 use Rattle.lvm_invariant.specs.Admit.{Admits as Admitting, admitted}
 use Rattle.lvm_invariant.specs.Events.{Admit, Want, ModelStep}

@@ -20,7 +20,8 @@ use Rattle.lvm_session.specs.State.{Core}
 use Rattle.lvm_session.specs.Judging.{place_of}
 use Rattle.lvm_session.specs.Bringing.{has_row}
 use Rattle.lvm_invariant.specs.State.{Queued, ModelState}
-use Rattle.lvm_invariant.specs.Updates.{put, is_pp, staged, with_block}
+use Rattle.lvm_invariant.specs.Updates.{put, staged, with_block}
+use Rattle.lvm_num.specs.Descriptor.{is_pp}
 use Rattle.lvm_tie_shelf.proofs.Writing.{pp_same}
 use Rattle.lvm_tie.proofs.Orderly.{HaveNumbers}
 use Rattle.lvm_tie.specs.Seen.{stage_seen, stage_at, SeesRequest, IsRequestAt, IsStepAt, Sees}

@@ -4,10 +4,9 @@ use Rattle.std.specs.Prelude.{IsTrue, IsFalse, ◌==◌, if◌then◌else◌, is
 use Rattle.std.specs.Option.{option_map_or}
 use Rattle.lvm_num.specs.declared.place.Pp.{Pp}
 use Rattle.lvm_num.specs.Disks.{Disks}
-use Rattle.lvm_num.specs.Descriptor.{IsValid, is_member}
+use Rattle.lvm_num.specs.Descriptor.{IsValid, is_member, is_pp}
 use Rattle.lvm_num.specs.Status.{calls_stale}
 use Rattle.lvm_vol.specs.Facts.{Fact}
-use Rattle.lvm_stale.specs.Table.{is_pp}
 use Rattle.lvm_kept.proofs.Entries.{volume_is_row}
 use Rattle.lvm_session.specs.declared.bringing.OpenCopy.{OpenCopy}
 use Rattle.lvm_session.specs.declared.bringing.CopyEnd.{CopyEnd}

@@ -18,7 +18,7 @@ use Rattle.lvm_kept.specs.Contents.{Contents, contents_of}
 use Rattle.lvm_kept.specs.Group.{IsOneOf}
 use Rattle.lvm_kept.specs.Places.{SameRecords}
 use Rattle.lvm_kept.specs.Torn.{RecordWrite}
-use Rattle.lvm_stale.specs.Table.{is_pp as is_its}
+use Rattle.lvm_num.specs.Descriptor.{is_pp}
 use Rattle.lvm_status.specs.Update.{Stored}
 use Rattle.lvm_sched.specs.Writes.{is_waiting as target_waits}
 use Rattle.lvm_sched.specs.declared.writes.TargetState.{TargetState}
@@ -48,7 +48,7 @@ use Rattle.lvm_invariant.specs.Good.{Good}
 use Rattle.lvm_invariant.specs.Sound.{StaysFresh}
 use Rattle.lvm_invariant.specs.Events.{Event, Transfer, Want}
 use Rattle.lvm_invariant.specs.Transfer.{restaged}
-use Rattle.lvm_invariant.specs.Updates.{is_pp, put, staged}
+use Rattle.lvm_invariant.specs.Updates.{put, staged}
 use Rattle.lvm_invariant.specs.Want.{Replaced, Wants, after_wants}
 use Rattle.lvm_invariant.proofs.Each.{each_keeps}
 use Rattle.lvm_invariant.proofs.Rules.{each_has}
@@ -390,20 +390,20 @@ module _ (past : List Fact) (old new : State) (index : ℕ) (ends : Ends old new
   hit : (h : CopyEnd) → how ≡ Some h → IsHit h
   hit h is = by (option_map_or (hits_copy core2 o2 ends.ok t.pp) old.core.copy false) refl is
     where
-      which : (c : OpenCopy) → (not ends.ok && is_its t.pp c.pp || (are_over ts2 && not (is_kept core2 o2.request) && not o.older && is_among (due_of core2 o2.request) c.pp)) ≡ true → IsTargets c.pp
+      which : (c : OpenCopy) → (not ends.ok && is_pp t.pp c.pp || (are_over ts2 && not (is_kept core2 o2.request) && not o.older && is_among (due_of core2 o2.request) c.pp)) ≡ true → IsTargets c.pp
       which c test = ⊎_elim
           (λ bad. record {
             one = record t { state = end_state ends.ok };
             its_one = (its_pp ts2 number (record t { state = end_state ends.ok }) (state_there ts number t (end_state ends.ok) learns.its.aim_is)).1;
-            there = pp_same t.pp c.pp (and_both (not ends.ok) (is_its t.pp c.pp) bad).1;
+            there = pp_same t.pp c.pp (and_both (not ends.ok) (is_pp t.pp c.pp) bad).1;
           })
           (λ lost. due_one c.pp (and_both (are_over ts2 && not (is_kept core2 o2.request) && not o.older) (is_among (due_of core2 o2.request) c.pp) lost).1)
-          (or_either (not ends.ok && is_its t.pp c.pp) (are_over ts2 && not (is_kept core2 o2.request) && not o.older && is_among (due_of core2 o2.request) c.pp) test)
+          (or_either (not ends.ok && is_pp t.pp c.pp) (are_over ts2 && not (is_kept core2 o2.request) && not o.older && is_among (due_of core2 o2.request) c.pp) test)
 
       of : ending.SyncFailed ≡ h → (m : Option OpenCopy) → old.core.copy ≡ m → option_map_or (hits_copy core2 o2 ends.ok t.pp) m false ≡ true → IsHit h
       of so None none test = absurd (cc test)
       of so (Some c) open_is test =
-          let outer = and_both (is_write o.request.ask && is_running c) (not ends.ok && is_its t.pp c.pp || (are_over ts2 && not (is_kept core2 o2.request) && not o.older && is_among (due_of core2 o2.request) c.pp)) test in
+          let outer = and_both (is_write o.request.ask && is_running c) (not ends.ok && is_pp t.pp c.pp || (are_over ts2 && not (is_kept core2 o2.request) && not o.older && is_among (due_of core2 o2.request) c.pp)) test in
           record { copy = c; is_open = open_is; running = (and_both (is_write o.request.ask) (is_running c) outer.0).1; target = which c outer.1; fails = sym so }
 
       by : (b : Bool) → option_map_or (hits_copy core2 o2 ends.ok t.pp) old.core.copy false ≡ b → ends_if b ending.SyncFailed ≡ Some h → IsHit h
@@ -424,9 +424,9 @@ module _ (past : List Fact) (old new : State) (index : ℕ) (ends : Ends old new
       by None none test = absurd (cc test)
       by (Some h) some test =
           let x : IsHit h = hit h some in
-          let both = and_both (not (is_done_end h)) (option_map_or (λ (c : OpenCopy). is_whole core2 c && is_its p c.pp) old.core.copy false) test in
-          let here : (is_whole old.core x.copy && is_its p x.copy.pp) ≡ true = sym (ap (λ (m : Option OpenCopy). option_map_or (λ (c : OpenCopy). is_whole old.core c && is_its p c.pp) m false) x.is_open) ∙ both.1 in
-          let parts_of = and_both (is_whole old.core x.copy) (is_its p x.copy.pp) here in
+          let both = and_both (not (is_done_end h)) (option_map_or (λ (c : OpenCopy). is_whole core2 c && is_pp p c.pp) old.core.copy false) test in
+          let here : (is_whole old.core x.copy && is_pp p x.copy.pp) ≡ true = sym (ap (λ (m : Option OpenCopy). option_map_or (λ (c : OpenCopy). is_whole old.core c && is_pp p c.pp) m false) x.is_open) ∙ both.1 in
+          let parts_of = and_both (is_whole old.core x.copy) (is_pp p x.copy.pp) here in
           record { kind = h; its_hit = x; all = parts_of.0; same = pp_same p x.copy.pp parts_of.1 }
 
   keeper_not_marked : marked_by_end core2 how stays.keeper.pp ≡ false
@@ -466,11 +466,11 @@ module _ (past : List Fact) (old new : State) (index : ℕ) (ends : Ends old new
         ap (calls_stale status.wanted) (brought.target x open_is) ∙ wants.stale c.pp
         ∙ or_true (calls_stale old.core.status.wanted c.pp) (due c.pp) (by c its_hit.is_open brought.part (ap (λ (e : Option CopyEnd). marked_by_end core2 e c.pp) (is ∙ ap (λ (e : CopyEnd). Some e) its_hit.fails)) (is_whole old.core c) refl)
       where
-        by : (c : OpenCopy) → old.core.copy ≡ Some c → (is_whole old.core c ≡ false → calls_stale old.core.status.wanted c.pp ≡ true) → marked_by_end core2 how c.pp ≡ option_map_or (λ (y : OpenCopy). is_whole old.core y && is_its c.pp y.pp) old.core.copy false
+        by : (c : OpenCopy) → old.core.copy ≡ Some c → (is_whole old.core c ≡ false → calls_stale old.core.status.wanted c.pp ≡ true) → marked_by_end core2 how c.pp ≡ option_map_or (λ (y : OpenCopy). is_whole old.core y && is_pp c.pp y.pp) old.core.copy false
             → (b : Bool) → is_whole old.core c ≡ b → (calls_stale old.core.status.wanted c.pp ≡ true) ⊎ (due c.pp ≡ true)
         by c here stale mark false part = inl (stale part)
         by c here stale mark true all = inr (or_true (is_among (due_of core2 o2.request) c.pp) (marked_by_end core2 how c.pp)
-            (inr (mark ∙ ap (λ (m : Option OpenCopy). option_map_or (λ (y : OpenCopy). is_whole old.core y && is_its c.pp y.pp) m false) here ∙ (λ k. all k && same_pp c.pp c.pp refl k))))
+            (inr (mark ∙ ap (λ (m : Option OpenCopy). option_map_or (λ (y : OpenCopy). is_whole old.core y && is_pp c.pp y.pp) m false) here ∙ (λ k. all k && same_pp c.pp c.pp refl k))))
 
     -- ---- what the state wants
 

@@ -6,13 +6,12 @@ use Rattle.std.proofs.lemmas.List.Folds.{list_any_at}
 use Rattle.lvm_num.specs.declared.place.Pp.{Pp}
 use Rattle.lvm_num.specs.declared.descriptor.Descriptor.{Descriptor}
 use Rattle.lvm_num.specs.declared.status.Status.{Status}
-use Rattle.lvm_num.specs.Descriptor.{IsPartitionOf, is_member}
+use Rattle.lvm_num.specs.Descriptor.{IsPartitionOf, is_member, is_pp}
 use Rattle.lvm_num.specs.Status.{calls_stale, calls_missing}
 use Rattle.lvm_disk.specs.Counts.{Rose}
 use Rattle.lvm_vol.specs.Log.{Log}
 use Rattle.lvm_map.specs.FirstFit.{has_partition_on}
 use Rattle.lvm_steps.proofs.Booleans.{either}
-use Rattle.lvm_stale.specs.Table.{is_pp}
 use Rattle.lvm_status.specs.Update.{members_there}
 use Rattle.lvm_commit.specs.LawsOfData.{IsFree}
 use Rattle.lvm_commit.proofs.Copies.{one_place}
