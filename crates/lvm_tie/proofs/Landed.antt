@@ -13,11 +13,10 @@ use Rattle.lvm_num.specs.Record.{Stamped, slot_size, slot_start}
 use Rattle.lvm_num.specs.Status.{calls_missing}
 use Rattle.lvm_num.specs.StatusBytes.{status_of}
 use Rattle.lvm_vol.specs.Facts.{Fact}
-use Rattle.lvm_disk.specs.Device.{AreSectors, Flight, HasSectors, Image, Media, image_of}
+use Rattle.lvm_disk.specs.Device.{AreSectors, Flight, HasSectors, Image, Media, image_of, IsWholeImage}
 use Rattle.lvm_kept.specs.Contents.{Contents, contents_of}
 use Rattle.lvm_kept.specs.Places.{SameRecords}
 use Rattle.lvm_kept.specs.Torn.{RecordWrite}
-use Rattle.lvm_stamps.specs.Laws.{IsWhole}
 use Rattle.lvm_stamps.proofs.Writes.{data_keeps_before}
 use Rattle.lvm_commit.specs.Committed.{next_stamp}
 use Rattle.lvm_rec.proofs.NextLemmas.{slot_for_same}
@@ -84,7 +83,7 @@ slot_low kind.Descriptor slot s two lt = omega (arith, two, lt)
 slot_low kind.Status slot s two lt = omega (arith, two, lt)
 
 -- it may be written where nothing below the data has changed
-pub next_below : (group : Descriptor) (status : Stored) (homes : Homes) (was is : Image) → SameRecords was is → IsWhole is → MayUpdate group status homes was → MayUpdate group status homes is
+pub next_below : (group : Descriptor) (status : Stored) (homes : Homes) (was is : Image) → SameRecords was is → IsWholeImage is → MayUpdate group status homes was → MayUpdate group status homes is
 next_below group status homes was is same whole may = record {
   some_epoch = may.some_epoch;
   epoch = may.epoch;

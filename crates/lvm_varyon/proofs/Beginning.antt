@@ -19,13 +19,13 @@ use Rattle.lvm_num.specs.StatusBytes.{status_of, status_bytes}
 use Rattle.lvm_num.specs.Record.{Stamped}
 use Rattle.lvm_num.specs.Status.{calls_dirty}
 use Rattle.lvm_num.specs.Votes.{all_disks}
-use Rattle.lvm_disk.specs.Device.{Media, Image, Device, image_of, HasSectors}
+use Rattle.lvm_disk.specs.Device.{Media, Image, Device, image_of, HasSectors, IsWholeImage}
 use Rattle.lvm_kept.specs.Contents.{Contents, contents_of, has_records}
 use Rattle.lvm_kept.specs.Group.{passes, is_of, has_room, descriptor_among, is_voter, status_among, Finds, fresh_on, IsOneOf, IsSome}
 use Rattle.lvm_kept.specs.Torn.{MayWriteAll}
 use Rattle.lvm_steps.specs.VaryingOn.{Carries}
 use Rattle.lvm_stamps.specs.Behind.{StampsBefore, IsBehind}
-use Rattle.lvm_stamps.specs.Laws.{IsWhole, ShowsBefore}
+use Rattle.lvm_stamps.specs.Laws.{ShowsBefore}
 use Rattle.lvm_stamps.proofs.Stamps.{behind_is_before}
 use Rattle.lvm_stamps.proofs.Records.{shown_is_before, session_may_go}
 use Rattle.lvm_vgda.proofs.Whole.{spelled_is_read}
@@ -216,8 +216,8 @@ module _ (old read : Device) (survey : Survey) (is : IsSurveyOf old read survey)
       b : Beginning
       b = beginning moment by.group by.next (has plan.targets) plan.homes
 
-      all_whole : IsWhole (image_of old.sizes media)
-      all_whole = subst (λ (o : Option Media). IfSome o (λ m. IsWhole (image_of old.sizes m))) told whole
+      all_whole : IsWholeImage (image_of old.sizes media)
+      all_whole = subst (λ (o : Option Media). IfSome o (λ m. IsWholeImage (image_of old.sizes m))) told whole
 
       low : moment < 2 ^ 64
       low = let early = by.chosen.early in omega (arith, early)
