@@ -7,13 +7,14 @@ ghost use Rattle.lvm_volume_lines.specs.passed.RangeLines.{serving};
 ghost use Rattle.lvm_volume_lines.specs.passed.Stage.{EndsUnasked, OfRequests, IsBetweenStage, IsFittingStage};
 ghost use Rattle.lvm_copy_lines.specs.Resyncing.{MayCome, SyncGroupDoes, SyncVolumeDoes, numbers_reply, sync_refusal, sync_reply};
 
+use lvm_core::number_of;
 use lvm_disk::Shelf;
 use lvm_num::Name;
 use lvm_posts::Post;
 use lvm_resync::{SyncFault, sync_group, sync_volume};
 use lvm_transfer::Patience;
 use lvm_volume_lines::below::driver::Driver;
-use lvm_volume_lines::below::stage::{Answered, Holder, Refusal, Reply, Stage, number_of};
+use lvm_volume_lines::below::stage::{Answered, Holder, Refusal, Reply, Stage};
 
 // A fault of a resync, as the refusal of its line. No copy is open between lines, and whole volumes are asked for.
 fn sync_refusal<S: Shelf>(driver: &Driver<S>, why: SyncFault) -> Refusal

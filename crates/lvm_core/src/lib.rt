@@ -14,6 +14,7 @@ mod zero;
 
 pub use driver::{Closed, Driver};
 pub use fault::CommitFault;
+pub use look::number_of;
 pub use parts::{Parts, Room};
 pub use prepared::Prepared;
 pub use refused::{Cause, Refused};
