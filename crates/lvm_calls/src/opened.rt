@@ -9,9 +9,8 @@ ghost use Rattle.lvm_calls.specs.Opening.{HasCopy, IsOpened};
 
 use crate::enter::step_place;
 use crate::faults::faults_of;
-use lvm_copies::volume_of;
 use lvm_disk::Shelf;
-use lvm_num::{Descriptor, DiskSet, Pp, copies_of};
+use lvm_num::{Descriptor, DiskSet, Pp, copies_of, volume_of};
 use lvm_session::{OpenCopy, Session, Step};
 
 // The copies of a logical partition of a volume.

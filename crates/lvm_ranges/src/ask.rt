@@ -11,9 +11,10 @@ ghost use Rattle.lvm_raw.specs.Pieces.{piece_count};
 ghost use Rattle.lvm_ranges.specs.Pieces.{Submits, piece_ask, with_piece};
 
 use crate::refusal::AskRangeFault;
-use lvm_copies::{partition_blocks, volume_of};
+use lvm_copies::partition_blocks;
 use lvm_disk::Shelf;
 use lvm_driver::Driver;
+use lvm_num::volume_of;
 use lvm_path::Ask;
 use lvm_posts::{Asked, fill_bytes, piece_count, piece_end};
 

@@ -12,10 +12,9 @@ ghost use Rattle.lvm_resync.specs.Turning.{GoesBeside};
 use crate::copies::pass_copy;
 use crate::fault::SyncFault;
 use crate::tally::Tally;
-use lvm_copies::volume_of;
 use lvm_disk::Shelf;
 use lvm_driver::Driver;
-use lvm_num::{Descriptor, Pp, copies_of};
+use lvm_num::{Descriptor, Pp, copies_of, volume_of};
 use lvm_transfer::Patience;
 
 // The most copies of a logical partition.

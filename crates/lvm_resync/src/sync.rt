@@ -9,9 +9,9 @@ ghost use Rattle.lvm_resync.specs.Turning.{GoesBeside};
 use crate::fault::SyncFault;
 use crate::passes::{pass_group, pass_partition, pass_volume};
 use crate::tally::Tally;
-use lvm_copies::volume_of;
 use lvm_disk::Shelf;
 use lvm_driver::Driver;
+use lvm_num::volume_of;
 use lvm_session::{CopyState, Power};
 use lvm_transfer::Patience;
 

@@ -11,7 +11,7 @@ ghost use Rattle.lvm_stale.specs.Table.{has_row, SameMembers, SameStale, SameMis
 
 use lvm_num::{
     Descriptor, Memory, Pp, Status, StatusRow, VolumeNumbers, clear_bit, clone_status, has_bit,
-    set_bit, volume_of,
+    set_bit, volume_among,
 };
 use std::alloc::Global;
 use std::marker::Model;
@@ -164,7 +164,7 @@ impl StaleTable {
         requires { IsValid d.now }
         ensures { result ≡ stale_count self.now d.now lv }
     {
-        match volume_of(d.lvs.as_slice(), lv) {
+        match volume_among(d.lvs.as_slice(), lv) {
             None => 0,
             Some(row) => self.stale_among(row.map.as_slice()),
         }

@@ -5,7 +5,7 @@ ghost use Rattle.lvm_num.specs.Descriptor.{volume_of, member_of, IsValid};
 ghost use Rattle.lvm_num.specs.declared.descriptor.PvRow.{PvRow};
 
 use crate::tests::fixtures::check;
-use lvm_num::{Descriptor, Pp, PvRow, Rows, Text, volume_of};
+use lvm_num::{Descriptor, Pp, PvRow, Rows, Text, volume_among};
 use lvm_show::{show_disk, show_group, show_map, show_volumes};
 use lvm_stale::StaleTable;
 use lvm_tests_values::{Member, Volume, group, table, volume};
@@ -43,7 +43,7 @@ fn check_valid(rt: &impl Abort, d: &Descriptor)
 
 fn map(rt: &(impl Abort + AllocGlobal), d: &Descriptor, t: &StaleTable, lv: u16) -> Text {
     check_valid(rt, d);
-    let there = volume_of(d.lvs.as_slice(), lv).is_some();
+    let there = volume_among(d.lvs.as_slice(), lv).is_some();
     assert!(rt; there);
     show_map(rt.alloc(), d, t, lv).expect(rt, "memory")
 }
