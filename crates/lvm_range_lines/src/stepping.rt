@@ -1,8 +1,8 @@
 //! The line that makes turns.
-ghost use Rattle.std.specs.Prelude.{◌≡◌, ℕ};
+ghost use Rattle.std.specs.Prelude.{◌≡◌};
 ghost use Rattle.lvm_session.specs.Sound.{IsSound};
 ghost use Rattle.lvm_session.specs.State.{state_of};
-ghost use Rattle.lvm_group_lines.specs.passed.Stage.{EndsUnasked, OfRequests, HaveRooms, IsBetweenStage, IsCarried, IsFittingStage};
+ghost use Rattle.lvm_group_lines.specs.passed.Stage.{EndsUnasked, OfRequests, IsBetweenStage, IsFittingStage};
 ghost use Rattle.lvm_range_lines.specs.Leaving.{serving};
 ghost use Rattle.lvm_range_lines.specs.Stepping.{StepDoes, step_reply};
 

@@ -1,5 +1,5 @@
 //! A range of a volume is asked for.
-ghost use Rattle.std.specs.Prelude.{◌≡◌, ◌≤◌, ◌<◌, ◌+◌, ◌-◌, ◌%◌, ◌^◌, ℕ, List, Option, Some, None, IfOk, option_copied, vec_capacity};
+ghost use Rattle.std.specs.Prelude.{◌≡◌, ◌≤◌, ◌<◌, ◌+◌, ◌-◌, ◌%◌, ◌^◌, Option, Some, None, IfOk, option_copied, vec_capacity};
 ghost use Rattle.lvm_vol.specs.Log.{next_id};
 ghost use Rattle.lvm_session.specs.declared.open.Power.TheVariants as power;
 ghost use Rattle.lvm_session.specs.Asking.{IsAsking};

@@ -1,5 +1,5 @@
 //! Turns until a range has landed.
-ghost use Rattle.std.specs.Prelude.{◌≡◌, ◌≤◌, ◌<◌, ◌+◌, ◌-◌, ◌^◌, ℕ, List, true, false, MatchOption};
+ghost use Rattle.std.specs.Prelude.{◌≡◌, ◌<◌, ◌+◌, ◌-◌, true, false};
 ghost use Rattle.lvm_disk.specs.Paths.{Path};
 ghost use Rattle.lvm_write.specs.Parts.{Spends};
 ghost use Rattle.lvm_session.specs.declared.open.Power.TheVariants as power;

@@ -1,5 +1,5 @@
 //! The answers of a range that has landed.
-ghost use Rattle.std.specs.Prelude.{◌≡◌, ◌≤◌, ◌<◌, ◌+◌, ◌-◌, ℕ, List, Option};
+ghost use Rattle.std.specs.Prelude.{◌≡◌, ◌<◌, ◌+◌, ◌-◌, Option};
 ghost use Rattle.lvm_write.specs.Parts.{Spends};
 ghost use Rattle.lvm_session.specs.declared.open.Power.TheVariants as power;
 ghost use Rattle.lvm_running.specs.Running.{RunsOn};

@@ -1,5 +1,5 @@
 //! A number of turns.
-ghost use Rattle.std.specs.Prelude.{◌≡◌, ◌≤◌, ℕ, List};
+ghost use Rattle.std.specs.Prelude.{◌≡◌};
 ghost use Rattle.lvm_session.specs.declared.open.Power.TheVariants as power;
 ghost use Rattle.lvm_running.specs.Running.{RunsOn};
 ghost use Rattle.lvm_session.specs.State.{state_of};

@@ -2,7 +2,7 @@
 ghost use Rattle.std.specs.Prelude.{◌≡◌, ◌==◌, ◌<◌, ◌*◌, ◌++◌, ◌≤◌, find, flat_map, map, filter, IfOk, OnOk, All};
 ghost use Rattle.std.specs.Option.{option_copied};
 ghost use Rattle.lvm_num.specs.declared.descriptor.LvRow.{LvRow};
-ghost use Rattle.lvm_num.specs.Descriptor.{IsLaidOut, IsValid, copies_of};
+ghost use Rattle.lvm_num.specs.Descriptor.{IsLaidOut, IsValid};
 ghost use Rattle.lvm_num.specs.Disks.{has};
 ghost use Rattle.lvm_survey.specs.Rows.{AreRows};
 ghost use Rattle.lvm_survey.specs.Surveyed.{surveyed};

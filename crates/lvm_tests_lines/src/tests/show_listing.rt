@@ -1,7 +1,7 @@
 ghost use Rattle.std.specs.Prelude.{◌≡◌, ◌==◌};
 ghost use Rattle.std.specs.List.{find};
 ghost use Rattle.std.specs.Option.{option_copied};
-ghost use Rattle.lvm_num.specs.Descriptor.{volume_of, member_of, IsValid};
+ghost use Rattle.lvm_num.specs.Descriptor.{member_of, IsValid};
 ghost use Rattle.lvm_num.specs.declared.descriptor.PvRow.{PvRow};
 
 use crate::tests::fixtures::check;
