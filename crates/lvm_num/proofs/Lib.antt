@@ -1,4 +1,5 @@
 pub mod BitsLemmas
+pub mod Booleans
 pub mod Bounds
 pub mod DisksLemmas
 pub mod Fresh
