@@ -2,6 +2,7 @@
 use Rattle.std.proofs.Common.{◌≡◌, inl, inr, ⊎_elim, ℕ, ◌^◌, ◌<◌, Bool, true, false, [], ◌∷◌, List, Option, Some, None, IsTrue, IsFalse, refl, sym, ◌∙◌, ap, subst, arith}
 use Rattle.std.specs.Prelude.{if◌then◌else◌}
 use Rattle.std.proofs.lemmas.List.Elements.{All-nil}
+use Rattle.std.proofs.lemmas.Option.{same_Some}
 use Rattle.lvm_num.specs.declared.descriptor.Descriptor.{Descriptor}
 use Rattle.lvm_num.specs.declared.status.Status.{Status}
 use Rattle.lvm_num.specs.Buffer.{Sector}
@@ -25,15 +26,12 @@ use Rattle.lvm_begin.proofs.Showing.{descriptors_show, statuses_show, descriptor
 
 -- ---- what is told
 
-some_same : {X : Type 0} (x y : X) → Some x ≡ Some y → x ≡ y
-some_same x y e = cc
-
 pub media_by :
     (b : Beginning) (parts : List Part) (old new : Device) (was is : Media) → old.media ≡ Some was → new.media ≡ Some is → KeepsShelf b.targets (IsOfParts b parts) old new
     → ChangesBy (IsOfParts b parts) (image_of old.sizes was) (image_of new.sizes is)
 media_by b parts old new was is told_old told_new keeps =
     let moved = both_at old.media new.media (λ m n. ChangesBy (IsOfParts b parts) (image_of old.sizes m) (image_of new.sizes n)) was keeps.media told_old in
-    subst (λ (n : Media). ChangesBy (IsOfParts b parts) (image_of old.sizes was) (image_of new.sizes n)) (some_same moved.0 is (sym moved.1 ∙ told_new)) moved.2
+    subst (λ (n : Media). ChangesBy (IsOfParts b parts) (image_of old.sizes was) (image_of new.sizes n)) (same_Some moved.0 is (sym moved.1 ∙ told_new)) moved.2
 
 -- ---- a note without entries
 

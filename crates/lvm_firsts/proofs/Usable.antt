@@ -1,7 +1,7 @@
 -- A target that is usable is a usable copy of the logical partition.
 use Rattle.std.proofs.Common.{◌≡◌, ◌==◌, ◌&&◌, ◌||◌, Bool, true, false, List, [], ◌∷◌, refl, sym, ◌∙◌, ap}
 use Rattle.std.specs.List.{list_any, AllByRecursion}
-use Rattle.std.proofs.lemmas.Bool.{eqb-true}
+use Rattle.std.proofs.lemmas.Bool.{eqb-true, or_right}
 use Rattle.lvm_num.specs.declared.place.Pp.{Pp}
 use Rattle.lvm_path.specs.declared.ask.Ask.{Ask}
 use Rattle.lvm_path.specs.declared.request.Phase.{Phase}
@@ -21,10 +21,6 @@ left false b is = absurd (cc is)
 right : (a b : Bool) → a && b ≡ true → b ≡ true
 right true b is = is
 right false b is = absurd (cc is)
-
-or_right : (a b : Bool) → b ≡ true → (a || b) ≡ true
-or_right true b is = refl
-or_right false b is = is
 
 -- a test that a partition passes is passed by one of those that it is among
 among_any : (test : Pp → Bool) (ps : List Pp) (p : Pp) → is_among ps p ≡ true → test p ≡ true → list_any test ps ≡ true

@@ -2,14 +2,12 @@
 use Rattle.std.proofs.Common.{◌≡◌, ◌⊎◌, inl, inr, ⊎_elim, ℕ, ◌<◌, Bool, true, false, ◌&&◌, Option, Some, refl, sym, ap, subst, ◌∙◌, eqb-true, eq-eqb, eq-or-lt_of_le, ◌≤◌}
 use Rattle.std.specs.Prelude.{IsTrue, IsFalse, ◌==◌, if◌then◌else◌}
 use Rattle.std.proofs.lemmas.Bool.{cases_lt}
+use Rattle.std.proofs.lemmas.Option.{same_Some}
 use Rattle.lvm_num.specs.declared.place.Pp.{Pp}
 use Rattle.lvm_invariant.specs.State.{Stage, ModelPhase, Held, Going, Queued, ModelState, covers, is_past, has_landed, Started}
 use Rattle.lvm_invariant.specs.Sound.{Conflict, Sound}
 use Rattle.lvm_invariant.specs.Updates.{put, staged}
 use Rattle.lvm_num.specs.Descriptor.{is_pp}
-
-some_is : {X : Type 0} (a b : X) → Some a ≡ Some b → a ≡ b
-some_is a b e = cc
 
 pub one_req : {a b : Queued} → Some a ≡ Some b → a ≡ b
 one_req h = cc
@@ -23,7 +21,7 @@ pub put_cases : (queue : ℕ → Option Queued) (i j : ℕ) (r e : Queued) → p
 put_cases queue i j r e h = by_test (j == i) refl h
   where
     by_test : (t : Bool) → (j == i) ≡ t → (if t then Some r else queue j) ≡ Some e → ((j ≡ i) × (r ≡ e)) ⊎ (IsFalse (j == i) × (queue j ≡ Some e))
-    by_test true same k = inl (eqb-true _ _ same, some_is r e k)
+    by_test true same k = inl (eqb-true _ _ same, same_Some r e k)
     by_test false same k = inr (same, k)
 
 pub put_same : (queue : ℕ → Option Queued) (i : ℕ) (r : Queued) → put queue i r i ≡ Some r

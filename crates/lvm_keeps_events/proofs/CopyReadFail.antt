@@ -115,10 +115,6 @@ usable_of true true wanted gone e = not_so e
 usable_of true false false true e = not_so e
 usable_of false stale wanted gone e = not_so e
 
-or_here : (a b : Bool) → b ≡ true → a || b ≡ true
-or_here true b e = refl
-or_here false b e = e
-
 none_both : (b x : Bool) → b && false && x ≡ false
 none_both true x = refl
 none_both false x = refl

@@ -5,6 +5,8 @@ use Rattle.std.specs.Prelude.{count_by}
 use Rattle.lvm_session.specs.Sound.{count_if}
 use Rattle.lvm_keeps.proofs.Lists.{count_cons}
 use Rattle.lvm_keeps.proofs.Small.{both, not_so}
+pub use Rattle.std.proofs.lemmas.Bool.{and_from as all_and}
+pub use Rattle.std.proofs.lemmas.Bool.{or_cases as either}
 
 pub or_true : (a : Bool) → a || true ≡ true
 or_true true = refl
@@ -17,14 +19,6 @@ or_false false = refl
 pub and_false : (a : Bool) → a && false ≡ false
 and_false true = refl
 and_false false = refl
-
-pub all_and : (a b : Bool) → a ≡ true → b ≡ true → a && b ≡ true
-all_and true b p q = q
-all_and false b p q = not_so p
-
-pub either : (a b : Bool) → a || b ≡ true → (a ≡ true) ⊎ (b ≡ true)
-either true b e = inl refl
-either false b e = inr e
 
 module _ {A : Type 0} (t u : A → Bool) (on : (x : A) → t x ≡ true → u x ≡ true) where
   pub any_on : (xs : List A) → list_any t xs ≡ true → list_any u xs ≡ true

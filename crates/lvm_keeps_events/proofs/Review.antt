@@ -3,7 +3,7 @@ use Rattle.std.proofs.Common.{◌≡◌, ◌⊎◌, inl, inr, ◌==◌, ℕ, Boo
 use Rattle.std.specs.Prelude.{IfSome, unwrap_or}
 use Rattle.std.specs.List.{list_any, range_with_len}
 use Rattle.std.specs.Option.{option_map_or}
-use Rattle.std.proofs.lemmas.Bool.{eq-eqb}
+use Rattle.std.proofs.lemmas.Bool.{eq-eqb, or_left}
 use Rattle.lvm_num.specs.declared.descriptor.LvRow.{LvRow}
 use Rattle.lvm_num.specs.declared.place.Pp.{Pp}
 use Rattle.lvm_num.specs.declared.status.Status.{Status}
@@ -29,6 +29,8 @@ use Rattle.lvm_keeps_events.proofs.CopyReadFail.{is_here, pp_is}
 use Rattle.lvm_keeps_events.proofs.OnePlace.{one_lp}
 use Rattle.lvm_keeps_events.proofs.Finding.{any_on, found, row_found, some_there}
 use Rattle.lvm_keeps_events.proofs.Follows.{Follows, Loses, in_flight_of}
+pub use Rattle.std.proofs.lemmas.Bool.{and_from as and_of}
+pub use Rattle.std.proofs.lemmas.Bool.{or_right}
 
 -- ---- what has ended
 
@@ -65,18 +67,6 @@ abbrev pub now : (e : WriteEnd) → Reviewed e → Core
 now e r = record e.core { flying = e.flying; pool = r.pool; status = r.status; cache = record e.core.cache { notes = e.notes }; homes = e.homes; queue = r.queue; copy = r.copy }
 
 -- ---- tests
-
-pub and_of : (a b : Bool) → a ≡ true → b ≡ true → a && b ≡ true
-and_of true b i j = j
-and_of false b i j = not_so i
-
-pub or_right : (a b : Bool) → b ≡ true → a || b ≡ true
-or_right true b e = refl
-or_right false b e = e
-
-or_left : (a b : Bool) → a ≡ true → a || b ≡ true
-or_left true b e = refl
-or_left false b e = not_so e
 
 or_self : (b : Bool) → b || b ≡ true → b ≡ true
 or_self true e = refl

@@ -2,7 +2,7 @@
 use Rattle.std.proofs.Common.{◌≡◌, ◌≢◌, inl, inr, ℕ, zero, suc, ◌<◌, Bool, true, false, cond, ◌&&◌, ◌||◌, not, List, [], ◌∷◌, ◌++◌, length, map, get_or, set, Some, refl, sym, ap, subst, ◌∙◌, arith}
 use Rattle.std.specs.Prelude.{◌==◌, All, AllPairs, filter, slice_get}
 use Rattle.std.specs.List.{range_with_len}
-use Rattle.std.proofs.lemmas.Bool.{cases_Bool, eqb-true, eq-eqb}
+use Rattle.std.proofs.lemmas.Bool.{cases_Bool, eqb-true, eq-eqb, and_parts}
 use Rattle.std.proofs.lemmas.List.{length-map}
 use Rattle.std.proofs.lemmas.List.Elements.{All-map, All-head, All-tail, All-filter, All-weaker, filter_agree}
 use Rattle.std.proofs.lemmas.List.Folds.{list_any-append}
@@ -15,13 +15,9 @@ use Rattle.lvm_map.specs.FirstFit.{is_among, partitions_of, free_of}
 
 -- ---- one partition
 
-both_true : (a b : Bool) → a && b ≡ true → (a ≡ true) × (b ≡ true)
-both_true true b e = (refl, e)
-both_true false b e = absurd cc
-
 pub is_pp-true : (a b : Pp) → is_pp a b ≡ true → a ≡ b
 is_pp-true a b is =
-    let parts = both_true (a.disk == b.disk) (a.pp == b.pp) is in
+    let parts = and_parts (a.disk == b.disk) (a.pp == b.pp) is in
     let disk : a.disk ≡ b.disk = eqb-true a.disk b.disk parts.0 in
     let pp : a.pp ≡ b.pp = eqb-true a.pp b.pp parts.1 in
     λ t. record { disk = disk t; pp = pp t }

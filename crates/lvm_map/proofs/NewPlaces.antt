@@ -1,7 +1,7 @@
 -- What first fit chooses is free.
-use Rattle.std.proofs.Common.{◌≡◌, ◌≢◌, ℕ, zero, suc, ◌%◌, ◌<◌, ◌≤◌, Bool, true, false, cond, ◌&&◌, ◌||◌, not, List, [], ◌∷◌, ◌++◌, length, get_or, take, Some, nat_lt, refl, sym, ap, subst, ◌∙◌, arith, rules}
+use Rattle.std.proofs.Common.{◌≡◌, ◌≢◌, ℕ, zero, suc, ◌%◌, ◌<◌, ◌≤◌, Bool, true, false, cond, ◌&&◌, not, List, [], ◌∷◌, ◌++◌, length, get_or, take, Some, nat_lt, refl, sym, ap, subst, ◌∙◌, arith, rules}
 use Rattle.std.specs.Prelude.{◌==◌, All, AllPairs, find, filter, flat_map, slice_get}
-use Rattle.std.proofs.lemmas.Bool.{eq-eqb}
+use Rattle.std.proofs.lemmas.Bool.{eq-eqb, not-true, or_parts}
 use Rattle.std.proofs.lemmas.Bool.Decides.{nat_tests}
 use Rattle.std.proofs.lemmas.List.{length-take-le}
 use Rattle.std.proofs.lemmas.List.Elements.{All-head, All-filter, filter_passes}
@@ -90,19 +90,11 @@ head_below used row pp rest is =
     All-head (λ (p : Pp). p.pp < row.pps) pp rest
     (subst (All (λ (p : Pp). p.pp < row.pps)) is (All-filter (λ p. not (is_among used p)) (λ (p : Pp). p.pp < row.pps) (partitions_of row) (numbers_below row)))
 
-not_true : (b : Bool) → not b ≡ true → b ≡ false
-not_true true is = absurd cc
-not_true false is = refl
-
 head_free : (used : List Pp) (row : PvRow) (pp : Pp) (rest : List Pp) → free_of used row ≡ pp ∷ rest → is_among used pp ≡ false
 head_free used row pp rest is =
-    not_true (is_among used pp)
+    not-true (is_among used pp)
     (All-head (λ (p : Pp). not (is_among used p) ≡ true) pp rest
     (subst (All (λ (p : Pp). not (is_among used p) ≡ true)) is (filter_passes (λ p. not (is_among used p)) (partitions_of row))))
-
-or_parts : (a b : Bool) → a || b ≡ false → (a ≡ false) × (b ≡ false)
-or_parts true b is = absurd cc
-or_parts false b is = (refl, is)
 
 and_parts : (a b c : Bool) → a && not b && not c ≡ true → (a ≡ true) × (b ≡ false) × (c ≡ false)
 and_parts true false false is = (refl, refl, refl)

@@ -1,7 +1,7 @@
 -- The descriptor with what was allocated is valid.
-use Rattle.std.proofs.Common.{◌≡◌, ◌≢◌, ◌⊎◌, inl, inr, ℕ, suc, ◌+◌, ◌-◌, ◌*◌, ◌/◌, ◌%◌, ◌<◌, ◌≤◌, Bool, true, false, cond, ◌&&◌, ◌||◌, List, ◌∷◌, ◌++◌, length, get_or, set, take, drop, Some, nat_lt, refl, sym, ap, subst, ◌∙◌, arith}
+use Rattle.std.proofs.Common.{◌≡◌, ◌≢◌, ◌⊎◌, inl, inr, ℕ, suc, ◌+◌, ◌-◌, ◌*◌, ◌/◌, ◌%◌, ◌<◌, ◌≤◌, true, false, cond, ◌&&◌, ◌||◌, List, ◌∷◌, ◌++◌, length, get_or, set, take, drop, Some, nat_lt, refl, sym, ap, subst, ◌∙◌, arith}
 use Rattle.std.specs.Prelude.{◌==◌, All, AllPairs, insert, slice_get}
-use Rattle.std.proofs.lemmas.Bool.{cases_lt, cases_eq, eq-eqb, false≢true}
+use Rattle.std.proofs.lemmas.Bool.{cases_lt, cases_eq, eq-eqb, false≢true, or_left, or_right}
 use Rattle.std.proofs.lemmas.Bool.Decides.{nat_tests}
 use Rattle.std.proofs.lemmas.List.{get_or-take, get_or-drop, get_or_append_left, get_or-append_right, get_or-append-add, get_or-set_same, get_or-set_other, length-set, length-append, length-drop, length-take, length-take-le, set-get_or, set_split, take-append-drop, same_lists}
 use Rattle.std.proofs.Math.Nat.{mul-le-mul_right}
@@ -29,13 +29,6 @@ among_at xs k e lt =
 
 among-append : (xs ys : List Pp) (pp : Pp) → is_among (xs ++ ys) pp ≡ is_among xs pp || is_among ys pp
 among-append xs ys pp = list_any-append (λ (p : Pp). p.disk == pp.disk && p.pp == pp.pp) xs ys
-
-or_left : (a b : Bool) → a ≡ true → a || b ≡ true
-or_left a b is = ap (λ x. x || b) is
-
-or_right : (a b : Bool) → b ≡ true → a || b ≡ true
-or_right true b is = refl
-or_right false b is = is
 
 -- one that isn't among the others is none of them
 none_of : (xs : List Pp) (pp other : Pp) → is_among xs pp ≡ false → is_among xs other ≡ true → pp ≢ other

@@ -22,6 +22,7 @@ use Rattle.lvm_recovery.specs.declared.copying.Recopy.{Recopy}
 use Rattle.lvm_recovery.specs.declared.plan.TrackGroup.{TrackGroup}
 use Rattle.lvm_recovery.specs.Planned.{place_on, IsNamedByOne, IsPlannedCopy}
 use Rattle.lvm_recovery.specs.Plan.{usable_by, copies_from, copies_of_group, copies_in, copies_named, NamedArePlanned}
+pub use Rattle.std.proofs.lemmas.Bool.{and_parts as both}
 
 -- ---- lists
 
@@ -72,11 +73,6 @@ active_is : (mode : Mode) → is_active mode ≡ true → mode ≡ Active
 active_is Active is = refl
 active_is Passive is = absurd cc
 active_is Off is = absurd cc
-
-pub both : (p q : Bool) → p && q ≡ true → (p ≡ true) × (q ≡ true)
-both true true is = (refl, refl)
-both true false is = absurd cc
-both false q is = absurd cc
 
 module _ (c : Contents) (group : Descriptor) (status : Stamped Status) (there : Disks) (valid : IsValid group) where
   -- ---- each is planned

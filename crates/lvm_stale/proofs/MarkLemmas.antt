@@ -2,7 +2,7 @@
 use Rattle.std.proofs.Common.{◌≡◌, ◌⊎◌, inl, inr, ⊎_elim, ℕ, zero, suc, ◌+◌, ◌*◌, ◌<◌, ◌≤◌, Bool, true, false, ◌||◌, ◌&&◌, ◌==◌, List, [], ◌∷◌, length, get_or, take, drop, map, refl, sym, ap, subst, ◌∙◌, arith}
 use Rattle.std.specs.Prelude.{IsTrue, IsFalse, not, All}
 use Rattle.std.specs.List.{list_any}
-use Rattle.std.proofs.lemmas.Bool.{cases_lt, eqb-true, eq-eqb}
+use Rattle.std.proofs.lemmas.Bool.{cases_lt, eqb-true, eq-eqb, or_left, or_right}
 use Rattle.std.proofs.lemmas.List.{take_more, get_or_default}
 use Rattle.std.proofs.lemmas.List.Elements.{All-take, All-drop}
 use Rattle.lvm_num.specs.declared.place.Pp.{Pp}
@@ -51,14 +51,6 @@ pub markable_copies : (s : Status) (row : LvRow) (lp : ℕ) → All (IsMarkable 
 markable_copies s row lp all = All-take (IsMarkable s) row.copies (drop (lp * row.copies) row.map) (All-drop (IsMarkable s) (lp * row.copies) row.map all)
 
 -- ---- marks
-
-or_left : (a b : Bool) → IsTrue a → IsTrue (a || b)
-or_left true b is = refl
-or_left false b is = absurd cc
-
-or_right : (a b : Bool) → IsTrue b → IsTrue (a || b)
-or_right true b is = refl
-or_right false b is = is
 
 either : (a b : Bool) → IsTrue (a || b) → IsTrue a ⊎ IsTrue b
 either true b is = inl refl

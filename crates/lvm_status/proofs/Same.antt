@@ -1,7 +1,7 @@
 -- Two statuses that a test calls equal are one.
-use Rattle.std.proofs.Common.{◌≡◌, Bool, true, false, ◌&&◌, refl, ap, subst, ◌∙◌, eqb}
+use Rattle.std.proofs.Common.{◌≡◌, Bool, true, false, ◌&&◌, refl, subst, eqb}
 use Rattle.std.proofs.Math.Bool.{beq}
-use Rattle.std.proofs.lemmas.Bool.{eq-eqb, eqb-true, false≢true}
+use Rattle.std.proofs.lemmas.Bool.{eq-eqb, eqb-true, false≢true, and_from}
 use lib.Pointwise.{pointwise, pointwise_decides, bytes_decides}
 use Rattle.lvm_num.specs.declared.status.StatusRow.{StatusRow}
 use Rattle.lvm_num.specs.declared.status.Status.{Status}
@@ -13,9 +13,6 @@ first false t e = e
 second : (s t : Bool) → s && t ≡ true → t ≡ true
 second true t e = e
 second false t e = absurd (false≢true e)
-
-both : (s t : Bool) → s ≡ true → t ≡ true → s && t ≡ true
-both s t s-is t-is = ap (λ b. b && t) s-is ∙ t-is
 
 bools : (a b : Bool) → beq a b ≡ true → a ≡ b
 bools true true e = refl
@@ -42,8 +39,8 @@ rows_one x y e =
 
 row_own : (x : StatusRow) → same_row x x ≡ true
 row_own x =
-    both (eqb x.disk x.disk) (beq x.missing x.missing && pointwise eqb x.stale x.stale) (eq-eqb x.disk x.disk refl)
-    (both (beq x.missing x.missing) (pointwise eqb x.stale x.stale) (bools_own x.missing) ((bytes_decides x.stale x.stale).1 refl))
+    and_from (eqb x.disk x.disk) (beq x.missing x.missing && pointwise eqb x.stale x.stale) (eq-eqb x.disk x.disk refl)
+    (and_from (beq x.missing x.missing) (pointwise eqb x.stale x.stale) (bools_own x.missing) ((bytes_decides x.stale x.stale).1 refl))
 
 rows_decide : (x y : StatusRow) → (same_row x y ≡ true → x ≡ y) × (x ≡ y → same_row x y ≡ true)
 rows_decide x y = (rows_one x y, λ e. subst (λ (z : StatusRow). same_row x z ≡ true) e (row_own x))
@@ -65,6 +62,6 @@ status_one x y e =
 
 pub status_own : (x : Status) → same_status x x ≡ true
 status_own x =
-    both (eqb x.id x.id) (beq x.big x.big && (pointwise eqb x.dirty x.dirty && pointwise same_row x.rows x.rows)) (eq-eqb x.id x.id refl)
-    (both (beq x.big x.big) (pointwise eqb x.dirty x.dirty && pointwise same_row x.rows x.rows) (bools_own x.big)
-    (both (pointwise eqb x.dirty x.dirty) (pointwise same_row x.rows x.rows) ((bytes_decides x.dirty x.dirty).1 refl) ((pointwise_decides rows_decide x.rows x.rows).1 refl)))
+    and_from (eqb x.id x.id) (beq x.big x.big && (pointwise eqb x.dirty x.dirty && pointwise same_row x.rows x.rows)) (eq-eqb x.id x.id refl)
+    (and_from (beq x.big x.big) (pointwise eqb x.dirty x.dirty && pointwise same_row x.rows x.rows) (bools_own x.big)
+    (and_from (pointwise eqb x.dirty x.dirty) (pointwise same_row x.rows x.rows) ((bytes_decides x.dirty x.dirty).1 refl) ((pointwise_decides rows_decide x.rows x.rows).1 refl)))

@@ -3,6 +3,7 @@ use Rattle.std.proofs.Common.{◌≡◌, ◌≢◌, ◌⊎◌, inl, inr, ⊎_eli
 use Rattle.std.specs.Prelude.{IsTrue, IsFalse}
 use Rattle.std.specs.List.{list_any, range_with_len}
 use Rattle.std.proofs.lemmas.Bool.Decides.{nat_tests}
+use Rattle.std.proofs.lemmas.Bool.{cases_Bool}
 use Rattle.lvm_num.specs.declared.place.Pp.{Pp}
 use Rattle.lvm_num.specs.declared.descriptor.LvRow.{LvRow}
 use Rattle.lvm_num.specs.declared.descriptor.Descriptor.{Descriptor}
@@ -59,10 +60,6 @@ of_range : (a n k : ℕ) → IsOneOf (range_with_len a n) k → k < a + n
 of_range a zero k one = absurd one
 of_range a (suc n) k (inl is) = omega arith
 of_range a (suc n) k (inr there) = let r = of_range (a + 1) n k there in omega arith
-
-decided : (b : Bool) → (b ≡ true) ⊎ (b ≡ false)
-decided true = inl refl
-decided false = inr refl
 
 -- the first block of a logical partition of a volume
 pub first_block : (group : Descriptor) → IsValid group → (row : LvRow) (lp : ℕ) → lp < row.lps → (b : ℕ) × IsBlockOf group.mib row lp b
@@ -187,7 +184,7 @@ module _ (core : Core) (v : ModelState) (missing : ℕ → Bool) (how : Option C
       let inside = volumes.inside lv b p copy in
       let own = (volumes.copies inside.row inside.lp b p inside.volume inside.inside).0 (subst (λ n. IsTrue (v.is_copy n b p)) (sym inside.number) copy) in
       clash (members p.disk) own.1 hidden))
-      (decided (members p.disk))
+      (cases_Bool (members p.disk))
 
   replaced_marked : (p : Pp) → marked_by_end core how p ≡ true → Replaced v marks p
   replaced_marked p is =

@@ -3,6 +3,7 @@ use Rattle.std.proofs.Common.{◌≡◌, ◌⊎◌, inl, inr, ℕ, Bool, true, f
 use Rattle.std.specs.Prelude.{if◌then◌else◌, unwrap_or}
 use Rattle.std.specs.List.{list_any}
 use Rattle.std.proofs.lemmas.Bool.Decides.{nat_tests}
+use Rattle.std.proofs.lemmas.Option.{same_Some}
 use Rattle.lvm_num.specs.declared.descriptor.Descriptor.{Descriptor}
 use Rattle.lvm_num.specs.declared.descriptor.PvRow.{PvRow}
 use Rattle.lvm_num.specs.declared.status.Status.{Status}
@@ -18,9 +19,7 @@ use Rattle.lvm_tie.proofs.Words.{clash, not_true, or_true}
 use Rattle.lvm_tie.proofs.Losing.{not_owed_by}
 use Rattle.lvm_tie.specs.Out.{is_owed_on}
 use Rattle.lvm_tie_shelf.proofs.Writing.{and_both}
-
-some_of : {X : Type 0} (a b : X) → Some a ≡ Some b → a ≡ b
-some_of a b e = cc
+pub use Rattle.std.proofs.lemmas.Bool.{cases_Bool as decided}
 
 -- ---- what the update learns
 
@@ -89,10 +88,6 @@ marks_then disk false old new wants = λ t. record { stale = λ p. wants.stale p
 and_true : (a : Bool) → (a && true) ≡ a
 and_true true = refl
 and_true false = refl
-
-pub decided : (b : Bool) → (b ≡ true) ⊎ (b ≡ false)
-decided true = inl refl
-decided false = inr refl
 
 -- ---- all of it
 
@@ -227,7 +222,7 @@ module _ (old status new : Stored) (group : Descriptor) (disk : ℕ) (ok : Bool)
     where
       by : (commits ≡ true) ⊎ (commits ≡ false) → status.committed ≡ value
       by (inl commit) = committed_value commit
-      by (inr none) = committed_status ∙ ap (committed_then (seen old)) none ∙ some_of old.committed value (sym (sound.held (held_mid none (held_over done))) ∙ flies)
+      by (inr none) = committed_status ∙ ap (committed_then (seen old)) none ∙ same_Some old.committed value (sym (sound.held (held_mid none (held_over done))) ∙ flies)
 
   none_left : over ≡ true → (d : ℕ) → is_member group d ≡ true → (has old.writes.unstarted d || (has old.writes.started d && not (d == disk))) ≡ false
   none_left done d member =

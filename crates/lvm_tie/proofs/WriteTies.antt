@@ -5,6 +5,7 @@ use Rattle.std.specs.List.{list_any, remove}
 use Rattle.std.specs.Option.{option_map_or}
 use Rattle.std.proofs.lemmas.Bool.{cases_eq}
 use Rattle.std.proofs.lemmas.Bool.Decides.{nat_tests}
+use Rattle.std.proofs.lemmas.Option.{same_Some}
 use Rattle.lvm_num.specs.declared.place.Pp.{Pp}
 use Rattle.lvm_num.specs.declared.record.Stamp.{Stamp}
 use Rattle.lvm_num.specs.declared.status.Status.{Status}
@@ -78,13 +79,10 @@ use Rattle.lvm_tie.specs.Near.{IsNear, IsRunning, open_after}
 use Rattle.lvm_tie.proofs.CopyEndsReviews.{near_ties, with_end_status}
 use Rattle.lvm_tie.proofs.Reviewing.{opened}
 
-some_of : {X : Type 0} (a b : X) → Some a ≡ Some b → a ≡ b
-some_of a b e = cc
-
 -- the target that has changed
 state_there : (ts : List Target) (number : ℕ) (t : Target) (s : TargetState) → slice_get ts number ≡ Some t → slice_get (with_state ts number s) number ≡ Some (record t { state = s })
 state_there [] number t s there = absurd cc
-state_there (u ∷ us) zero t s there = ap (λ (x : Target). Some (record x { state = s })) (some_of u t there)
+state_there (u ∷ us) zero t s there = ap (λ (x : Target). Some (record x { state = s })) (same_Some u t there)
 state_there (u ∷ us) (suc number) t s there = state_there us number t s there
 
 and_false : (b : Bool) → (b && false) ≡ false
@@ -198,10 +196,10 @@ module _ (past : List Fact) (old new : State) (index : ℕ) (ends : Ends old new
   place_is = numbers found.place learns.place found.request o found.there learns.its.there found.own
 
   request_is : found.request ≡ o
-  request_is = some_of found.request o (sym found.there ∙ ap (slice_get old.core.requests) place_is ∙ learns.its.there)
+  request_is = same_Some found.request o (sym found.there ∙ ap (slice_get old.core.requests) place_is ∙ learns.its.there)
 
   aim_same : found.aim ≡ t
-  aim_same = some_of found.aim t (sym found.aim_is ∙ ap (λ (x : Open). slice_get x.request.targets.items number) request_is ∙ learns.its.aim_is)
+  aim_same = same_Some found.aim t (sym found.aim_is ∙ ap (λ (x : Open). slice_get x.request.targets.items number) request_is ∙ learns.its.aim_is)
 
   abbrev out : IsDataOut old.core f o.request.id number
   out = record {
@@ -408,7 +406,7 @@ module _ (past : List Fact) (old new : State) (index : ℕ) (ends : Ends old new
 
       by : (b : Bool) → option_map_or (hits_copy core2 o2 ends.ok t.pp) old.core.copy false ≡ b → ends_if b ending.SyncFailed ≡ Some h → IsHit h
       by false test so = absurd (cc so)
-      by true test so = of (some_of ending.SyncFailed h so) old.core.copy refl test
+      by true test so = of (same_Some ending.SyncFailed h so) old.core.copy refl test
 
   -- it is whole, where its partition is marked
   record IsMarked (p : Pp) : Type 0 where

@@ -2,6 +2,7 @@
 use Rattle.std.proofs.Common.{◌≡◌, ◌⊎◌, inl, inr, ⊎_elim, ℕ, ◌+◌, ◌-◌, ◌<◌, ◌≤◌, Bool, true, false, ◌&&◌, ◌==◌, List, [], length, Option, Some, None, refl, sym, ap, subst, ◌∙◌, arith, eqb-true}
 use Rattle.std.specs.Prelude.{IsTrue, nat_lt, if◌then◌else◌, slice_get, unwrap_or}
 use Rattle.std.proofs.lemmas.Bool.Decides.{nat_tests}
+use Rattle.std.proofs.lemmas.Bool.{and_from}
 use Rattle.lvm_num.specs.declared.place.Pp.{Pp}
 use Rattle.lvm_num.specs.declared.descriptor.Descriptor.{Descriptor}
 use Rattle.lvm_num.specs.declared.status.Status.{Status}
@@ -100,10 +101,6 @@ module _ (sizes : List ℕ) (m n : Media) where
   }
 
 -- ---- a write of a request
-
-and_true : (a b : Bool) → IsTrue a → IsTrue b → IsTrue (a && b)
-and_true true b h k = k
-and_true false b h k = absurd cc
 
 pub and_both : (a b : Bool) → IsTrue (a && b) → IsTrue a × IsTrue b
 and_both true b h = (refl, h)
@@ -208,7 +205,7 @@ module _ (votes : Votes) (s : ModelState) (i : ℕ) (r : Queued) (c : Pp) (value
   seen lv b e = seen_new lv b e (covers r lv b && is_pp e c) refl
 
   pub seen_whole : IsTrue well → (lv b : ℕ) → IsTrue (covers r lv b) → block lv b c ≡ value b
-  seen_whole ends lv b over = ap (λ t. if t then block_at after group.mib c b else s.media.block lv b c) (and_true (covers r lv b) (is_pp c c) over (same_pp c c refl)) ∙ whole_here ends lv b over
+  seen_whole ends lv b over = ap (λ t. if t then block_at after group.mib c b else s.media.block lv b c) (and_from (covers r lv b) (is_pp c c) over (same_pp c c refl)) ∙ whole_here ends lv b over
 
   pub shown : (lv b : ℕ) (p : Pp) → IsTrue (s.is_copy lv b p) → block lv b p ≡ block_at after group.mib p b
   shown lv b p copy = by (covers r lv b && is_pp p c) refl (becomes lv b p copy)
@@ -216,7 +213,7 @@ module _ (votes : Votes) (s : ModelState) (i : ℕ) (r : Queued) (c : Pp) (value
       by : (t : Bool) → (covers r lv b && is_pp p c) ≡ t → Becomes lv b p → block lv b p ≡ block_at after group.mib p b
       by true test how = ap (λ t. if t then block_at after group.mib p b else s.media.block lv b p) test
       by false test (Same same) = ap (λ t. if t then block_at after group.mib p b else s.media.block lv b p) test ∙ describes.shown.blocks lv b p copy ∙ sym same
-      by false test (New over its new) = absurd (let e : ◌≡◌ {A = Bool} false true = sym test ∙ and_true (covers r lv b) (is_pp p c) over (same_pp p c its) in cc)
+      by false test (New over its new) = absurd (let e : ◌≡◌ {A = Bool} false true = sym test ∙ and_from (covers r lv b) (is_pp p c) over (same_pp p c its) in cc)
 
 pub write_ends : WriteEnds
 write_ends votes s i r c group in_flight sizes m n f well valid good describes started flies aimed transfer lands =
