@@ -12,6 +12,7 @@ use Rattle.lvm_num.specs.Votes.{all_disks, votes_in, total_votes, CanRead}
 use Rattle.lvm_num.specs.Record.{Stamped, stamp_lt, newest_below}
 use Rattle.lvm_num.proofs.Newest.{is_one, is_last}
 use Rattle.lvm_num.proofs.VotesLemmas.{total-some, more_have_more, more_is_enough, read_meets_read}
+use Rattle.lvm_num.proofs.Booleans.{clash}
 use Rattle.lvm_disk.specs.Device.{Image}
 use Rattle.lvm_kept.specs.Contents.{Contents, contents_of}
 use Rattle.lvm_kept.specs.Group.{if_passes, passes, is_of, is_status_of, has_room, descriptor_among, is_voter, status_among, Finds, members_in}
@@ -62,9 +63,6 @@ there_is : (d disks size : ℕ) → IsTrue (nat_lt d disks && nat_le data_start 
 there_is d disks size has = let low = (split (nat_lt d disks) (nat_le data_start size) has).0 in grind (arith, nat_tests)
 
 -- ---- all disks together
-
-clash : (t : Bool) → t ≡ true → t ≡ false → ⊥
-clash t is isnt = cc
 
 module _ (c : Contents) (group : Descriptor) (disks : Disks) (newest : Stamped Descriptor) (within : IsWithinDisks c) (some : 1 ≤ length group.pvs) (has : HasNewest c group disks newest) where
   all_enough : CanRead group (members_in c all_disks group.id group)

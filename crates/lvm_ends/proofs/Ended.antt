@@ -34,6 +34,8 @@ use Rattle.lvm_copy_end.specs.Ending.{CanEnd}
 use Rattle.lvm_copy_end.specs.Reviewing.{IsLocated, MayReview}
 use Rattle.lvm_copy_end.proofs.Reviewing.{markable}
 use Rattle.lvm_ends.specs.Ended.{HasEnded}
+pub use Rattle.lvm_num.proofs.Booleans.{first_holds as left}
+pub use Rattle.lvm_num.proofs.Booleans.{second_holds as right}
 
 -- ---- counting
 
@@ -59,14 +61,6 @@ same_own (owner.Note disk) = itself disk
 same_own owner.Copy = refl
 
 -- ---- copies
-
-pub left : (a b : Bool) → a && b ≡ true → a ≡ true
-left true b is = refl
-left false b is = absurd (cc is)
-
-pub right : (a b : Bool) → a && b ≡ true → b ≡ true
-right true b is = is
-right false b is = absurd (cc is)
 
 -- what holds of all partitions holds of one among them
 pub among_all : (P : Pp → Type 0) (ps : List Pp) (p : Pp) → All P ps → is_among ps p ≡ true → P p

@@ -11,6 +11,7 @@ use Rattle.lvm_invariant.specs.Good.{Good}
 use Rattle.lvm_invariant.specs.Sound.{Sound}
 use Rattle.lvm_num.specs.Descriptor.{is_pp}
 use Rattle.lvm_num.specs.Record.{Stamped}
+use Rattle.lvm_num.proofs.Booleans.{and_false}
 use Rattle.lvm_invariant.specs.State.{has_notes, has_mark, Marks, ModelCopy, ModelState}
 use Rattle.lvm_invariant.proofs.Small.{never}
 pub use Rattle.lvm_invariant.proofs.Small.{left_of as left, right_of as right, both_of as both}
@@ -21,10 +22,6 @@ nothing a e = absurd cc
 
 pub not_so : {X : Type 0} → false ≡ true → X
 not_so e = absurd cc
-
-pub and_false : (a : Bool) → IsFalse (a && false)
-and_false true = refl
-and_false false = refl
 
 -- what is known of a block once the volume is made, if the block is one of it
 abbrev known_by : Mode → Bool → Known

@@ -8,6 +8,8 @@ use Rattle.lvm_vol.specs.May.{is_some_open}
 pub use Rattle.std.proofs.lemmas.Bool.{and_from as both_of}
 pub use Rattle.std.proofs.lemmas.Bool.{and_right as and_right_false}
 pub use Rattle.std.proofs.lemmas.Bool.{or_left}
+pub use Rattle.lvm_num.proofs.Booleans.{first_holds as left_of}
+pub use Rattle.lvm_num.proofs.Booleans.{second_holds as right_of}
 
 -- the value is one of those known
 abbrev pub IsIn : Option (List (List ℕ)) → List ℕ → Type 0
@@ -15,14 +17,6 @@ IsIn values value = IsSomeAnd values (λ vs. Stands value vs)
 
 pub never : {X : Type 0} (a : Bool) → IsTrue a → IsFalse a → X
 never a t f = absurd cc
-
-pub left_of : (a b : Bool) → IsTrue (a && b) → IsTrue a
-left_of true b h = refl
-left_of false b h = absurd cc
-
-pub right_of : (a b : Bool) → IsTrue (a && b) → IsTrue b
-right_of true b h = h
-right_of false b h = absurd cc
 
 pub false_by : (a w : Bool) → (IsTrue a → IsTrue w) → IsFalse w → IsFalse a
 false_by true w f h = never w (f refl) h

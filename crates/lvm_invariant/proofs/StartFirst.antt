@@ -4,6 +4,7 @@ use Rattle.std.specs.Prelude.{IsTrue, IsFalse, ◌==◌}
 use Rattle.lvm_num.specs.declared.place.Pp.{Pp}
 use Rattle.lvm_num.specs.Geometry.{track_group_of}
 use Rattle.lvm_num.specs.Record.{Stamped}
+use Rattle.lvm_num.proofs.Booleans.{first_holds}
 use Rattle.lvm_invariant.proofs.Small.{IsIn, never}
 use Rattle.lvm_invariant.specs.State.{Marks, Stage, Todo, Flying, Well, ModelPhase, Ready, Going, Queued, ModelState, covers, stale_in, is_settled_stale, is_usable, HasPassed, Live, Named, Started, told}
 use Rattle.lvm_invariant.specs.Sound.{Quiescent, Busy, Recorded, Blocks, Complete, Sound}
@@ -30,10 +31,6 @@ usable_fresh true missing h = absurd cc
 usable_fresh false true h = absurd cc
 usable_fresh false false h = (refl, refl)
 
-settled_committed : (a b : Bool) → IsTrue (a && b) → IsTrue a
-settled_committed true b h = refl
-settled_committed false b h = absurd cc
-
 module _ (s : ModelState) (sound : Sound s) (i : ℕ) (r : Queued) (c : Pp) (may : MayStart s i r c) where
   abbrev new : ModelState
   new = started_first s i r c
@@ -47,7 +44,7 @@ module _ (s : ModelState) (sound : Sound s) (i : ℕ) (r : Queued) (c : Pp) (may
 
   source_kept : IsFalse (s.wanted.stale may.source)
   source_kept = ⊎_elim
-      (λ (w : IsTrue (s.wanted.stale may.source)). never (s.committed.value.stale may.source) (settled_committed (s.committed.value.stale may.source) (stale_in s.in_flight may.source) (may.quiet may.source may.source_copy w)) (usable_fresh (s.committed.value.stale may.source) (s.missing may.source.disk) may.source_usable).0)
+      (λ (w : IsTrue (s.wanted.stale may.source)). never (s.committed.value.stale may.source) (first_holds (s.committed.value.stale may.source) (stale_in s.in_flight may.source) (may.quiet may.source may.source_copy w)) (usable_fresh (s.committed.value.stale may.source) (s.missing may.source.disk) may.source_usable).0)
       (λ (n : IsFalse (s.wanted.stale may.source)). n)
       (decided (s.wanted.stale may.source))
 

@@ -14,6 +14,7 @@ use Rattle.lvm_num.specs.Disks.{has}
 use Rattle.lvm_num.specs.Geometry.{partition_blocks, track_group_of}
 use Rattle.lvm_num.specs.Status.{calls_dirty, calls_stale}
 use Rattle.lvm_num.proofs.Bounds.{few_members, few_volumes}
+use Rattle.lvm_num.proofs.Booleans.{first_holds}
 use Rattle.lvm_disk.specs.Counts.{Counts}
 use Rattle.lvm_disk.specs.Device.{Flight}
 use Rattle.lvm_vol.specs.Log.{next_id}
@@ -81,11 +82,6 @@ fine_of core copies p is = by (is_settled core p) (is_missing core p.disk) (list
     by true false false d s t o n e = absurd (cc e)
     by true true c d s t o n e = absurd (cc e)
     by false b c d s t o n e = absurd (cc e)
-
--- settled, it is stale by the committed status
-settled_stale : (a b : Bool) → a && b ≡ true → a ≡ true
-settled_stale true b e = refl
-settled_stale false b e = not_so e
 
 true_so : (a : Bool) → (a ≡ false → ⊥) → a ≡ true
 true_so true none = refl
@@ -264,7 +260,7 @@ module _ (s : State) (sound : IsSound s) (on : s.core.power ≡ power.On) (none 
   -- ---- the copy
 
   stale : is_stale core pp ≡ true
-  stale = settled_stale (is_stale core pp) _ fine.settled
+  stale = first_holds (is_stale core pp) _ fine.settled
 
   wanted : is_wanted_stale core pp ≡ true
   wanted = true_so (is_wanted_stale core pp) (λ clear. not_so (sym (of_none (λ (k : OpenCopy). is_running k && is_whole core k && is_pp pp k.pp) false) ∙ going.clearings pp (ap (λ b. b || calls_stale (unwrap_or core.status.in_flight core.status.committed) pp) stale) clear))

@@ -65,6 +65,7 @@ use Rattle.lvm_session.specs.Owners.{AreRows, flies, same_owner, target_flies}
 use Rattle.lvm_session.specs.Requests.{IsOpenOne, IsPhase, IsRecorded, IsRequest, is_failed_and_sure, is_past_held, is_wanted_due, is_wanted_dirty, mode_for, wants_status, will_be_kept}
 use Rattle.lvm_session.specs.Sound.{IsCopy, IsGoing, IsSound, count_if, has_number, is_dark, is_hand, pins, waiting_rows, with_row}
 use Rattle.std.proofs.lemmas.Slice.Eq.{bytes_eq-Decides}
+use Rattle.lvm_num.proofs.Booleans.{and_false}
 use Rattle.lvm_keeps.specs.Falls.{NeverStandsStill}
 use Rattle.lvm_keeps.proofs.Lists.{all_at, count_cons}
 use Rattle.lvm_keeps.proofs.Small.{both, is_false, not_so}
@@ -73,10 +74,6 @@ use Rattle.lvm_keeps_events.proofs.Aims.{count_none}
 use Rattle.lvm_keeps_events.proofs.Chosen.{there_now}
 
 -- ---- tests and lists
-
-and_false : (a : Bool) → a && false ≡ false
-and_false true = refl
-and_false false = refl
 
 or_none : (a b : Option Event) → or_next a b ≡ None → (a ≡ None) × (b ≡ None)
 or_none None b e = (refl, e)

@@ -11,6 +11,7 @@ use Rattle.lvm_num.specs.declared.place.Pp.{Pp}
 use Rattle.lvm_num.specs.declared.descriptor.PvRow.{PvRow}
 use Rattle.lvm_num.specs.Descriptor.{is_pp}
 use Rattle.lvm_num.proofs.Pairs.{AllPairs-right}
+use Rattle.lvm_num.proofs.Booleans.{or_false}
 use Rattle.lvm_map.specs.FirstFit.{is_among, partitions_of, free_of}
 
 -- ---- one partition
@@ -33,10 +34,6 @@ is_pp-apart a b apart = elim (cases_Bool (is_pp a b)) [
   | inl is ↦ absurd (apart (is_pp-true a b is))
   | inr isnt ↦ isnt
 ]
-
-pub or_false : (a : Bool) → a || false ≡ a
-or_false true = refl
-or_false false = refl
 
 pub among-more : (used : List Pp) (pp x : Pp) → is_among (used ++ pp ∷ []) x ≡ is_among used x || is_pp pp x
 among-more used pp x =

@@ -9,6 +9,7 @@ use Rattle.lvm_num.specs.declared.descriptor.LvRow.{LvRow}
 use Rattle.lvm_num.specs.Bits.{has_bit}
 use Rattle.lvm_num.specs.Buffer.{zero_sector}
 use Rattle.lvm_num.specs.Note.{Noted, entries_below, note_in}
+use Rattle.lvm_num.proofs.Booleans.{clash}
 use Rattle.lvm_disk.specs.Device.{image_of}
 use Rattle.lvm_kept.specs.Contents.{Contents, contents_of}
 use Rattle.lvm_kept.specs.Examples.{mirror, two, either_of}
@@ -113,9 +114,6 @@ zeros_name : (t : Bool) (lv group : ℕ) → names_if (if t then note_in zero_se
 unfolding entries_below
 zeros_name true lv group = refl
 zeros_name false lv group = refl
-
-clash : (b : Bool) → b ≡ true → b ≡ false → ⊥
-clash b e f = cc
 
 off_is : Off ≡ Active → ⊥
 off_is e = cc

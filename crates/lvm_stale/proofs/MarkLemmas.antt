@@ -16,6 +16,7 @@ use Rattle.lvm_num.specs.Descriptor.{copies_of, partitions_in, is_pp}
 use Rattle.lvm_num.specs.Status.{IsValidStatus, calls_stale}
 use Rattle.lvm_num.specs.Among.{IsOneOf}
 use Rattle.lvm_num.proofs.ListLemmas.{one_of_left, one_of_right, one_of_either}
+use Rattle.lvm_num.proofs.Booleans.{clash}
 use Rattle.lvm_stale.specs.Table.{has_row, SameMembers, SameMissing}
 use Rattle.lvm_stale.specs.Marking.{is_served, IsLeft, IsLeftBelow, IsLeftIn, Marks, IsMarkable}
 
@@ -63,9 +64,6 @@ both false b is = absurd cc
 or_none : (a b : Bool) → b ≡ false → a || b ≡ a
 or_none true b e = refl
 or_none false b e = e
-
-clash : (b : Bool) → b ≡ true → b ≡ false → ⊥
-clash b e f = cc
 
 pub is_same_pp : (p q : Pp) → IsTrue (is_pp p q) → p ≡ q
 is_same_pp p q is =

@@ -25,16 +25,10 @@ pub use Rattle.std.proofs.lemmas.Bool.{and_from as both}
 pub use Rattle.std.proofs.lemmas.Bool.{not-true as not_false}
 pub use Rattle.std.proofs.lemmas.Bool.{or_cases as or_tells}
 pub use Rattle.std.proofs.lemmas.Bool.{or_left}
+pub use Rattle.lvm_num.proofs.Booleans.{first_holds as and_left}
+pub use Rattle.lvm_num.proofs.Booleans.{second_holds as and_right}
 
 -- ---- tests
-
-pub and_left : (a b : Bool) → a && b ≡ true → a ≡ true
-and_left true b e = refl
-and_left false b e = e
-
-pub and_right : (a b : Bool) → a && b ≡ true → b ≡ true
-and_right true b e = e
-and_right false b e = absurd (false≢true e)
 
 pub neither : (a b : Bool) → a ≡ false → b ≡ false → a || b ≡ false
 neither a b a-is b-is = ap (λ c. c || b) a-is ∙ b-is

@@ -11,6 +11,7 @@ use Rattle.lvm_num.specs.Descriptor.{is_member}
 use Rattle.lvm_num.specs.Disks.{Disks, has}
 use Rattle.lvm_num.specs.Status.{calls_missing}
 use Rattle.lvm_num.specs.Votes.{is_enough_to_write, votes_in}
+use Rattle.lvm_num.proofs.Booleans.{and_true}
 use Rattle.lvm_status.specs.Update.{Stored, Updates, is_held, is_owed, no_disks, seen, with_disk, without_disk}
 use Rattle.lvm_status.specs.Calls.{WantsAtEnd, after_end, comes_held, with_commit, with_end}
 use Rattle.lvm_status.specs.Runs.{IsSoundStatus}
@@ -82,12 +83,6 @@ missing_then disk false old new wants d there = by (d == disk) (sym (wants.missi
 pub marks_then : (disk : ℕ) (ok : Bool) (old new : Status) → WantsAtEnd disk ok old new → marks_of new ≡ marks_of old
 marks_then disk true old new wants = ap marks_of wants
 marks_then disk false old new wants = λ t. record { stale = λ p. wants.stale p t; dirty = λ lv. list_any (λ n. n == lv) (wants.dirty t) }
-
--- ---- which writes are owed
-
-and_true : (a : Bool) → (a && true) ≡ a
-and_true true = refl
-and_true false = refl
 
 -- ---- all of it
 

@@ -12,6 +12,7 @@ use Rattle.lvm_num.specs.Geometry.{partition_blocks, sector_of, track_group_of}
 use Rattle.lvm_num.specs.Note.{IsNote}
 use Rattle.lvm_num.specs.Record.{Stamped}
 use Rattle.lvm_num.specs.Status.{calls_stale}
+use Rattle.lvm_num.proofs.Booleans.{and_true}
 use Rattle.lvm_vol.specs.Facts.{Fact}
 use Rattle.lvm_disk.specs.Device.{HasSectors, image_of}
 use Rattle.lvm_kept.proofs.Entries.{volume_is_row}
@@ -59,10 +60,6 @@ use Rattle.lvm_tie.proofs.Passing.{d, goes, its, landed, left, less, mid, o2, so
 fresh_rest : (p : Pp) (old new : Stored) → IsSoundStatus (seen old) → WantsFresh p old new → seen new ≡ record (seen old) { wanted = new.wanted }
 fresh_rest p old new sound wants =
     wants.rest ∙ ap (λ b. if b then record (seen old) { wanted = new.wanted; in_flight = None; unstarted = no_disks; started = no_disks; written = no_disks; failed = no_disks } else record (seen old) { wanted = new.wanted }) (stays_open (seen old) sound)
-
-and_true : (b : Bool) → b && true ≡ b
-and_true true = refl
-and_true false = refl
 
 -- what missing disks leave behind is fresh
 entailed_fresh : (core : Core) (p : Pp) → is_entailed core p ≡ true → is_stale core p ≡ false

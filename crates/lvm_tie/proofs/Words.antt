@@ -19,10 +19,7 @@ use Rattle.lvm_tie.specs.Seen.{stage_seen, stage_at}
 pub use Rattle.std.proofs.lemmas.Bool.{or_parts as or_left}
 pub use Rattle.std.proofs.lemmas.Bool.{or_cases as or_either}
 pub use Rattle.std.proofs.lemmas.Bool.{not-true as not_true}
-
-pub and_false : (b : Bool) → b && false ≡ false
-and_false true = refl
-and_false false = refl
+pub use Rattle.lvm_num.proofs.Booleans.{and_false}
 
 pub or_true : (a b : Bool) → (a ≡ true) ⊎ (b ≡ true) → (a || b) ≡ true
 or_true true b h = refl

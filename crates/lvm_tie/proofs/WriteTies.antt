@@ -20,6 +20,7 @@ use Rattle.lvm_kept.specs.Group.{IsOneOf}
 use Rattle.lvm_kept.specs.Places.{SameRecords}
 use Rattle.lvm_kept.specs.Torn.{RecordWrite}
 use Rattle.lvm_num.specs.Descriptor.{is_pp}
+use Rattle.lvm_num.proofs.Booleans.{and_false}
 use Rattle.lvm_status.specs.Update.{Stored}
 use Rattle.lvm_sched.specs.Writes.{is_waiting as target_waits}
 use Rattle.lvm_sched.specs.declared.writes.TargetState.{TargetState}
@@ -84,10 +85,6 @@ state_there : (ts : List Target) (number : ℕ) (t : Target) (s : TargetState) �
 state_there [] number t s there = absurd cc
 state_there (u ∷ us) zero t s there = ap (λ (x : Target). Some (record x { state = s })) (same_Some u t there)
 state_there (u ∷ us) (suc number) t s there = state_there us number t s there
-
-and_false : (b : Bool) → (b && false) ≡ false
-and_false true = refl
-and_false false = refl
 
 among_if : (b : Bool) (ps : List Pp) (p : Pp) → is_among (if b then ps else []) p ≡ true → is_among ps p ≡ true
 among_if true ps p h = h

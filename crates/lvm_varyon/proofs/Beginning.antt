@@ -20,6 +20,7 @@ use Rattle.lvm_num.specs.StatusBytes.{status_of, status_bytes}
 use Rattle.lvm_num.specs.Record.{Stamped}
 use Rattle.lvm_num.specs.Status.{calls_dirty}
 use Rattle.lvm_num.specs.Votes.{all_disks}
+use Rattle.lvm_num.proofs.Booleans.{clash}
 use Rattle.lvm_disk.specs.Device.{Media, Image, Device, image_of, HasSectors, IsWholeImage}
 use Rattle.lvm_kept.specs.Contents.{Contents, contents_of, has_records}
 use Rattle.lvm_kept.specs.Group.{passes, is_of, has_room, descriptor_among, is_voter, status_among, Finds, fresh_on, IsOneOf, IsSome}
@@ -93,9 +94,6 @@ room_enough mib (row ∷ rows) d size e = by_test (row.disk == d) (nat_le (secto
     by_test true true is e rest = large is
     by_test true false is e rest = rest e
     by_test false b is e rest = rest e
-
-clash : (b : Bool) → b ≡ true → b ≡ false → ⊥
-clash b e f = cc
 
 passive_row : (rows : List LvRow) (row : LvRow) → IsOneOf rows row → row.mode ≡ Passive → list_any (λ (r : LvRow). r.number == row.number && is_passive r.mode) rows ≡ true
 passive_row [] row is passive = absurd is

@@ -5,6 +5,8 @@ use Rattle.std.proofs.lemmas.Bool.{eqb-true, not-true}
 use Rattle.lvm_vol.specs.Facts.{Request, Fact, Begun, Taken, Stands, begun}
 use Rattle.lvm_vol.specs.Log.{has_id, asked, no_request, request_of, lands_id, takes_id, is_open, is_answered}
 use Rattle.lvm_vol.specs.Order.{Follows}
+pub use Rattle.lvm_num.proofs.Booleans.{first_holds as and_left}
+pub use Rattle.lvm_num.proofs.Booleans.{second_holds as and_right}
 
 -- a request that was found
 
@@ -50,14 +52,6 @@ found_of facts id is = by_option (asked facts id) refl
           own = ap (λ (x : Request). x.id) e ∙ its.1;
           found = some ∙ ap (λ (x : Request). Some x) (sym e);
         }
-
-pub and_left : (a b : Bool) → (a && b) ≡ true → a ≡ true
-and_left true b is = refl
-and_left false b is = is
-
-pub and_right : (a b : Bool) → (a && b) ≡ true → b ≡ true
-and_right true b is = is
-and_right false b is = absurd (let e : ◌≡◌ {A = Bool} false true = is in cc)
 
 pub record IsOpen (facts : List Fact) (id : ℕ) : Type 0 where
   pub its : IsFound facts id
