@@ -24,7 +24,8 @@ use Rattle.lvm_recover.proofs.Copying.{left_passes}
 use Rattle.lvm_recover.proofs.Images.{images_are_recopied}
 use Rattle.lvm_recovery.specs.declared.copying.Recopy.{Recopy}
 use Rattle.lvm_recovery.specs.Copying.{MayTransfer, IsOfCopies}
-use Rattle.lvm_recovery.specs.Planned.{place_on, IsPlannedCopy}
+use Rattle.lvm_recovery.specs.Planned.{IsPlannedCopy}
+use Rattle.lvm_map.specs.Places.{place_on}
 use Rattle.lvm_recover.proofs.Beginning.{usable_stay, next_leaves_none, is_at}
 use Rattle.lvm_recovery.specs.Ending.{NextSamePlan, RestatedMayEqualise, SameNotesSamePlan, HaveSectors, PlannedMayBeMade, EqualisedEnds}
 use Rattle.lvm_recovery.proofs.AllCopied.{one_at, at_index}

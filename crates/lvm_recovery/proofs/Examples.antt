@@ -23,7 +23,8 @@ use Rattle.lvm_commit.specs.Committed.{ShowsCommitted}
 use Rattle.lvm_recovery.specs.declared.copying.Recopy.{Recopy}
 use Rattle.lvm_recovery.specs.Copying.{MayCopy}
 use Rattle.lvm_recovery.specs.Examples.{PairsCopy, first_to_second}
-use Rattle.lvm_recovery.specs.Planned.{place_on, IsPlannedCopy, ArePlanned}
+use Rattle.lvm_recovery.specs.Planned.{IsPlannedCopy, ArePlanned}
+use Rattle.lvm_map.specs.Places.{place_on}
 use Rattle.lvm_recovery.proofs.Planned.{planned_are_apart}
 
 abbrev torn : Pair

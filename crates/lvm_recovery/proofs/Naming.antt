@@ -20,7 +20,8 @@ use Rattle.lvm_next.specs.Next.{is_active}
 use Rattle.lvm_rest.proofs.Rows.{row_is_volume}
 use Rattle.lvm_recovery.specs.declared.copying.Recopy.{Recopy}
 use Rattle.lvm_recovery.specs.declared.plan.TrackGroup.{TrackGroup}
-use Rattle.lvm_recovery.specs.Planned.{place_on, IsNamedByOne, IsPlannedCopy}
+use Rattle.lvm_recovery.specs.Planned.{IsNamedByOne, IsPlannedCopy}
+use Rattle.lvm_map.specs.Places.{place_on}
 use Rattle.lvm_recovery.specs.Plan.{usable_by, copies_from, copies_of_group, copies_in, copies_named, NamedArePlanned}
 pub use Rattle.std.proofs.lemmas.Bool.{and_parts as both}
 

@@ -17,7 +17,7 @@ use Rattle.lvm_recovery.specs.declared.copying.Recopy.{Recopy}
 use Rattle.lvm_recovery.specs.declared.plan.TrackGroup.{TrackGroup}
 use Rattle.lvm_recovery.specs.Planned.{IsNamedByOne, ArePlanned}
 -- where a block of a volume stands on a copy
-pub use Rattle.lvm_recovery.specs.Planned.{place_on}
+use Rattle.lvm_map.specs.Places.{place_on}
 
 -- what an entry names
 abbrev pub group_of : NoteEntry → TrackGroup

@@ -6,7 +6,8 @@ ghost use Rattle.lvm_num.specs.Descriptor.{IsLaidOut, IsValid};
 ghost use Rattle.lvm_num.specs.Disks.{has};
 ghost use Rattle.lvm_survey.specs.Rows.{AreRows};
 ghost use Rattle.lvm_survey.specs.Surveyed.{surveyed};
-ghost use Rattle.lvm_recovery.specs.Plan.{AreNamed, AreRising, group_of, place_on, usable_by, copies_from, copies_of_group, copies_named};
+ghost use Rattle.lvm_recovery.specs.Plan.{AreNamed, AreRising, group_of, usable_by, copies_from, copies_of_group, copies_named};
+ghost use Rattle.lvm_map.specs.Places.{place_on};
 
 use crate::copying::Recopy;
 use lvm_num::{Descriptor, DiskSet, LvRow, Memory, Mode, NoteEntry, Place, Pp};
