@@ -9,7 +9,7 @@ use Rattle.lvm_num.specs.Descriptor.{is_size}
 use Rattle.lvm_num.specs.Name.{is_name}
 use Rattle.lvm_num.specs.declared.descriptor.Mode.{Mode}
 use Rattle.lvm_num.specs.declared.descriptor.Mode.TheVariants.{Active, Off, Passive}
-use Rattle.lvm_literals.specs.Words.{only, number_in, number_within, count_in, size_in, name_in, disk_in, word_in, mode_in, partitions_in, turns_in, copies_in, policy_in}
+use Rattle.lvm_literals.specs.Words.{only, number_in, number_within, count_in, size_in, name_in, disk_in, word_in, mode_in, partition_count_in, turns_in, copy_count_in, policy_in}
 use Rattle.lvm_operands.specs.declared.range.BlockRange.{BlockRange}
 use Rattle.lvm_operands.specs.declared.rest.Misfit.{Misfit}
 use Rattle.lvm_literals.specs.Line.{is_remark, unreadable_at}
@@ -107,9 +107,9 @@ last_blocks_counted l range is = go (blocks l) refl is
     go (Ok found) read same = subst IsCounted (at_end found.1.words found.0 range same) (blocks_counted l found read)
     go (Err e) read same = absurd (cc (same))
 
-some_partitions : (l : Left) (lps : ℕ) → last partitions_in l ≡ Ok lps → 1 ≤ lps
+some_partitions : (l : Left) (lps : ℕ) → last partition_count_in l ≡ Ok lps → 1 ≤ lps
 some_partitions l lps is =
-    let word = last_means partitions_in l lps is in
+    let word = last_means partition_count_in l lps is in
     let passes = only_passes (λ n. nat_le 1 n && nat_le n 65535) (number_in word.0) lps word.1 in
     leb-true 1 lps (and_parts (nat_le 1 lps) (nat_le lps 65535) passes).0
 
@@ -178,7 +178,7 @@ choice_is_built : (o : MklvOptions) (word : List ℕ) → IsBuilt o → Keeping 
 unfolding IsBuilt
 choice_is_built o word built =
     keeping_if IsBuilt (is_new word (codes "-y") (is_some o.name)) _ _ (with_other (λ name. record o { name = Some name }) name_in (λ name. built))
-    (keeping_if IsBuilt (is_new word (codes "-c") (is_some o.copies)) _ _ (with_other (λ copies. record o { copies = Some copies }) copies_in (λ copies. built))
+    (keeping_if IsBuilt (is_new word (codes "-c") (is_some o.copies)) _ _ (with_other (λ copies. record o { copies = Some copies }) copy_count_in (λ copies. built))
     (keeping_if IsBuilt (is_new word (codes "-w") (is_some o.mode)) _ _ (with_mode o)
     (keeping_if IsBuilt (is_new word (codes "-d") (is_some o.policy)) _ _ (with_other (λ policy. record o { policy = Some policy }) policy_in (λ policy. built)) tt)))
 
@@ -242,18 +242,18 @@ fits_step l = fits_then (last turns_in l) _ (λ turns t.
     let parts = and_parts (nat_le 1 turns) (nat_le turns 1000000) (only_passes (λ n. nat_le 1 n && nat_le n 1000000) (number_in word.0) turns word.1) in
     (leb-true 1 turns parts.0, leb-true turns 1000000 parts.1))
 
-few_copies : (l : Left) (copies : ℕ) → last copies_in l ≡ Ok copies → copies ≤ 9
+few_copies : (l : Left) (copies : ℕ) → last copy_count_in l ≡ Ok copies → copies ≤ 9
 few_copies l copies is =
-    let word = last_means copies_in l copies is in
+    let word = last_means copy_count_in l copies is in
     leb-true copies 9 (and_parts (nat_le 0 copies) (nat_le copies 9) (only_passes (λ n. nat_le 0 n && nat_le n 9) (number_in word.0) copies word.1)).1
 
 fits_mklvcopy : (l : Left) → Fits (mklvcopy l)
 unfolding Fits
-fits_mklvcopy l = fits_then (operand name_in l) _ (λ name n. fits_then (last copies_in name.1) _ (λ copies c. few_copies name.1 copies c))
+fits_mklvcopy l = fits_then (operand name_in l) _ (λ name n. fits_then (last copy_count_in name.1) _ (λ copies c. few_copies name.1 copies c))
 
 fits_rmlvcopy : (l : Left) → Fits (rmlvcopy l)
 unfolding Fits
-fits_rmlvcopy l = fits_then (operand name_in l) _ (λ name n. fits_then (last copies_in name.1) _ (λ copies c. few_copies name.1 copies c))
+fits_rmlvcopy l = fits_then (operand name_in l) _ (λ name n. fits_then (last copy_count_in name.1) _ (λ copies c. few_copies name.1 copies c))
 
 fits_cut : (l : Left) → Fits (cut l)
 unfolding Fits
@@ -278,7 +278,7 @@ fits_lslv l = fits_if (option (codes "-m") l).0 _ _ (fits_then (last name_in (op
 fits_mklv : (l : Left) → Fits (mklv l)
 unfolding Fits IsBuilt options
 fits_mklv l = fits_then (options mklv_choice no_mklv_options l) _ (λ o options_are. fits_then (required o.0.name o.1) _ (λ name named.
-    fits_then (operand name_in o.1) _ (λ group in_group. fits_then (last partitions_in group.1) _ (λ lps partitions_are. (some_partitions group.1 lps partitions_are, in_mode o options_are o.0.mode refl)))))
+    fits_then (operand name_in o.1) _ (λ group in_group. fits_then (last partition_count_in group.1) _ (λ lps partitions_are. (some_partitions group.1 lps partitions_are, in_mode o options_are o.0.mode refl)))))
   where
     in_mode : (o : MklvOptions × Left) → options mklv_choice no_mklv_options l ≡ Ok o → (given : Option Mode) → o.0.mode ≡ given → unwrap_or given Active ≡ Passive → ⊥
     in_mode o options_are None is passive = cc (passive)
