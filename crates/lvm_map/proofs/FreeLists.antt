@@ -2,7 +2,7 @@
 use Rattle.std.proofs.Common.{◌≡◌, ◌≢◌, inl, inr, ℕ, zero, suc, ◌<◌, Bool, true, false, cond, ◌&&◌, ◌||◌, not, List, [], ◌∷◌, ◌++◌, length, map, get_or, set, Some, refl, sym, ap, subst, ◌∙◌, arith}
 use Rattle.std.specs.Prelude.{◌==◌, All, AllPairs, filter, slice_get}
 use Rattle.std.specs.List.{range_with_len}
-use Rattle.std.proofs.lemmas.Bool.{cases_Bool, eqb-true, eq-eqb, and_parts}
+use Rattle.std.proofs.lemmas.Bool.{cases_Bool}
 use Rattle.std.proofs.lemmas.List.{length-map}
 use Rattle.std.proofs.lemmas.List.Elements.{All-map, All-head, All-tail, All-filter, All-weaker, filter_agree}
 use Rattle.std.proofs.lemmas.List.Folds.{list_any-append}
@@ -13,21 +13,10 @@ use Rattle.lvm_num.specs.Descriptor.{is_pp}
 use Rattle.lvm_num.proofs.Pairs.{AllPairs-right}
 use Rattle.lvm_num.proofs.Booleans.{or_false}
 use Rattle.lvm_map.specs.FirstFit.{is_among, partitions_of, free_of}
+pub use Rattle.lvm_num.proofs.Partitions.{one_partition as is_pp-true}
+pub use Rattle.lvm_num.proofs.Partitions.{same_partition as is_pp-same}
 
 -- ---- one partition
-
-pub is_pp-true : (a b : Pp) → is_pp a b ≡ true → a ≡ b
-is_pp-true a b is =
-    let parts = and_parts (a.disk == b.disk) (a.pp == b.pp) is in
-    let disk : a.disk ≡ b.disk = eqb-true a.disk b.disk parts.0 in
-    let pp : a.pp ≡ b.pp = eqb-true a.pp b.pp parts.1 in
-    λ t. record { disk = disk t; pp = pp t }
-
-pub is_pp-same : (a b : Pp) → a ≡ b → is_pp a b ≡ true
-is_pp-same a b same =
-    let disk : a.disk == b.disk ≡ true = eq-eqb a.disk b.disk (ap (λ (p : Pp). p.disk) same) in
-    let pp : a.pp == b.pp ≡ true = eq-eqb a.pp b.pp (ap (λ (p : Pp). p.pp) same) in
-    λ t. disk t && pp t
 
 pub is_pp-apart : (a b : Pp) → a ≢ b → is_pp a b ≡ false
 is_pp-apart a b apart = elim (cases_Bool (is_pp a b)) [

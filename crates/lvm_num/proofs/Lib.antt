@@ -13,6 +13,7 @@ pub mod Needed
 pub mod Newest
 pub mod Notes
 pub mod Pairs
+pub mod Partitions
 pub mod Records
 pub mod Spots
 pub mod Torn

@@ -1,5 +1,5 @@
 -- The end of a write of a request.
-use Rattle.std.proofs.Common.{◌≡◌, ◌⊎◌, inl, inr, ⊎_elim, ℕ, ◌+◌, ◌-◌, ◌<◌, ◌≤◌, Bool, true, false, ◌&&◌, ◌==◌, List, [], length, Option, Some, None, refl, sym, ap, subst, ◌∙◌, arith, eqb-true}
+use Rattle.std.proofs.Common.{◌≡◌, ◌⊎◌, inl, inr, ⊎_elim, ℕ, ◌+◌, ◌-◌, ◌<◌, ◌≤◌, Bool, true, false, ◌&&◌, List, [], length, Option, Some, None, refl, sym, ap, subst, ◌∙◌, arith}
 use Rattle.std.specs.Prelude.{IsTrue, nat_lt, if◌then◌else◌, slice_get, unwrap_or}
 use Rattle.std.proofs.lemmas.Bool.Decides.{nat_tests}
 use Rattle.std.proofs.lemmas.Bool.{and_from}
@@ -30,6 +30,8 @@ use Rattle.lvm_tie_shelf.specs.Owned.{IsTransfer}
 use Rattle.lvm_tie_shelf.specs.Writing.{Lands, EndsLand, stage_of, after_write, WriteEnds}
 use Rattle.lvm_tie_shelf.proofs.Flying.{writes_at, at_writes}
 use Rattle.lvm_tie_shelf.proofs.Owned.{covered, copy_of, copy_too, stands_at, hits, not_member}
+pub use Rattle.lvm_num.proofs.Partitions.{one_partition as pp_same}
+pub use Rattle.lvm_num.proofs.Partitions.{same_partition as same_pp}
 
 -- ---- ends
 
@@ -105,16 +107,6 @@ module _ (sizes : List ℕ) (m n : Media) where
 pub and_both : (a b : Bool) → IsTrue (a && b) → IsTrue a × IsTrue b
 and_both true b h = (refl, h)
 and_both false b h = absurd cc
-
-pub pp_same : (a b : Pp) → IsTrue (is_pp a b) → a ≡ b
-pp_same a b h =
-    let both = and_both (a.disk == b.disk) (a.pp == b.pp) h in
-    let disk : a.disk ≡ b.disk = eqb-true a.disk b.disk both.0 in
-    let pp : a.pp ≡ b.pp = eqb-true a.pp b.pp both.1 in
-    λ t. record { disk = disk t; pp = pp t }
-
-pub same_pp : (a b : Pp) → a ≡ b → IsTrue (is_pp a b)
-same_pp a b e = let own : IsTrue (is_pp a a) = let d : (a.disk == a.disk) ≡ true = grind (arith, nat_tests) in let p : (a.pp == a.pp) ≡ true = grind (arith, nat_tests) in λ t. d t && p t in subst (λ x. IsTrue (is_pp a x)) e own
 
 module _ (votes : Votes) (s : ModelState) (i : ℕ) (r : Queued) (c : Pp) (value : ℕ → Sector) (group : Descriptor) (in_flight : Option (Stamped Status)) (sizes : List ℕ) (m n : Media) (f : Flight) (well : Bool)
     (valid : IsValid group) (good : Good votes s) (describes : Describes s s.facts group in_flight (contents_of (image_of sizes m)))
