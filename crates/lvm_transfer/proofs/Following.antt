@@ -53,13 +53,13 @@ rested_more old mid new one two = record { ready = two.ready; cuts = two.cuts �
 stuck_more : (number a b : ℕ) (old mid new : Device) → OnlyReads a b old mid → IsRested old mid → IsReadStuck number b mid new → IsReadStuck number a old new
 stuck_more number a b old mid new one rested two = record {
   flight = two.flight;
-  out = two.out;
-  reads = two.reads;
+  flights = two.flights;
+  write = two.write;
   buffer = two.buffer;
   freed = two.freed;
   power = two.power;
   cuts = two.cuts ∙ rested.cuts;
-  waited = record { later = omega (arith, one.waited.later, two.waited.later); risen = omega (arith, one.falls, one.waited.later, one.waited.risen, two.waited.later, two.waited.risen) };
+  waits = record { later = omega (arith, one.waited.later, two.waits.later); risen = omega (arith, one.falls, one.waited.later, one.waited.risen, two.waits.later, two.waits.risen) };
 }
 
 pub stop_more : (number a b : ℕ) (old mid new : Device) (how : Stop) → OnlyReads a b old mid → IsRested old mid → StopGives number b mid new how → StopGives number a old new how
