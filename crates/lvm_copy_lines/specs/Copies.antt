@@ -4,7 +4,7 @@ use Rattle.lvm_num.specs.declared.place.Pp.{Pp}
 use Rattle.lvm_session.specs.State.{Core, State as Session}
 use Rattle.lvm_core.specs.Looking.{IsNumberOf, HasNoVolumeNamed}
 use Rattle.lvm_volume_lines.specs.passed.Driver.{DrainFault}
-use Rattle.lvm_volume_lines.specs.passed.VolumePlan.{GroupFault}
+use Rattle.lvm_volume_lines.specs.passed.VolumePlan.{GroupFault, ends_session}
 use Rattle.lvm_volume_lines.specs.passed.Mirrors.{MklvcopyGives, RmlvcopyGives, to_add, to_take}
 use Rattle.lvm_volume_lines.specs.passed.Stage.{IsRefused}
 use Rattle.lvm_volume_lines.specs.passed.Stage.{open_in}
@@ -12,7 +12,7 @@ use Rattle.lvm_volume_lines.specs.passed.Stage.{ScriptState}
 use Rattle.lvm_volume_lines.specs.passed.RefusalVariants as refusal
 use Rattle.lvm_volume_lines.specs.passed.Stage.{Reply}
 use Rattle.lvm_volume_lines.specs.passed.ReplyVariants as reply
-use Rattle.lvm_volume_lines.specs.Volumes.{Drains, IsDone, IsUndrained, StaysOn, ends_session, refusal_for}
+use Rattle.lvm_volume_lines.specs.Volumes.{Drains, IsDone, IsUndrained, StaysOn, refusal_for}
 
 -- ---- a command
 

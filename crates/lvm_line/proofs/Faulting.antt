@@ -22,13 +22,14 @@ use Rattle.lvm_copy_lines.specs.passed.DrainFaultVariants as drain_fault
 use Rattle.lvm_copy_lines.specs.passed.Stage.{IsBetween, Refusal, Reply, patience_of_line, ScriptState}
 use Rattle.lvm_copy_lines.specs.passed.RefusalVariants as refusal
 use Rattle.lvm_copy_lines.specs.passed.ReplyVariants as reply
-use Rattle.lvm_copy_lines.specs.passed.VolumeLines.{Drains, IsLeft, IsUndrained, drain_refusal, ends_session, refusal_for}
+use Rattle.lvm_copy_lines.specs.passed.VolumeLines.{Drains, IsLeft, IsUndrained, drain_refusal, refusal_for}
 use Rattle.lvm_copy_lines.proofs.passed.VolumeLines.{FaultFacts}
 use Rattle.lvm_copy_lines.proofs.passed.Ranges.{off_votes}
 use Rattle.lvm_line.proofs.Knowing.{IsOther, Known, has_by}
 use Rattle.lvm_line.proofs.Turns.{dark_cause, off_cause, stuck_cause}
 use Rattle.lvm_volume_plan.specs.declared.fault.GroupFault.{GroupFault}
 use Rattle.lvm_volume_plan.specs.declared.fault.GroupFault.TheVariants as fault
+use Rattle.lvm_volume_plan.specs.Faults.{ends_session}
 
 -- votes that are too few to write are at most half
 at_most_half : (group : Descriptor) (have : ℕ) → IsFalse (is_enough_to_write group have) → 2 * have ≤ total_votes group

@@ -30,7 +30,7 @@ use Rattle.lvm_line.proofs.passed.TieCommands.{rests}
 use Rattle.lvm_line.specs.passed.Stage.{IsBrokenOff, OfGroup, OfGroupWhere, ScriptState, StandsAlone, Reply}
 use Rattle.lvm_line.specs.passed.VolumeLines.{Drains, IsDone, IsUndrained, StaysOn, MklvDoes, RmlvDoes, NoGroupForMklv, BusyMklv, UndrainedMklv}
 use Rattle.lvm_line.specs.passed.VolumeLines.{MakesVolume, MklvFails, NoGroupForRmlv, BusyRmlv, UndrainedRmlv, NoVolumeForRmlv, RemovesVolume}
-use Rattle.lvm_line.specs.passed.VolumeLines.{RmlvFails, MklvEnds, RmlvEnds, ends_session, refusal_for, wanted}
+use Rattle.lvm_line.specs.passed.VolumeLines.{RmlvFails, MklvEnds, RmlvEnds, refusal_for, wanted}
 use Rattle.lvm_line.specs.passed.ReplyVariants as reply
 use Rattle.lvm_line.specs.Lines.{IsLine, LineDoes}
 use Rattle.lvm_top.specs.Standing.{MayHaveCommitted, StoodBefore, HeldAtRest, StandsSince}
@@ -40,6 +40,7 @@ use Rattle.lvm_top.proofs.Transfers.{relit_nothing}
 use Rattle.lvm_volume_plan.specs.declared.fault.GroupFault.{GroupFault}
 use Rattle.lvm_volume_plan.specs.declared.fault.GroupFault.TheVariants as fault
 use Rattle.lvm_volume_plan.specs.NewVolume.{without_volume}
+use Rattle.lvm_volume_plan.specs.Faults.{ends_session}
 
 pub some_of : {X : Type 0} (o : Option X) → IsSome o → (x : X) × (o ≡ Some x)
 some_of (Some x) some = (x, refl)

@@ -21,6 +21,7 @@ use Rattle.lvm_range_lines.specs.passed.Running.{RunsOn}
 use Rattle.lvm_volume_plan.specs.declared.fault.GroupFault.{GroupFault}
 use Rattle.lvm_volume_plan.specs.declared.fault.GroupFault.TheVariants as fault
 use Rattle.lvm_volume_plan.specs.declared.new_volume.NewVolume.{NewVolume}
+use Rattle.lvm_volume_plan.specs.Faults.{ends_session}
 use Rattle.lvm_range_lines.specs.passed.Volumes.{MklvGives, RmlvGives, to_make, to_remove}
 use Rattle.lvm_range_lines.specs.passed.Stage.{patience_of_line, IsRefused, IsOn, IsNotOn, open_in, posts_ended, IsAtRest, ScriptState, Refusal, Reply}
 use Rattle.lvm_range_lines.specs.passed.RefusalVariants as refusal
@@ -48,22 +49,10 @@ drain_refusal drain_fault.Dark = refusal.Dark
 drain_refusal (drain_fault.WentOff have total) = refusal.WentOff have total
 drain_refusal drain_fault.Stuck = refusal.Stuck
 
--- a power cut, the loss of the votes, and a transfer of which nothing is heard end the session
-abbrev pub ends_session : GroupFault → Bool
-ends_session fault.Dark = true
-ends_session (fault.WentOff have total) = true
-ends_session fault.Stuck = true
-ends_session _ = false
-
 -- the reply to a command on a volume
 abbrev pub volume_reply : {X : Type 0} → Result X GroupFault → Reply
 volume_reply (Ok done) = reply.Ok
 volume_reply (Err why) = reply.Refused (refusal_for why)
-
--- whether the session is over after it
-abbrev pub is_over : {X : Type 0} → Result X GroupFault → Bool
-is_over (Ok done) = false
-is_over (Err why) = ends_session why
 
 -- ---- what is left of a session
 

@@ -13,7 +13,8 @@ ghost use Rattle.lvm_range_lines.specs.passed.Volumes.{MklvGives, RmlvGives, to_
 ghost use Rattle.lvm_range_lines.specs.passed.Stage.{EndsUnasked, OfGroup, IsBetweenStage, IsFitting, IsOfKind, open_in, session_of, shelf_of};
 ghost use Rattle.lvm_range_lines.specs.passed.Stage.{IsOnBetween};
 ghost use Rattle.lvm_volume_lines.specs.Commands.{HasBrokenOff, HasRested, IsCarriedOut, IsHeldAgain, IsLeftAs, IsLeftOff, IsLeftOn, none_added};
-ghost use Rattle.lvm_volume_lines.specs.Volumes.{MklvDoes, RmlvDoes, drain_refusal, ends_session, is_over, refusal_for, volume_reply, wanted};
+ghost use Rattle.lvm_volume_lines.specs.Volumes.{MklvDoes, RmlvDoes, drain_refusal, refusal_for, volume_reply, wanted};
+ghost use Rattle.lvm_volume_plan.specs.Faults.{ends_session, is_over};
 
 use lvm_core::{Closed, Driver};
 use lvm_disk::Shelf;
