@@ -1,17 +1,18 @@
 -- How the one flight that is out ends.
-use Rattle.std.proofs.Common.{◌≡◌, inl, inr, ◌∷◌, ◌++◌, [], ℕ, List, Bool, true, false, refl, sym, ◌∙◌, ap, subst}
+use Rattle.std.proofs.Common.{◌≡◌, ◌+◌, inl, inr, ⊎_elim, ◌∷◌, ◌++◌, [], ℕ, List, Bool, true, false, refl, sym, ◌∙◌, ap, subst, arith}
 use Rattle.lvm_num.specs.Buffer.{Buffer}
+use Rattle.lvm_disk.specs.Counts.{Counts}
 use Rattle.lvm_disk.specs.Device.{Flight, Device, MayLeave, IsReady}
-use Rattle.lvm_disk.specs.Steps.{Removes, Cuts, GoesDark, Starts, EndsDone, EndsFailed}
+use Rattle.lvm_disk.specs.Steps.{Removes, Cuts, GoesDark, Starts, EndsDone, EndsFailed, CountsFailure}
 use Rattle.lvm_disk.specs.Images.{LeavesNoMore}
 use Rattle.lvm_disk.specs.Paths.{DeviceStep, Started, Ended, Broke, WasCut, Path, Here, Then}
 use Rattle.lvm_disk.proofs.Paths.{append-path, map-path}
 use Rattle.lvm_disk.proofs.CrashImages.{start_leaves, done_leaves, failed_leaves, cut_leaves}
 use Rattle.lvm_kept.specs.Raw.{OnlyAdds}
-use Rattle.lvm_transfer.specs.Transfer.{FinishGives, TransferGives, flight_of}
+use Rattle.lvm_transfer.specs.Transfer.{FinishGives, TransferGives, Costs, StepsWhile, OneStep, NoStep, flight_of}
 use Rattle.lvm_transfer.specs.declared.moves.Moved.{Moved}
 use Rattle.lvm_transfer.specs.declared.moves.Moved.TheVariants as moved
-use Rattle.lvm_transfer.proofs.Waiting.{WaitsSoFar}
+use Rattle.lvm_transfer.proofs.Waiting.{WaitsSoFar, Borne, borne_costs, costs_then, steps_more}
 
 never : (before after : List Flight) (g : Flight) → [] ≡ before ++ g ∷ after → ⊥
 never [] after g e = cc
@@ -82,7 +83,30 @@ module _ (old now new : Device) (n : ℕ) (so_far : WaitsSoFar old now n) where
 pub cut_rests : (old new : Device) → Cuts old new → (new.flights ≡ []) × (new.power ≡ false)
 cut_rests old new cuts = (ap (λ (d : Device). d.flights) cuts.new_is, ap (λ (d : Device). d.power) cuts.new_is)
 
+-- ---- what it costs
+
+failed_waits : (f : Flight) (old new : Counts) → CountsFailure f old new → new.waits ≡ old.waits
+failed_waits f old new counts = ⊎_elim (λ miss. ap (λ (c : Counts). c.waits) miss.1.new_is) (λ fault. ap (λ (c : Counts). c.waits) fault.1.new_is) counts
+
+module _ (old now new : Device) (first left n : ℕ) (borne : Borne old now first left n) where
+  pub done_costs : (ticket : ℕ) (buf : Buffer) → EndsDone now new ticket buf → Costs first left old new
+  done_costs ticket buf ends = costs_then first left old now new (borne_costs old now first left n borne) (Ended ticket buf ends) refl (ap (λ (d : Device). d.counts.waits) ends.new_is)
+
+  pub failed_costs : (ticket : ℕ) (buf : Buffer) → EndsFailed now new ticket buf → Costs first left old new
+  failed_costs ticket buf ends = costs_then first left old now new (borne_costs old now first left n borne) (Broke ticket buf ends) refl (failed_waits ends.flight now.counts new.counts ends.counts)
+
+  pub cut_costs : Cuts now new → Costs first left old new
+  cut_costs cuts = costs_then first left old now new (borne_costs old now first left n borne) (WasCut cuts) refl (ap (λ (d : Device). d.counts.waits) cuts.new_is)
+
 -- ---- a whole transfer
+
+-- the start costs nothing
+pub started_costs : (before left : ℕ) (f : Flight) (old mid new : Device) → Starts old mid f → Costs before left mid new → StepsWhile before old left new
+started_costs before left f old mid new starts costs = steps_more (OneStep NoStep (Started f starts) (let e : before ≡ before + 0 = omega arith in e)) costs.steps
+
+-- nor does a cut
+pub dark_costs : (patience : ℕ) (old mid : Device) → Cuts old mid → StepsWhile patience old patience mid
+dark_costs patience old mid cuts = OneStep NoStep (WasCut cuts) (let e : patience ≡ patience + 0 = omega arith in e)
 
 nothing_yet : (f : Flight) (old : Device) → OnlyAdds f old old
 nothing_yet f old image may = (image, may, record { same = record { disks = refl; size = λ d. refl }; each = λ d s. inl refl })

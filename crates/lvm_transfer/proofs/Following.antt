@@ -11,8 +11,10 @@ use Rattle.lvm_transfer.specs.declared.reading.Stop.TheVariants as stop
 use Rattle.lvm_transfer.specs.declared.reading.Unread.{Unread}
 use Rattle.lvm_transfer.specs.declared.reading.Unread.TheVariants as unread
 use Rattle.lvm_transfer.specs.Reading.{IsUntouched, OnlyReads, IsRested, IsInRecords, IsReadStuck, AllWereRead, ReadsAnswer, ReadsEnd, StopGives}
+use Rattle.lvm_transfer.specs.Transfer.{NoStep}
 use Rattle.lvm_transfer.proofs.Joining.{or_got}
 use Rattle.lvm_transfer.proofs.Transferring.{unwritten_more}
+use Rattle.lvm_transfer.proofs.Waiting.{steps_more}
 
 -- ---- nothing yet
 
@@ -21,6 +23,7 @@ only_none patience old = record {
   unwritten = record { sizes = refl; media = refl; wrote = refl; arranges = refl; orders = refl; faults = refl };
   falls = omega arith;
   waited = record { later = omega arith; risen = omega arith };
+  steps = NoStep;
   moments = Here (λ image may. may);
 }
 
@@ -40,6 +43,7 @@ only_more a b c old mid new one two = record {
   unwritten = unwritten_more old mid new one.unwritten two.unwritten;
   falls = omega (arith, one.falls, two.falls);
   waited = waited_more a b c old.counts.waits mid.counts.waits new.counts.waits one.falls two.falls one.waited two.waited;
+  steps = steps_more one.steps two.steps;
   moments = leaves_on one.moments two.moments;
 }
 

@@ -4,4 +4,5 @@ pub mod Effects
 pub mod Joining
 pub mod Transferring
 pub mod Following
+pub mod Pieces
 pub mod Fronts

@@ -11,13 +11,13 @@ use Rattle.lvm_disk.proofs.Paths.{map-path}
 use Rattle.lvm_kept.specs.Raw.{OnlyAdds}
 use Rattle.lvm_transfer.specs.declared.moves.Moved.{Moved}
 use Rattle.lvm_transfer.specs.declared.moves.Moved.TheVariants as moved
-use Rattle.lvm_transfer.specs.Transfer.{IsOut, TransferGives, Rests, flight_of}
+use Rattle.lvm_transfer.specs.Transfer.{IsOut, StepsWhile, TransferGives, Rests, flight_of}
 use Rattle.lvm_transfer.proofs.Effects.{DoneEffect, done_effect, out_flights}
 use Rattle.lvm_transfer.proofs.Ending.{one_left}
 use Rattle.lvm_transfer.specs.declared.reading.Stop.TheVariants as stop
 use Rattle.lvm_transfer.specs.declared.reading.Unread.{Unread}
 use Rattle.lvm_transfer.specs.declared.reading.Unread.TheVariants as unread
-use Rattle.lvm_transfer.specs.Reading.{IsUnwritten, IsUntouched, IsCutOff, IsReadStuck, AllWereRead, OneReadFailed, ReadsAnswer, ReadsEnd}
+use Rattle.lvm_transfer.specs.Reading.{IsUnwritten, IsUntouched, IsCutOff, IsReadStuck, AllWereRead, OneReadFailed, OneWasRead, ReadsAnswer, ReadsEnd}
 use Rattle.lvm_transfer.proofs.Joining.{joined-read}
 
 -- media of which each sector is the same are the same
@@ -265,6 +265,9 @@ module _ (patience ticket disk first count : ℕ) (buf : Buffer) (old : Device) 
 
   -- ---- as a call tells it
 
+  pub was_read : (new : Device) (back : Buffer) → TransferGives patience old new f (moved.Done back) → OneWasRead disk first count old new
+  was_read new back gives = record { ticket = ticket; buf = buf; back = back; now = gives.0; out = gives.1; ends = gives.2 }
+
   read_gives : (new : Device) (how : Moved) → first < 4096 → TransferGives patience old new f how → Rests new how → ReadsAnswer disk buf.number patience old new (answer_of how)
   read_gives new (moved.Done back) below gives rests = (done_all new back gives rests, done_number new back gives)
   read_gives new (moved.Failed back) below gives rests = (failed_one new back gives below rests, failed_number new back gives)
@@ -272,12 +275,13 @@ module _ (patience ticket disk first count : ℕ) (buf : Buffer) (old : Device) 
   read_gives new moved.Stuck below gives rests = (read_stuck new gives)
 
   pub read_ends : (after : ℕ) (new : Device) (how : Moved) → first < 4096 → TransferGives patience old new f how → Rests new how
-      → after ≤ patience → RoseBy (patience - after) old.counts.waits new.counts.waits → Path DeviceStep (OnlyAdds (flight_of 0 false disk first count buf) old) old new → ReadsEnd disk buf.number patience after old new (answer_of how)
-  read_ends after new how below gives rests falls waited moments = record {
+      → after ≤ patience → RoseBy (patience - after) old.counts.waits new.counts.waits → StepsWhile patience old after new → Path DeviceStep (OnlyAdds (flight_of 0 false disk first count buf) old) old new → ReadsEnd disk buf.number patience after old new (answer_of how)
+  read_ends after new how below gives rests falls waited steps moments = record {
     only = record {
       unwritten = read_unwritten new how below gives;
       falls = falls;
       waited = waited;
+      steps = steps;
       moments = read_moments disk first count buf old new moments;
     };
     elsewhere = read_untouched new how below gives;

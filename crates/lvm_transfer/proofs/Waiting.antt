@@ -1,12 +1,12 @@
 -- A shelf that is waited for, and one that gives back buffers.
-use Rattle.std.proofs.Common.{◌≡◌, ◌+◌, ◌≤◌, [], ℕ, List, refl, sym, ◌∙◌, ap, subst, arith, true, Some}
+use Rattle.std.proofs.Common.{◌≡◌, ◌+◌, ◌-◌, ◌≤◌, [], ℕ, List, refl, sym, ◌∙◌, ap, subst, arith, true, Some}
 use Rattle.lvm_num.specs.Buffer.{Buffer}
 use Rattle.lvm_disk.specs.Counts.{RoseBy}
 use Rattle.lvm_disk.specs.Device.{Device, MayLeave}
 use Rattle.lvm_disk.specs.Steps.{Waits, FreedGives, Lights}
 use Rattle.lvm_disk.specs.Images.{LeavesNoMore}
 use Rattle.lvm_disk.specs.Paths.{DeviceStep, Waited, Freed, Lit, Path, Here, Then}
-use Rattle.lvm_transfer.specs.Transfer.{WaitsOnly, Relights}
+use Rattle.lvm_transfer.specs.Transfer.{WaitsOnly, Relights, StepsWhile, NoStep, OneStep, Costs, cost_of}
 
 -- so many answers that nothing has ended
 pub record WaitsSoFar (old now : Device) (n : ℕ) : Type 0 where
@@ -31,6 +31,29 @@ one_wait old now new n so_far waits =
 pub record Borne (old now : Device) (first left n : ℕ) : Type 0 where
   pub so_far : WaitsSoFar old now n
   pub count : left + n ≡ first
+  pub steps : StepsWhile first old left now
+
+-- ---- what it costs
+
+-- steps, and others after them
+pub steps_more : {a b : ℕ} {old mid : Device} {c : ℕ} {new : Device} → StepsWhile a old b mid → StepsWhile b mid c new → StepsWhile a old c new
+steps_more one NoStep = one
+steps_more one (OneStep two step cost) = OneStep (steps_more one two) step cost
+
+-- the waiting costs what was borne
+pub borne_costs : (old now : Device) (first left n : ℕ) → Borne old now first left n → Costs first left old now
+borne_costs old now first left n borne =
+    let count = borne.count in
+    let lost : n ≡ first - left = omega (arith, count) in
+    record { falls = omega (arith, count); waited = subst (λ (k : ℕ). RoseBy k old.counts.waits now.counts.waits) lost borne.so_far.rose; steps = borne.steps }
+
+-- and a step that isn't a wait costs nothing more
+pub costs_then : (before left : ℕ) (old now new : Device) → Costs before left old now → (step : DeviceStep now new) → cost_of step ≡ 0 → new.counts.waits ≡ now.counts.waits → Costs before left old new
+costs_then before left old now new costs step none same = record {
+  falls = costs.falls;
+  waited = subst (λ (k : ℕ). RoseBy (before - left) old.counts.waits k) (sym same) costs.waited;
+  steps = OneStep costs.steps step (let e : left ≡ left + cost_of step = omega (arith, none) in e);
+}
 
 -- buffers that are given back so far
 pub record FreesOnly (old now : Device) : Type 0 where

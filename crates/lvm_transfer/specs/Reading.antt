@@ -1,5 +1,5 @@
 -- What reads of a disk's records change, and how they end.
-use Rattle.std.specs.Prelude.{◌≡◌, ℕ, ◌+◌, ◌-◌, ◌<◌, ◌≤◌, true, false, List, [], ◌∷◌, length, take, drop, Result, Ok, Err, slice_index_or}
+use Rattle.std.specs.Prelude.{◌≡◌, ℕ, ◌+◌, ◌-◌, ◌<◌, ◌≤◌, true, false, List, [], ◌∷◌, length, take, drop, min, Result, Ok, Err, slice_index_or}
 use Rattle.std.specs.Int.{w32, from_be_bytes}
 use Rattle.lvm_num.specs.Buffer.{Buffer}
 use Rattle.lvm_num.specs.Geometry.{data_start}
@@ -7,10 +7,12 @@ use Rattle.lvm_disk.specs.Counts.{RoseBy, Rose}
 use Rattle.lvm_disk.specs.Device.{Flight, Device, IsReady}
 use Rattle.lvm_disk.specs.Images.{LeavesNoMore}
 use Rattle.lvm_disk.specs.Paths.{DeviceStep, Path}
+use Rattle.lvm_disk.specs.Steps.{EndsDone}
 use Rattle.lvm_transfer.specs.declared.reading.Stop.{Stop}
 use Rattle.lvm_transfer.specs.declared.reading.Stop.TheVariants as stop
 use Rattle.lvm_transfer.specs.declared.reading.Unread.{Unread}
 use Rattle.lvm_transfer.specs.declared.reading.Unread.TheVariants as unread
+use Rattle.lvm_transfer.specs.Transfer.{IsOut, StepsWhile, flight_of}
 
 -- ---- what reads change
 
@@ -28,11 +30,13 @@ pub record IsUntouched (disk : ℕ) (old new : Device) : Type 0 where
   pub starts : new.counts.starts disk ≡ old.counts.starts disk
   pub misses : new.counts.misses disk ≡ old.counts.misses disk
 
--- Nothing was written: a crash at any moment leaves what it might have left at the first. Patience was lost by answers that nothing has ended.
+-- Nothing was written: a crash at any moment leaves what it might have left at the first. Patience was lost by answers that nothing has ended, by one
+-- for each, and by no other step.
 pub record OnlyReads (before after : ℕ) (old new : Device) : Type 0 where
   pub unwritten : IsUnwritten old new
   pub falls : after ≤ before
   pub waited : RoseBy (before - after) old.counts.waits new.counts.waits
+  pub steps : StepsWhile before old after new
   pub moments : Path DeviceStep (LeavesNoMore old) old new
 
 -- nothing is out, and the power was on all the time
@@ -95,6 +99,26 @@ pub record ReadsEnd (disk number before after : ℕ) (old new : Device) (ended :
 abbrev pub only_buffer : {X : Type 0} → Result (X × Buffer) Unread → Result Buffer Unread
 only_buffer (Ok got) = Ok got.1
 only_buffer (Err why) = Err why
+
+-- ---- what was read
+
+-- this range of a disk was read, by one transfer
+pub record OneWasRead (disk first count : ℕ) (old new : Device) : Type 0 where
+  pub ticket : ℕ
+  pub buf : Buffer
+  pub back : Buffer
+  pub now : Device
+  pub out : IsOut old now (flight_of ticket false disk first count buf)
+  pub ends : EndsDone now new ticket back
+
+-- so many of these sectors of a disk were read, in turn, by transfers of 256 each, of which the last may have fewer
+pub data ReadSoFar (disk first count : ℕ) (old : Device) : ℕ → Device → Type 0 where
+  NoneYet : ReadSoFar disk first count old 0 old
+  OneMore : (done piece : ℕ) {now new : Device} → ReadSoFar disk first count old done now → done < count → piece ≡ min 256 (count - done) → OneWasRead disk (first + done) piece now new → ReadSoFar disk first count old (done + piece) new
+
+-- all of them were
+abbrev pub SectorsRead : ℕ → ℕ → ℕ → Device → Device → Type 0
+SectorsRead disk first count old new = ReadSoFar disk first count old count new
 
 -- ---- where it is read
 
