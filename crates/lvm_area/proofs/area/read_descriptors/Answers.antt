@@ -31,3 +31,6 @@ returns-clause-newest g c =
     latest_is descriptor_of kind.Descriptor old.media c.args.disk c.in_ok-first.first c.in_ok-second.second c.newest.result c.in_ok-first.ensures.held
     (told_before (λ (m : Media). stamped_found c.in_ok-second.second ≡ held descriptor_of kind.Descriptor (joined (m c.args.disk) 1664 1152)) old mid c.in_ok-first.ensures.reads.only.unwritten.media c.in_ok-second.ensures.held)
     c.newest.ensures.newest c.newest.ensures.home
+
+pub returns-clause-whole : goal.returns-clause-whole
+returns-clause-whole g c = record { between = g.S.Shelf.device c.read_descriptor_slot.new.shelf; first = c.in_ok-first.ensures.whole; second = c.in_ok-second.ensures.whole }

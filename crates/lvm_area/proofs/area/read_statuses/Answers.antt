@@ -31,3 +31,6 @@ returns-clause-newest g c =
     latest_is status_of kind.Status old.media c.args.disk c.in_ok-first.first c.in_ok-second.second c.newest.result c.in_ok-first.ensures.held
     (told_before (λ (m : Media). stamped_found c.in_ok-second.second ≡ held status_of kind.Status (joined (m c.args.disk) 128 64)) old mid c.in_ok-first.ensures.reads.only.unwritten.media c.in_ok-second.ensures.held)
     c.newest.ensures.newest c.newest.ensures.home
+
+pub returns-clause-whole : goal.returns-clause-whole
+returns-clause-whole g c = record { between = g.S.Shelf.device c.read_status_slot.new.shelf; first = c.in_ok-first.ensures.whole; second = c.in_ok-second.ensures.whole }
