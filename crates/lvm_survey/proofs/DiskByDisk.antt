@@ -3,6 +3,8 @@ use Rattle.std.proofs.Common.{◌≡◌, inl, inr, ◌≤◌, ◌+◌, ◌++◌,
 use Rattle.std.proofs.lemmas.List.{length-append}
 use Rattle.lvm_disk.specs.Counts.{Rose}
 use Rattle.lvm_disk.specs.Device.{Media, Device, IsReady, image_of}
+use Rattle.lvm_disk.specs.Paths.{DeviceStep, Path}
+use Rattle.lvm_disk.proofs.Paths.{append-path, map-path}
 use Rattle.lvm_transfer.specs.declared.reading.Stop.{Stop}
 use Rattle.lvm_survey.specs.declared.row.SurveyRow.{SurveyRow}
 use Rattle.lvm_survey.specs.Surveyed.{IsRead}
@@ -35,9 +37,13 @@ no_rows a number old ready = record {
 
 -- ---- one disk more
 
+-- the steps of reads
+steps_of : (a b : ℕ) (old new : Device) → OnlyReads a b old new → Path DeviceStep (λ device. Unit {0}) old new
+steps_of a b old new only = map-path (λ device. Unit {0}) (λ device leaves. tt) only.moments
+
 -- a row of a disk that the reads since haven't touched
-kept_row : (old mid new : Device) (d : ℕ) (row : SurveyRow) → IsUntouched d mid new → IsSurveyed old mid d row → IsSurveyed old new d row
-kept_row old mid new d row same is = record {
+kept_row : (old mid new : Device) (d : ℕ) (row : SurveyRow) → Path DeviceStep (λ device. Unit {0}) mid new → IsUntouched d mid new → IsSurveyed old mid d row → IsSurveyed old new d row
+kept_row old mid new d row path same is = record {
   disk_is = is.disk_is;
   sectors = is.sectors;
   valid = is.valid;
@@ -45,12 +51,13 @@ kept_row old mid new d row same is = record {
   failed = λ f. subst (λ n. Rose (old.counts.misses d) n) (sym same.misses) (is.failed f);
   answered = λ f. same.misses ∙ is.answered f;
   read = is.read;
+  whole = λ f large. let it = is.whole f large in record { begun = it.begun; done = it.done; before = it.before; reads = it.reads; after = append-path it.after path };
   empty = is.empty;
 }
 
 -- the row of a disk that no read touched before
-fresh_row : (old mid new : Device) (d : ℕ) (row : SurveyRow) → mid.sizes ≡ old.sizes → mid.media ≡ old.media → IsUntouched d old mid → IsSurveyed mid new d row → IsSurveyed old new d row
-fresh_row old mid new d row sizes media same is = record {
+fresh_row : (old mid new : Device) (d : ℕ) (row : SurveyRow) → Path DeviceStep (λ device. Unit {0}) old mid → mid.sizes ≡ old.sizes → mid.media ≡ old.media → IsUntouched d old mid → IsSurveyed mid new d row → IsSurveyed old new d row
+fresh_row old mid new d row path sizes media same is = record {
   disk_is = is.disk_is;
   sectors = subst (λ (l : List ℕ). slice_get l d ≡ Some row.sectors) sizes is.sectors;
   valid = is.valid;
@@ -58,6 +65,7 @@ fresh_row old mid new d row sizes media same is = record {
   failed = λ f. subst (λ n. Rose n (new.counts.misses d)) same.misses (is.failed f);
   answered = λ f. is.answered f ∙ same.misses;
   read = λ f. subst (λ (l : List ℕ). IfSome old.media (λ m. IsRead (image_of l m) d row)) sizes (subst (λ (o : Option Media). IfSome o (λ m. IsRead (image_of mid.sizes m) d row)) media (is.read f));
+  whole = λ f large. let it = is.whole f (λ small. large (subst (λ (l : List ℕ). IsSmall (record old { sizes = l }) d) sizes small)) in record { begun = it.begun; done = it.done; before = append-path path it.before; reads = it.reads; after = it.after };
   empty = is.empty;
 }
 
@@ -81,10 +89,10 @@ module _ (n a b c number : ℕ) (old mid new : Device) (rows : List SurveyRow) (
       each = λ d other got. elim (got_one_more rows row d other got) [
         | inl before ↦
             let less = got_within rows d other before in
-            kept_row old mid new d other (elsewhere d (λ here. absurd (omega (arith, less, so_far.count)))) (so_far.each d other before)
+            kept_row old mid new d other (steps_of b c mid new only) (elsewhere d (λ here. absurd (omega (arith, less, so_far.count)))) (so_far.each d other before)
         | inr (here, it) ↦
             let place : n ≡ d = omega (arith, here, so_far.count) in
-            let fresh : IsSurveyed old new n row = fresh_row old mid new n row so_far.only.unwritten.sizes so_far.only.unwritten.media (so_far.behind n (omega arith)) is in
+            let fresh : IsSurveyed old new n row = fresh_row old mid new n row (steps_of a b old mid so_far.only) so_far.only.unwritten.sizes so_far.only.unwritten.media (so_far.behind n (omega arith)) is in
             subst (λ (r : SurveyRow). IsSurveyed old new d r) it (subst (λ k. IsSurveyed old new k row) place fresh)
       ];
       behind = λ d behind. untouched_more d old mid new (so_far.behind d (omega arith)) (elsewhere d (λ here. absurd (omega arith)));

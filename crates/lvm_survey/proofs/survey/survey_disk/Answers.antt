@@ -1,5 +1,6 @@
 use Rattle.std.proofs.Common.{◌≡◌, Some, slice_index_or, refl, sym, ◌∙◌, ap, arith}
 use Rattle.lvm_disk.specs.Device.{Media, image_of}
+use Rattle.lvm_disk.specs.Paths.{Here}
 use Rattle.lvm_survey.specs.Surveyed.{IsRead}
 use Rattle.lvm_area.specs.Reading.{IsArea}
 use Rattle.lvm_transfer.proofs.Joining.{or_got, told-always, told-more}
@@ -23,6 +24,7 @@ returns-then-sectors-lt-DATA-clause-gives g c =
         failed = λ is. absurd (let e = c.empty_row.ensures.is.2 in cc);
         answered = λ is. refl;
         read = λ is. told-always (λ (m : Media). IsRead (image_of old.sizes m) c.args.disk row) old.media (λ m. empty_is_read (image_of old.sizes m) c.args.disk row (small_has_none old.sizes m c.args.disk c.sectors-sectors.result c.sectors-sectors.ensures c.if-sectors-lt-DATA.true) c.empty_row.ensures.empty);
+        whole = λ is large. absurd (large (let same : slice_index_or old.sizes c.args.disk 0 ≡ c.sectors-sectors.result = or_got old.sizes c.args.disk 0 c.sectors-sectors.result c.sectors-sectors.ensures in omega arith));
         empty = λ is. c.empty_row.ensures.empty;
       },
       refl,
@@ -54,6 +56,7 @@ returns-in-Ok-clause-gives g c =
         read = λ is. told-more (λ (m : Media). IsArea (m disk) c.in-Ok.area) (λ (m : Media). IsRead (image_of old.sizes m) disk row) old.media
             (λ m is. area_is_read (image_of old.sizes m) disk c.in-Ok.area row (large_has old.sizes m disk c.sectors-sectors.result sectors c.requires.there c.if-sectors-lt-DATA.false) is says.found)
             c.in-Ok.ensures.area;
+        whole = λ is large. record { begun = old; done = g.S.Shelf.device c.read_area.new.shelf; before = Here tt; reads = c.in-Ok.ensures.whole; after = Here tt };
         empty = λ is. absurd (let e = says.is.2 in cc);
       },
       read.1,
