@@ -63,6 +63,7 @@ returns-in-Ok-None-default-clause-found g c =
     record {
       reads = record { left = c.read_descriptor.new.patience.left; only = says.reads.only; elsewhere = says.reads.elsewhere };
       all = says.reads.gives.0;
+      whole = says.whole;
       none = none_here old new c.args.disk c.requires.ready.flights says.reads.gives.0.rested.ready.flights same.sizes same.media (shown_none old c.args.disk c.requires.ready.flights shown);
     }
 
@@ -70,4 +71,4 @@ pub returns-in-Ok-Some-default-clause-fails : goal.returns-in-Ok-Some-default-cl
 returns-in-Ok-Some-default-clause-fails g c =
     let says = c.in-Ok-Some-default.ensures in
     let shown = rw c.in-Ok-Some-default.field-0-0-is at says.shown in
-    (refl, record { left = c.read_descriptor.new.patience.left; only = says.reads.only; elsewhere = says.reads.elsewhere }, says.reads.gives.0, shown_some (g.S.Shelf.device c.args.shelf.now) c.args.disk c.in-Ok-Some-default.field-0-0-0 shown)
+    (refl, record { left = c.read_descriptor.new.patience.left; only = says.reads.only; elsewhere = says.reads.elsewhere }, says.reads.gives.0, shown_some (g.S.Shelf.device c.args.shelf.now) c.args.disk c.in-Ok-Some-default.field-0-0-0 shown, says.whole)
