@@ -34,7 +34,7 @@ starts : Starts (admitted Off false).device launched transfer
 starts = record {
   power = refl;
   fresh = tt;
-  starts = record { here = record { later = omega arith; risen = omega arith }; elsewhere = λ d other. ap (λ (t : Bool). if t then 1 else 0) (not-equal d 0 other) };
+  starts = record { here = record { later = omega arith; risen = omega arith }; once = refl; elsewhere = λ d other. ap (λ (t : Bool). if t then 1 else 0) (not-equal d 0 other) };
   wrote = tt;
   new_is = refl;
 }
