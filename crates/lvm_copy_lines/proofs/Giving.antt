@@ -10,7 +10,7 @@ use Rattle.lvm_volume_lines.specs.passed.GroupFaultVariants as fault
 use Rattle.lvm_volume_lines.specs.passed.Mirrors.{MklvcopyGives, RmlvcopyGives}
 use Rattle.lvm_volume_lines.proofs.passed.Stage.{Bears, bears_cut}
 use Rattle.lvm_volume_lines.specs.Volumes.{is_over}
-use Rattle.lvm_volume_lines.proofs.Ending.{Facts, SameShape}
+use Rattle.lvm_volume_lines.proofs.VolumesLemmas.Ending.{Facts, SameShape}
 
 same_shape : (old new : State) → new ≡ old → SameShape old new
 same_shape old new same = record { origin = ap (λ (s : State). s.core.origin) same; pvs = ap (λ (s : State). s.core.descriptor.pvs) same }

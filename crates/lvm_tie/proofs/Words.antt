@@ -13,7 +13,7 @@ use Rattle.lvm_path.specs.declared.target.Target.{Target}
 use Rattle.lvm_path.specs.Targets.{is_begun}
 use Rattle.lvm_session.specs.Judging.{same_pps, pps_of}
 use Rattle.lvm_invariant.specs.State.{Stage, Todo}
-use Rattle.lvm_tie_shelf.proofs.Writing.{and_both, pp_same, same_pp}
+use Rattle.lvm_tie_shelf.proofs.WritingLemmas.{and_both, pp_same, same_pp}
 use Rattle.lvm_tie.specs.Seen.{stage_seen, stage_at}
 
 pub and_false : (b : Bool) → b && false ≡ false

@@ -1,10 +1,8 @@
 pub mod passed
 pub mod Commanding
-pub mod Ending
-pub mod Landing
+pub mod VolumesLemmas
+pub mod FactsLemmas
 pub mod Resting
-pub mod Rested
-pub mod OfVolumes
-pub mod Undrained
-pub mod Unnamed
-pub mod Lines
+pub mod CommandsLemmas
+pub mod EndsLemmas
+pub mod ServingLemmas

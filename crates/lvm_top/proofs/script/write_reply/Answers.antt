@@ -1,7 +1,7 @@
 use Rattle.std.proofs.Common.{◌∙◌, inl, inr, sym, refl, arith}
 use Rattle.lvm_line.specs.passed.Stage.{reply_text}
-use Rattle.lvm_top.proofs.Lining.{wrote, took_all, failed}
-use Rattle.lvm_top.proofs.Scripting.{said_few}
+use Rattle.lvm_top.proofs.TurnLemmas.{wrote, took_all, failed}
+use Rattle.lvm_top.proofs.ScriptLemmas.Scripting.{said_few}
 use Rattle.lvm_top.proofs.script.write_reply.Goals as goal
 
 pub returns-then-stuck : goal.returns-then-stuck

@@ -1,6 +1,6 @@
 use Rattle.std.proofs.Common.{arith}
-use Rattle.lvm_transfer.proofs.Waiting.{no_waits, one_wait}
-use Rattle.lvm_transfer.proofs.Ending.{done_moments, failed_moments, cut_moments, done_gives, failed_gives, cut_gives, done_rests, failed_rests, dark_cuts}
+use Rattle.lvm_transfer.proofs.TransferLemmas.Waiting.{no_waits, one_wait}
+use Rattle.lvm_transfer.proofs.TransferLemmas.Ending.{done_moments, failed_moments, cut_moments, done_gives, failed_gives, cut_gives, done_rests, failed_rests, dark_cuts}
 use Rattle.lvm_transfer.proofs.moves.finish.Goals as goal
 
 pub loop-init : goal.loop-init

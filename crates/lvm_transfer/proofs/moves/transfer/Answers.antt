@@ -3,7 +3,7 @@ use Rattle.lvm_disk.specs.Device.{Device}
 use Rattle.lvm_disk.specs.Paths.{DeviceStep, Path}
 use Rattle.lvm_kept.specs.Raw.{OnlyAdds}
 use Rattle.lvm_transfer.specs.Transfer.{flight_of}
-use Rattle.lvm_transfer.proofs.Ending.{started_moments, dark_moments, any_ticket, was_cut}
+use Rattle.lvm_transfer.proofs.TransferLemmas.Ending.{started_moments, dark_moments, any_ticket, was_cut}
 use Rattle.lvm_transfer.proofs.moves.transfer.Goals as goal
 use Rattle.lvm_transfer.proofs.moves.transfer.Goals.{in-Ticket, in-Dark}
 

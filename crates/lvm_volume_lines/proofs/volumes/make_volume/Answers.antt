@@ -3,8 +3,8 @@ use Rattle.lvm_core.specs.State.{state_of}
 use Rattle.lvm_range_lines.specs.passed.Handover.{MayServe, StaysSound}
 use Rattle.lvm_range_lines.proofs.passed.Handover.{mklv_serves}
 use Rattle.lvm_volume_lines.specs.Volumes.{wanted}
-use Rattle.lvm_volume_lines.proofs.Ending.{dark_still, lit_still, mklv_facts, mklv_shape, rows_stay}
-use Rattle.lvm_volume_lines.proofs.OfVolumes.{if_on}
+use Rattle.lvm_volume_lines.proofs.VolumesLemmas.Ending.{dark_still, lit_still, mklv_facts, mklv_shape, rows_stay}
+use Rattle.lvm_volume_lines.proofs.VolumesLemmas.OfVolumes.{if_on}
 use Rattle.lvm_volume_lines.proofs.volumes.make_volume.Goals as goal
 
 pub mklv-made-requires-clause-settled : goal.mklv-made-requires-clause-settled

@@ -2,8 +2,8 @@ use Rattle.std.proofs.Common.{[]}
 use Rattle.lvm_core.specs.State.{state_of}
 use Rattle.lvm_range_lines.specs.passed.Handover.{MayServe, StaysSound}
 use Rattle.lvm_range_lines.proofs.passed.Handover.{rmlv_serves}
-use Rattle.lvm_volume_lines.proofs.Ending.{dark_still, lit_still, rmlv_facts, rmlv_shape, rows_stay}
-use Rattle.lvm_volume_lines.proofs.OfVolumes.{if_on}
+use Rattle.lvm_volume_lines.proofs.VolumesLemmas.Ending.{dark_still, lit_still, rmlv_facts, rmlv_shape, rows_stay}
+use Rattle.lvm_volume_lines.proofs.VolumesLemmas.OfVolumes.{if_on}
 use Rattle.lvm_volume_lines.proofs.volumes.remove_volume.Goals as goal
 
 pub rmlv-removed-requires : goal.rmlv-removed-requires

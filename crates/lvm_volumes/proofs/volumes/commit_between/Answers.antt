@@ -9,7 +9,7 @@ use Rattle.lvm_core.specs.Settled.{IsSettled, HasSpareNumbers}
 use Rattle.lvm_core.specs.Committing.{HasCommitted, CommitEnds}
 use Rattle.lvm_core.specs.Leaves.{Leaves, committing}
 use Rattle.lvm_volumes.specs.Stages.{with_entry}
-use Rattle.lvm_volumes.proofs.Entering.{settled_entered, spare_more, needs_one}
+use Rattle.lvm_volumes.proofs.EndingsLemmas.Entering.{settled_entered, spare_more, needs_one}
 use Rattle.lvm_volumes.proofs.volumes.commit_between.Goals as goal
 
 pub commit-requires-clause-settled : goal.commit-requires-clause-settled

@@ -1,0 +1,3 @@
+pub mod Transferring
+pub mod Following
+pub mod Fronts

@@ -1,0 +1,5 @@
+pub mod Fresh
+pub mod Holding
+pub mod Zeroing
+pub mod Entering
+pub mod Notes

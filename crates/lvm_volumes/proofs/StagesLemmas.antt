@@ -1,0 +1,5 @@
+pub mod Breaking
+pub mod Zeros
+pub mod Clearing
+pub mod Removing
+pub mod Naming
