@@ -6,13 +6,12 @@ use Rattle.lvm_status.specs.Calls.{IsMarkable}
 use Rattle.lvm_status.specs.Members.{HasItsRows}
 use Rattle.lvm_session.specs.Sound.{IsSound}
 use Rattle.lvm_session.specs.State.{State}
-use Rattle.lvm_volume_lines.specs.passed.VolumePlan.{GroupFault}
+use Rattle.lvm_volume_lines.specs.passed.VolumePlan.{GroupFault, ends_session}
 use Rattle.lvm_volume_lines.specs.passed.GroupFaultVariants as fault
 use Rattle.lvm_volume_lines.specs.passed.Mirrors.{AreAdded, AreTaken, MklvcopyGives, RmlvcopyGives, to_add, to_take}
 use Rattle.lvm_volume_lines.specs.passed.Handover.{IsCommanded}
 use Rattle.lvm_volume_lines.specs.passed.TieCopies.{MayServeWith}
 use Rattle.lvm_volume_lines.proofs.passed.TieCopies.{added_markable, mklvcopy_serves, rmlvcopy_serves}
-use Rattle.lvm_volume_lines.specs.Volumes.{ends_session}
 use Rattle.lvm_volume_lines.proofs.Ending.{dark_still, lit_still, rows_stay}
 use Rattle.lvm_volume_lines.proofs.OfVolumes.{if_on}
 use Rattle.lvm_copy_lines.proofs.Giving.{mklvcopy_facts, mklvcopy_shape, rmlvcopy_facts, rmlvcopy_shape}

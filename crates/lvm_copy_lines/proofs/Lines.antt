@@ -3,9 +3,9 @@ use Rattle.std.proofs.Common.{◌≡◌, ℕ, List, Some, Result, Ok, Err, refl}
 use Rattle.lvm_num.specs.declared.place.Pp.{Pp}
 use Rattle.lvm_session.specs.State.{Core, State as Session}
 use Rattle.lvm_core.specs.Looking.{IsNumberOf}
-use Rattle.lvm_volume_lines.specs.passed.VolumePlan.{GroupFault}
+use Rattle.lvm_volume_lines.specs.passed.VolumePlan.{GroupFault, is_over}
 use Rattle.lvm_volume_lines.specs.passed.Stage.{ScriptState}
-use Rattle.lvm_volume_lines.specs.Volumes.{Drains, is_over, volume_reply}
+use Rattle.lvm_volume_lines.specs.Volumes.{Drains, volume_reply}
 use Rattle.lvm_copy_lines.specs.Copies.{AddsCopies, MklvcopyDoes, MklvcopyEnds, MklvcopyFails, RemovesCopies, RmlvcopyDoes, RmlvcopyEnds, RmlvcopyFails}
 
 pub mklvcopy_does : (name : List ℕ) (copies lv : ℕ) (core : Core) (left : ℕ) (mid : Session) (given : Result (List Pp) GroupFault) (old new : ScriptState) → old.session ≡ Some core → Drains core old left mid

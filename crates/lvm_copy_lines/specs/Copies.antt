@@ -2,9 +2,9 @@
 use Rattle.std.specs.Prelude.{◌≡◌, ◌≤◌, ℕ, Bool, false, List, Some, None, Result, Ok, Err}
 use Rattle.lvm_num.specs.declared.place.Pp.{Pp}
 use Rattle.lvm_session.specs.State.{Core, State as Session}
+use Rattle.lvm_core.specs.declared.fault.CommitFault.{CommitFault}
 use Rattle.lvm_core.specs.Looking.{IsNumberOf, HasNoVolumeNamed}
-use Rattle.lvm_volume_lines.specs.passed.Driver.{DrainFault}
-use Rattle.lvm_volume_lines.specs.passed.VolumePlan.{GroupFault}
+use Rattle.lvm_volume_lines.specs.passed.VolumePlan.{GroupFault, ends_session}
 use Rattle.lvm_volume_lines.specs.passed.Mirrors.{MklvcopyGives, RmlvcopyGives, to_add, to_take}
 use Rattle.lvm_volume_lines.specs.passed.Stage.{IsRefused}
 use Rattle.lvm_volume_lines.specs.passed.Stage.{open_in}
@@ -12,7 +12,7 @@ use Rattle.lvm_volume_lines.specs.passed.Stage.{ScriptState}
 use Rattle.lvm_volume_lines.specs.passed.RefusalVariants as refusal
 use Rattle.lvm_volume_lines.specs.passed.Stage.{Reply}
 use Rattle.lvm_volume_lines.specs.passed.ReplyVariants as reply
-use Rattle.lvm_volume_lines.specs.Volumes.{Drains, IsDone, IsUndrained, StaysOn, ends_session, refusal_for}
+use Rattle.lvm_volume_lines.specs.Volumes.{Drains, IsDone, IsUndrained, StaysOn, refusal_for}
 
 -- ---- a command
 
@@ -30,7 +30,7 @@ RmlvcopyEnds lv copies given over patience mid old new = IsDone (λ was is. Rmlv
 pub data MklvcopyDoes (name : List ℕ) (copies : ℕ) (old new : ScriptState) (answer : Reply) : Type 0 where
   NoGroupForMklvcopy : old.session ≡ None → IsRefused refusal.NoGroup answer old new → MklvcopyDoes name copies old new answer
   BusyMklvcopy : 1 ≤ open_in old.session → IsRefused refusal.Busy answer old new → MklvcopyDoes name copies old new answer
-  UndrainedMklvcopy : (core : Core) (why : DrainFault) → old.session ≡ Some core → IsUndrained core old new why answer → MklvcopyDoes name copies old new answer
+  UndrainedMklvcopy : (core : Core) (why : CommitFault) → old.session ≡ Some core → IsUndrained core old new why answer → MklvcopyDoes name copies old new answer
   NoVolumeForMklvcopy : (core : Core) (left : ℕ) (mid : Session) → old.session ≡ Some core → Drains core old left mid → HasNoVolumeNamed mid.core.descriptor.lvs name → StaysOn mid old new → new.last ≡ old.last
       → answer ≡ reply.Refused refusal.NoVolume → MklvcopyDoes name copies old new answer
   AddsCopies : (core : Core) (left : ℕ) (mid : Session) (lv : ℕ) (added : List Pp) → old.session ≡ Some core → Drains core old left mid → IsNumberOf mid.core.descriptor.lvs name lv
@@ -42,7 +42,7 @@ pub data MklvcopyDoes (name : List ℕ) (copies : ℕ) (old new : ScriptState) (
 pub data RmlvcopyDoes (name : List ℕ) (copies : ℕ) (old new : ScriptState) (answer : Reply) : Type 0 where
   NoGroupForRmlvcopy : old.session ≡ None → IsRefused refusal.NoGroup answer old new → RmlvcopyDoes name copies old new answer
   BusyRmlvcopy : 1 ≤ open_in old.session → IsRefused refusal.Busy answer old new → RmlvcopyDoes name copies old new answer
-  UndrainedRmlvcopy : (core : Core) (why : DrainFault) → old.session ≡ Some core → IsUndrained core old new why answer → RmlvcopyDoes name copies old new answer
+  UndrainedRmlvcopy : (core : Core) (why : CommitFault) → old.session ≡ Some core → IsUndrained core old new why answer → RmlvcopyDoes name copies old new answer
   NoVolumeForRmlvcopy : (core : Core) (left : ℕ) (mid : Session) → old.session ≡ Some core → Drains core old left mid → HasNoVolumeNamed mid.core.descriptor.lvs name → StaysOn mid old new → new.last ≡ old.last
       → answer ≡ reply.Refused refusal.NoVolume → RmlvcopyDoes name copies old new answer
   RemovesCopies : (core : Core) (left : ℕ) (mid : Session) (lv : ℕ) → old.session ≡ Some core → Drains core old left mid → IsNumberOf mid.core.descriptor.lvs name lv

@@ -10,6 +10,5 @@ mod shown;
 mod sound;
 
 pub use closed::Closed;
-pub use drain::DrainFault;
 pub use driver::Driver;
 pub use shown::Lent;

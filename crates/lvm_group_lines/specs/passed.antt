@@ -1,6 +1,5 @@
 pub mod AskRangeFaultVariants
 pub mod DiskLines
-pub mod DrainFaultVariants
 pub mod Driver
 pub mod Earlier
 pub mod Group

@@ -22,7 +22,8 @@ use Rattle.lvm_core.specs.Settled.{IsSettled}
 use Rattle.lvm_core.specs.Sound.{IsSoundBetween}
 use Rattle.lvm_volume_plan.specs.declared.fault.GroupFault.{GroupFault}
 use Rattle.lvm_volume_plan.specs.declared.new_volume.NewVolume.{NewVolume}
-use Rattle.lvm_volumes.specs.Endings.{HasFresh, IfOn, KeepsFresh, StillHeld}
+use Rattle.lvm_volume_plan.specs.Faults.{IfOn}
+use Rattle.lvm_volumes.specs.Endings.{HasFresh, KeepsFresh, StillHeld}
 use Rattle.lvm_volumes.specs.Volumes.{MklvGives, RmlvGives, to_make, to_remove}
 
 -- ---- what is handed over

@@ -14,21 +14,22 @@ use Rattle.lvm_status.specs.Update.{Stored}
 use Rattle.lvm_commit.specs.Settling.{HasLostQuorum, there}
 use Rattle.lvm_session.specs.State.{Core, State as Session}
 use Rattle.lvm_session.specs.Judging.{is_missing}
+use Rattle.lvm_core.specs.declared.fault.CommitFault.{CommitFault}
+use Rattle.lvm_core.specs.declared.fault.CommitFault.TheVariants as commit
 use Rattle.lvm_line.specs.Causes.{HasCause, HasFailed, HasLostMember}
 use Rattle.lvm_write.proofs.Transfers.{rose_then}
 use Rattle.lvm_disk.proofs.Rising.{rose_before}
-use Rattle.lvm_copy_lines.specs.passed.Driver.{DrainFault}
-use Rattle.lvm_copy_lines.specs.passed.DrainFaultVariants as drain_fault
 use Rattle.lvm_copy_lines.specs.passed.Stage.{IsBetween, Refusal, Reply, patience_of_line, ScriptState}
 use Rattle.lvm_copy_lines.specs.passed.RefusalVariants as refusal
 use Rattle.lvm_copy_lines.specs.passed.ReplyVariants as reply
-use Rattle.lvm_copy_lines.specs.passed.VolumeLines.{Drains, IsLeft, IsUndrained, drain_refusal, ends_session, refusal_for}
+use Rattle.lvm_copy_lines.specs.passed.VolumeLines.{Drains, IsLeft, IsUndrained, drain_refusal, refusal_for}
 use Rattle.lvm_copy_lines.proofs.passed.VolumeLines.{FaultFacts}
 use Rattle.lvm_copy_lines.proofs.passed.Ranges.{off_votes}
 use Rattle.lvm_line.proofs.Knowing.{IsOther, Known, has_by}
 use Rattle.lvm_line.proofs.Turns.{dark_cause, off_cause, stuck_cause}
 use Rattle.lvm_volume_plan.specs.declared.fault.GroupFault.{GroupFault}
 use Rattle.lvm_volume_plan.specs.declared.fault.GroupFault.TheVariants as fault
+use Rattle.lvm_volume_plan.specs.Faults.{ends_session}
 
 -- votes that are too few to write are at most half
 at_most_half : (group : Descriptor) (have : ℕ) → IsFalse (is_enough_to_write group have) → 2 * have ≤ total_votes group
@@ -47,24 +48,26 @@ none_left : (left : Session) (old new : ScriptState) → IsLeft true left old ne
 none_left left old new over = over.session
 
 -- why the turns before the command have ended is no want of votes for a quorum
-not_counted : (why : Refusal) (fault : DrainFault) (have total : ℕ) → reply.Refused why ≡ reply.Refused (drain_refusal fault) → why ≡ refusal.NoQuorum have total → ⊥
-not_counted why drain_fault.Dark have total says is = cc (says, is)
-not_counted why (drain_fault.WentOff left all) have total says is = cc (says, is)
-not_counted why drain_fault.Stuck have total says is = cc (says, is)
+not_counted : (why : Refusal) (fault : CommitFault) (have total : ℕ) → reply.Refused why ≡ reply.Refused (drain_refusal fault) → why ≡ refusal.NoQuorum have total → ⊥
+not_counted why commit.Dark have total says is = cc (says, is)
+not_counted why (commit.WentOff left all) have total says is = cc (says, is)
+not_counted why commit.Stuck have total says is = cc (says, is)
+not_counted why (commit.DiskFailed disk) have total says is = cc (says, is)
 
 -- the turns before the command have ended for what happened then
 module _ (read : Result (Option Command) Misfit) (old new : ScriptState) (core : Core) (other : IsOther read) (between : IsBetween old.moment old.session old.posts) (some : old.session ≡ Some core) where
-  why_undrained : (fault : DrainFault) → IsUndrained core old new fault (reply.Refused (drain_refusal fault)) → HasCause read (drain_refusal fault) old new
-  why_undrained drain_fault.Dark ends = has_by read refusal.Dark old new other (dark_cause old new core ends.end between ends.runs.leaves ends.sound (ap (λ (d : Device). d.counts) ends.over.lit) ends.fails)
-  why_undrained (drain_fault.WentOff have total) ends =
+  why_undrained : (fault : CommitFault) → IsUndrained core old new fault (reply.Refused (drain_refusal fault)) → HasCause read (drain_refusal fault) old new
+  why_undrained commit.Dark ends = has_by read refusal.Dark old new other (dark_cause old new core ends.end between ends.runs.leaves ends.sound (ap (λ (d : Device). d.counts) ends.over.lit) ends.fails)
+  why_undrained (commit.WentOff have total) ends =
       let votes = off_votes ends.end ends.sound ends.fails.power_is in
       let few : 2 * have ≤ total = subst (λ (n : ℕ). 2 * have ≤ n) (sym ends.fails.total_is) (subst (λ (n : ℕ). 2 * n ≤ total_votes ends.end.core.descriptor) (sym ends.fails.have_is) votes.0) in
       let since = off_cause old new core ends.end between ends.runs.leaves ends.sound (ap (λ (d : Device). d.counts) ends.over.lit) have total some (few, votes.1) (ends.votes (ends.sound.off ends.fails.power_is)) in
-      has_by read (refusal.WentOff have total) old new other (since.0, inr (record { core = core; fault = drain_fault.WentOff have total; on = some; ends = ends }, since.1))
-  why_undrained drain_fault.Stuck ends =
+      has_by read (refusal.WentOff have total) old new other (since.0, inr (record { core = core; fault = commit.WentOff have total; on = some; ends = ends }, since.1))
+  why_undrained commit.Stuck ends =
       has_by read refusal.Stuck old new other (stuck_cause old new core ends.end between ends.runs.leaves ends.sound (ap (λ (d : Device). d.counts) ends.over.lit) ends.left ends.fails ends.waited)
+  why_undrained (commit.DiskFailed disk) ends = absurd ends.fails
 
-  pub undrained : (why : Refusal) (fault : DrainFault) → IsUndrained core old new fault (reply.Refused why) → Known read why old new
+  pub undrained : (why : Refusal) (fault : CommitFault) → IsUndrained core old new fault (reply.Refused why) → Known read why old new
   undrained why fault ends = record {
     cause = subst (λ (r : Refusal). HasCause read r old new) (let is = ends.says in cc (is)) (why_undrained fault (subst (λ (a : Reply). IsUndrained core old new fault a) ends.says ends));
     off = λ is. ends.over.session;

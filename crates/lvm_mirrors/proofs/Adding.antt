@@ -34,8 +34,9 @@ use Rattle.lvm_core.specs.Settled.{IsSettled, HasSpareNumbers}
 use Rattle.lvm_core.specs.Committing.{is_among, AreUnused, Restates, LetsCommit, HasStated, HasCommitted, CommitEnds, MarkEnds}
 use Rattle.lvm_core.specs.Leaves.{NoPartition, Always, IsHeldSince, Leaves, committing, marking}
 use Rattle.lvm_core.proofs.Marking.{pp_is}
+use Rattle.lvm_volume_plan.specs.Faults.{IfOn, command_answer}
 use Rattle.lvm_volumes.specs.Endings.{StillHeld, KeepsFresh}
-use Rattle.lvm_volumes.specs.Stages.{IfGoesOn, CommandBroke}
+use Rattle.lvm_volumes.specs.Stages.{CommandBroke}
 use Rattle.lvm_volumes.proofs.Breaking.{broken, broken_since, stopped}
 use Rattle.lvm_volumes.proofs.Entering.{many_bound, commit_still}
 use Rattle.lvm_volumes.proofs.Fresh.{not_stale, keeps_all, keeps_then}
@@ -174,7 +175,7 @@ module _ (lv copies : ℕ) (added : List Pp) (next : Descriptor) (a : State) (se
             let after : IsHeldSince run first b = λ past begins. mark_still.held (held past begins) in
             commits.spans run first after (lv, lets_add run first after) (leaves.spans run first held tt span))
 
-        pub all_still : (x : Result (Unit {0}) CommitFault) → CommitEnds next q b c x → IfGoesOn x (StillHeld a c)
+        pub all_still : (x : Result (Unit {0}) CommitFault) → CommitEnds next q b c x → IfOn (command_answer x) (StillHeld a c)
         all_still (Ok _) ends = still_then a b c mark_still (commit_still next q r b c commits left ends.stated (ap (λ (x : Descriptor). x.id) planned.is ∙ sym (ap (λ (x : Descriptor). x.id) same))
             (λ n. ap (λ (x : Descriptor). is_member x n) planned.is ∙ sym (ap (λ (x : Descriptor). is_member x n) same)) none_named)
         all_still (Err why) ends = stopped (HasCommitted next b c) (StillHeld a c) q b c why ends
@@ -190,7 +191,7 @@ module _ (lv copies : ℕ) (added : List Pp) (next : Descriptor) (a : State) (se
             let old : IsOneOf (copies_of planned.row lp) q.0 = subst (λ (ps : List Pp). IsOneOf ps q.0) (copies_by b.core.descriptor lv lp planned.row volume_mid) q.1 in
             (q.0, more.old_copies d (is_there a.core) lv copies planned.row planned.pps planned.group.valid planned.may.places.grows.found.volume planned.may.places.grows.are.more planned.may.places.placed lp q.0 lt old, not_stale (is_wanted_stale b.core q.0) q.2))
 
-        pub all_keeps : (x : Result (Unit {0}) CommitFault) → CommitEnds next q b c x → IfGoesOn x (KeepsFresh a c)
+        pub all_keeps : (x : Result (Unit {0}) CommitFault) → CommitEnds next q b c x → IfOn (command_answer x) (KeepsFresh a c)
         all_keeps (Ok _) ends = keeps_then a b c same mark_keeps (commit_keeps ends)
         all_keeps (Err why) ends = stopped (HasCommitted next b c) (KeepsFresh a c) q b c why ends
 

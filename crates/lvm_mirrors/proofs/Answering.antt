@@ -10,8 +10,8 @@ use Rattle.lvm_session.specs.State.{State}
 use Rattle.lvm_core.specs.Leaves.{Leaves}
 use Rattle.lvm_volume_plan.specs.declared.fault.GroupFault.{GroupFault}
 use Rattle.lvm_volume_plan.specs.declared.fault.GroupFault.TheVariants as fault
-use Rattle.lvm_volume_plan.specs.Faults.{fault_of}
-use Rattle.lvm_volumes.specs.Stages.{IfGoesOn, CommandBroke}
+use Rattle.lvm_volume_plan.specs.Faults.{fault_of, IfOn}
+use Rattle.lvm_volumes.specs.Stages.{CommandBroke}
 use Rattle.lvm_volumes.proofs.Leaving.{leaves_wider}
 use Rattle.lvm_copy_plan.specs.Faults.{RefusesMklvcopy, RefusesRmlvcopy}
 use Rattle.lvm_copy_plan.specs.PlannedCopies.{ArePlanned, IsWithFewer}
@@ -53,7 +53,7 @@ refused_fewer lv copies p s fault.Memory refuses = (refl, refuses)
 -- ---- faults
 
 -- nothing is said of a session at which a command broke off
-pub broke_so : (P : Type 0) (log : Log) (p : ℕ) (a b : State) (why : CommitFault) → CommandBroke log p a b why → IfGoesOn (Err why) P
+pub broke_so : (P : Type 0) (log : Log) (p : ℕ) (a b : State) (why : CommitFault) → CommandBroke log p a b why → IfOn {A = Unit {0}} (Err (fault_of why)) P
 broke_so P log p a b commit.Dark ends = tt
 broke_so P log p a b (commit.WentOff have total) ends = tt
 broke_so P log p a b commit.Stuck ends = tt

@@ -2,9 +2,8 @@
 ghost use Rattle.lvm_core.specs.State.{state_of};
 ghost use Rattle.lvm_core.specs.Leaves.{Leaves};
 ghost use Rattle.lvm_core.specs.Settled.{IsSettled};
-ghost use Rattle.lvm_volume_plan.specs.Faults.{TakesCommands};
-ghost use Rattle.lvm_volumes.specs.Endings.{IfOn, StillHeld, KeepsFresh};
-ghost use Rattle.lvm_volumes.specs.Stages.{IfGoesOn};
+ghost use Rattle.lvm_volume_plan.specs.Faults.{TakesCommands, IfOn, command_answer};
+ghost use Rattle.lvm_volumes.specs.Endings.{StillHeld, KeepsFresh};
 ghost use Rattle.lvm_mirrors.specs.Mirrors.{MklvcopyGives, RmlvcopyGives, to_add, to_take};
 ghost use Rattle.lvm_mirrors.specs.Stages.{MayAdd, adding, AddEnds};
 
@@ -94,8 +93,8 @@ fn add<S: Shelf>(
     requires settled { IsSettled driver.old.1 }
     requires may { MayAdd driver.old.1 added.now next }
     ensures ends { AddEnds added.now next patience.old.left (state_of S.device driver.old) (state_of S.device driver.new) result }
-    ensures held { IfGoesOn result (StillHeld (state_of S.device driver.old) (state_of S.device driver.new)) }
-    ensures fresh { IfGoesOn result (KeepsFresh (state_of S.device driver.old) (state_of S.device driver.new)) }
+    ensures held { IfOn (command_answer result) (StillHeld (state_of S.device driver.old) (state_of S.device driver.new)) }
+    ensures fresh { IfOn (command_answer result) (KeepsFresh (state_of S.device driver.old) (state_of S.device driver.new)) }
     ensures leaves { Leaves (adding added.now next 2) patience.old.left patience.new.left (state_of S.device driver.old) (state_of S.device driver.new) }
 {
     driver.set_status(added, &[], patience)?;

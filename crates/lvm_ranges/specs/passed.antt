@@ -1,3 +1,2 @@
-pub mod DrainFaultVariants
 pub mod Driver
 pub mod Running

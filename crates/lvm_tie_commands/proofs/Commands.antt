@@ -1,6 +1,6 @@
 -- What stands on the disks of a session goes on to stand over a command, by what each of them leaves.
-use Rattle.std.proofs.Common.{◌≡◌, ℕ, ◌<◌, ◌^◌, ◌++◌, Bool, true, false, ◌&&◌, ◌||◌, not, List, [], Option, None, Some, Result, Ok, Err, count_by, refl, sym, ap, subst, ◌∙◌}
-use Rattle.std.specs.Prelude.{◌≢◌, IsTrue}
+use Rattle.std.proofs.Common.{◌≡◌, ℕ, ◌<◌, ◌^◌, ◌++◌, Bool, true, false, ◌&&◌, ◌||◌, not, List, [], Option, None, Some, Result, count_by, refl, sym, ap, subst, ◌∙◌}
+use Rattle.std.specs.Prelude.{◌≢◌, IsTrue, ⊤, MatchBool}
 use Rattle.lvm_num.specs.declared.status.Status.{Status}
 use Rattle.lvm_num.specs.Descriptor.{is_member}
 use Rattle.lvm_num.specs.Record.{Stamped}
@@ -25,8 +25,8 @@ use Rattle.lvm_core.specs.Held.{IsHeld, NotesAreHome}
 use Rattle.lvm_core.specs.Leaves.{EntersVolumes, IsOfCommand, Leaves, Scope}
 use Rattle.lvm_core.specs.Settled.{IsSettled}
 use Rattle.lvm_volume_plan.specs.declared.fault.GroupFault.{GroupFault}
-use Rattle.lvm_volume_plan.specs.declared.fault.GroupFault.TheVariants as fault
-use Rattle.lvm_handover.specs.passed.Volumes.{IfAlone, IfOn, StillHeld}
+use Rattle.lvm_volume_plan.specs.Faults.{IfOn, is_over}
+use Rattle.lvm_handover.specs.passed.Volumes.{IfAlone, StillHeld}
 use Rattle.lvm_rest.specs.Rest.{IsEven}
 use Rattle.lvm_even.specs.Even.{AreWanted}
 use Rattle.lvm_handover.specs.passed.Tie.{SparesDescriptors, IsTied}
@@ -41,20 +41,11 @@ use Rattle.lvm_tie_commands.proofs.Standing.{Held, members_show, of_told, ties}
 
 -- where all three hold of a command whose session goes on, so does what follows from them
 pub on_all : {A : Type 0} (answer : Result A GroupFault) (P Q R S : Type 0) → IfOn answer P → IfOn answer Q → IfOn answer R → (P → Q → R → S) → IfOn answer S
-on_all (Ok done) P Q R S p q r all = all p q r
-on_all (Err fault.Dark) P Q R S p q r all = tt
-on_all (Err (fault.WentOff have total)) P Q R S p q r all = tt
-on_all (Err fault.Stuck) P Q R S p q r all = tt
-on_all (Err fault.Busy) P Q R S p q r all = all p q r
-on_all (Err fault.NoVolume) P Q R S p q r all = all p q r
-on_all (Err fault.VolumeExists) P Q R S p q r all = all p q r
-on_all (Err (fault.CopyLimit now)) P Q R S p q r all = all p q r
-on_all (Err (fault.LastFresh lp)) P Q R S p q r all = all p q r
-on_all (Err (fault.TooMany limit)) P Q R S p q r all = all p q r
-on_all (Err (fault.NoRoom free)) P Q R S p q r all = all p q r
-on_all (Err fault.HistoryFull) P Q R S p q r all = all p q r
-on_all (Err (fault.DiskFailed disk)) P Q R S p q r all = all p q r
-on_all (Err fault.Memory) P Q R S p q r all = all p q r
+on_all answer P Q R S p q r all = by (is_over answer) p q r
+  where
+    by : (over : Bool) → MatchBool over ⊤ P → MatchBool over ⊤ Q → MatchBool over ⊤ R → MatchBool over ⊤ S
+    by true p q r = tt
+    by false p q r = all p q r
 
 told_next : (a b : Option Media) (R : Media → Media → Type 0) (x : Media) → a ≡ Some x → BothTold a b R → (y : Media) × (b ≡ Some y)
 told_next None b R x told both = absurd (cc told)

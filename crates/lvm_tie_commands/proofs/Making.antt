@@ -20,8 +20,9 @@ use Rattle.lvm_volume_plan.specs.declared.fault.GroupFault.{GroupFault}
 use Rattle.lvm_volume_plan.specs.declared.fault.GroupFault.TheVariants as fault
 use Rattle.lvm_volume_plan.specs.declared.new_volume.NewVolume.{NewVolume}
 use Rattle.lvm_volume_plan.specs.NewVolume.{row_for, with_volume}
+use Rattle.lvm_volume_plan.specs.Faults.{IfOn}
 use Rattle.lvm_even.specs.passed.Volumes.{AreZeroed}
-use Rattle.lvm_handover.specs.passed.Volumes.{IfOn, StillHeld, IsChosen, IsVolumeMade, MklvGives, making, to_make}
+use Rattle.lvm_handover.specs.passed.Volumes.{StillHeld, IsChosen, IsVolumeMade, MklvGives, making, to_make}
 use Rattle.lvm_handover.proofs.passed.Volumes.{free_of}
 use Rattle.lvm_handover.specs.Serving.{IsCommanded}
 use Rattle.lvm_even.proofs.Even.{mklv_keeps_even}

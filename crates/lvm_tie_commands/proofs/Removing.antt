@@ -14,7 +14,8 @@ use Rattle.lvm_core.specs.Settled.{IsSettled}
 use Rattle.lvm_volume_plan.specs.declared.fault.GroupFault.{GroupFault}
 use Rattle.lvm_volume_plan.specs.declared.fault.GroupFault.TheVariants as fault
 use Rattle.lvm_volume_plan.specs.NewVolume.{without_volume}
-use Rattle.lvm_handover.specs.passed.Volumes.{IfOn, StillHeld, RmlvGives, to_remove}
+use Rattle.lvm_volume_plan.specs.Faults.{IfOn}
+use Rattle.lvm_handover.specs.passed.Volumes.{StillHeld, RmlvGives, to_remove}
 use Rattle.lvm_handover.specs.Serving.{IsCommanded}
 use Rattle.lvm_even.proofs.Even.{rmlv_keeps_even}
 use Rattle.lvm_even.proofs.OffLemmas.{fewer_are_even}

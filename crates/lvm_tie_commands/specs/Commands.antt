@@ -12,7 +12,8 @@ use Rattle.lvm_core.specs.Committing.{moment_of}
 use Rattle.lvm_core.specs.Leaves.{EntersVolumes}
 use Rattle.lvm_volume_plan.specs.declared.fault.GroupFault.{GroupFault}
 use Rattle.lvm_volume_plan.specs.declared.new_volume.NewVolume.{NewVolume}
-use Rattle.lvm_handover.specs.passed.Volumes.{IfOn, MklvGives, RmlvGives, to_make, to_remove}
+use Rattle.lvm_volume_plan.specs.Faults.{IfOn}
+use Rattle.lvm_handover.specs.passed.Volumes.{MklvGives, RmlvGives, to_make, to_remove}
 use Rattle.lvm_handover.specs.Serving.{IsCommanded, IsServed}
 use Rattle.lvm_handover.specs.passed.Tie.{IsStamped}
 use Rattle.lvm_tie_commands.specs.Standing.{HoldsEmpty, StandsAfter, StandsSince}

@@ -22,7 +22,8 @@ use Rattle.lvm_core.specs.Leaves.{NoPartition}
 use Rattle.lvm_core.specs.Settled.{IsSettled}
 use Rattle.lvm_volume_plan.specs.declared.fault.GroupFault.{GroupFault}
 use Rattle.lvm_volume_plan.specs.declared.fault.GroupFault.TheVariants as fault
-use Rattle.lvm_volumes.specs.Endings.{IfOn, StillHeld}
+use Rattle.lvm_volume_plan.specs.Faults.{IfOn}
+use Rattle.lvm_volumes.specs.Endings.{StillHeld}
 use Rattle.lvm_copy_plan.specs.Copies.{further_copies, with_copies, with_map}
 use Rattle.lvm_copy_plan.specs.Faults.{HasFurtherPlaces}
 use Rattle.lvm_mirrors.specs.Mirrors.{AreAdded, IsFurther, IsWithMore, MklvcopyGives, to_add}

@@ -7,7 +7,7 @@ use Rattle.lvm_steps.specs.Moments.{Keeps}
 use Rattle.lvm_session.specs.State.{State}
 use Rattle.lvm_core.specs.Committing.{moment_of}
 use Rattle.lvm_volume_plan.specs.declared.fault.GroupFault.{GroupFault}
-use Rattle.lvm_volumes.specs.Endings.{IfOn}
+use Rattle.lvm_volume_plan.specs.Faults.{IfOn}
 use Rattle.lvm_copy_plan.specs.Faults.{MayBeTaken}
 use Rattle.lvm_core.specs.Looking.{IsNumberOf}
 use Rattle.lvm_mirrors.specs.Mirrors.{IfShown, KeepsShown, MklvcopyGives, RmlvcopyGives, to_add, to_take}

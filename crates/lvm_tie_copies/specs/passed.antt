@@ -1,5 +1,4 @@
 pub mod AskRangeFaultVariants
-pub mod DrainFaultVariants
 pub mod Driver
 pub mod Earlier
 pub mod Group

@@ -13,7 +13,7 @@ use Rattle.lvm_line.specs.passed.Stage.{IsBrokenOff, OfGroup}
 use Rattle.lvm_line.specs.passed.Stage.{ScriptState}
 use Rattle.lvm_line.specs.passed.Stage.{Reply}
 use Rattle.lvm_line.specs.passed.ReplyVariants as reply
-use Rattle.lvm_line.specs.passed.VolumeLines.{Drains, ends_session, refusal_for}
+use Rattle.lvm_line.specs.passed.VolumeLines.{Drains, refusal_for}
 use Rattle.lvm_line.specs.passed.CopyLines.{MklvcopyDoes, NoGroupForMklvcopy, BusyMklvcopy, UndrainedMklvcopy, NoVolumeForMklvcopy, AddsCopies, MklvcopyFails, MklvcopyEnds}
 use Rattle.lvm_line.specs.passed.CopyLines.{RmlvcopyDoes, NoGroupForRmlvcopy, BusyRmlvcopy, UndrainedRmlvcopy, NoVolumeForRmlvcopy, RemovesCopies, RmlvcopyFails, RmlvcopyEnds}
 use Rattle.lvm_top.specs.Standing.{MayHaveCommitted, StoodBefore, WasDrained}
@@ -21,6 +21,7 @@ use Rattle.lvm_top.proofs.Devices.{same_nothing}
 use Rattle.lvm_top.proofs.Volumes.{done_finds, idle_nothing, undrained_nothing}
 use Rattle.lvm_volume_plan.specs.declared.fault.GroupFault.{GroupFault}
 use Rattle.lvm_volume_plan.specs.declared.fault.GroupFault.TheVariants as fault
+use Rattle.lvm_volume_plan.specs.Faults.{ends_session}
 
 -- ---- with other copies it is the same group
 

@@ -37,6 +37,7 @@ use Rattle.lvm_num.specs.declared.descriptor.Mode.TheVariants.{Passive}
 use Rattle.lvm_num.specs.declared.place.Pp.{Pp}
 use Rattle.lvm_volume_plan.specs.declared.new_volume.NewVolume.{NewVolume}
 use Rattle.lvm_volume_plan.specs.NewVolume.{row_for, without_volume}
+use Rattle.lvm_volume_plan.specs.Faults.{ends_session}
 use Rattle.lvm_volume_plan.proofs.Sublists.{one_filter, one_insert}
 use Rattle.lvm_line.specs.passed.GroupLines.{IsLeft, MkvgDoes, VaryonDoes, VaryoffDoes, NoMemoryForLine, NoMkvgWhileOn, Makes, NoVaryonWhileOn}
 use Rattle.lvm_line.specs.passed.GroupLines.{Varies, NoVaryoff, BusyVaryoff, VariesOff}
@@ -55,7 +56,7 @@ use Rattle.lvm_line.specs.Lines.{LineDoes, role_of}
 use Rattle.lvm_line.specs.passed.Stage.{HasBegunHeld, OfGroup, ScriptState, Reply, is_unheard}
 use Rattle.lvm_line.specs.passed.VolumeLines.{Drains, IsDone, StaysOn, MklvDoes, RmlvDoes, NoGroupForMklv, BusyMklv, UndrainedMklv, MakesVolume}
 use Rattle.lvm_line.specs.passed.VolumeLines.{MklvFails, NoGroupForRmlv, BusyRmlv, UndrainedRmlv, NoVolumeForRmlv, RemovesVolume, RmlvFails}
-use Rattle.lvm_line.specs.passed.VolumeLines.{ends_session, wanted}
+use Rattle.lvm_line.specs.passed.VolumeLines.{wanted}
 use Rattle.lvm_line.specs.passed.CopyLines.{MklvcopyDoes, NoGroupForMklvcopy, BusyMklvcopy, UndrainedMklvcopy, NoVolumeForMklvcopy, AddsCopies, MklvcopyFails}
 use Rattle.lvm_line.specs.passed.CopyLines.{RmlvcopyDoes, NoGroupForRmlvcopy, BusyRmlvcopy, UndrainedRmlvcopy, NoVolumeForRmlvcopy, RemovesCopies, RmlvcopyFails}
 use Rattle.lvm_top.specs.OneGroup.{FindsNoPassive}

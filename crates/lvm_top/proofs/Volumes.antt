@@ -17,12 +17,12 @@ use Rattle.lvm_parse.specs.Grammar.{line_of}
 use Rattle.lvm_vol.specs.Facts.{Fact}
 use Rattle.lvm_vol.specs.Log.{Log}
 use Rattle.lvm_steps.specs.Moments.{Begins}
+use Rattle.lvm_core.specs.declared.fault.CommitFault.{CommitFault}
 use Rattle.lvm_core.specs.declared.parts.Room.{Room}
 use Rattle.lvm_core.specs.Held.{IsHeld}
 use Rattle.lvm_core.specs.Looking.{IsNumberOf}
 use Rattle.lvm_core.specs.Leaves.{MayBeFound, Scope}
 use Rattle.lvm_session.specs.State.{Core, State as Session, is_there, state}
-use Rattle.lvm_line.specs.passed.Driver.{DrainFault}
 use Rattle.lvm_line.specs.passed.Tie.{LeavesDescriptors, IsGood, IsTied}
 use Rattle.lvm_line.proofs.passed.TieGroups.{tied_holds}
 use Rattle.lvm_line.specs.passed.TieCommands.{StandsAfter}
@@ -30,7 +30,7 @@ use Rattle.lvm_line.proofs.passed.TieCommands.{rests}
 use Rattle.lvm_line.specs.passed.Stage.{IsBrokenOff, OfGroup, OfGroupWhere, ScriptState, StandsAlone, Reply}
 use Rattle.lvm_line.specs.passed.VolumeLines.{Drains, IsDone, IsUndrained, StaysOn, MklvDoes, RmlvDoes, NoGroupForMklv, BusyMklv, UndrainedMklv}
 use Rattle.lvm_line.specs.passed.VolumeLines.{MakesVolume, MklvFails, NoGroupForRmlv, BusyRmlv, UndrainedRmlv, NoVolumeForRmlv, RemovesVolume}
-use Rattle.lvm_line.specs.passed.VolumeLines.{RmlvFails, MklvEnds, RmlvEnds, ends_session, refusal_for, wanted}
+use Rattle.lvm_line.specs.passed.VolumeLines.{RmlvFails, MklvEnds, RmlvEnds, refusal_for, wanted}
 use Rattle.lvm_line.specs.passed.ReplyVariants as reply
 use Rattle.lvm_line.specs.Lines.{IsLine, LineDoes}
 use Rattle.lvm_top.specs.Standing.{MayHaveCommitted, StoodBefore, HeldAtRest, StandsSince}
@@ -40,6 +40,7 @@ use Rattle.lvm_top.proofs.Transfers.{relit_nothing}
 use Rattle.lvm_volume_plan.specs.declared.fault.GroupFault.{GroupFault}
 use Rattle.lvm_volume_plan.specs.declared.fault.GroupFault.TheVariants as fault
 use Rattle.lvm_volume_plan.specs.NewVolume.{without_volume}
+use Rattle.lvm_volume_plan.specs.Faults.{ends_session}
 
 pub some_of : {X : Type 0} (o : Option X) → IsSome o → (x : X) × (o ≡ Some x)
 some_of (Some x) some = (x, refl)
@@ -99,7 +100,7 @@ module _ (run : ℕ) (old new : ScriptState) (leaves : LeavesDescriptors old.mom
       drained_nothing core left mid drains core.descriptor.id core.descriptor (subst (λ (d : Descriptor). MayBeFound mid.device d.id d) drains.runs.leaves.keeps.descriptor found)
 
   -- where the turns end otherwise
-  pub undrained_nothing : (core : Core) (why : DrainFault) (answer : Reply) → IsUndrained core old new why answer → NothingNew old.moment.device new.moment.device
+  pub undrained_nothing : (core : Core) (why : CommitFault) (answer : Reply) → IsUndrained core old new why answer → NothingNew old.moment.device new.moment.device
   undrained_nothing core why answer un =
       then_nothing old.moment.device un.end.device new.moment.device (runs_nothing (state old.moment.device core) un.end leaves un.runs) (relit_nothing un.end.device new.moment.device un.over.lit)
 

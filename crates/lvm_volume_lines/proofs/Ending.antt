@@ -16,10 +16,11 @@ use Rattle.lvm_range_lines.specs.passed.RefusalVariants as refusal
 use Rattle.lvm_range_lines.specs.passed.ReplyVariants as reply
 use Rattle.lvm_range_lines.specs.passed.Stage.{most_refusals}
 use Rattle.lvm_volume_lines.proofs.Commanding.{ClosesWell, closes_dark, closes_lit}
-use Rattle.lvm_volume_lines.specs.Volumes.{is_over, volume_reply}
+use Rattle.lvm_volume_lines.specs.Volumes.{volume_reply}
 use Rattle.lvm_volume_plan.specs.declared.fault.GroupFault.{GroupFault}
 use Rattle.lvm_volume_plan.specs.declared.fault.GroupFault.TheVariants as fault
 use Rattle.lvm_volume_plan.specs.declared.new_volume.NewVolume.{NewVolume}
+use Rattle.lvm_volume_plan.specs.Faults.{is_over}
 
 -- ---- what is known by the answer
 

@@ -4,8 +4,9 @@ use Rattle.lvm_session.specs.State.{Core, State as Session}
 use Rattle.lvm_core.specs.Looking.{IsNumberOf}
 use Rattle.lvm_volume_plan.specs.declared.fault.GroupFault.{GroupFault}
 use Rattle.lvm_volume_plan.specs.declared.new_volume.NewVolume.{NewVolume}
+use Rattle.lvm_volume_plan.specs.Faults.{is_over}
 use Rattle.lvm_range_lines.specs.passed.Stage.{IsOn, ScriptState}
-use Rattle.lvm_volume_lines.specs.Volumes.{Drains, MklvDoes, MklvEnds, MakesVolume, MklvFails, RmlvDoes, RmlvEnds, RemovesVolume, RmlvFails, is_over, volume_reply}
+use Rattle.lvm_volume_lines.specs.Volumes.{Drains, MklvDoes, MklvEnds, MakesVolume, MklvFails, RmlvDoes, RmlvEnds, RemovesVolume, RmlvFails, volume_reply}
 
 -- what holds of the session that is on
 pub on_some : (P : Core → Type 0) (on : Option Core) (core : Core) → IfSome on P → on ≡ Some core → P core

@@ -1,6 +1,6 @@
 -- Commands on volumes of the group that is on, from the session that has come to rest.
-use Rattle.std.proofs.Common.{◌≡◌, ◌≢◌, ◌⊎◌, inl, inr, ◌<◌, ◌^◌, ◌+◌, ℕ, Bool, true, false, not, Err, [], ◌∷◌, List, Option, Some, refl, sym, ◌∙◌, ap, subst, Result, length}
-use Rattle.std.specs.Prelude.{IfSome}
+use Rattle.std.proofs.Common.{◌≡◌, ◌≢◌, ◌⊎◌, inl, inr, ◌<◌, ◌^◌, ◌+◌, ℕ, Bool, true, false, not, [], ◌∷◌, List, Option, Some, refl, sym, ◌∙◌, ap, subst, Result, length}
+use Rattle.std.specs.Prelude.{⊤, MatchBool, IfSome}
 use Rattle.lvm_num.specs.declared.place.Pp.{Pp}
 use Rattle.lvm_num.specs.declared.descriptor.Descriptor.{Descriptor}
 use Rattle.lvm_disk.specs.Device.{Device, HasSectors, IsReady}
@@ -19,16 +19,16 @@ use Rattle.lvm_core.specs.State.{state_of}
 use Rattle.lvm_disk.proofs.Paths.{last-path}
 use Rattle.lvm_range_lines.specs.passed.Running.{LeavesSession}
 use Rattle.lvm_range_lines.specs.passed.TieCommands.{IsAloneAtFirst, IsLeftStanding, IsLeftStandingSince, MayBeCommanded, HoldsEmpty, StandsAfter}
-use Rattle.lvm_range_lines.specs.passed.Volumes.{IfOn, StillHeld}
+use Rattle.lvm_range_lines.specs.passed.Volumes.{StillHeld}
 use Rattle.lvm_volume_plan.specs.declared.fault.GroupFault.{GroupFault}
-use Rattle.lvm_volume_plan.specs.declared.fault.GroupFault.TheVariants as fault
+use Rattle.lvm_volume_plan.specs.Faults.{IfOn, is_over}
 use Rattle.lvm_range_lines.specs.passed.Stage.{CommandEnds, EndsUnasked, patience_of_line, GoesOn, IsAllowed, Role, HaveRooms, IsBetweenStage, IsFitting}
 use Rattle.lvm_range_lines.specs.passed.Stage.{IsOfKind, history_of, open_in, session_in, session_of, shelf_in, history_in, state_in, IsAtRest}
 use Rattle.lvm_range_lines.specs.passed.Stage.{IsOnBetween, ScriptState, without_facts, Holder, Reply, Stage}
 use Rattle.lvm_range_lines.specs.passed.HolderVariants as holder
 use Rattle.lvm_range_lines.proofs.passed.Stage.{LeavesAnswers}
 use Rattle.lvm_volume_lines.specs.Commands.{HasRested, IsCarriedOut, IsHeldAgain, IsLeftAs, IsLeftOff, IsLeftOn}
-use Rattle.lvm_volume_lines.specs.Volumes.{Drains, IsDone, StaysOn, is_over, volume_reply}
+use Rattle.lvm_volume_lines.specs.Volumes.{Drains, IsDone, StaysOn, volume_reply}
 use Rattle.lvm_volume_lines.proofs.Commanding.{Acts, AtMid, ClosesWell, Promised, empty_or, goes_off, goes_on, promised_by, ready_mid, rows_mid}
 use Rattle.lvm_volume_lines.proofs.Ending.{Facts, SameShape, closes_after, one_answer, ready_still, rows_stay}
 use Rattle.lvm_volume_lines.proofs.Resting.{IsStill, TurnsKeep, still_turns, turns_keep}
@@ -37,10 +37,7 @@ use Rattle.lvm_volume_lines.proofs.Resting.{IsStill, TurnsKeep, still_turns, tur
 
 -- the session goes on after an answer that doesn't end it
 pub if_on : {X : Type 0} (given : Result X GroupFault) (P : Type 0) → IfOn given P → is_over given ≡ false → P
-if_on (Err fault.Dark) P on goes = absurd (cc (goes))
-if_on (Err (fault.WentOff have total)) P on goes = absurd (cc (goes))
-if_on (Err fault.Stuck) P on goes = absurd (cc (goes))
-if_on given P on goes = on
+if_on given P on goes = subst (λ (over : Bool). MatchBool over ⊤ P) goes on
 
 no_open : {X : Type 0} (xs : List X) → length xs ≡ 0 → xs ≡ []
 no_open [] none = refl

@@ -6,10 +6,11 @@ use Rattle.lvm_disk.specs.Paths.{Path, Here}
 use Rattle.lvm_disk.proofs.Rising.{rose_by_none}
 use Rattle.lvm_session.specs.declared.open.Power.TheVariants as power
 use Rattle.lvm_session.specs.State.{Core, State}
+use Rattle.lvm_core.specs.declared.fault.CommitFault.{CommitFault}
 use Rattle.lvm_core.specs.Settled.{IsSettled}
 use Rattle.lvm_core.specs.Sound.{IsSoundBetween}
 use Rattle.lvm_core.specs.State.{state_of}
-use Rattle.lvm_range_lines.specs.passed.Driver.{DrainFault, FailsSo, IsAny, IsDrained, IsTurn}
+use Rattle.lvm_range_lines.specs.passed.Driver.{FailsSo, IsAny, IsDrained, IsTurn}
 use Rattle.lvm_range_lines.specs.passed.Running.{RunsOn}
 use Rattle.lvm_range_lines.proofs.passed.Running.{runs_none}
 use Rattle.lvm_range_lines.specs.passed.Handover.{MayHandOver}
@@ -80,7 +81,7 @@ module _ {S : Type 0} (device : S → Device) where
       between = between;
     }))
 
-    pub serving_breaks : (before after : ℕ) → after ≤ before → RoseBy (before - after) (device driver.0).counts.waits (device new.0).counts.waits → (why : DrainFault) → FailsSo after (state_of device new) why
+    pub serving_breaks : (before after : ℕ) → after ≤ before → RoseBy (before - after) (device driver.0).counts.waits (device new.0).counts.waits → (why : CommitFault) → FailsSo after (state_of device new) why
         → HasBrokenOff device by before after new why
     unfolding its_turned
     serving_breaks before after few waited why fails = subst (λ (h : Holder S). HasBrokenOff device h before after new why) (sym is) (record {

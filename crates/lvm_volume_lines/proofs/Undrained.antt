@@ -12,11 +12,12 @@ use Rattle.lvm_session.specs.declared.open.Power.{Power}
 use Rattle.lvm_session.specs.declared.open.Power.TheVariants as power
 use Rattle.lvm_session.specs.State.{Core, State as Session, state, votes_there}
 use Rattle.lvm_turn_losses.proofs.Votes.{votes_go}
+use Rattle.lvm_core.specs.declared.fault.CommitFault.{CommitFault}
+use Rattle.lvm_core.specs.declared.fault.CommitFault.TheVariants as commit
 use Rattle.lvm_core.specs.Settled.{IsSettled as IsSettledCore}
 use Rattle.lvm_core.specs.Sound.{HaveAllLanded}
 use Rattle.lvm_core.specs.State.{state_of}
-use Rattle.lvm_range_lines.specs.passed.Driver.{DrainFault, FailsSo}
-use Rattle.lvm_range_lines.specs.passed.DrainFaultVariants as drain_fault
+use Rattle.lvm_range_lines.specs.passed.Driver.{FailsSo}
 use Rattle.lvm_posts.specs.Posts.{AreAnswered, ended_with}
 use Rattle.lvm_range_lines.specs.passed.Running.{LeavesSession}
 use Rattle.lvm_range_lines.proofs.passed.Running.{stays_unstuck}
@@ -37,7 +38,7 @@ none_of_kind (holder.Off shelf history) none = tt
 none_of_kind (holder.Empty driver) none = absurd (cc (none))
 none_of_kind (holder.Serving driver) none = absurd (cc (none))
 
-module _ {S : Type 0} (role : Role) (acts : Acts role) (device : S → Device) (stage : Stage S) (fits : IsFitting stage) (between : IsBetweenStage device stage) (none : open_in (session_in stage) ≡ 0) (patience : ℕ) (driver : S × Core) (why : DrainFault)
+module _ {S : Type 0} (role : Role) (acts : Acts role) (device : S → Device) (stage : Stage S) (fits : IsFitting stage) (between : IsBetweenStage device stage) (none : open_in (session_in stage) ≡ 0) (patience : ℕ) (driver : S × Core) (why : CommitFault)
     (broken : HasBrokenOff device stage.holder patience_of_line patience driver why) (it : Stage S) (answer : Reply) (ended : IsEnded device driver stage.posts.items it)
     (rooms : (entries : ℕ) → HaveRooms entries stage.posts stage.bytes → HaveRooms entries it.posts it.bytes) (says : answer ≡ reply.Refused (drain_refusal why)) where
   abbrev core : Core
@@ -87,10 +88,11 @@ module _ {S : Type 0} (role : Role) (acts : Acts role) (device : S → Device) (
   over : (IsStuck answer → ⊥) → is_over end.core.power ≡ true
   over heard = by why broken.fails says
     where
-      by : (w : DrainFault) → FailsSo patience end w → answer ≡ reply.Refused (drain_refusal w) → is_over end.core.power ≡ true
-      by drain_fault.Dark fails is = ap is_over fails
-      by (drain_fault.WentOff have total) fails is = ap is_over fails.power_is
-      by drain_fault.Stuck fails is = absurd (heard is)
+      by : (w : CommitFault) → FailsSo patience end w → answer ≡ reply.Refused (drain_refusal w) → is_over end.core.power ≡ true
+      by commit.Dark fails is = ap is_over fails
+      by (commit.WentOff have total) fails is = ap is_over fails.power_is
+      by commit.Stuck fails is = absurd (heard is)
+      by (commit.DiskFailed disk) fails is = absurd fails
 
   -- ---- how it is closed
 

@@ -11,16 +11,17 @@ use Rattle.lvm_session.specs.Judging.{is_missing}
 use Rattle.lvm_session.specs.Sound.{IsSound}
 use Rattle.lvm_session.specs.State.{Core, State as Session, state, is_there}
 use Rattle.lvm_turn_losses.specs.Losing.{LosesVotesByFaults}
+use Rattle.lvm_core.specs.declared.fault.CommitFault.{CommitFault}
 use Rattle.lvm_core.specs.Held.{IsHeld}
 use Rattle.lvm_core.specs.Leaves.{IsOfCommand, KeepsStatus, FindsOnly, Scope}
 use Rattle.lvm_core.specs.Looking.{IsNumberOf, HasNoVolumeNamed}
 use Rattle.lvm_core.specs.Settled.{IsSettled}
-use Rattle.lvm_range_lines.specs.passed.Driver.{DrainFault, FailsSo, IsAny, IsTurn}
-use Rattle.lvm_range_lines.specs.passed.DrainFaultVariants as drain_fault
+use Rattle.lvm_range_lines.specs.passed.Driver.{FailsSo, IsAny, IsTurn}
 use Rattle.lvm_range_lines.specs.passed.Running.{RunsOn}
 use Rattle.lvm_volume_plan.specs.declared.fault.GroupFault.{GroupFault}
 use Rattle.lvm_volume_plan.specs.declared.fault.GroupFault.TheVariants as fault
 use Rattle.lvm_volume_plan.specs.declared.new_volume.NewVolume.{NewVolume}
+use Rattle.lvm_volume_plan.specs.Faults.{ends_session, fault_of}
 use Rattle.lvm_range_lines.specs.passed.Volumes.{MklvGives, RmlvGives, to_make, to_remove}
 use Rattle.lvm_range_lines.specs.passed.Stage.{patience_of_line, IsRefused, IsOn, IsNotOn, open_in, posts_ended, IsAtRest, ScriptState, Refusal, Reply}
 use Rattle.lvm_range_lines.specs.passed.RefusalVariants as refusal
@@ -43,27 +44,13 @@ refusal_for fault.Stuck = refusal.Stuck
 refusal_for fault.Memory = refusal.Memory
 
 -- so is why the turns before it have ended
-abbrev pub drain_refusal : DrainFault → Refusal
-drain_refusal drain_fault.Dark = refusal.Dark
-drain_refusal (drain_fault.WentOff have total) = refusal.WentOff have total
-drain_refusal drain_fault.Stuck = refusal.Stuck
-
--- a power cut, the loss of the votes, and a transfer of which nothing is heard end the session
-abbrev pub ends_session : GroupFault → Bool
-ends_session fault.Dark = true
-ends_session (fault.WentOff have total) = true
-ends_session fault.Stuck = true
-ends_session _ = false
+abbrev pub drain_refusal : CommitFault → Refusal
+drain_refusal why = refusal_for (fault_of why)
 
 -- the reply to a command on a volume
 abbrev pub volume_reply : {X : Type 0} → Result X GroupFault → Reply
 volume_reply (Ok done) = reply.Ok
 volume_reply (Err why) = reply.Refused (refusal_for why)
-
--- whether the session is over after it
-abbrev pub is_over : {X : Type 0} → Result X GroupFault → Bool
-is_over (Ok done) = false
-is_over (Err why) = ends_session why
 
 -- ---- what is left of a session
 
@@ -105,7 +92,7 @@ pub record Drains (core : Core) (old : ScriptState) (left : ℕ) (mid : Session)
   pub waited : RoseBy (patience_of_line - left) old.moment.device.counts.waits mid.device.counts.waits
 
 -- No request is open, and the turns ended before nothing was left, for this. They lose the votes by faults alone.
-pub record IsUndrained (core : Core) (old new : ScriptState) (why : DrainFault) (answer : Reply) : Type 0 where
+pub record IsUndrained (core : Core) (old new : ScriptState) (why : CommitFault) (answer : Reply) : Type 0 where
   pub none : core.requests ≡ []
   pub end : Session
   pub turns : Path IsTurn IsAny (state old.moment.device core) end
@@ -155,7 +142,7 @@ RmlvEnds lv given over patience mid old new = IsDone (λ was is. RmlvGives lv pa
 pub data MklvDoes (w : NewVolume) (group : List ℕ) (old new : ScriptState) (answer : Reply) : Type 0 where
   NoGroupForMklv : IsNotOn group old.session → IsRefused refusal.NoGroup answer old new → MklvDoes w group old new answer
   BusyMklv : IfSome old.session (IsOn group) → 1 ≤ open_in old.session → IsRefused refusal.Busy answer old new → MklvDoes w group old new answer
-  UndrainedMklv : (core : Core) (why : DrainFault) → old.session ≡ Some core → IsOn group core → IsUndrained core old new why answer → MklvDoes w group old new answer
+  UndrainedMklv : (core : Core) (why : CommitFault) → old.session ≡ Some core → IsOn group core → IsUndrained core old new why answer → MklvDoes w group old new answer
   MakesVolume : (core : Core) (left : ℕ) (mid : Session) (number : ℕ) → old.session ≡ Some core → IsOn group core → Drains core old left mid → MklvEnds w (Ok number) false left mid old new → answer ≡ reply.Ok
       → MklvDoes w group old new answer
   MklvFails : (core : Core) (left : ℕ) (mid : Session) (why : GroupFault) → old.session ≡ Some core → IsOn group core → Drains core old left mid → MklvEnds w (Err why) (ends_session why) left mid old new
@@ -165,7 +152,7 @@ pub data MklvDoes (w : NewVolume) (group : List ℕ) (old new : ScriptState) (an
 pub data RmlvDoes (name : List ℕ) (old new : ScriptState) (answer : Reply) : Type 0 where
   NoGroupForRmlv : old.session ≡ None → IsRefused refusal.NoGroup answer old new → RmlvDoes name old new answer
   BusyRmlv : 1 ≤ open_in old.session → IsRefused refusal.Busy answer old new → RmlvDoes name old new answer
-  UndrainedRmlv : (core : Core) (why : DrainFault) → old.session ≡ Some core → IsUndrained core old new why answer → RmlvDoes name old new answer
+  UndrainedRmlv : (core : Core) (why : CommitFault) → old.session ≡ Some core → IsUndrained core old new why answer → RmlvDoes name old new answer
   NoVolumeForRmlv : (core : Core) (left : ℕ) (mid : Session) → old.session ≡ Some core → Drains core old left mid → HasNoVolumeNamed mid.core.descriptor.lvs name → StaysOn mid old new → new.last ≡ old.last
       → answer ≡ reply.Refused refusal.NoVolume → RmlvDoes name old new answer
   RemovesVolume : (core : Core) (left : ℕ) (mid : Session) (lv : ℕ) → old.session ≡ Some core → Drains core old left mid → IsNumberOf mid.core.descriptor.lvs name lv → RmlvEnds lv (Ok tt) false left mid old new

@@ -13,14 +13,14 @@ ghost use Rattle.lvm_range_lines.specs.passed.Volumes.{MklvGives, RmlvGives, to_
 ghost use Rattle.lvm_range_lines.specs.passed.Stage.{EndsUnasked, OfGroup, IsBetweenStage, IsFitting, IsOfKind, open_in, session_of, shelf_of};
 ghost use Rattle.lvm_range_lines.specs.passed.Stage.{IsOnBetween};
 ghost use Rattle.lvm_volume_lines.specs.Commands.{HasBrokenOff, HasRested, IsCarriedOut, IsHeldAgain, IsLeftAs, IsLeftOff, IsLeftOn, none_added};
-ghost use Rattle.lvm_volume_lines.specs.Volumes.{MklvDoes, RmlvDoes, drain_refusal, ends_session, is_over, refusal_for, volume_reply, wanted};
+ghost use Rattle.lvm_volume_lines.specs.Volumes.{MklvDoes, RmlvDoes, drain_refusal, refusal_for, volume_reply, wanted};
+ghost use Rattle.lvm_volume_plan.specs.Faults.{ends_session, is_over};
 
-use lvm_core::{Closed, Driver};
+use lvm_core::{Closed, CommitFault, Driver};
 use lvm_disk::Shelf;
 use lvm_num::{Mode, Name, Policy, Pp};
 use lvm_posts::Post;
 use lvm_range_lines::below::driver;
-use lvm_range_lines::below::driver::DrainFault;
 use lvm_range_lines::below::handover::{serve, settle};
 use lvm_range_lines::below::stage::{Answered, Holder, Refusal, Reply, Stage};
 use lvm_range_lines::below::volumes::{GroupFault, mklv, rmlv};
@@ -49,14 +49,10 @@ fn refusal_for(why: GroupFault) -> Refusal
 }
 
 /// Why the turns before a command have ended, as the refusal of its line.
-pub fn drain_refusal(why: DrainFault) -> Refusal
+pub fn drain_refusal(why: CommitFault) -> Refusal
     ensures { result ≡ drain_refusal why }
 {
-    match why {
-        DrainFault::Dark => Refusal::Dark,
-        DrainFault::WentOff { have, total } => Refusal::WentOff { have, total },
-        DrainFault::Stuck => Refusal::Stuck,
-    }
+    refusal_for(GroupFault::from(why))
 }
 
 // Whether a session is over after a fault.
@@ -203,7 +199,7 @@ fn after<S: Shelf, T: Copy>(
 pub fn come_to_rest<S: Shelf>(
     holder: Holder<S>,
     patience: &mut Patience,
-) -> Result<Driver<S>, (driver::Driver<S>, DrainFault)>
+) -> Result<Driver<S>, (driver::Driver<S>, CommitFault)>
     requires kind { IsOfKind holder }
     requires on { IsSome (session_of holder) }
     requires between { IfSome (session_of holder) (IsOnBetween (S.device (shelf_of holder))) }

@@ -1,6 +1,6 @@
 -- What the making and the removal of a volume answer.
-use Rattle.std.proofs.Common.{◌≡◌, inl, inr, ⊎_elim, ℕ, Result, Ok, Err, refl, ◌∙◌, arith}
-use Rattle.std.specs.Prelude.{Contains}
+use Rattle.std.proofs.Common.{◌≡◌, inl, inr, ⊎_elim, ℕ, Bool, true, false, Result, Err, refl, ◌∙◌, arith}
+use Rattle.std.specs.Prelude.{⊤, MatchBool, Contains}
 use Rattle.lvm_num.specs.declared.place.Pp.{Pp}
 use Rattle.lvm_num.specs.declared.descriptor.Descriptor.{Descriptor}
 use Rattle.lvm_vol.specs.declared.entry.Vol.TheVariants.{Lv}
@@ -11,8 +11,8 @@ use Rattle.lvm_core.specs.declared.fault.CommitFault.TheVariants as commit
 use Rattle.lvm_session.specs.State.{State}
 use Rattle.lvm_core.specs.Settled.{IsSettled}
 use Rattle.lvm_core.specs.Leaves.{NoPartition, Leaves}
-use Rattle.lvm_volumes.specs.Endings.{IfOn, commanding}
-use Rattle.lvm_volumes.specs.Stages.{IfGoesOn, making_of, MakingBroke, MakeEnds, IsNamed, RemoveEnds, IsUnnamed}
+use Rattle.lvm_volumes.specs.Endings.{commanding}
+use Rattle.lvm_volumes.specs.Stages.{making_of, MakingBroke, MakeEnds, IsNamed, RemoveEnds, IsUnnamed}
 use Rattle.lvm_volumes.specs.Volumes.{IsWith, IsChosen, making, HasEntered, MakingEnds, IsVolumeMade, MklvGives, to_make, IsVolumeRemoved, RmlvGives, to_remove}
 use Rattle.lvm_volumes.proofs.Leaving.{leaves_wider}
 use Rattle.lvm_volume_plan.specs.declared.fault.GroupFault.{GroupFault}
@@ -20,7 +20,7 @@ use Rattle.lvm_volume_plan.specs.declared.fault.GroupFault.TheVariants as fault
 use Rattle.lvm_volume_plan.specs.declared.new_volume.NewVolume.{NewVolume}
 use Rattle.lvm_volume_plan.specs.declared.new_volume.VolumePlan.{VolumePlan}
 use Rattle.lvm_volume_plan.specs.NewVolume.{without_volume}
-use Rattle.lvm_volume_plan.specs.Faults.{fault_of, RefusesMklv, RefusesRmlv}
+use Rattle.lvm_volume_plan.specs.Faults.{fault_of, RefusesMklv, RefusesRmlv, IfOn, is_over}
 use Rattle.lvm_volume_plan.specs.PlannedVolume.{IsPlannedVolume, IsWithout}
 
 -- ---- refusals
@@ -44,27 +44,13 @@ refused_rmlv lv p s fault.Stuck refuses = absurd refuses
 refused_rmlv lv p s fault.Memory refuses = (refl, refuses)
 refused_rmlv lv p s _ refuses = refuses
 
+-- what holds at any rate holds where the session goes on
 pub always_on : {A : Type 0} (r : Result A GroupFault) (P : Type 0) → P → IfOn r P
-always_on (Ok done) P holds = holds
-always_on (Err fault.Dark) P holds = tt
-always_on (Err (fault.WentOff have total)) P holds = tt
-always_on (Err fault.Stuck) P holds = tt
-always_on (Err fault.Busy) P holds = holds
-always_on (Err fault.NoVolume) P holds = holds
-always_on (Err fault.VolumeExists) P holds = holds
-always_on (Err (fault.CopyLimit now)) P holds = holds
-always_on (Err (fault.LastFresh lp)) P holds = holds
-always_on (Err (fault.TooMany limit)) P holds = holds
-always_on (Err (fault.NoRoom free)) P holds = holds
-always_on (Err fault.HistoryFull) P holds = holds
-always_on (Err (fault.DiskFailed disk)) P holds = holds
-always_on (Err fault.Memory) P holds = holds
-
-pub on_fault : (A : Type 0) (why : CommitFault) (P : Type 0) → IfGoesOn (Err why) P → IfOn {A = A} (Err (fault_of why)) P
-on_fault A commit.Dark P holds = tt
-on_fault A (commit.WentOff have total) P holds = tt
-on_fault A (commit.DiskFailed disk) P holds = holds
-on_fault A commit.Stuck P holds = tt
+always_on r P holds = unless (is_over r)
+  where
+    unless : (over : Bool) → MatchBool over ⊤ P
+    unless true = tt
+    unless false = holds
 
 -- ---- the making
 
@@ -96,7 +82,7 @@ module _ (v : NewVolume) (plan : VolumePlan) (a : State) (planned : IsPlannedVol
   make_fails p b (commit.DiskFailed disk) ends = record { map = plan.map; may = planned.may; its = ends.its; lowest = ends.lowest; ends = ends.ends }
   make_fails p b commit.Stuck ends = broke b _ ends
 
-  pub make_settled : (p : ℕ) (b : State) (why : CommitFault) → MakeEnds plan p a b (Err why) → IfGoesOn (Err why) (IsSettled b.core)
+  pub make_settled : (p : ℕ) (b : State) (why : CommitFault) → MakeEnds plan p a b (Err why) → IfOn {A = Unit {0}} (Err (fault_of why)) (IsSettled b.core)
   make_settled p b commit.Dark ends = tt
   make_settled p b (commit.WentOff have total) ends = tt
   make_settled p b (commit.DiskFailed disk) ends = ends.settled
@@ -129,7 +115,7 @@ module _ (lv : ℕ) (next : Descriptor) (a : State) (without : IsWithout lv a.co
   remove_fails p b (commit.DiskFailed disk) ends = ends
   remove_fails p b commit.Stuck ends = record { may = without.may; ends = ends }
 
-  pub remove_settled : (p : ℕ) (b : State) (why : CommitFault) → RemoveEnds lv next p a b (Err why) → IfGoesOn (Err why) (IsSettled b.core)
+  pub remove_settled : (p : ℕ) (b : State) (why : CommitFault) → RemoveEnds lv next p a b (Err why) → IfOn {A = Unit {0}} (Err (fault_of why)) (IsSettled b.core)
   remove_settled p b commit.Dark ends = tt
   remove_settled p b (commit.WentOff have total) ends = tt
   remove_settled p b (commit.DiskFailed disk) ends = absurd ends

@@ -14,7 +14,8 @@ use Rattle.lvm_core.specs.Settled.{IsSettled}
 use Rattle.lvm_core.specs.Committing.{HasGoneDark, RecordsEnd, with_one_out}
 use Rattle.lvm_core.specs.Leaves.{Scope, Leaves}
 use Rattle.lvm_core.proofs.Dark.{cut_core, dark_is}
-use Rattle.lvm_volumes.specs.Stages.{IfGoesOn, CommandBroke}
+use Rattle.lvm_volume_plan.specs.Faults.{IfOn, fault_of}
+use Rattle.lvm_volumes.specs.Stages.{CommandBroke}
 use Rattle.lvm_volumes.proofs.Leaving.{rose_from, there_before}
 
 -- the session after a power cut
@@ -92,7 +93,7 @@ broken_since W p q log was a b c leaves same cuts commit.Stuck ends = record {
 broken_since W p q log was a b c leaves same cuts (commit.DiskFailed disk) ends = ends
 
 -- nothing is said of a session at which a commit broke off
-pub stopped : (Done P : Type 0) (patience : ℕ) (a b : State) (why : CommitFault) → RecordsEnd Done patience a b (Err why) → IfGoesOn (Err why) P
+pub stopped : (Done P : Type 0) (patience : ℕ) (a b : State) (why : CommitFault) → RecordsEnd Done patience a b (Err why) → IfOn {A = Unit {0}} (Err (fault_of why)) P
 stopped Done P patience a b commit.Dark ends = tt
 stopped Done P patience a b (commit.WentOff have total) ends = tt
 stopped Done P patience a b commit.Stuck ends = tt

@@ -24,7 +24,7 @@ use Rattle.lvm_core.specs.Settled.{IsSettled}
 use Rattle.lvm_core.specs.Committing.{is_among, Restates, HasStated, RecordsEnd, MarkEnds}
 use Rattle.lvm_core.specs.Leaves.{NoDescriptor, Leaves, marking}
 use Rattle.lvm_volumes.specs.Endings.{StillHeld, KeepsFresh, commanding}
-use Rattle.lvm_volumes.specs.Stages.{IfGoesOn, AreUnusedOn, IsLowestMissing, CommandBroke, DiskFailsFirst, ZerosEnd, ClearEnds}
+use Rattle.lvm_volumes.specs.Stages.{AreUnusedOn, IsLowestMissing, CommandBroke, DiskFailsFirst, ZerosEnd, ClearEnds}
 use Rattle.lvm_volumes.specs.Volumes.{AreZeroed}
 use Rattle.lvm_volumes.proofs.Breaking.{broken, broken_since}
 use Rattle.lvm_volumes.proofs.Fresh.{keeps_all, keeps_same}
@@ -32,6 +32,7 @@ use Rattle.lvm_volumes.proofs.Holding.{still_by, still_then}
 use Rattle.lvm_volumes.proofs.Leaving.{leaves_wider, leaves_then}
 use Rattle.lvm_volumes.proofs.Left.{itself, is_used}
 use Rattle.lvm_volume_plan.specs.PlannedVolume.{AreOfOneGroup}
+use Rattle.lvm_volume_plan.specs.Faults.{IfOn, command_answer}
 
 -- ---- marks
 
@@ -182,14 +183,14 @@ module _ (map : List Pp) (p q : ℕ) (a b : State) (settled : IsSettled a.core) 
       pub clear_leaves : (r : ℕ) → StillHeld a b → Leaves (commanding NoDescriptor (Contains map) 0) q r b c → Leaves (commanding NoDescriptor (Contains map) 1) p r a c
       clear_leaves r still two = leaves_then NoDescriptor (Contains map) 1 0 p q r a b c (inl same) (ap (λ (d : Descriptor). d.mib) same) (λ d. ap (λ (x : Descriptor). is_member x d) same) (fresh_among map p q a b settled leaves) still two
 
-      pub clear_still : StillHeld a b → (r : Result (Unit {0}) CommitFault) → IfGoesOn r (StillHeld b c) → IfGoesOn r (StillHeld a c)
+      pub clear_still : StillHeld a b → (r : Result (Unit {0}) CommitFault) → IfOn (command_answer r) (StillHeld b c) → IfOn (command_answer r) (StillHeld a c)
       clear_still still (Ok ok) two = still_then a b c still two
       clear_still still (Err (commit.DiskFailed disk)) two = still_then a b c still two
       clear_still still (Err commit.Dark) two = tt
       clear_still still (Err commit.Stuck) two = tt
       clear_still still (Err (commit.WentOff have total)) two = tt
 
-      pub clear_keeps : (r : Result (Unit {0}) CommitFault) → ZerosEnd map q b c r → IfGoesOn r (KeepsFresh a c)
+      pub clear_keeps : (r : Result (Unit {0}) CommitFault) → ZerosEnd map q b c r → IfOn (command_answer r) (KeepsFresh a c)
       clear_keeps (Ok ok) ends = keeps_same a b c ends.same.core (fresh_keeps map p q a b settled leaves group done marks)
       clear_keeps (Err (commit.DiskFailed disk)) ends = keeps_same a b c ends.same.core (fresh_keeps map p q a b settled leaves group done marks)
       clear_keeps (Err commit.Dark) ends = tt

@@ -44,7 +44,7 @@ use Rattle.lvm_core.specs.Committing.{LetsCommit, HasStated, HasCommitted, Commi
 use Rattle.lvm_core.specs.Leaves.{NoDescriptor, NoPartition, IsHeldSince, IsOfCommand, Leaves, committing}
 use Rattle.lvm_core.proofs.LeavesLemmas.{enters_one}
 use Rattle.lvm_volumes.specs.Endings.{StillHeld, KeepsFresh, commanding}
-use Rattle.lvm_volumes.specs.Stages.{IfGoesOn, CommandBroke, with_entry, ClosesBy, CommitsBetween, AreUnusedOn, AreCleared, ClearEnds, making_of, IsNamed, MakeEnds}
+use Rattle.lvm_volumes.specs.Stages.{CommandBroke, with_entry, ClosesBy, CommitsBetween, AreUnusedOn, AreCleared, ClearEnds, making_of, IsNamed, MakeEnds}
 use Rattle.lvm_volumes.specs.Volumes.{AreZeroed}
 use Rattle.lvm_map.proofs.PlaceLemmas.{mib_positive}
 use Rattle.lvm_volumes.proofs.Leaving.{leaves_wider, leaves_then}
@@ -60,6 +60,7 @@ use Rattle.lvm_volume_plan.specs.declared.new_volume.NewVolume.{NewVolume}
 use Rattle.lvm_volume_plan.specs.declared.new_volume.VolumePlan.{VolumePlan}
 use Rattle.lvm_volume_plan.specs.NewVolume.{row_for, with_volume}
 use Rattle.lvm_volume_plan.specs.PlannedVolume.{IsPlannedVolume}
+use Rattle.lvm_volume_plan.specs.Faults.{IfOn, command_answer}
 use Rattle.lvm_volume_plan.proofs.NewDescriptor.{named_with, differs_with}
 
 -- ---- records stand below the data
@@ -304,11 +305,11 @@ module _ (v : NewVolume) (plan : VolumePlan) (a : State) (settled : IsSettled a.
           leaves_so (Ok _) ends closes = subst (λ (y : State). Leaves (commanding N Z 2) p r a y) (sym closes) (made_leaves ends)
           leaves_so (Err why) ends closes = subst (λ (y : State). Leaves (commanding N Z 2) p r a y) (sym closes) break_leaves
 
-          keeps_so : KeepsFresh a b → (x : Result (Unit {0}) CommitFault) → CommitEnds plan.next q begun c x → ClosesBy (Made plan.number) c e x → IfGoesOn x (KeepsFresh a e)
+          keeps_so : KeepsFresh a b → (x : Result (Unit {0}) CommitFault) → CommitEnds plan.next q begun c x → ClosesBy (Made plan.number) c e x → IfOn (command_answer x) (KeepsFresh a e)
           keeps_so keeps (Ok _) ends closes = subst (λ (y : State). KeepsFresh a y) (sym closes) (keeps_then a b c same keeps (commit_keeps ends.stated))
           keeps_so keeps (Err why) ends closes = stopped (HasCommitted plan.next begun c) (KeepsFresh a e) q begun c why ends
 
-          still_so : (x : Result (Unit {0}) CommitFault) → CommitEnds plan.next q begun c x → ClosesBy (Made plan.number) c e x → IfGoesOn x (StillHeld a e)
+          still_so : (x : Result (Unit {0}) CommitFault) → CommitEnds plan.next q begun c x → ClosesBy (Made plan.number) c e x → IfOn (command_answer x) (StillHeld a e)
           still_so (Ok _) ends closes = subst (λ (y : State). StillHeld a y) (sym closes) (made_still ends)
           still_so (Err why) ends closes = stopped (HasCommitted plan.next begun c) (StillHeld a e) q begun c why ends
 
@@ -319,8 +320,8 @@ module _ (v : NewVolume) (plan : VolumePlan) (a : State) (settled : IsSettled a.
         pub make_leaves : Leaves (commanding N Z 2) p r a e
         make_leaves = leaves_so r between.mid between.leaves between.left e x between.ends between.closes
 
-        pub make_still : IfGoesOn x (StillHeld a e)
+        pub make_still : IfOn (command_answer x) (StillHeld a e)
         make_still = still_so r between.mid between.leaves between.left e x between.ends between.closes
 
-        pub make_keeps : KeepsFresh a b → IfGoesOn x (KeepsFresh a e)
+        pub make_keeps : KeepsFresh a b → IfOn (command_answer x) (KeepsFresh a e)
         make_keeps keeps = keeps_so r between.mid between.leaves between.left e keeps x between.ends between.closes

@@ -23,7 +23,7 @@ use Rattle.lvm_core.specs.Leaves.{NoPartition, Leaves, committing}
 use Rattle.lvm_core.proofs.LeavesLemmas.{enters_one}
 use Rattle.lvm_num.specs.Descriptor.{IsValid, is_member, volume_of}
 use Rattle.lvm_volumes.specs.Endings.{StillHeld, KeepsFresh, commanding}
-use Rattle.lvm_volumes.specs.Stages.{IfGoesOn, CommandBroke, with_entry, ClosesBy, CommitsBetween, IsUnnamed, RemoveEnds}
+use Rattle.lvm_volumes.specs.Stages.{CommandBroke, with_entry, ClosesBy, CommitsBetween, IsUnnamed, RemoveEnds}
 use Rattle.lvm_volumes.specs.Volumes.{removing}
 use Rattle.lvm_volumes.proofs.Breaking.{broken, broken_since, stopped}
 use Rattle.lvm_volumes.proofs.Fresh.{HasOnePlaceEach, no_copy, keeps_others}
@@ -34,6 +34,7 @@ use Rattle.lvm_volumes.proofs.Left.{none_left_without}
 use Rattle.lvm_volumes.proofs.Entering.{settled_entered, entry_leaves, entry_still, commit_among, commit_still, leaves_committed}
 use Rattle.lvm_volume_plan.specs.NewVolume.{without_volume}
 use Rattle.lvm_volume_plan.specs.PlannedVolume.{IsWithout}
+use Rattle.lvm_volume_plan.specs.Faults.{IfOn, command_answer}
 use Rattle.lvm_volume_plan.proofs.OldDescriptor.{valid_without, unnamed_without, differs_without}
 
 module _ (lv : ℕ) (next : Descriptor) (a : State) (settled : IsSettled a.core) (without : IsWithout lv a.core next) where
@@ -136,11 +137,11 @@ module _ (lv : ℕ) (next : Descriptor) (a : State) (settled : IsSettled a.core)
       leaves_so (Ok _) ends closes = subst (λ (y : State). Leaves (commanding N NoPartition 1) p q a y) (sym closes) (gone_leaves ends)
       leaves_so (Err why) ends closes = subst (λ (y : State). Leaves (commanding N NoPartition 1) p q a y) (sym closes) break_leaves
 
-      keeps_so : (x : Result (Unit {0}) CommitFault) → CommitEnds next p begun b x → ClosesBy (Removed (Lv lv)) b e x → IfGoesOn x (KeepsFresh a e)
+      keeps_so : (x : Result (Unit {0}) CommitFault) → CommitEnds next p begun b x → ClosesBy (Removed (Lv lv)) b e x → IfOn (command_answer x) (KeepsFresh a e)
       keeps_so (Ok _) ends closes = subst (λ (y : State). KeepsFresh a y) (sym closes) (gone_keeps ends)
       keeps_so (Err why) ends closes = stopped (HasCommitted next begun b) (KeepsFresh a e) p begun b why ends
 
-      still_so : (x : Result (Unit {0}) CommitFault) → CommitEnds next p begun b x → ClosesBy (Removed (Lv lv)) b e x → IfGoesOn x (StillHeld a e)
+      still_so : (x : Result (Unit {0}) CommitFault) → CommitEnds next p begun b x → ClosesBy (Removed (Lv lv)) b e x → IfOn (command_answer x) (StillHeld a e)
       still_so (Ok _) ends closes = subst (λ (y : State). StillHeld a y) (sym closes) (gone_still ends)
       still_so (Err why) ends closes = stopped (HasCommitted next begun b) (StillHeld a e) p begun b why ends
 
@@ -151,8 +152,8 @@ module _ (lv : ℕ) (next : Descriptor) (a : State) (settled : IsSettled a.core)
     pub remove_leaves : Leaves (commanding N NoPartition 1) p q a e
     remove_leaves = leaves_so p q between.mid between.leaves between.left e x between.ends between.closes
 
-    pub remove_still : IfGoesOn x (StillHeld a e)
+    pub remove_still : IfOn (command_answer x) (StillHeld a e)
     remove_still = still_so p q between.mid between.leaves between.left e x between.ends between.closes
 
-    pub remove_keeps : IfGoesOn x (KeepsFresh a e)
+    pub remove_keeps : IfOn (command_answer x) (KeepsFresh a e)
     remove_keeps = keeps_so p q between.mid between.leaves between.left e x between.ends between.closes

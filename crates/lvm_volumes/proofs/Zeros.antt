@@ -24,8 +24,9 @@ use Rattle.lvm_session.specs.Dark.{all_dark}
 use Rattle.lvm_core.specs.Committing.{with_one_out}
 use Rattle.lvm_core.specs.Zeros.{IsZeroOf, IsZeroed, IsAsBefore, HasZeroed, ZeroEnds}
 use Rattle.lvm_core.specs.Leaves.{NoDescriptor, Leaves}
+use Rattle.lvm_volume_plan.specs.Faults.{IfOn, command_answer}
 use Rattle.lvm_volumes.specs.Endings.{StillHeld, commanding}
-use Rattle.lvm_volumes.specs.Stages.{IfGoesOn, HasZeroedAll, ZerosEnd}
+use Rattle.lvm_volumes.specs.Stages.{HasZeroedAll, ZerosEnd}
 use Rattle.lvm_volumes.specs.Volumes.{AreZeroed}
 use Rattle.lvm_volumes.proofs.Holding.{still_none, still_then}
 use Rattle.lvm_volumes.proofs.Leaving.{leaves_none, leaves_then}
@@ -114,7 +115,7 @@ zeros_end map p k q old new all is = record { same = is.same; zeros = subst (λ 
 
 -- where a disk failed the session goes on, and the disks hold what it says
 pub zeros_fail_still : (map : List Pp) (pp : Pp) (p q k : ℕ) (old mid new : State) (answer : Result (Unit {0}) CommitFault) → IsZeroing map p k q old mid → ZeroEnds pp q mid new answer → (new.core ≡ mid.core → StillHeld mid new)
-    → IfGoesOn answer (StillHeld old new)
+    → IfOn (command_answer answer) (StillHeld old new)
 zeros_fail_still map pp p q k old mid new (Ok done) so_far ends still = still_then old mid new so_far.still (still ends.same.core)
 zeros_fail_still map pp p q k old mid new (Err (commit.DiskFailed disk)) so_far ends still = still_then old mid new so_far.still (still ends.same.core)
 zeros_fail_still map pp p q k old mid new (Err commit.Dark) so_far ends still = tt

@@ -28,14 +28,6 @@ use Rattle.lvm_volume_plan.specs.PlannedVolume.{IsPlannedVolume}
 
 -- ---- whatever comes of it
 
--- the stage ended well, or a disk failed, and the session is on
-abbrev pub IfGoesOn : Result (Unit {0}) CommitFault → Type 0 → Type 0
-IfGoesOn (Ok done) P = P
-IfGoesOn (Err (commit.DiskFailed disk)) P = P
-IfGoesOn (Err commit.Dark) P = Unit {0}
-IfGoesOn (Err (commit.WentOff have total)) P = Unit {0}
-IfGoesOn (Err commit.Stuck) P = Unit {0}
-
 -- the command broke off so, once this was entered
 abbrev pub CommandBroke : Log → ℕ → State → State → CommitFault → Type 0
 CommandBroke entered patience old new commit.Dark = CommandDarkened entered old new

@@ -10,10 +10,10 @@ ghost use Rattle.lvm_core.specs.State.{state_of};
 ghost use Rattle.lvm_core.specs.Leaves.{Leaves, NoDescriptor, NoPartition};
 ghost use Rattle.lvm_core.specs.Settled.{IsSettled, HasSpareNumbers};
 ghost use Rattle.lvm_core.specs.Entering.{IsOfVolume};
-ghost use Rattle.lvm_volume_plan.specs.Faults.{TakesCommands};
+ghost use Rattle.lvm_volume_plan.specs.Faults.{TakesCommands, IfOn, command_answer};
 ghost use Rattle.lvm_volume_plan.specs.PlannedVolume.{AreOfOneGroup, IsWithout};
-ghost use Rattle.lvm_volumes.specs.Endings.{IfOn, StillHeld, KeepsFresh, commanding};
-ghost use Rattle.lvm_volumes.specs.Stages.{IfGoesOn, AreUnusedOn, IsLowestMissing, ZerosEnd, ClearEnds, MakeEnds, MayMake, RemoveEnds, CommitsBetween};
+ghost use Rattle.lvm_volumes.specs.Endings.{StillHeld, KeepsFresh, commanding};
+ghost use Rattle.lvm_volumes.specs.Stages.{AreUnusedOn, IsLowestMissing, ZerosEnd, ClearEnds, MakeEnds, MayMake, RemoveEnds, CommitsBetween};
 ghost use Rattle.lvm_volumes.specs.Volumes.{MklvGives, RmlvGives, to_make, to_remove};
 
 use lvm_core::{CommitFault, Driver, Prepared};
@@ -109,8 +109,8 @@ fn make<S: Shelf>(
     requires settled { IsSettled driver.old.1 }
     requires may { MayMake driver.old.1 plan }
     ensures ends { MakeEnds plan patience.old.left (state_of S.device driver.old) (state_of S.device driver.new) result }
-    ensures held { IfGoesOn result (StillHeld (state_of S.device driver.old) (state_of S.device driver.new)) }
-    ensures fresh { IfGoesOn result (KeepsFresh (state_of S.device driver.old) (state_of S.device driver.new)) }
+    ensures held { IfOn (command_answer result) (StillHeld (state_of S.device driver.old) (state_of S.device driver.new)) }
+    ensures fresh { IfOn (command_answer result) (KeepsFresh (state_of S.device driver.old) (state_of S.device driver.new)) }
     ensures leaves { Leaves (commanding (λ next. next ≡ plan.next) (Contains plan.map) 2) patience.old.left patience.new.left (state_of S.device driver.old) (state_of S.device driver.new) }
 {
     clear(driver, plan.map.as_slice(), patience)?;
@@ -133,8 +133,8 @@ fn remove<S: Shelf>(
     requires settled { IsSettled driver.old.1 }
     requires without { IsWithout lv driver.old.1 next }
     ensures ends { RemoveEnds lv next patience.old.left (state_of S.device driver.old) (state_of S.device driver.new) result }
-    ensures held { IfGoesOn result (StillHeld (state_of S.device driver.old) (state_of S.device driver.new)) }
-    ensures fresh { IfGoesOn result (KeepsFresh (state_of S.device driver.old) (state_of S.device driver.new)) }
+    ensures held { IfOn (command_answer result) (StillHeld (state_of S.device driver.old) (state_of S.device driver.new)) }
+    ensures fresh { IfOn (command_answer result) (KeepsFresh (state_of S.device driver.old) (state_of S.device driver.new)) }
     ensures leaves { Leaves (commanding (λ d. d ≡ next) NoPartition 1) patience.old.left patience.new.left (state_of S.device driver.old) (state_of S.device driver.new) }
 {
     let vol = Vol::Lv(lv);
@@ -174,8 +174,8 @@ fn clear<S: Shelf>(
     requires group { AreOfOneGroup driver.old.1 }
     requires unused { AreUnusedOn driver.old.1 map.now }
     ensures ends { ClearEnds map.now patience.old.left (state_of S.device driver.old) (state_of S.device driver.new) result }
-    ensures held { IfGoesOn result (StillHeld (state_of S.device driver.old) (state_of S.device driver.new)) }
-    ensures fresh { IfGoesOn result (KeepsFresh (state_of S.device driver.old) (state_of S.device driver.new)) }
+    ensures held { IfOn (command_answer result) (StillHeld (state_of S.device driver.old) (state_of S.device driver.new)) }
+    ensures fresh { IfOn (command_answer result) (KeepsFresh (state_of S.device driver.old) (state_of S.device driver.new)) }
     ensures leaves { Leaves (commanding NoDescriptor (Contains map.now) 1) patience.old.left patience.new.left (state_of S.device driver.old) (state_of S.device driver.new) }
 {
     driver.set_status(&[], map, patience)?;
@@ -209,7 +209,7 @@ fn zero_all<S: Shelf>(
     requires ready { IsReady (S.device driver.old.0) }
     requires unused { AreUnusedOn driver.old.1 map.now }
     ensures ends { ZerosEnd map.now patience.old.left (state_of S.device driver.old) (state_of S.device driver.new) result }
-    ensures held { IfGoesOn result (StillHeld (state_of S.device driver.old) (state_of S.device driver.new)) }
+    ensures held { IfOn (command_answer result) (StillHeld (state_of S.device driver.old) (state_of S.device driver.new)) }
     ensures leaves { Leaves (commanding NoDescriptor (Contains map.now) 0) patience.old.left patience.new.left (state_of S.device driver.old) (state_of S.device driver.new) }
 {
     for pp in map {

@@ -1,2 +1,2 @@
 -- Passed on from `lvm_driver`.
-pub use Rattle.lvm_copy_lines.specs.passed.Driver.{DrainFault, state_of}
+pub use Rattle.lvm_copy_lines.specs.passed.Driver.{state_of}

@@ -1,3 +1,3 @@
 //! Passed on from `lvm_driver`.
 
-pub use lvm_driver::{Closed, DrainFault, Driver};
+pub use lvm_driver::{Closed, Driver};

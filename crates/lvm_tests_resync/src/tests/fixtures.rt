@@ -13,9 +13,10 @@ ghost use Rattle.lvm_session.specs.Sound.{IsLit};
 ghost use Rattle.lvm_session.specs.Worked.{status_of};
 ghost use Rattle.lvm_vol.specs.Log.{empty_log, spare_entries};
 
+use lvm_core::CommitFault;
 use lvm_disk::{Arrange, Shelf};
 use lvm_driver::laws::whole_groups_begin;
-use lvm_driver::{Closed, DrainFault, Driver};
+use lvm_driver::{Closed, Driver};
 use lvm_faults::{Planned, names_disks};
 use lvm_history::History;
 use lvm_memory::MemShelf;
@@ -282,7 +283,7 @@ pub fn turn<S: Shelf>(rt: &impl Abort, driver: &mut Driver<S>) -> Turned {
 }
 
 /// Turns until nothing is left to be made.
-pub fn drain<S: Shelf>(rt: &impl Abort, driver: &mut Driver<S>) -> Result<(), DrainFault> {
+pub fn drain<S: Shelf>(rt: &impl Abort, driver: &mut Driver<S>) -> Result<(), CommitFault> {
     goes_on(rt, driver);
     let mut patience = Patience { left: 1_000 };
     driver.drain(&mut patience)

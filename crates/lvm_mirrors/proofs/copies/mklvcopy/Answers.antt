@@ -8,7 +8,7 @@ use Rattle.lvm_core.specs.State.{state_of}
 use Rattle.lvm_core.specs.Settled.{IsSettled}
 use Rattle.lvm_volume_plan.specs.declared.fault.GroupFault.{GroupFault}
 use Rattle.lvm_volumes.specs.Endings.{StillHeld, KeepsFresh}
-use Rattle.lvm_volumes.proofs.Answering.{always_on, on_fault}
+use Rattle.lvm_volumes.proofs.Answering.{always_on}
 use Rattle.lvm_volumes.proofs.Fresh.{keeps_none}
 use Rattle.lvm_volumes.proofs.Holding.{still_none}
 use Rattle.lvm_volumes.proofs.Leaving.{leaves_none}
@@ -53,9 +53,9 @@ returns-in_err-add g c =
     let e = err_from_is_err_and c.from_residual-in_err-add.result c.from_residual-in_err-add.ensures.1 in
     rw (e.1, e.2) (record {
       gives = adding_fails lv copies added next a planned p b why ends;
-      settled = λ takes. on_fault (List Pp) why (IsSettled b.core) (broke_so (IsSettled b.core) a.core.history p a b why ends);
-      held = on_fault (List Pp) why (StillHeld a b) c.in_err-add.ensures.held;
-      fresh = on_fault (List Pp) why (KeepsFresh a b) c.in_err-add.ensures.fresh;
+      settled = λ takes. broke_so (IsSettled b.core) a.core.history p a b why ends;
+      held = c.in_err-add.ensures.held;
+      fresh = c.in_err-add.ensures.fresh;
       leaves = added_leaves lv copies added next a planned p c.add.new.patience.left b c.add.ensures.leaves;
     })
 

@@ -8,7 +8,7 @@ use Rattle.lvm_core.specs.Settled.{IsSettled}
 use Rattle.lvm_core.specs.Committing.{HasCommitted}
 use Rattle.lvm_volume_plan.specs.declared.fault.GroupFault.{GroupFault}
 use Rattle.lvm_volumes.specs.Endings.{StillHeld, KeepsFresh}
-use Rattle.lvm_volumes.proofs.Answering.{always_on, on_fault}
+use Rattle.lvm_volumes.proofs.Answering.{always_on}
 use Rattle.lvm_volumes.proofs.Breaking.{broken, stopped}
 use Rattle.lvm_volumes.proofs.Entering.{has_numbers}
 use Rattle.lvm_volumes.proofs.Fresh.{keeps_none}
@@ -58,9 +58,9 @@ returns-in_err-commit g c =
     let e = err_from_is_err_and c.from_residual-in_err-commit.result c.from_residual-in_err-commit.ensures.1 in
     rw (e.1, e.2) (record {
       gives = taking_fails lv copies next a plan p b why (broken (HasCommitted next a b) p a b settled why ends);
-      settled = λ takes. on_fault (Unit {0}) why (IsSettled b.core) (stopped (HasCommitted next a b) (IsSettled b.core) p a b why ends);
-      held = on_fault (Unit {0}) why (StillHeld a b) (stopped (HasCommitted next a b) (StillHeld a b) p a b why ends);
-      fresh = on_fault (Unit {0}) why (KeepsFresh a b) (stopped (HasCommitted next a b) (KeepsFresh a b) p a b why ends);
+      settled = λ takes. stopped (HasCommitted next a b) (IsSettled b.core) p a b why ends;
+      held = stopped (HasCommitted next a b) (StillHeld a b) p a b why ends;
+      fresh = stopped (HasCommitted next a b) (KeepsFresh a b) p a b why ends;
       leaves = take_leaves lv copies next a plan settled p c.commit.new.patience.left b c.commit.ensures.leaves;
     })
 

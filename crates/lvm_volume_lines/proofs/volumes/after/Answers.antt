@@ -1,8 +1,8 @@
 use Rattle.std.proofs.Common.{◌≡◌, ◌∙◌, [], Bool, Result, Err, false, sym, ap, subst}
 use Rattle.lvm_volume_plan.specs.declared.fault.GroupFault.{GroupFault}
 use Rattle.lvm_volume_plan.specs.declared.fault.GroupFault.TheVariants as fault
+use Rattle.lvm_volume_plan.specs.Faults.{is_over}
 use Rattle.lvm_volume_lines.specs.Commands.{IsLeftAs, IsLeftOn}
-use Rattle.lvm_volume_lines.specs.Volumes.{is_over}
 use Rattle.lvm_volume_lines.proofs.volumes.after.Goals as goal
 
 pub go_on-requires-clause-may : goal.go_on-requires-clause-may
