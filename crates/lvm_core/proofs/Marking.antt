@@ -14,6 +14,7 @@ use Rattle.lvm_num.specs.Votes.{CanWrite}
 use Rattle.lvm_disk.specs.Device.{Device}
 use Rattle.lvm_num.specs.Status.{calls_stale}
 use Rattle.lvm_stale.specs.Table.{is_pp, SameMembers, SameMissing}
+use Rattle.lvm_status.specs.declared.change.Change.{Change}
 use Rattle.lvm_status.specs.declared.change.Change.TheVariants as change
 use Rattle.lvm_status.specs.Update.{Updates, Stored, seen, is_held, is_owed, no_disks}
 use Rattle.lvm_status.specs.Calls.{BecomesStale, BecomesFresh, IsMarkable, closed, with_wanted, given_up}
@@ -162,13 +163,20 @@ module _ (pps : List Pp) (none : Type 0) (i : ℕ) (p : Pp) (within : i < length
           ∙ ap (λ (b : Bool). (calls_stale old.wanted q || false) && not b) (sym (more_among pps i p q within its))
 
   module _ (new : Stored) where
+    -- what one that is marked leaves as it was
+    rest_marked : (mark : Change) → given_up mark (seen now).unstarted ≡ (seen now).unstarted → WantsMarksAtMost old now → SameMembers now.wanted new.wanted → SameMissing now.wanted new.wanted → new.wanted.dirty ≡ now.wanted.dirty
+        → seen new ≡ with_wanted (seen now) mark new.wanted → WantsMarksAtMost old new
+    rest_marked mark none so_far members missing dirty rest =
+        let as_wanted = ap (λ (unstarted : Disks). record (seen now) { wanted = new.wanted; unstarted = unstarted }) none in
+        let kept = wanted_keeps now new (record (seen now) { wanted = new.wanted; unstarted = given_up mark (seen now).unstarted }) as_wanted so_far.idle rest in
+        rest_then old now new so_far (wants_mark now new kept members missing dirty)
+
     -- one that becomes stale
     pub stale_wanted : SoFar (take i pps) [] none old now → calls_stale now.wanted p ≡ false → (none → calls_stale old.wanted p ≡ true) → BecomesStale p now.wanted new.wanted → seen new ≡ with_wanted (seen now) (change.Stale p) new.wanted
         → SoFar (take (i + 1) pps) [] none old new
     stale_wanted so_far isnt clash becomes rest =
-        let kept = wanted_keeps now new (record (seen now) { wanted = new.wanted; unstarted = given_up (change.Stale p) (seen now).unstarted }) refl so_far.rest.idle rest in
         record {
-          rest = rest_then old now new so_far.rest (wants_mark now new kept becomes.members becomes.missing becomes.dirty);
+          rest = rest_marked (change.Stale p) refl so_far.rest becomes.members becomes.missing becomes.dirty rest;
           marks = λ q.
               becomes.stale q
               ∙ ap (λ (b : Bool). b || is_pp q p) (so_far.marks q)
@@ -187,9 +195,8 @@ module _ (pps : List Pp) (none : Type 0) (i : ℕ) (p : Pp) (within : i < length
     pub fresh_wanted : SoFar [] (take i pps) none old now → calls_stale now.wanted p ≡ true → (none → calls_stale old.wanted p ≡ false) → BecomesFresh p now.wanted new.wanted → seen new ≡ with_wanted (seen now) (change.Fresh p) new.wanted
         → SoFar [] (take (i + 1) pps) none old new
     fresh_wanted so_far is clash becomes rest =
-        let kept = wanted_keeps now new (record (seen now) { wanted = new.wanted; unstarted = given_up (change.Fresh p) (seen now).unstarted }) refl so_far.rest.idle rest in
         record {
-          rest = rest_then old now new so_far.rest (wants_mark now new kept becomes.members becomes.missing becomes.dirty);
+          rest = rest_marked (change.Fresh p) refl so_far.rest becomes.members becomes.missing becomes.dirty rest;
           marks = λ q.
               becomes.stale q
               ∙ ap (λ (b : Bool). b && not (is_pp q p)) (so_far.marks q)

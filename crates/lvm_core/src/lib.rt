@@ -9,6 +9,7 @@ mod marks;
 mod orders;
 mod parts;
 mod prepared;
+mod records;
 mod refused;
 mod zero;
 
@@ -16,4 +17,5 @@ pub use driver::{Closed, Driver};
 pub use fault::CommitFault;
 pub use parts::{Parts, Room};
 pub use prepared::Prepared;
+pub use records::{RecordBytes, encode_records};
 pub use refused::{Cause, Refused};

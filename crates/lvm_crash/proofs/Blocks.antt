@@ -21,7 +21,8 @@ use Rattle.lvm_kept.specs.Group.{passes, is_of, has_room, members_in, is_stale_b
 use Rattle.lvm_kept.specs.Kept.{MayDiffer, IsBlockKept}
 use Rattle.lvm_invariant.specs.State.{ModelState}
 use Rattle.lvm_invariant.specs.Crash.{Fresh, MayDifferAfter, BlockKept}
-use Rattle.lvm_crash.specs.Session.{marks_of, view_of, members_showing, has_notes, has_mark, HasVolumes}
+use Rattle.lvm_crash.specs.Session.{marks_of, view_of, members_showing, HasVolumes}
+use Rattle.lvm_num.specs.Modes.{is_active, is_passive}
 use Rattle.lvm_crash.proofs.Lists.{left_of, right_of, both_of, not_so, so_not, of_passing, one_passes}
 
 -- a member among some disks is one among all
@@ -50,13 +51,13 @@ module _ (s : ModelState) (facts : List Fact) (group : Descriptor) (c : Contents
     never_loose : row.mode ≡ Passive → IsTrue (cut b (known facts (Lv row.number) b)).loose → ⊥
     never_loose is loose = both_so (is_off (known facts (Lv row.number) b).mode) (off_by b (known facts (Lv row.number) b) (loose_is_off facts (Lv row.number) b) loose) (ap is_off (volumes.modes row lp b one inside ∙ is))
 
-    differ : (mode : Mode) → row.mode ≡ mode → MayDifferAfter s (view_of group c) (marks_of r.value) (cut b (known facts (Lv row.number) b)) row.number b (has_notes mode)
+    differ : (mode : Mode) → row.mode ≡ mode → MayDifferAfter s (view_of group c) (marks_of r.value) (cut b (known facts (Lv row.number) b)) row.number b (is_active mode)
         → MayDiffer c (Some r) row.number mode (fresh_on (members_in c disks group.id group) (Some r) row lp) (cut b (known facts (Lv row.number) b)) b
     differ Active is named = of_passing (λ p. IsTrue (is_named c p.disk row.number (track_group_of b))) test (copies_of row lp) (λ p copy pass. named p (fresh p copy pass))
     differ Passive is (inl loose) = absurd (never_loose is loose)
     differ Passive is (inr dirty) = dirty.1
     differ Off is (inl loose) = loose
-    differ Off is (inr dirty) = absurd (both_so (s.is_passive row.number) dirty.0 (volumes.mark row one ∙ ap has_mark is))
+    differ Off is (inr dirty) = absurd (both_so (s.is_passive row.number) dirty.0 (volumes.mark row one ∙ ap is_passive is))
 
     pub block_kept : IsBlockKept c group.mib (Some r) row (fresh_on (members_in c disks group.id group) (Some r) row lp) (cut b (known facts (Lv row.number) b)) b
     block_kept = record {

@@ -22,7 +22,7 @@ use Rattle.lvm_kept.specs.Contents.{Contents}
 use Rattle.lvm_kept.specs.Examples.{stamped, row_of, mirror, two, of_two, either_of, no_note, zeros}
 use Rattle.lvm_kept.specs.Group.{descriptor_among, is_voter, has_quorum, Finds, IsFound, IsOneOf}
 use Rattle.lvm_kept.specs.Kept.{StandsAs}
-use Rattle.lvm_invariant.specs.State.{has_notes, has_mark}
+use Rattle.lvm_num.specs.Modes.{is_active, is_passive}
 use Rattle.lvm_invariant.specs.Updates.{is_pp}
 use Rattle.lvm_invariant.specs.First.{two_disks, first_copy, second_copy, is_either, marks_with, at_rest}
 use Rattle.lvm_crash.specs.Session.{as_marks, members_showing, GroupStands, HasVolumes}
@@ -157,8 +157,8 @@ module _ (mode : Mode) where
           let is = the_row row one in
           let none = first_partition lp (subst (λ (r : LvRow). lp < r.lps) is low) in
           (first_copy, subst (λ (r : LvRow). IsOneOf (copies_of r lp) first_copy) (sym is) (subst (λ (n : ℕ). IsOneOf (copies_of (mirror mode) n) first_copy) (sym none) (inl refl)), refl);
-      notes = λ row one. sym (ap (λ (r : LvRow). has_notes r.mode) (the_row row one));
-      mark = λ row one. sym (ap (λ (r : LvRow). has_mark r.mode) (the_row row one));
+      notes = λ row one. sym (ap (λ (r : LvRow). is_active r.mode) (the_row row one));
+      mark = λ row one. sym (ap (λ (r : LvRow). is_passive r.mode) (the_row row one));
       modes = λ row lp b one inside.
           let is = the_row row one in
           let none = first_partition lp (subst (λ (r : LvRow). lp < r.lps) is inside.inside) in

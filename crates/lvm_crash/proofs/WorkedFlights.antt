@@ -13,7 +13,8 @@ use Rattle.lvm_disk.specs.Device.{Flight, IsInFlight, written, image_of}
 use Rattle.lvm_vol.specs.Facts.{Begun}
 use Rattle.lvm_kept.specs.Contents.{contents_of}
 use Rattle.lvm_kept.specs.Examples.{two}
-use Rattle.lvm_invariant.specs.State.{has_notes, has_mark, ModelState, covers, Started}
+use Rattle.lvm_invariant.specs.State.{ModelState, covers, Started}
+use Rattle.lvm_num.specs.Modes.{is_active, is_passive}
 use Rattle.lvm_invariant.specs.Crash.{Brings, CopyBrings}
 use Rattle.lvm_invariant.specs.First.{two_disks, first_copy, second_copy, is_either, at_rest}
 use Rattle.lvm_invariant.specs.Worked.{ones, asked, both_out, step_read, zero_blocks, writing, stepping}
@@ -97,7 +98,7 @@ rest_matches mode stale = record {
 -- ---- a write is out
 
 abbrev while_writing : Mode → Shown
-while_writing mode = record { mode = mode; stale = false; dirty = has_mark mode; named = has_notes mode }
+while_writing mode = record { mode = mode; stale = false; dirty = is_passive mode; named = is_active mode }
 
 abbrev two_writes : List Flight
 two_writes = to_disk 0 (ones ∷ []) ∷ to_disk 1 (ones ∷ []) ∷ []

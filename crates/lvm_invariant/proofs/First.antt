@@ -11,7 +11,8 @@ use Rattle.lvm_invariant.specs.Good.{Good}
 use Rattle.lvm_invariant.specs.Sound.{Sound}
 use Rattle.lvm_invariant.specs.Updates.{is_pp}
 use Rattle.lvm_num.specs.Record.{Stamped}
-use Rattle.lvm_invariant.specs.State.{has_notes, has_mark, Marks, ModelCopy, ModelState}
+use Rattle.lvm_invariant.specs.State.{Marks, ModelCopy, ModelState}
+use Rattle.lvm_num.specs.Modes.{is_active, is_passive}
 use Rattle.lvm_invariant.proofs.Small.{never}
 pub use Rattle.lvm_invariant.proofs.Small.{left_of as left, right_of as right, both_of as both}
 use Rattle.lvm_invariant.proofs.Asking.{told_of_none}
@@ -38,7 +39,7 @@ not_loose : (mode : Mode) (inside : Bool) → IsFalse (known_by mode inside).loo
 not_loose mode true = refl
 not_loose mode false = refl
 
-its_mode : (mode : Mode) (inside : Bool) → IsTrue inside → IsFalse (has_notes mode) → IsFalse (has_mark mode) → IsTrue (is_off (known_by mode inside).mode)
+its_mode : (mode : Mode) (inside : Bool) → IsTrue inside → IsFalse (is_active mode) → IsFalse (is_passive mode) → IsTrue (is_off (known_by mode inside).mode)
 its_mode Off true h notes mark = refl
 its_mode Active true h notes mark = absurd cc
 its_mode Passive true h notes mark = absurd cc

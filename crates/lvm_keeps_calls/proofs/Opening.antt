@@ -39,7 +39,7 @@ use Rattle.lvm_session.specs.declared.answers.CopyFault.{CopyFault}
 use Rattle.lvm_session.specs.declared.answers.CopyFault.TheVariants as refusal
 use Rattle.lvm_session.specs.Calls.{OpenGives, Opens, aged, copy_at, copy_fault, faults_of, has_numbers, opened, refusal_at}
 use Rattle.lvm_session.specs.Dark.{hand_of_copy}
-use Rattle.lvm_session.specs.Events.{is_passive}
+use Rattle.lvm_num.specs.Modes.{is_passive}
 use Rattle.lvm_session.specs.Marks.{is_among}
 use Rattle.lvm_session.specs.Asking.{IsAwake}
 use Rattle.lvm_session.specs.Causes.{AreCaused, AreCounted, IsAnswered, IsCaused, IsChosenSince, IsCausedAmong, IsLandedFor, fails_on, faults_at_first, faults_at_opening, is_held_stale}

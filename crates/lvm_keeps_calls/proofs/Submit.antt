@@ -41,7 +41,7 @@ use Rattle.lvm_session.specs.declared.answers.AskFault.{AskFault}
 use Rattle.lvm_session.specs.declared.answers.AskFault.TheVariants as fault
 use Rattle.lvm_session.specs.Calls.{ask_fault, fault_by, fault_in, fault_on, has_history, has_numbers, new_open, submitted}
 use Rattle.lvm_session.specs.Dark.{IsAscending}
-use Rattle.lvm_session.specs.Events.{is_passive}
+use Rattle.lvm_num.specs.Modes.{is_passive}
 use Rattle.lvm_session.specs.Asking.{IsAsking}
 use Rattle.lvm_session.specs.Left.{copy_updates, marks_later, updates_left}
 use Rattle.lvm_session.specs.Owners.{AreOwned, IsDataOf, flies, target_flies}

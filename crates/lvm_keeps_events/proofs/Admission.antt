@@ -32,7 +32,8 @@ use Rattle.lvm_session.specs.declared.open.Power.TheVariants as power
 use Rattle.lvm_session.specs.State.{Core, State, state}
 use Rattle.lvm_session.specs.Judging.{copies_in, facts_of, group_in, has_dirty_mark, has_names, is_caught, is_held_back, is_missing, is_waiting, is_wanted_stale, mode_of, next_for, policy_of}
 use Rattle.lvm_session.specs.Bringing.{has_row, step_row}
-use Rattle.lvm_session.specs.Events.{Chooses, admitted_as, after_admission, is_passive, last_after, makes_dirty, without_pin}
+use Rattle.lvm_session.specs.Events.{Chooses, admitted_as, after_admission, last_after, makes_dirty, without_pin}
+use Rattle.lvm_num.specs.Modes.{is_passive}
 use Rattle.lvm_session.specs.Marks.{WantsDirty, WantsDirtyIf}
 use Rattle.lvm_session.specs.Left.{marks_later}
 use Rattle.lvm_session.specs.Owners.{AreOwned, IsDataOf, flies, target_flies}

@@ -33,7 +33,8 @@ use Rattle.lvm_session.specs.declared.open.Power.TheVariants as power
 use Rattle.lvm_session.specs.State.{Core, State, is_there}
 use Rattle.lvm_session.specs.Judging.{aims, copies_for, group_in, group_of, is_caught, is_changed, is_missing, is_settled, is_stale, is_usable, is_waiting, mode_of, next_for, policy_of, pps_of, same_pps}
 use Rattle.lvm_session.specs.Enabled.{is_lost, same_status}
-use Rattle.lvm_session.specs.Events.{Chooses, ChoosesBy, admitted_as, after_admission, is_passive, last_after, makes_dirty, target_at, without_pin}
+use Rattle.lvm_session.specs.Events.{Chooses, ChoosesBy, admitted_as, after_admission, last_after, makes_dirty, target_at, without_pin}
+use Rattle.lvm_num.specs.Modes.{is_passive}
 use Rattle.lvm_session.specs.Marks.{WantsDirty, WantsDirtyIf}
 use Rattle.lvm_session.specs.Left.{begun_left, copy_left, if_so, is_brought_up, is_held, lacks_dirty, lacks_note, left_of, phase_left, read_left, request_left, status_left, turns_of, unbegun_left, update_work, waiting_targets, work_left, write_left}
 use Rattle.lvm_session.specs.Requests.{IsPhase}

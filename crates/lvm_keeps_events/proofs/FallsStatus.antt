@@ -32,7 +32,7 @@ use Rattle.lvm_session.specs.State.{Core, is_there, votes_there}
 use Rattle.lvm_session.specs.Judging.{copies_for, group_in, group_of, is_caught, is_changed, is_missing, is_running, is_settled, is_stale, is_usable, is_waiting, mode_of, pps_of, same_pps}
 use Rattle.lvm_session.specs.Bringing.{copy_ends, end_of, is_whole}
 use Rattle.lvm_session.specs.Enabled.{is_lost, same_status}
-use Rattle.lvm_session.specs.Events.{is_passive}
+use Rattle.lvm_num.specs.Modes.{is_passive}
 use Rattle.lvm_session.specs.Left.{begun_left, copy_left, if_so, is_brought_up, is_held, lacks_dirty, lacks_note, left_by, left_of, phase_left, read_left, request_left, status_left, turns_of, unbegun_left, unstarted_writes, update_work, work_left, write_left}
 use Rattle.lvm_session.specs.Sound.{IsCopy, count_if}
 use Rattle.lvm_keeps.proofs.Small.{both, is_false, not_either, not_so}

@@ -24,7 +24,7 @@ use Rattle.lvm_session.specs.declared.bringing.OpenCopy.{OpenCopy}
 use Rattle.lvm_session.specs.declared.bringing.Step.{Step}
 use Rattle.lvm_session.specs.declared.open.Open.{Open}
 use Rattle.lvm_session.specs.declared.open.Power.TheVariants as power
-use Rattle.lvm_session.specs.Events.{is_passive}
+use Rattle.lvm_num.specs.Modes.{is_passive}
 use Rattle.lvm_session.specs.Marks.{is_among}
 use Rattle.lvm_session.specs.Left.{begun_left, copy_left, if_so, is_brought_up, is_held, lacks_dirty, lacks_note, left_of, phase_left, read_left, request_left, status_left, step_left, tried_of, turns_of, unbegun_left, update_work, write_left}
 use Rattle.lvm_session.specs.Requests.{is_past_held, IsOpenOne, IsPhase}

@@ -33,7 +33,7 @@ use Rattle.lvm_session.specs.Judging.{copies_in, is_missing, is_running, is_sure
 use Rattle.lvm_session.specs.Bringing.{copy_ends, end_by_sources, end_of, ends_if, is_cleared, is_idle, is_whole, marked_by_end, next_source, sources_of}
 use Rattle.lvm_session.specs.Enabled.{same_status}
 use Rattle.lvm_session.specs.Calls.{copy_at}
-use Rattle.lvm_session.specs.Events.{is_passive}
+use Rattle.lvm_num.specs.Modes.{is_passive}
 use Rattle.lvm_session.specs.Marks.{is_entailed}
 use Rattle.lvm_session.specs.Causes.{AreCaused, AreCounted, FailedSince, FailedSinceOpening, HasFailed, HaveSourcesFailed, IsAnswered, IsCaused, IsCausedAmong, IsCounted, IsTrueToOrigin, fails_on, faults_at_first, faults_at_opening, is_blamed, is_held_stale}
 use Rattle.lvm_session.specs.Left.{clean_volumes, if_so, updates_left}

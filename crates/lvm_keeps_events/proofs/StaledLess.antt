@@ -17,7 +17,7 @@ use Rattle.lvm_session.specs.Enabled.{same_status}
 use Rattle.lvm_session.specs.Judging.{copies_for, group_in, group_of, is_caught, is_changed, is_missing, is_settled, is_usable, is_waiting, mode_of, pps_of, same_pps}
 use Rattle.lvm_session.specs.State.{Core}
 use Rattle.lvm_session.specs.declared.open.Open.{Open}
-use Rattle.lvm_session.specs.Events.{is_passive}
+use Rattle.lvm_num.specs.Modes.{is_passive}
 use Rattle.lvm_session.specs.Left.{begun_left, if_so, is_brought_up, is_held, lacks_dirty, lacks_note, phase_left, read_left, request_left, status_left, turns_of, unbegun_left, update_work}
 use Rattle.lvm_keeps.proofs.PinFalls.{sum_same}
 use Rattle.lvm_keeps_events.proofs.Marking.{count_alike, filter_alike}

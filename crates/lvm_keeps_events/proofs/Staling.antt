@@ -34,7 +34,7 @@ use Rattle.lvm_session.specs.declared.flown.Flown.{Flown}
 use Rattle.lvm_session.specs.declared.flown.Owner.{Owner}
 use Rattle.lvm_session.specs.declared.flown.Owner.TheVariants as owner
 use Rattle.lvm_session.specs.declared.open.Open.{Open}
-use Rattle.lvm_session.specs.Events.{is_passive}
+use Rattle.lvm_num.specs.Modes.{is_passive}
 use Rattle.lvm_session.specs.Marks.{can_replace, is_among, is_entailed, is_entailed_in, is_left_behind, WantsStale}
 use Rattle.lvm_session.specs.Causes.{fails_on, is_blamed, is_held_stale, was_fresh}
 use Rattle.lvm_session.specs.Left.{clean_volumes}

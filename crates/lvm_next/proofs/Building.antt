@@ -21,7 +21,8 @@ use Rattle.lvm_num.specs.Status.{IsValidStatus, AreDirty, IsVolumeNumber, calls_
 use Rattle.lvm_num.proofs.ListLemmas.{one_of_left, one_of_right}
 use Rattle.lvm_kept.specs.Group.{IsOneOf, IsSome}
 use Rattle.lvm_stale.specs.Table.{has_row}
-use Rattle.lvm_next.specs.Next.{IsNextStatus, IsLeftBehind, is_passive, has_passive}
+use Rattle.lvm_next.specs.Next.{IsNextStatus, IsLeftBehind, has_passive}
+use Rattle.lvm_num.specs.Modes.{is_passive}
 use Rattle.lvm_next.specs.Rows.{AreMemberRows}
 use Rattle.lvm_stale.specs.Marking.{is_served, IsLeftIn, Marks, IsMarkable}
 use Rattle.lvm_next.proofs.RowLemmas.{found_one}

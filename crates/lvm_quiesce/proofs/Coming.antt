@@ -111,7 +111,7 @@ first_rose sizes spare w before counts _ refuses = tt
 mkvg_rose : (w : NewGroup) (patience : ℕ) (was is : Log) (old new : Device) (why : Cause) → MkvgRefuses w patience was is old new why → CauseRose patience old.counts new.counts why
 mkvg_rose w patience was is old new cause.Dark (inl reading) = reading.cut.cuts
 mkvg_rose w patience was is old new cause.Dark (inr writing) = writing.cut.cuts
-mkvg_rose w patience was is old new cause.Stuck (inl reading) = reading.stuck.waited
+mkvg_rose w patience was is old new cause.Stuck (inl reading) = reading.stuck.waits
 mkvg_rose w patience was is old new cause.Stuck (inr writing) = writing.stuck.waits
 mkvg_rose w patience was is old new (cause.DiskFailed disk) (inl unread) = inl unread.unread.rose
 mkvg_rose w patience was is old new (cause.DiskFailed disk) (inr unwritten) = inr unwritten.failed.rose

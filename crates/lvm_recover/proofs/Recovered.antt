@@ -22,7 +22,8 @@ use Rattle.lvm_kept.specs.Contents.{Contents}
 use Rattle.lvm_kept.specs.Group.{descriptor_among, is_voter, status_among, is_stale_by, fresh, fresh_on, block_at, IsBlockOf, IsOneOf, IsSome, HoldOne}
 use Rattle.lvm_kept.specs.Kept.{Kept}
 use Rattle.lvm_kept.specs.Recovered.{IsMadeEqual, MadeEqual, IsCopied, IsLeftBehind as IsLeftBehindBy, Recovered}
-use Rattle.lvm_next.specs.Next.{IsLeftBehind, is_passive, has_passive}
+use Rattle.lvm_next.specs.Next.{IsLeftBehind, has_passive}
+use Rattle.lvm_num.specs.Modes.{is_passive}
 use Rattle.lvm_recover.specs.Recopied.{IsToEqual, IsFromFirst, IsRecopied, HoldFirst, AreEqualled}
 use Rattle.lvm_recover.proofs.Beginning.{usable_same}
 use Rattle.lvm_recover.proofs.Equalling.{even_there}

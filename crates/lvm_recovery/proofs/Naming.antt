@@ -16,7 +16,7 @@ use Rattle.lvm_num.specs.Record.{Stamped}
 use Rattle.lvm_kept.specs.Contents.{Contents}
 use Rattle.lvm_kept.specs.Group.{IsOneOf, fresh_on}
 use Rattle.lvm_kept.proofs.Entries.{volume_is_row}
-use Rattle.lvm_next.specs.Next.{is_active}
+use Rattle.lvm_num.specs.Modes.{is_active}
 use Rattle.lvm_rest.proofs.Rows.{row_is_volume}
 use Rattle.lvm_recovery.specs.declared.copying.Recopy.{Recopy}
 use Rattle.lvm_recovery.specs.declared.plan.TrackGroup.{TrackGroup}

@@ -12,7 +12,7 @@ use Rattle.lvm_num.specs.Record.{Stamped}
 use Rattle.lvm_num.specs.Status.{calls_stale}
 use Rattle.lvm_kept.specs.Contents.{Contents}
 use Rattle.lvm_kept.specs.Group.{IsOneOf}
-use Rattle.lvm_next.specs.Next.{is_active}
+use Rattle.lvm_num.specs.Modes.{is_active}
 use Rattle.lvm_recovery.specs.declared.copying.Recopy.{Recopy}
 use Rattle.lvm_recovery.specs.declared.plan.TrackGroup.{TrackGroup}
 use Rattle.lvm_recovery.specs.Planned.{IsNamedByOne, ArePlanned}

@@ -25,7 +25,8 @@ use Rattle.lvm_kept.specs.Committed.{IsWithinDisks}
 use Rattle.lvm_kept.proofs.Finding.{some_same, finding_reads, images_within}
 use Rattle.lvm_commit.specs.Committed.{ShowsCommitted}
 use Rattle.lvm_commit.proofs.Found.{only_found, status_read}
-use Rattle.lvm_invariant.specs.State.{has_notes, has_mark, Marks, Queued, ModelCopy, ModelState, Live, stale_in, told}
+use Rattle.lvm_invariant.specs.State.{Marks, Queued, ModelCopy, ModelState, Live, stale_in, told}
+use Rattle.lvm_num.specs.Modes.{is_active, is_passive}
 use Rattle.lvm_invariant.specs.Sound.{MayDiffer, Agree, Settled, Sound}
 use Rattle.lvm_invariant.specs.Found.{Votes, Found}
 use Rattle.lvm_invariant.specs.Good.{Good}
@@ -45,12 +46,12 @@ without_true : (t : Bool) → IsFalse (t && true) → IsFalse t
 without_true true h = h
 without_true false h = refl
 
-mode_off : (mode : Mode) → IsFalse (has_notes mode) → IsFalse (has_mark mode) → IsTrue (is_off mode)
+mode_off : (mode : Mode) → IsFalse (is_active mode) → IsFalse (is_passive mode) → IsTrue (is_off mode)
 mode_off Active n m = absurd cc
 mode_off Passive n m = absurd cc
 mode_off Off n m = refl
 
-mode_on : (mode : Mode) → IsTrue (has_notes mode) ⊎ IsTrue (has_mark mode) → IsFalse (is_off mode)
+mode_on : (mode : Mode) → IsTrue (is_active mode) ⊎ IsTrue (is_passive mode) → IsFalse (is_off mode)
 mode_on Active on = refl
 mode_on Passive on = refl
 mode_on Off (inl on) = absurd cc
@@ -226,7 +227,7 @@ module _ (votes : Votes) (s : ModelState) (group : Descriptor) (status : Status)
         (block row lp b one inside).equal
 
     equal_by : (mode : Mode) → row.mode ≡ mode → Agree s row.number b ⊎ MayDifferOn c (Some stands) row.number mode (fresh_on members (Some stands) row lp) (cut b (known s.facts (Lv row.number) b)) b
-        → Agree s row.number b ⊎ MayDiffer s row.number b (has_notes mode)
+        → Agree s row.number b ⊎ MayDiffer s row.number b (is_active mode)
     equal_by mode is (inl agree) = inl agree
     equal_by Active is (inr named) = elim (with_consistency (not_off row.mode (ap is_off is))) [
       | inl agree ↦ inl agree
@@ -243,7 +244,7 @@ module _ (votes : Votes) (s : ModelState) (group : Descriptor) (status : Status)
     equal_by Passive is (inr dirty) = elim (with_consistency (not_off row.mode (ap is_off is))) [
       | inl agree ↦ inl agree
       | inr missing ↦ inr (inr (record {
-        passive = sees.copies.mark row one ∙ ap has_mark is;
+        passive = sees.copies.mark row one ∙ ap is_passive is;
         missing = missing;
         dirty = ap (λ (m : Stamped Marks). m.value.dirty row.number) sees.committed ∙ dirty;
       }))

@@ -19,7 +19,8 @@ use Rattle.lvm_kept.specs.Committed.{IsWithinDisks}
 use Rattle.lvm_commit.specs.Committed.{ShowsCommitted}
 use Rattle.lvm_commit.proofs.Found.{shows_group}
 use Rattle.lvm_steps.proofs.Members.{member_of_parts}
-use Rattle.lvm_invariant.specs.State.{has_notes, has_mark, Marks, ModelState, Live, stale_in, told}
+use Rattle.lvm_invariant.specs.State.{Marks, ModelState, Live, stale_in, told}
+use Rattle.lvm_num.specs.Modes.{is_active, is_passive}
 use Rattle.lvm_invariant.specs.Sound.{MayDiffer, Agree}
 use Rattle.lvm_invariant.specs.Found.{Votes}
 use Rattle.lvm_invariant.specs.Good.{Good}
@@ -89,7 +90,7 @@ module _ (votes : Votes) (s : ModelState) (group : Descriptor) (status : Status)
       not_loose : (p : Pp) → IsOneOf (copies_of row lp) p → IsTrue (usable p) → IsTrue (s.is_active row.number) ⊎ IsTrue (s.is_passive row.number) → IsTrue (told s row.number b).loose → ⊥
       not_loose p copy use_ consistent loose = clash (told s row.number b).loose loose (good.sound.tied.tight row.number b p (copy_of row lp b p one inside copy use_) consistent)
 
-      by : (mode : Mode) → row.mode ≡ mode → (active : Bool) → active ≡ has_notes mode → Agree s row.number b ⊎ MayDiffer s row.number b active → HoldOne c group.mib (fresh_on there (Some stands) row lp) b
+      by : (mode : Mode) → row.mode ≡ mode → (active : Bool) → active ≡ is_active mode → Agree s row.number b ⊎ MayDiffer s row.number b active → HoldOne c group.mib (fresh_on there (Some stands) row lp) b
       by mode is active notes (inl agree) = (
         agree.0,
         of_passing (λ p. block_at c group.mib p b ≡ agree.0) usable (copies_of row lp)
@@ -98,7 +99,7 @@ module _ (votes : Votes) (s : ModelState) (group : Descriptor) (status : Status)
       by mode is true notes (inr differ) = never (λ p copy use_.
           clash (s.missing p.disk) (differ p (live_of row lp b p one inside copy use_)).0 (isnt_missing p.disk (left_of (there p.disk) (not (is_stale_by (Some stands) p)) use_)))
       by Active is false notes (inr differ) = absurd cc
-      by Passive is false notes (inr (inl loose)) = never (λ p copy use_. not_loose p copy use_ (inr (sees.copies.mark row one ∙ ap has_mark is)) loose)
+      by Passive is false notes (inr (inl loose)) = never (λ p copy use_. not_loose p copy use_ (inr (sees.copies.mark row one ∙ ap is_passive is)) loose)
       by Passive is false notes (inr (inr dirty)) = never (λ p copy use_.
           clash (s.missing p.disk) (dirty.missing p (live_of row lp b p one inside copy use_)) (isnt_missing p.disk (left_of (there p.disk) (not (is_stale_by (Some stands) p)) use_)))
       by Off is false notes (inr differ) = absurd (on is)

@@ -17,7 +17,8 @@ use Rattle.lvm_vol.specs.Facts.{Fact}
 use Rattle.lvm_kept.specs.Contents.{Contents}
 use Rattle.lvm_kept.specs.Group.{is_named, IsBlockOf, IsOneOf}
 use Rattle.lvm_kept.proofs.Finding.{some_same}
-use Rattle.lvm_invariant.specs.State.{has_notes, has_mark, ModelState}
+use Rattle.lvm_invariant.specs.State.{ModelState}
+use Rattle.lvm_num.specs.Modes.{is_active, is_passive}
 use Rattle.lvm_crash.specs.Session.{as_marks, marks_of, view_of, members_showing, IsBlockIn}
 use Rattle.lvm_crash.proofs.Lists.{left_of, right_of, both_of}
 use Rattle.lvm_rest.specs.Good.{RestIsSeen}
@@ -65,11 +66,11 @@ is_copy_by (Some row) mib members b p = nat_lt (partition_of mib b) row.lps && (
 
 abbrev notes_by : Option LvRow → Bool
 notes_by None = false
-notes_by (Some row) = has_notes row.mode
+notes_by (Some row) = is_active row.mode
 
 abbrev mark_by : Option LvRow → Bool
 mark_by None = false
-mark_by (Some row) = has_mark row.mode
+mark_by (Some row) = is_passive row.mode
 
 record IsRowOf (rows : List LvRow) (lv : ℕ) (row : LvRow) : Type 0 where
   one : IsOneOf rows row

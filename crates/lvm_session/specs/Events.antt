@@ -6,7 +6,7 @@ use Rattle.lvm_num.specs.Disks.{IsLowest}
 use Rattle.lvm_num.specs.declared.place.Pp.{Pp}
 use Rattle.lvm_num.specs.declared.record.Kind.TheVariants as kind
 use Rattle.lvm_num.specs.declared.descriptor.Mode.{Mode}
-use Rattle.lvm_num.specs.declared.descriptor.Mode.TheVariants as mode
+use Rattle.lvm_num.specs.Modes.{is_passive}
 use Rattle.lvm_num.specs.Status.{calls_dirty}
 use Rattle.lvm_num.specs.declared.descriptor.Policy.{Policy}
 use Rattle.lvm_num.specs.declared.status.Status.{Status}
@@ -126,12 +126,6 @@ last_after last lv (first ∷ rest) = slice_set last lv first
 -- it has its targets
 abbrev pub admitted_as : Policy → Mode → List Target → Open → Open
 admitted_as how m targets o = record o { request = admitted o.request how m targets; older = false }
-
--- the volume is passive
-abbrev pub is_passive : Mode → Bool
-is_passive mode.Active = false
-is_passive mode.Passive = true
-is_passive mode.Off = false
 
 -- A write goes to several copies of a passive volume that isn't wanted dirty yet.
 abbrev pub makes_dirty : Core → Ask → List Target → Bool

@@ -28,7 +28,7 @@ use Rattle.lvm_session.specs.State.{Core, is_there}
 use Rattle.lvm_session.specs.Judging.{is_waiting, copies_in, copies_for, group_of, mode_of, is_usable, is_settled, is_missing, is_changed, is_running}
 use Rattle.lvm_session.specs.Bringing.{groups_of, is_whole}
 use Rattle.lvm_session.specs.Enabled.{is_lost, same_status}
-use Rattle.lvm_session.specs.Events.{is_passive}
+use Rattle.lvm_num.specs.Modes.{is_passive}
 
 -- an update's writes, each with its start and its end, on at most 128 members
 abbrev pub update_work : ℕ

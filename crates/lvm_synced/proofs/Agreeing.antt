@@ -25,7 +25,8 @@ use Rattle.lvm_path.specs.Targets.{is_begun}
 use Rattle.lvm_session.specs.declared.open.Open.{Open}
 use Rattle.lvm_session.specs.Judging.{is_missing, is_settled, is_stale, place_of}
 use Rattle.lvm_session.specs.State.{Core, State, is_there}
-use Rattle.lvm_invariant.specs.State.{Going, Live, ModelPhase, Queued, Started, ModelState, covers, has_mark, has_notes, is_settled_stale, stale_in, told}
+use Rattle.lvm_invariant.specs.State.{Going, Live, ModelPhase, Queued, Started, ModelState, covers, is_settled_stale, stale_in, told}
+use Rattle.lvm_num.specs.Modes.{is_active, is_passive}
 use Rattle.lvm_invariant.specs.Sound.{Agree, MayDiffer, Settled}
 use Rattle.lvm_crash.specs.Session.{as_marks, members_showing}
 use Rattle.lvm_tie_shelf.proofs.Writing.{and_both}
@@ -123,10 +124,10 @@ module _ (past : List Fact) (s : State) (tied : IsTied past s) where
       abbrev second : Live v row.number b p
       second = live p other
 
-      differs : (mode : Mode) → row.mode ≡ mode → (active : Bool) → active ≡ has_notes mode → MayDiffer v row.number b active → ⊥
+      differs : (mode : Mode) → row.mode ≡ mode → (active : Bool) → active ≡ is_active mode → MayDiffer v row.number b active → ⊥
       differs mode is true notes differ = not_both (v.missing c.disk) (differ c first).0 (isnt_missing c usable)
       differs Active is false notes differ = absurd (cc notes)
-      differs Passive is false notes (inl loose) = not_both (told v row.number b).loose loose (tied.good.sound.tied.tight row.number b c first.copy (inr (tied.describes.volumes.mark row at.volume ∙ ap has_mark is)))
+      differs Passive is false notes (inl loose) = not_both (told v row.number b).loose loose (tied.good.sound.tied.tight row.number b c first.copy (inr (tied.describes.volumes.mark row at.volume ∙ ap is_passive is)))
       differs mode is false notes (inr dirty) = not_both (v.missing c.disk) (dirty.missing c first) (isnt_missing c usable)
       differs Off is false notes (inl loose) = not_both (told v row.number b).loose loose (ap (λ (facts : List Fact). (known facts (Lv row.number) b).loose) tied.sees.facts ∙ at.tight is)
 

@@ -60,7 +60,8 @@ use Rattle.lvm_invariant.specs.Events.{Admit, Want, ModelStep}
 use Rattle.lvm_invariant.specs.Good.{Good}
 use Rattle.lvm_invariant.specs.Want.{Wants, after_wants}
 use Rattle.lvm_invariant.proofs.Each.{each_keeps}
-use Rattle.lvm_crash.specs.Session.{marks_of, has_notes, Describes}
+use Rattle.lvm_crash.specs.Session.{marks_of, Describes}
+use Rattle.lvm_num.specs.Modes.{is_active}
 use Rattle.lvm_tie_shelf.specs.Owned.{OnlyUpdateSince}
 use Rattle.lvm_tie_shelf.proofs.Owned.{covered}
 use Rattle.lvm_tie_shelf.proofs.Quiet.{quiet_lasts}
@@ -135,7 +136,7 @@ early k r phase.Landed h = absurd cc
 
 -- ---- the phase that it gets
 
-phase_well : (m : Mode) (w several : Bool) → (phase_seen (first_phase m w several) false ≡ WantEntry) ⊎ ((phase_seen (first_phase m w several) false ≡ Ready) × (IsTrue w → IsTrue (has_notes m) → IsTrue several → ⊥))
+phase_well : (m : Mode) (w several : Bool) → (phase_seen (first_phase m w several) false ≡ WantEntry) ⊎ ((phase_seen (first_phase m w several) false ≡ Ready) × (IsTrue w → IsTrue (is_active m) → IsTrue several → ⊥))
 phase_well m false several = inr (refl, λ w a s. absurd cc)
 phase_well mode.Active true true = inl refl
 phase_well mode.Active true false = inr (refl, λ w a s. absurd cc)

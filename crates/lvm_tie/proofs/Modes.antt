@@ -11,7 +11,7 @@ use Rattle.lvm_path.specs.declared.ask.Ask.{Ask}
 use Rattle.lvm_path.specs.Asks.{lv_of}
 use Rattle.lvm_session.specs.State.{State}
 use Rattle.lvm_session.specs.Judging.{IsWithin, mode_of}
-use Rattle.lvm_invariant.specs.State.{has_mark, has_notes}
+use Rattle.lvm_num.specs.Modes.{is_active, is_passive}
 use Rattle.lvm_tie.specs.Tied.{IsTied}
 
 module _ (past : List Fact) (s : State) (tied : IsTied past s) (ask : Ask) (inside : IsWithin s.core.descriptor ask) where
@@ -21,18 +21,18 @@ module _ (past : List Fact) (s : State) (tied : IsTied past s) (ask : Ask) (insi
   row_number : inside.row.number ≡ lv_of ask
   row_number = (volume_at s.core.descriptor (lv_of ask) inside.row inside.volume).its
 
-  pub active_is : tied.view.is_active (lv_of ask) ≡ has_notes (mode_of s.core ask)
-  active_is = ap tied.view.is_active (sym row_number) ∙ tied.describes.volumes.notes inside.row (volume_is_row s.core.descriptor (lv_of ask) inside.row inside.volume) ∙ ap has_notes (sym mode_is)
+  pub active_is : tied.view.is_active (lv_of ask) ≡ is_active (mode_of s.core ask)
+  active_is = ap tied.view.is_active (sym row_number) ∙ tied.describes.volumes.notes inside.row (volume_is_row s.core.descriptor (lv_of ask) inside.row inside.volume) ∙ ap is_active (sym mode_is)
 
-  pub passive_is : tied.view.is_passive (lv_of ask) ≡ has_mark (mode_of s.core ask)
-  passive_is = ap tied.view.is_passive (sym row_number) ∙ tied.describes.volumes.mark inside.row (volume_is_row s.core.descriptor (lv_of ask) inside.row inside.volume) ∙ ap has_mark (sym mode_is)
+  pub passive_is : tied.view.is_passive (lv_of ask) ≡ is_passive (mode_of s.core ask)
+  passive_is = ap tied.view.is_passive (sym row_number) ∙ tied.describes.volumes.mark inside.row (volume_is_row s.core.descriptor (lv_of ask) inside.row inside.volume) ∙ ap is_passive (sym mode_is)
 
-pub active_mode : (m : Mode) → has_notes m ≡ true → m ≡ mode.Active
+pub active_mode : (m : Mode) → is_active m ≡ true → m ≡ mode.Active
 active_mode mode.Active h = refl
 active_mode mode.Passive h = absurd cc
 active_mode mode.Off h = absurd cc
 
-pub passive_mode : (m : Mode) → has_mark m ≡ true → m ≡ mode.Passive
+pub passive_mode : (m : Mode) → is_passive m ≡ true → m ≡ mode.Passive
 passive_mode mode.Active h = absurd cc
 passive_mode mode.Passive h = refl
 passive_mode mode.Off h = absurd cc

@@ -1,5 +1,5 @@
 -- How the lines of a run follow each other.
-use Rattle.std.proofs.Common.{◌≡◌, inl, inr, ◌++◌, ℕ, List, [], Option, Some, None, true, false, Result, Ok, Err, is_err, OnOk, OnErr, refl, sym, subst}
+use Rattle.std.proofs.Common.{◌≡◌, ◌↔◌, inl, inr, ◌++◌, ℕ, List, [], Option, Some, None, Bool, true, false, IfSome, Result, Ok, Err, is_err, OnOk, OnErr, refl, sym, subst}
 use Rattle.std.proofs.lemmas.List.{append-nil}
 use Rattle.lvm_io.specs.Count.{Rose}
 use Rattle.lvm_io.specs.Stream.{WhereTold, WritesFront}
@@ -9,12 +9,12 @@ use Rattle.lvm_line.specs.Lines.{IsLine}
 use Rattle.lvm_line.specs.passed.Stage.{IsStuck, ScriptState, Reply}
 use Rattle.lvm_line.specs.passed.RefusalVariants as refusal
 use Rattle.lvm_line.specs.passed.ReplyVariants as reply
-use Rattle.std.specs.Prelude.{is_some}
+use Rattle.std.specs.Prelude.{IsTrue, is_some}
 use Rattle.lvm_line.proofs.Causing.{stuck_off}
 use Rattle.lvm_top.specs.declared.script.Stop.{Stop}
 use Rattle.lvm_top.specs.declared.script.Stop.TheVariants as stop
-use Rattle.lvm_top.specs.Script.{stream}
-use Rattle.lvm_top.specs.Turn.{Wrote}
+use Rattle.lvm_top.specs.Script.{Passage, stream}
+use Rattle.lvm_top.specs.Turn.{Wrote, EndsFor, stop_after}
 
 -- where a line answers that nothing was heard, no group is on
 pub stuck_is_off : (log : Log) (room : Room) (line : List ℕ) (old new : ScriptState) (answer : Reply) → IsLine log room line answer old new → IsStuck answer → new.session ≡ None
@@ -44,6 +44,26 @@ took_all (Err e) P is p = absurd (cc (is))
 pub failed : {E : Type 0} (r : Result (Unit {0}) E) (P : Type 0) → is_err r ≡ true → OnErr r P → P
 failed (Ok u) P is p = absurd (cc (is))
 failed (Err e) P is p = p
+
+-- ---- why the run ends with a line
+
+-- nothing was heard just where that is why,
+pub stops_stuck : (stuck fails : Bool) (why : Option Stop) (Unheard : Type 0) → IsTrue stuck ↔ Unheard → why ≡ stop_after stuck fails → (why ≡ Some stop.Stuck) ↔ Unheard
+stops_stuck true fails why Unheard both is = (λ stuck. both.0 refl, λ unheard. is)
+stops_stuck false true why Unheard both is = (λ stuck. absurd (let its : why ≡ Some stop.SinkFault = is in cc (stuck, its)), λ unheard. absurd (let no = both.1 unheard in cc (no)))
+stops_stuck false false why Unheard both is = (λ stuck. absurd (let its : why ≡ None = is in cc (stuck, its)), λ unheard. absurd (let no = both.1 unheard in cc (no)))
+
+-- it goes on only where the sink took it all,
+pub goes_only : (stuck fails : Bool) (why : Option Stop) → why ≡ stop_after stuck fails → why ≡ None → fails ≡ false
+goes_only true fails why is none = absurd (let its : why ≡ Some stop.Stuck = is in cc (its, none))
+goes_only false true why is none = absurd (let its : why ≡ Some stop.SinkFault = is in cc (its, none))
+goes_only false false why is none = refl
+
+-- and ends for no third reason
+pub ends_for : (stuck fails : Bool) (why : Option Stop) (output : Passage) → why ≡ stop_after stuck fails → (fails ≡ true → Rose output.before.faults output.after.faults) → IfSome why (EndsFor output)
+ends_for true fails why output is rose = subst (λ (w : Option Stop). IfSome w (EndsFor output)) (sym is) (inl refl)
+ends_for false true why output is rose = subst (λ (w : Option Stop). IfSome w (EndsFor output)) (sym is) (inr (refl, rose refl))
+ends_for false false why output is rose = subst (λ (w : Option Stop). IfSome w (EndsFor output)) (sym is) tt
 
 -- the run goes on
 pub ended_not : (why : Option Stop) → is_some why ≡ false → why ≡ None

@@ -120,7 +120,7 @@ module _ (w : NewGroup) (old : Device) (asked : IsAskedFor w old) where
     refused_finds (cause.ClockBack seen) rests refuses id k it = inl (unwritten_nothing old left refuses.0.unwritten refuses.0.rested.ready.flights id k it)
     refused_finds cause.Dark rests (inl reading) id k it = inl (unwritten_nothing old left reading.unwritten reading.cut.flights id k it)
     refused_finds cause.Dark rests (inr writing) id k it = breaks_find writing.begun writing.breaks writing.cut.flights cause.Dark tt id k it
-    refused_finds cause.Stuck rests (inl reading) id k it = absurd (none_out left.flights reading.stuck.flight (rests refl) reading.stuck.out)
+    refused_finds cause.Stuck rests (inl reading) id k it = absurd (none_out left.flights reading.stuck.flight (rests refl) reading.stuck.flights)
     refused_finds cause.Stuck rests (inr writing) id k it = absurd (none_out left.flights writing.stuck.flight (rests refl) writing.stuck.flights)
     refused_finds cause.Memory rests refuses id k it = inl (unwritten_nothing old left refuses.unwritten refuses.rested.ready.flights id k it)
     refused_finds _ rests refuses id k it = absurd refuses

@@ -7,7 +7,7 @@ ghost use Rattle.lvm_line.specs.passed.Stage.{reply_text, most_refusals, refusal
 ghost use Rattle.lvm_line.specs.passed.Stage.{IsBetweenStage, IsFitting, without_facts};
 ghost use Rattle.lvm_top.specs.Script.{Says, is_made_late, passage};
 ghost use Rattle.lvm_top.specs.Statuses.{GoesUntil};
-ghost use Rattle.lvm_top.specs.Turn.{ReadsLine, ReadsNone, Tells};
+ghost use Rattle.lvm_top.specs.Turn.{ReadsLine, ReadsNone, Tells, stop_after};
 
 use lvm_core::Room;
 use lvm_disk::Shelf;
@@ -119,6 +119,19 @@ fn with_refusals(refused: u32, reply: &Reply) -> u32
     }
 }
 
+// Why the run ends with a line, if so: nothing was heard of a transfer, or else the sink failed.
+fn stop_after(stuck: bool, failed: bool) -> Option<Stop>
+    ensures { result ≡ stop_after stuck failed }
+{
+    if stuck {
+        Some(Stop::Stuck)
+    } else if failed {
+        Some(Stop::SinkFault)
+    } else {
+        None
+    }
+}
+
 /// Writes the reply to a line. Answers how many lines are refused with it, and why the run ends with it, if so.
 pub fn write_reply<O: Sink>(
     alloc: Global,
@@ -132,13 +145,8 @@ pub fn write_reply<O: Sink>(
     let stuck = is_stuck(&answer);
     let (said, wrote) = say(alloc, out, answer);
     let refused = with_refusals(refused, &said);
-    if stuck {
-        (refused, Some(Stop::Stuck))
-    } else if wrote.is_err() {
-        (refused, Some(Stop::SinkFault))
-    } else {
-        (refused, None)
-    }
+    let stop = stop_after(stuck, wrote.is_err());
+    (refused, stop)
 }
 
 // The next line of a source. Where none comes, why the run ends, if not since none is left.

@@ -1,5 +1,5 @@
 -- Reads of a disk's records that follow each other.
-use Rattle.std.proofs.Common.{◌≡◌, ◌+◌, ◌-◌, ◌<◌, ◌≤◌, ℕ, List, length, Option, Some, IfSome, Result, Ok, Err, slice_get, slice_index_or, refl, sym, ◌∙◌, subst, arith}
+use Rattle.std.proofs.Common.{◌≡◌, ◌+◌, ◌-◌, ◌<◌, ◌≤◌, ℕ, Bool, false, List, length, Option, Some, IfSome, Result, Ok, Err, slice_get, slice_index_or, refl, sym, ◌∙◌, subst, arith}
 use Rattle.lvm_num.specs.Buffer.{Buffer}
 use Rattle.lvm_disk.specs.Counts.{Rose, RoseBy}
 use Rattle.lvm_disk.specs.Device.{Media, Device, IsReady}
@@ -10,7 +10,7 @@ use Rattle.lvm_transfer.specs.declared.reading.Stop.{Stop}
 use Rattle.lvm_transfer.specs.declared.reading.Stop.TheVariants as stop
 use Rattle.lvm_transfer.specs.declared.reading.Unread.{Unread}
 use Rattle.lvm_transfer.specs.declared.reading.Unread.TheVariants as unread
-use Rattle.lvm_transfer.specs.Reading.{IsUntouched, OnlyReads, IsRested, IsInRecords, IsReadStuck, AllWereRead, ReadsAnswer, ReadsEnd, StopGives}
+use Rattle.lvm_transfer.specs.Reading.{IsUntouched, OnlyReads, IsRested, IsInRecords, IsUnheard, IsReadStuck, AllWereRead, ReadsAnswer, ReadsEnd, StopGives}
 use Rattle.lvm_transfer.specs.Transfer.{NoStep}
 use Rattle.lvm_transfer.proofs.Joining.{or_got}
 use Rattle.lvm_transfer.proofs.Transferring.{unwritten_more}
@@ -53,23 +53,24 @@ untouched_more d old mid new one two = record { starts = two.starts ∙ one.star
 pub rested_more : (old mid new : Device) → IsRested old mid → IsRested mid new → IsRested old new
 rested_more old mid new one two = record { ready = two.ready; cuts = two.cuts ∙ one.cuts }
 
--- the rest was lost as patience was at the beginning
-stuck_more : (number a b : ℕ) (old mid new : Device) → OnlyReads a b old mid → IsRested old mid → IsReadStuck number b mid new → IsReadStuck number a old new
-stuck_more number a b old mid new one rested two = record {
-  flight = two.flight;
-  out = two.out;
-  reads = two.reads;
-  buffer = two.buffer;
-  freed = two.freed;
-  power = two.power;
-  cuts = two.cuts ∙ rested.cuts;
-  waited = record { later = omega (arith, one.waited.later, two.waited.later); risen = omega (arith, one.falls, one.waited.later, one.waited.risen, two.waited.later, two.waited.risen) };
+-- nothing was heard of the last transfer until the patience had run out that those before it had left
+pub unheard_then : (writes : Bool) (number next a b : ℕ) (old mid new : Device) → next ≡ number → mid.counts.cuts ≡ old.counts.cuts → b ≤ a → RoseBy (a - b) old.counts.waits mid.counts.waits → IsUnheard writes next b mid new
+    → IsUnheard writes number a old new
+unheard_then writes number next a b old mid new same cuts falls waited last = record {
+  flight = last.flight;
+  flights = last.flights;
+  write = last.write;
+  buffer = last.buffer ∙ same;
+  freed = last.freed;
+  power = last.power;
+  cuts = last.cuts ∙ cuts;
+  waits = record { later = omega (arith, waited.later, last.waits.later); risen = omega (arith, falls, waited.later, waited.risen, last.waits.later, last.waits.risen) };
 }
 
 pub stop_more : (number a b : ℕ) (old mid new : Device) (how : Stop) → OnlyReads a b old mid → IsRested old mid → StopGives number b mid new how → StopGives number a old new how
 stop_more number a b old mid new (stop.Memory buf) one rested gives = (rested_more old mid new rested gives.0, gives.1)
 stop_more number a b old mid new stop.Dark one rested gives = record { power = gives.power; flights = gives.flights; cuts = subst (λ n. Rose n new.counts.cuts) rested.cuts gives.cuts }
-stop_more number a b old mid new stop.Stuck one rested gives = stuck_more number a b old mid new one rested gives
+stop_more number a b old mid new stop.Stuck one rested gives = unheard_then false number number a b old mid new refl rested.cuts one.falls one.waited gives
 
 all_more : (disk : ℕ) (old mid new : Device) → AllWereRead disk old mid → AllWereRead disk mid new → AllWereRead disk old new
 all_more disk old mid new one two = record { rested = rested_more old mid new one.rested two.rested; misses = two.misses ∙ one.misses }

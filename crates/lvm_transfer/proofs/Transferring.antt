@@ -254,13 +254,13 @@ module _ (patience ticket disk first count : ℕ) (buf : Buffer) (old : Device) 
   read_stuck : (new : Device) → TransferGives patience old new f moved.Stuck → IsReadStuck buf.number patience old new
   read_stuck new gives = record {
     flight = f;
-    out = flights_are new gives.0;
-    reads = refl;
+    flights = flights_are new gives.0;
+    write = refl;
     buffer = refl;
     freed = now_is new gives.0 (λ d. d.freed) ∙ ready.freed;
     power = now_is new gives.0 (λ d. d.power) ∙ ready.power;
     cuts = out_cuts new gives.0;
-    waited = gives.1;
+    waits = gives.1;
   }
 
   -- ---- as a call tells it

@@ -1,5 +1,5 @@
 -- What reads of a disk's records change, and how they end.
-use Rattle.std.specs.Prelude.{◌≡◌, ℕ, ◌+◌, ◌-◌, ◌<◌, ◌≤◌, true, false, List, [], ◌∷◌, length, take, drop, min, Result, Ok, Err, slice_index_or}
+use Rattle.std.specs.Prelude.{◌≡◌, ℕ, ◌+◌, ◌-◌, ◌<◌, ◌≤◌, Bool, true, false, List, [], ◌∷◌, length, take, drop, min, Result, Ok, Err, slice_index_or}
 use Rattle.std.specs.Int.{w32, from_be_bytes}
 use Rattle.lvm_num.specs.Buffer.{Buffer}
 use Rattle.lvm_num.specs.Geometry.{data_start}
@@ -50,16 +50,21 @@ pub record IsCutOff (old new : Device) : Type 0 where
   pub flights : new.flights ≡ []
   pub cuts : Rose old.counts.cuts new.counts.cuts
 
--- One read is out with the buffer of this number, of which nothing was heard until the patience had run out. The power was on all the time.
-pub record IsReadStuck (number patience : ℕ) (old new : Device) : Type 0 where
+-- Just one transfer is out, a write or a read, with the buffer of this number, of which nothing was heard until the patience had run out. The power is on as ever, and
+-- no buffer was given up.
+pub record IsUnheard (writes : Bool) (number patience : ℕ) (old new : Device) : Type 0 where
   pub flight : Flight
-  pub out : new.flights ≡ flight ∷ []
-  pub reads : flight.write ≡ false
+  pub flights : new.flights ≡ flight ∷ []
+  pub write : flight.write ≡ writes
   pub buffer : flight.buf.number ≡ number
   pub freed : new.freed ≡ []
   pub power : new.power ≡ true
   pub cuts : new.counts.cuts ≡ old.counts.cuts
-  pub waited : RoseBy patience old.counts.waits new.counts.waits
+  pub waits : RoseBy patience old.counts.waits new.counts.waits
+
+-- so a read is out
+abbrev pub IsReadStuck : ℕ → ℕ → Device → Device → Type 0
+IsReadStuck number patience old new = IsUnheard false number patience old new
 
 -- how reads were ended before their end, with the buffer of this number
 abbrev pub StopGives : ℕ → ℕ → Device → Device → Stop → Type 0

@@ -39,7 +39,8 @@ use Rattle.lvm_survey.specs.Surveyed.{surveyed}
 use Rattle.lvm_area.specs.Reading.{under}
 use Rattle.lvm_core.specs.declared.parts.Room.{Room}
 use Rattle.lvm_begin.specs.Beginning.{Beginning, describes, states, MayBeginAgain}
-use Rattle.lvm_next.specs.Next.{IsNextStatus, is_passive, has_passive}
+use Rattle.lvm_next.specs.Next.{IsNextStatus, has_passive}
+use Rattle.lvm_num.specs.Modes.{is_passive}
 use Rattle.lvm_next.proofs.Building.{copy_is_placed, is_member_of}
 use Rattle.lvm_varyon_plan.specs.declared.plan.Plan.{Plan}
 use Rattle.lvm_varyon.specs.Found.{records_on}

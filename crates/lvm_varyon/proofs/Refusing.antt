@@ -1,5 +1,5 @@
 -- A varyon that is refused.
-use Rattle.std.proofs.Common.{◌≡◌, ◌≤◌, ℕ, List, Err, sym, subst}
+use Rattle.std.proofs.Common.{◌≡◌, ◌≤◌, ℕ, List, Err, sym, subst, arith}
 use Rattle.lvm_disk.specs.Device.{Device}
 use Rattle.lvm_vol.specs.Log.{Log, spare_entries}
 use Rattle.lvm_core.specs.declared.parts.Room.{Room}
@@ -7,6 +7,10 @@ use Rattle.lvm_core.specs.declared.refused.Cause.{Cause}
 use Rattle.lvm_core.specs.declared.refused.Cause.TheVariants as cause
 use Rattle.lvm_core.specs.declared.refused.Refused.{Refused}
 use Rattle.lvm_varyon.specs.Varied.{VaryonRefuses, VaryonStops, VariesOnAt, log_after}
+
+-- the history has room, of which so much was counted
+pub some_spare : (n : ℕ) (log : Log) → n ≡ spare_entries log → (n ≡ 0 → ⊥) → 1 ≤ spare_entries log
+some_spare n log is some = omega (arith, is, some)
 
 -- where the history has room it is refused for what stops it
 pub refuses_so : (old new : Device) (name : List ℕ) (moment patience : ℕ) (log : Log) (why : Cause) → 1 ≤ spare_entries log → VaryonStops old new name moment patience why → VaryonRefuses old new name moment patience log why

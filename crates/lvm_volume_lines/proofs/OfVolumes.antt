@@ -84,6 +84,10 @@ history_is (holder.Off shelf history) core its = absurd (cc (its))
 history_is (holder.Empty driver) core its = let same : driver.1 ≡ core = cc (its) in ap (λ (c : Core). c.history) same
 history_is (holder.Serving driver) core its = let same : driver.1 ≡ core = cc (its) in ap (λ (c : Core). c.history) same
 
+-- the session of a stage, before any turn
+abbrev pub first_at : {S : Type 0} → (S → Device) → Stage S → Core → Session
+first_at device stage core = state (device (shelf_in stage)) core
+
 module _ {S : Type 0} (device : S → Device) (stage : Stage S) (fits : IsFitting stage) (between : IsBetweenStage device stage) (none : open_in (session_in stage) ≡ 0) where
   -- the session that is on
   module _ (core : Core) (its : session_in stage ≡ Some core) where
@@ -96,6 +100,21 @@ module _ {S : Type 0} (device : S → Device) (stage : Stage S) (fits : IsFittin
     pub its_history : history_in stage ≡ core.history
     its_history = history_is stage.holder core its
 
+    -- nothing of it is under way where the stage is at rest
+    pub still_first : (last : ℕ) → IsAtRest (state_in device stage last) → IsStill (first_at device stage core)
+    still_first last rest =
+        let settled = subst (λ (o : Option Core). IfSome o IsSettledCore) its rest.session in
+        record {
+          sound = was_on.sound;
+          on = settled.power;
+          requests = no_requests;
+          copy = settled.quiet.copy;
+          in_flight = settled.quiet.status;
+          committed = settled.committed;
+          votes = ap not settled.votes;
+          idle = rest.ready.flights;
+        }
+
   -- ---- once it has come to rest
 
   module _ (patience : ℕ) (driver : S × Core) (rested : HasRested device stage.holder patience_of_line patience driver) where
@@ -105,17 +124,14 @@ module _ {S : Type 0} (device : S → Device) (stage : Stage S) (fits : IsFittin
     abbrev mid : Session
     mid = state_of device driver
 
-    abbrev first : Session
-    first = state (device (shelf_in stage)) core
-
     its : session_in stage ≡ Some core
     its = rested.turned.its
 
-    abbrev leaves : LeavesSession first mid
+    abbrev leaves : LeavesSession (first_at device stage core) mid
     leaves = rested.turned.runs.leaves
 
-    turned : TurnsKeep first mid
-    turned = turns_keep first mid (was_on core its).sound rested.turned.turns
+    turned : TurnsKeep (first_at device stage core) mid
+    turned = turns_keep (first_at device stage core) mid (was_on core its).sound rested.turned.turns
 
     pub at_mid : (last : ℕ) → AtMid (state_in device stage last) core mid
     at_mid last = record {
@@ -136,7 +152,7 @@ module _ {S : Type 0} (device : S → Device) (stage : Stage S) (fits : IsFittin
       none = no_requests core its;
       turns = rested.turned.turns;
       runs = rested.turned.runs;
-      still = λ rest. still_turns first mid (still rest) rested.turned.turns rested.settled.power;
+      still = λ rest. still_turns (first_at device stage core) mid (still_first core its last rest) rested.turned.turns rested.settled.power;
       empty = rested.empty;
       missing = turned.missing;
       sound = rested.turned.sound;
@@ -144,20 +160,6 @@ module _ {S : Type 0} (device : S → Device) (stage : Stage S) (fits : IsFittin
       few = rested.turned.few;
       waited = rested.turned.waited;
     }
-      where
-        still : IsAtRest (state_in device stage last) → IsStill first
-        still rest =
-            let settled = subst (λ (o : Option Core). IfSome o IsSettledCore) its rest.session in
-            record {
-              sound = (was_on core its).sound;
-              on = settled.power;
-              requests = no_requests core its;
-              copy = settled.quiet.copy;
-              in_flight = settled.quiet.status;
-              committed = settled.committed;
-              votes = ap not settled.votes;
-              idle = rest.ready.flights;
-            }
 
     -- ---- and a command has been carried out
 

@@ -1,5 +1,5 @@
 -- A line whose session ends, or isn't heard of, before its command.
-use Rattle.std.proofs.Common.{◌≡◌, ◌⊎◌, inl, inr, ◌<◌, ◌≤◌, ◌^◌, ◌+◌, ℕ, Bool, true, false, [], List, Option, Some, None, IfSome, length, not, refl, sym, ◌∙◌, ap, subst, arith}
+use Rattle.std.proofs.Common.{◌≡◌, ◌⊎◌, inl, inr, ◌<◌, ◌≤◌, ◌^◌, ◌+◌, ℕ, Bool, true, false, [], List, Option, Some, None, IfSome, length, refl, sym, ◌∙◌, ap, subst, arith}
 use Rattle.std.proofs.lemmas.List.{length-map}
 use Rattle.lvm_num.specs.Votes.{total_votes}
 use Rattle.lvm_disk.specs.Device.{Device}
@@ -10,7 +10,7 @@ use Rattle.lvm_session.specs.Causes.{is_over}
 use Rattle.lvm_session.specs.Sound.{is_dark}
 use Rattle.lvm_session.specs.declared.open.Power.{Power}
 use Rattle.lvm_session.specs.declared.open.Power.TheVariants as power
-use Rattle.lvm_session.specs.State.{Core, State as Session, state, votes_there}
+use Rattle.lvm_session.specs.State.{Core, State as Session, votes_there}
 use Rattle.lvm_turn_losses.proofs.Votes.{votes_go}
 use Rattle.lvm_core.specs.declared.fault.CommitFault.{CommitFault}
 use Rattle.lvm_core.specs.declared.fault.CommitFault.TheVariants as commit
@@ -30,8 +30,8 @@ use Rattle.lvm_range_lines.proofs.passed.Stage.{one_refused, LeavesAnswers, end_
 use Rattle.lvm_volume_lines.specs.Commands.{HasBrokenOff}
 use Rattle.lvm_volume_lines.specs.Volumes.{IsUndrained, drain_refusal}
 use Rattle.lvm_volume_lines.proofs.Commanding.{Acts}
-use Rattle.lvm_volume_lines.proofs.OfVolumes.{its_history, no_requests, was_on}
-use Rattle.lvm_volume_lines.proofs.Resting.{IsStill, TurnsKeep, dark_or_still, turns_keep}
+use Rattle.lvm_volume_lines.proofs.OfVolumes.{first_at, its_history, no_requests, still_first, was_on}
+use Rattle.lvm_volume_lines.proofs.Resting.{TurnsKeep, dark_or_still, turns_keep}
 
 none_of_kind : {S : Type 0} (by : Holder S) → session_of by ≡ None → IsOfKind by
 none_of_kind (holder.Off shelf history) none = tt
@@ -47,17 +47,14 @@ module _ {S : Type 0} (role : Role) (acts : Acts role) (device : S → Device) (
   abbrev end : Session
   end = state_of device driver
 
-  abbrev first : Session
-  first = state (device (shelf_in stage)) core
-
-  abbrev leaves : LeavesSession first end
+  abbrev leaves : LeavesSession (first_at device stage core) end
   leaves = broken.turned.runs.leaves
 
   its : session_in stage ≡ Some core
   its = broken.turned.its
 
-  turned : TurnsKeep first end
-  turned = turns_keep first end (was_on device stage fits between none core its).sound broken.turned.turns
+  turned : TurnsKeep (first_at device stage core) end
+  turned = turns_keep (first_at device stage core) end (was_on device stage fits between none core its).sound broken.turned.turns
 
   run : (last : ℕ) → IsRun role (state_in device stage last) core end
   run last = record {
@@ -116,22 +113,8 @@ module _ {S : Type 0} (role : Role) (acts : Acts role) (device : S → Device) (
 
   -- ---- from rest
 
-  still : (last : ℕ) → IsAtRest (state_in device stage last) → IsStill first
-  still last rest =
-      let settled = subst (λ (o : Option Core). IfSome o IsSettledCore) its rest.session in
-      record {
-        sound = (was_on device stage fits between none core its).sound;
-        on = settled.power;
-        requests = no_requests device stage fits between none core its;
-        copy = settled.quiet.copy;
-        in_flight = settled.quiet.status;
-        committed = settled.committed;
-        votes = ap not settled.votes;
-        idle = rest.ready.flights;
-      }
-
   rests : (last : ℕ) → IsAtRest (state_in device stage last) → IsAtRest (state_in device it last)
-  rests last rest = by (dark_or_still first end (still last rest) broken.turned.turns)
+  rests last rest = by (dark_or_still (first_at device stage core) end (still_first device stage fits between none core its last rest) broken.turned.turns)
     where
       closed_rests : end.device.flights ≡ [] → HaveAllLanded end.core.history.facts → IsAtRest (state_in device it last)
       closed_rests idle landed = record {
@@ -145,7 +128,7 @@ module _ {S : Type 0} (role : Role) (acts : Acts role) (device : S → Device) (
         posts = ended.posted ∙ ap (posts_ended (Some driver.1)) rest.posts;
       }
 
-      by : (end ≡ first) ⊎ (end.core.power ≡ power.Dark) → IsAtRest (state_in device it last)
+      by : (end ≡ (first_at device stage core)) ⊎ (end.core.power ≡ power.Dark) → IsAtRest (state_in device it last)
       by (inl same) = closed_rests (ap (λ (s : Session). s.device.flights) same ∙ rest.ready.flights)
           (subst (λ (s : Session). HaveAllLanded s.core.history.facts) (sym same) (subst (λ (l : Log). HaveAllLanded l.facts) (its_history device stage fits between none core its) rest.landed))
       by (inr dark) = closed_rests (broken.turned.sound.dark (ap is_dark dark)).flights (over_landed end broken.turned.sound (ap is_over dark))
@@ -168,7 +151,7 @@ module _ {S : Type 0} (role : Role) (acts : Acts role) (device : S → Device) (
     end = end;
     turns = broken.turned.turns;
     runs = broken.turned.runs;
-    votes = votes_go first end leaves.keeps.descriptor turned.loses;
+    votes = votes_go (first_at device stage core) end leaves.keeps.descriptor turned.loses;
     sound = broken.turned.sound;
     left = patience;
     fails = broken.fails;

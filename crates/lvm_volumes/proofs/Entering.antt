@@ -1,5 +1,5 @@
 -- The entries of a volume in a session, and the commit between them.
-use Rattle.std.proofs.Common.{◌≡◌, inl, ℕ, ◌≤◌, Bool, true, false, [], ◌∷◌, Option, Some, None, refl, sym, ap, subst, ◌∙◌, arith}
+use Rattle.std.proofs.Common.{◌≡◌, inl, ℕ, ◌≤◌, Bool, true, false, [], ◌∷◌, Option, Some, None, Result, refl, sym, ap, subst, ◌∙◌, arith}
 use Rattle.std.specs.Prelude.{IfSome, not, length}
 use Rattle.std.proofs.lemmas.List.Sums.{sum_by-append, count_by-le-length}
 use Rattle.lvm_num.specs.declared.place.Pp.{Pp}
@@ -25,12 +25,13 @@ use Rattle.lvm_commit.proofs.Still.{still_holds_committed}
 use Rattle.lvm_session.specs.State.{Core, State, is_there}
 use Rattle.lvm_core.specs.Held.{IsHeld}
 use Rattle.lvm_core.specs.Settled.{IsSettled, HasSpareNumbers}
-use Rattle.lvm_core.specs.Committing.{moment_of, SpanGoesOn, LetsCommit, HasStated}
+use Rattle.lvm_core.specs.declared.fault.CommitFault.{CommitFault}
+use Rattle.lvm_core.specs.Committing.{moment_of, SpanGoesOn, LetsCommit, HasStated, CommitEnds}
 use Rattle.lvm_core.specs.Leaves.{NoPartition, IsHeldSince, IsOfCommand, Leaves, committing}
 use Rattle.lvm_core.specs.Entering.{IsOfVolume}
 use Rattle.lvm_core.proofs.LeavesLemmas.{keeps_fact, same_status}
 use Rattle.lvm_volumes.specs.Endings.{StillHeld, IfAlone, commanding}
-use Rattle.lvm_volumes.specs.Stages.{with_entry}
+use Rattle.lvm_volumes.specs.Stages.{with_entry, ClosesBy, CommitsBetween}
 use Rattle.lvm_volumes.proofs.Holding.{still_by}
 use Rattle.lvm_volumes.proofs.Leaving.{falls_none, leaves_wider}
 use Rattle.lvm_volume_plan.specs.PlannedVolume.{AreOfOneGroup}
@@ -119,3 +120,15 @@ many_bound core valid group =
 
 pub has_numbers : (core : Core) → AreOfOneGroup core → HasSpareRoom core → HasSpareNumbers core
 has_numbers core group room = let many = many_bound core group.valid group.status in omega (arith, many, room.numbers)
+
+-- what is committed behind the first entry, and the last entry behind that
+pub commits_between :
+    (first last : Fact) (next : Descriptor) (p q : ℕ) (old entered mid new : State) (answer : Result (Unit {0}) CommitFault) → entered ≡ with_entry old first → Leaves (committing next) p q entered mid
+    → MarksLeft next entered.core.status mid.core.status → CommitEnds next p entered mid answer → ClosesBy last mid new answer → CommitsBetween first last next p q old new answer
+commits_between first last next p q old entered mid new answer same leaves left ends closes = record {
+  mid = mid;
+  leaves = subst (λ (x : State). Leaves (committing next) p q x mid) same leaves;
+  left = subst (λ (x : State). MarksLeft next x.core.status mid.core.status) same left;
+  ends = subst (λ (x : State). CommitEnds next p x mid answer) same ends;
+  closes = closes;
+}

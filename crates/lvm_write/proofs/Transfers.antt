@@ -1,5 +1,5 @@
 -- Transfers of sectors of a record, one after another.
-use Rattle.std.proofs.Common.{◌≡◌, ℕ, ◌+◌, ◌-◌, List, Some, slice_get, refl, sym, ◌∙◌, subst, arith}
+use Rattle.std.proofs.Common.{◌≡◌, ℕ, ◌+◌, ◌-◌, List, Some, true, slice_get, refl, sym, ◌∙◌, subst, arith}
 use Rattle.lvm_num.specs.Buffer.{Buffer}
 use Rattle.lvm_num.specs.Disks.{Disks}
 use Rattle.lvm_disk.specs.Counts.{Counts, Rose, RoseAt, RoseBy}
@@ -9,6 +9,7 @@ use Rattle.lvm_kept.specs.Plans.{Plan, ChangesBy}
 use Rattle.lvm_kept.specs.Torn.{RecordWrite, IsOfRecord}
 use Rattle.lvm_transfer.specs.declared.moves.Moved.{Moved}
 use Rattle.lvm_transfer.specs.declared.moves.Moved.TheVariants as moved
+use Rattle.lvm_transfer.proofs.Following.{unheard_then}
 use Rattle.lvm_write.specs.Written.{HasRoom, KeepsShelf, FreesAtMost, IsDarkened, IsGivenUp}
 use Rattle.lvm_write.specs.Parts.{PartsStand, CountsEnd, IfMoved, LeavesShelf, IfReturned, Spends, DoesPart, WritesPart}
 use Rattle.lvm_write.proofs.Writing.{logs_none, logs_then, both_then, both_same, changes_then, changes_none, writing_here, moments_on, parts_stay, no_parts, parts_join}
@@ -86,16 +87,7 @@ darkened_then number next old mid new same cuts dark = record {
 }
 
 pub given_up_then : (number next p q : ℕ) (old mid new : Device) → next ≡ number → mid.counts.cuts ≡ old.counts.cuts → Spends p q old mid → IsGivenUp next q mid new → IsGivenUp number p old new
-given_up_then number next p q old mid new same cuts one stuck = record {
-  flight = stuck.flight;
-  flights = stuck.flights;
-  write = stuck.write;
-  buffer = stuck.buffer ∙ same;
-  freed = stuck.freed;
-  power = stuck.power;
-  cuts = stuck.cuts ∙ cuts;
-  waits = spent_then p q old mid new one stuck.waits;
-}
+given_up_then number next p q old mid new same cuts one stuck = unheard_then true number next p q old mid new same cuts one.falls one.waits stuck
 
 leaves_then : (number next p q : ℕ) (old mid new : Device) (how : Moved) → next ≡ number → mid.counts.cuts ≡ old.counts.cuts → Spends p q old mid → LeavesShelf next q mid new how → LeavesShelf number p old new how
 leaves_then number next p q old mid new (moved.Done back) same cuts one leaves = tt

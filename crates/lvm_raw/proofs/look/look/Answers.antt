@@ -41,7 +41,7 @@ pub returns-in-Err-Stopped-Stuck-clause-keeps : goal.returns-in-Err-Stopped-Stuc
 returns-in-Err-Stopped-Stuck-clause-keeps g c =
     let old = g.S.Shelf.device c.args.shelf.now in
     let gives = (rw (c.in-Err-Stopped-Stuck.field-0-is, c.in-Err-Stopped-Stuck.field-0-0-is) at c.in-Err-Stopped-Stuck.ensures.reads).gives in
-    looked c.args.patience.now.left c.read_descriptor.new.patience.left old (g.S.Shelf.device c.read_descriptor.new.shelf) c.in-Err-Stopped-Stuck.ensures.reads.only c.args.history.now.run c.args.disk c.args.history.now.facts (Err fault.Stuck) gives.power (λ unstuck. absurd (unstuck refl)) gives.waited
+    looked c.args.patience.now.left c.read_descriptor.new.patience.left old (g.S.Shelf.device c.read_descriptor.new.shelf) c.in-Err-Stopped-Stuck.ensures.reads.only c.args.history.now.run c.args.disk c.args.history.now.facts (Err fault.Stuck) gives.power (λ unstuck. absurd (unstuck refl)) gives.waits
 
 pub returns-clause-keeps : goal.returns-clause-keeps
 returns-clause-keeps g c =

@@ -1,4 +1,4 @@
-use Rattle.std.proofs.Common.{◌≡◌, ◌≤◌, sym, ap, subst, arith}
+use Rattle.std.proofs.Common.{◌≡◌, sym, ap, subst, arith}
 use Rattle.lvm_disk.specs.Device.{Device}
 use Rattle.lvm_disk.specs.Paths.{Here}
 use Rattle.lvm_vol.specs.Log.{Log, spare_entries}
@@ -9,7 +9,7 @@ use Rattle.lvm_core.specs.Coming.{BringsOn}
 use Rattle.lvm_core.specs.Held.{StartsHeld}
 use Rattle.lvm_core.specs.declared.refused.Cause.TheVariants as cause
 use Rattle.lvm_varyon.specs.Varied.{ComesOn, IsRestated, IsRecovered, VaryonRefuses}
-use Rattle.lvm_varyon.proofs.Refusing.{refused_gives, refuses_so}
+use Rattle.lvm_varyon.proofs.Refusing.{refused_gives, refuses_so, some_spare}
 use Rattle.lvm_varyon.proofs.Spanning.{ahead_of, refused_keeps, refused_calm, comes_on, starts_held, none_left, settles, is_restated, is_recovered, on_keeps, on_calm}
 use Rattle.lvm_varyon.proofs.vary.varyon.Goals as goal
 
@@ -43,9 +43,7 @@ returns-then-spare_entries-eq0-clause-leaves g c =
 
 pub returns-in-Ok-clause-gives : goal.returns-in-Ok-clause-gives
 returns-in-Ok-clause-gives g c =
-    let is = c.spare_entries.ensures.spare in
-    let some = c.if-spare_entries-eq0.false in
-    let spare : 1 ≤ spare_entries c.args.history = omega (arith, is, some) in
+    let spare = some_spare c.spare_entries.result c.args.history c.spare_entries.ensures.spare c.if-spare_entries-eq0.false in
     let old = g.S.Shelf.device c.args.shelf in
     let same = sym (ap g.S.Shelf.device c.start.ensures.shelf) in
     record {
@@ -86,9 +84,7 @@ returns-in-Ok-clause-leaves g c =
 
 pub returns-in-Err-clause-gives : goal.returns-in-Err-clause-gives
 returns-in-Err-clause-gives g c =
-    let is = c.spare_entries.ensures.spare in
-    let some = c.if-spare_entries-eq0.false in
-    let spare : 1 ≤ spare_entries c.args.history = omega (arith, is, some) in
+    let spare = some_spare c.spare_entries.result c.args.history c.spare_entries.ensures.spare c.if-spare_entries-eq0.false in
     let old = g.S.Shelf.device c.args.shelf in
     let left = c.args.patience.now.left in
     refused_gives g.S.Shelf.device old c.args.history c.args.name c.args.moment c.args.room left c.in-Err.cause c.refused-in-Err.result c.refused-in-Err.ensures.cause c.refused-in-Err.ensures.history
