@@ -6,9 +6,8 @@ use Rattle.std.specs.Option.{option_map_or}
 use Rattle.std.proofs.lemmas.Bool.{eqb-true}
 use Rattle.lvm_num.specs.declared.place.Pp.{Pp}
 use Rattle.lvm_num.specs.declared.descriptor.PvRow.{PvRow}
-use Rattle.lvm_num.specs.Descriptor.{IsPartitionOf}
+use Rattle.lvm_num.specs.Descriptor.{IsPartitionOf, is_pp}
 use Rattle.lvm_num.proofs.MapsLemmas.{find-Some}
-use Rattle.lvm_stale.specs.Table.{is_pp}
 use Rattle.lvm_disk.specs.Device.{Device}
 use Rattle.lvm_path.specs.declared.target.Target.{Target}
 use Rattle.lvm_session.specs.declared.bringing.OpenCopy.{OpenCopy}

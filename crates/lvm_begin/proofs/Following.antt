@@ -14,6 +14,7 @@ use Rattle.lvm_num.specs.StatusBytes.{status_of}
 use Rattle.lvm_num.specs.Record.{slot_start, stamp_lt, longest_content}
 use Rattle.lvm_num.specs.Torn.{AllBefore, stamp_of}
 use Rattle.lvm_num.proofs.Torn.{sectors-fit}
+use Rattle.lvm_num.proofs.Booleans.{clash}
 use Rattle.lvm_rec.specs.Slots.{slot_for}
 use Rattle.lvm_disk.specs.Device.{Image, Range, image_of}
 use Rattle.lvm_kept.specs.Contents.{has_records, note_sector}
@@ -56,15 +57,12 @@ targets_spare_newest b group status parts next old new was is told_old told_new 
           (other_comes_next Status status_of (states b) status start now state by_status d target (told_at new.media (λ m. StandsOn (states b) (image_of new.sizes m) d) is told_new stated));
     }
 
-never : (t : Bool) → IsTrue t → IsFalse t → ⊥
-never t is_on is_off = cc
-
 pub others_spare_newest : OthersSpareNewest
 others_spare_newest b parts next old new was is told_old told_new keeps flips d other spares =
     let by : ChangesBy (IsOfParts b parts) (image_of old.sizes was) (image_of new.sizes is) = media_by b parts old new was is told_old told_new keeps in
     let same : (s : ℕ) → is d s ≡ was d s = λ s. ⊎_elim
     (λ same. same)
-    (λ (of : IsOfParts b parts d s (is d s)). absurd (never (b.targets d) (on_target b parts d s (is d s) of) other))
+    (λ (of : IsOfParts b parts d s (is d s)). absurd (clash (b.targets d) (on_target b parts d s (is d s) of) other))
     (by.each d s) in
     record {
       descriptor = unflipped kind.Descriptor b next d flips other ∙ spares.descriptor ∙ sym (slot_for_same descriptor_of kind.Descriptor (was d) (is d) (λ slot s two low high. same s));

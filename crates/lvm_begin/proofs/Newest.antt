@@ -1,7 +1,7 @@
 -- What quorums find once all parts of a beginning stand.
 use Rattle.std.proofs.Common.{◌≡◌, ◌⊎◌, inl, inr, ⊎_elim, ℕ, ◌*◌, ◌<◌, ◌≤◌, Bool, true, false, ◌&&◌, length, Option, Some, None, IsTrue, IsFalse, refl, sym, ◌∙◌, ap, subst, eq-eqb, arith}
 use Rattle.std.specs.Prelude.{if◌then◌else◌, nat_lt, nat_le}
-use Rattle.std.proofs.lemmas.Bool.{eqb-true}
+use Rattle.std.proofs.lemmas.Bool.{eqb-true, and_from}
 use Rattle.std.proofs.lemmas.Bool.Decides.{nat_tests}
 use Rattle.lvm_num.specs.declared.descriptor.Descriptor.{Descriptor}
 use Rattle.lvm_num.specs.declared.status.Status.{Status}
@@ -12,6 +12,7 @@ use Rattle.lvm_num.specs.Votes.{all_disks, votes_in, total_votes, CanRead}
 use Rattle.lvm_num.specs.Record.{Stamped, stamp_lt, newest_below}
 use Rattle.lvm_num.proofs.Newest.{is_one, is_last}
 use Rattle.lvm_num.proofs.VotesLemmas.{total-some, more_have_more, more_is_enough, read_meets_read}
+use Rattle.lvm_num.proofs.Booleans.{clash}
 use Rattle.lvm_disk.specs.Device.{Image}
 use Rattle.lvm_kept.specs.Contents.{Contents, contents_of}
 use Rattle.lvm_kept.specs.Group.{if_passes, passes, is_of, is_status_of, has_room, descriptor_among, is_voter, status_among, Finds, members_in}
@@ -30,11 +31,6 @@ split : (p q : Bool) → IsTrue (p && q) → IsTrue p × IsTrue q
 split true true both = (refl, refl)
 split true false both = absurd cc
 split false q both = absurd cc
-
-join : (p q : Bool) → IsTrue p → IsTrue q → IsTrue (p && q)
-join true true p q = refl
-join true false p q = absurd cc
-join false q p r = absurd cc
 
 is_target : (t : Bool) → IsTrue t ⊎ IsFalse t
 is_target true = inl refl
@@ -68,16 +64,13 @@ there_is d disks size has = let low = (split (nat_lt d disks) (nat_le data_start
 
 -- ---- all disks together
 
-clash : (t : Bool) → t ≡ true → t ≡ false → ⊥
-clash t is isnt = cc
-
 module _ (c : Contents) (group : Descriptor) (disks : Disks) (newest : Stamped Descriptor) (within : IsWithinDisks c) (some : 1 ≤ length group.pvs) (has : HasNewest c group disks newest) where
   all_enough : CanRead group (members_in c all_disks group.id group)
   all_enough = more_is_enough.read group (votes_in group (members_in c disks group.id group)) (votes_in group (members_in c all_disks group.id group))
       (more_have_more group (members_in c disks group.id group) (members_in c all_disks group.id group)
       (λ d member is.
       let parts = split (disks d && passes (is_of group.id) (c.descriptor d)) (has_room c d group) is in
-      join (passes (is_of group.id) (c.descriptor d)) (has_room c d group) (split (disks d) (passes (is_of group.id) (c.descriptor d)) parts.0).1 parts.1))
+      and_from (passes (is_of group.id) (c.descriptor d)) (has_room c d group) (split (disks d) (passes (is_of group.id) (c.descriptor d)) parts.0).1 parts.1))
       (finding_reads c disks group.id group has.found).reads.enough
 
   among_all : descriptor_among c all_disks group.id ≡ Some newest
@@ -154,8 +147,8 @@ module _ (b : Beginning) (group : Descriptor) (status : Status) (old : Image) (n
   member_room d target = subst (λ (c : Contents). IsTrue (has_room c d group)) (sym begun.rest) (room d target)
 
   target_member : (d : ℕ) → IsTrue (b.targets d) → IsTrue (members_in new b.targets new_id group d)
-  target_member d target = join (b.targets d && passes (is_of new_id) (new.descriptor d)) (has_room new d group)
-      (join (b.targets d) (passes (is_of new_id) (new.descriptor d)) target (passes_of (is_of new_id) (new.descriptor d) newest_one (begun.described d target) own_id))
+  target_member d target = and_from (b.targets d && passes (is_of new_id) (new.descriptor d)) (has_room new d group)
+      (and_from (b.targets d) (passes (is_of new_id) (new.descriptor d)) target (passes_of (is_of new_id) (new.descriptor d) newest_one (begun.described d target) own_id))
       (member_room d target)
 
   can_read : CanRead group (members_in new b.targets new_id group)

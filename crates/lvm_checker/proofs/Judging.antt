@@ -4,7 +4,7 @@ use Rattle.std.specs.List.{list_any, list_all}
 use Rattle.std.proofs.lemmas.List.{length-take, length-drop, get_or-take, get_or-drop, map_more, drop_more}
 use Rattle.std.proofs.lemmas.List.Sums.{sum_by-cons}
 use Rattle.std.proofs.lemmas.Bool.Decides.{nat_tests}
-use Rattle.std.proofs.lemmas.Bool.{eqb-true}
+use Rattle.std.proofs.lemmas.Bool.{eqb-true, and_from, not-true}
 use Rattle.lvm_vol.specs.declared.entry.Outcome.{Outcome}
 use Rattle.lvm_vol.specs.declared.entry.Outcome.TheVariants as outcome
 use Rattle.lvm_checker.specs.declared.row.Ask.{Ask}
@@ -22,13 +22,6 @@ use Rattle.lvm_checker.proofs.Looking.{eq_comm, equal}
 pub and_both : (a b : Bool) → IsTrue (a && b) → IsTrue a × IsTrue b
 and_both true b is = (refl, is)
 and_both false b is = absurd (let e : ◌≡◌ {A = Bool} false true = is in cc)
-
-pub both_and : (a b : Bool) → IsTrue a → IsTrue b → IsTrue (a && b)
-both_and a b ta tb = ap (λ (t : Bool). t && b) ta ∙ tb
-
-not_so : (a : Bool) → IsTrue (not a) → a ≡ false
-not_so false is = refl
-not_so true is = absurd (let e : ◌≡◌ {A = Bool} false true = is in cc)
 
 so_not : (a : Bool) → a ≡ false → IsTrue (not a)
 so_not a is = ap not is
@@ -126,7 +119,7 @@ module _ (run : ℕ) (asks : List Ask) (blocks : List (List ℕ)) where
       by_row : (h : Row) → IsLater (facts_of run asks blocks (h ∷ rows)) moment → (IsLater (facts_of run asks blocks rows) moment → IsTrue (list_all (is_earlier_on moment) rows)) → IsTrue (list_all (is_earlier_on moment) (h ∷ rows))
       by_row (row.On other) its rest =
           let less = its.0 in
-          both_and (nat_lt other moment) (list_all (is_earlier_on moment) rows) (grind (arith, nat_tests, less)) (rest its.1)
+          and_from (nat_lt other moment) (list_all (is_earlier_on moment) rows) (grind (arith, nat_tests, less)) (rest its.1)
       by_row (row.Begun n) its rest = rest its
       by_row (row.Landed n how started) its rest = rest its
       by_row (row.Taken client n) its rest = rest its
@@ -159,16 +152,16 @@ module _ (run : ℕ) (asks : List Ask) (blocks : List (List ℕ)) where
           record {
             began = subst (λ (n : ℕ). Stands (Begun (record (request_in run asks blocks id) { client = n })) (facts_of run asks blocks rows)) own (began_of id rows one.0);
             answered = landing_is (record (request_in run asks blocks id) { client = client }) rows refl ∙ two.1;
-            first = taking_is (record (request_in run asks blocks id) { client = client }) rows refl ∙ not_so (list_any (is_taking id) rows) three.1;
+            first = taking_is (record (request_in run asks blocks id) { client = client }) rows refl ∙ not-true (list_any (is_taking id) rows) three.1;
           }
 
       from : TakenOnce (facts_of run asks blocks rows) (record (request_in run asks blocks id) { client = client }) → IsTrue (list_any (is_beginning id) rows && (ask_of asks id).client == client && list_any (is_landing id) rows && not (list_any (is_taking id) rows))
       from once =
           let began = row_of_begun (record (request_in run asks blocks id) { client = client }) rows once.began in
           let own : client ≡ (ask_of asks id).client = ap (λ (r : Request). r.client) began.1 in
-          both_and (list_any (is_beginning id) rows && (ask_of asks id).client == client && list_any (is_landing id) rows) (not (list_any (is_taking id) rows))
-          (both_and (list_any (is_beginning id) rows && (ask_of asks id).client == client) (list_any (is_landing id) rows)
-          (both_and (list_any (is_beginning id) rows) ((ask_of asks id).client == client) began.0 (ap (λ (n : ℕ). n == client) (sym own) ∙ equal client))
+          and_from (list_any (is_beginning id) rows && (ask_of asks id).client == client && list_any (is_landing id) rows) (not (list_any (is_taking id) rows))
+          (and_from (list_any (is_beginning id) rows && (ask_of asks id).client == client) (list_any (is_landing id) rows)
+          (and_from (list_any (is_beginning id) rows) ((ask_of asks id).client == client) began.0 (ap (λ (n : ℕ). n == client) (sym own) ∙ equal client))
           (sym (landing_is (record (request_in run asks blocks id) { client = client }) rows refl) ∙ once.answered))
           (so_not (list_any (is_taking id) rows) (sym (taking_is (record (request_in run asks blocks id) { client = client }) rows refl) ∙ once.first))
 
@@ -178,9 +171,9 @@ module _ (run : ℕ) (asks : List Ask) (blocks : List (List ℕ)) where
   kind_of outcome.Got started r is = no_of r.write is
     where
       no_of : (a : Bool) → IsTrue (not a) → IsFalse a
-      no_of a is = not_so a is
-  kind_of outcome.ReadFailed started r is = not_so r.write is
-  kind_of outcome.NoFresh started r is = not_so started is
+      no_of a is = not-true a is
+  kind_of outcome.ReadFailed started r is = not-true r.write is
+  kind_of outcome.NoFresh started r is = not-true started is
   kind_of outcome.Off started r is = tt
   kind_of outcome.Dark started r is = tt
 
@@ -199,8 +192,8 @@ module _ (run : ℕ) (asks : List Ask) (blocks : List (List ℕ)) where
       → Fits (facts_of run asks blocks rows) (fact_of run asks blocks (row.Landed id how started)) → IsTrue t
   ends_of rows id how started t is once =
       let began = row_of_begun (request_in run asks blocks id) rows once.began in
-      is ∙ both_and (list_any (is_beginning id) rows && not (list_any (is_landing id) rows)) (is_kind how (ask_of asks id).write started)
-      (both_and (list_any (is_beginning id) rows) (not (list_any (is_landing id) rows)) began.0 (so_not (list_any (is_landing id) rows) (sym (landing_is (request_in run asks blocks id) rows refl) ∙ once.first)))
+      is ∙ and_from (list_any (is_beginning id) rows && not (list_any (is_landing id) rows)) (is_kind how (ask_of asks id).write started)
+      (and_from (list_any (is_beginning id) rows) (not (list_any (is_landing id) rows)) began.0 (so_not (list_any (is_landing id) rows) (sym (landing_is (request_in run asks blocks id) rows refl) ∙ once.first)))
       (of_kind how started (request_in run asks blocks id) once.kind)
 
   pub lands_of : (rows : List Row) (id : ℕ) (how : Outcome) (started : Bool) (t : Bool)
@@ -212,7 +205,7 @@ module _ (run : ℕ) (asks : List Ask) (blocks : List (List ℕ)) where
       let two = and_both (list_any (is_beginning id) rows) (not (list_any (is_landing id) rows)) three.0 in
       record {
         began = began_of id rows two.0;
-        first = landing_is (request_in run asks blocks id) rows refl ∙ not_so (list_any (is_landing id) rows) two.1;
+        first = landing_is (request_in run asks blocks id) rows refl ∙ not-true (list_any (is_landing id) rows) two.1;
         kind = kind_of how started (request_in run asks blocks id) three.1;
         reads = reads;
       }

@@ -10,7 +10,7 @@ use Rattle.lvm_num.specs.declared.descriptor.Descriptor.{Descriptor}
 use Rattle.lvm_num.specs.Buffer.{Buffer}
 use Rattle.lvm_num.specs.Disks.{Disks}
 use Rattle.lvm_num.specs.Votes.{CanWrite}
-use Rattle.lvm_disk.specs.Device.{Media, Image, Device, image_of, IsCrashImage, MayLeave, HasSectors}
+use Rattle.lvm_disk.specs.Device.{Media, Image, Device, image_of, IsCrashImage, MayLeave, HasSectors, IsWholeImage}
 use Rattle.lvm_disk.specs.Paths.{DeviceStep, Path, Here, Then}
 use Rattle.lvm_disk.proofs.Stepping.{step_same}
 use Rattle.lvm_kept.specs.Plans.{ChangesBy}
@@ -19,7 +19,7 @@ use Rattle.lvm_status.specs.Update.{Stored}
 use Rattle.lvm_rec.specs.declared.homes.Homes.{Homes}
 use Rattle.lvm_write.specs.Written.{write_of, KeepsShelf, IsWriting, written_well}
 use Rattle.lvm_write.proofs.Writing.{told_at}
-use Rattle.lvm_stamps.specs.Laws.{IsNoLater, IsWhole}
+use Rattle.lvm_stamps.specs.Laws.{IsNoLater}
 use Rattle.lvm_commit.specs.Committed.{next_stamp, HoldsCommitted}
 use Rattle.lvm_commit.specs.LawsOfWrites.{StandsWritten}
 use Rattle.lvm_commit.specs.Settling.{there, IsOf, SessionIsHeld}
@@ -57,8 +57,8 @@ module _ (first : Stored) (homes : Homes) (old : Device) (sectors : HasSectors o
   abbrev pub one_write : RecordWrite
   one_write = write_of which framed (there first) homes
 
-  pub whole : (media : Media) → old.media ≡ Some media → IsWhole (image_of old.sizes media)
-  whole media told = told_at old.media (λ m. IsWhole (image_of old.sizes m)) media told sectors
+  pub whole : (media : Media) → old.media ≡ Some media → IsWholeImage (image_of old.sizes media)
+  whole media told = told_at old.media (λ m. IsWholeImage (image_of old.sizes m)) media told sectors
 
   pub held_at : (group : Descriptor) (media : Media) → old.media ≡ Some media → SessionIsHeld old group first homes → HoldsCommitted (image_of old.sizes media) group first.committed (there first) first.stamp homes
   held_at group media told held = told_at old.media (λ m. HoldsCommitted (image_of old.sizes m) group first.committed (there first) first.stamp homes) media told held

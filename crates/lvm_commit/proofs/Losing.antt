@@ -1,16 +1,13 @@
 -- Members become missing.
-use Rattle.std.proofs.Common.{◌≡◌, ℕ, Bool, true, false, ◌||◌, IsFalse, refl, sym, ◌∙◌, ap, subst}
+use Rattle.std.proofs.Common.{◌≡◌, ℕ, true, false, ◌||◌, IsFalse, refl, sym, ◌∙◌, ap, subst}
 use Rattle.std.specs.Prelude.{◌==◌, if◌then◌else◌}
 use Rattle.std.proofs.lemmas.Bool.{false≢true}
 use Rattle.lvm_num.specs.declared.status.Status.{Status}
 use Rattle.lvm_num.specs.Disks.{Disks}
 use Rattle.lvm_num.specs.Status.{calls_missing}
+use Rattle.lvm_num.proofs.Booleans.{or_false}
 use Rattle.lvm_status.specs.Calls.{BecomesMissing}
 use Rattle.lvm_commit.specs.Rounds.{Misses}
-
-or_none : (b : Bool) → b || false ≡ b
-or_none true = refl
-or_none false = refl
 
 -- none do,
 pub misses_none : (failed : Disks) (s : Status) → ((d : ℕ) → failed d ≡ false) → Misses failed s s
@@ -18,7 +15,7 @@ misses_none failed s none = record {
   rows = record { id = refl; big = refl; disks = refl };
   stale = λ p. refl;
   dirty = refl;
-  missing = λ d. sym (ap (λ b. calls_missing s d || b) (none d) ∙ or_none (calls_missing s d));
+  missing = λ d. sym (ap (λ b. calls_missing s d || b) (none d) ∙ or_false (calls_missing s d));
   same = λ all. refl;
 }
 

@@ -13,7 +13,7 @@ use Rattle.lvm_num.specs.DescriptorBytes.{descriptor_of}
 use Rattle.lvm_num.specs.StatusBytes.{status_of}
 use Rattle.lvm_num.specs.Record.{Frames, stamp_lt}
 use Rattle.lvm_rec.specs.Slots.{slot_for, IsTornWrite, BothBefore}
-use Rattle.lvm_disk.specs.Device.{Image}
+use Rattle.lvm_disk.specs.Device.{Image, IsWholeImage}
 use Rattle.lvm_kept.specs.Contents.{Contents, contents_of, has_records, descriptor_on, status_on}
 use Rattle.lvm_kept.specs.Plans.{ChangesBy}
 use Rattle.lvm_kept.specs.Torn.{RecordWrite, on_disk, IsOfRecord, StandsOn, MayWriteAll, written as as_read, StatusesChange, DescriptorsChange}
@@ -27,7 +27,7 @@ use Rattle.lvm_write.specs.Written.{write_of}
 use Rattle.lvm_write.specs.Shows.{IsSlotFit}
 use Rattle.lvm_write.proofs.Shows.{descriptor_may_be_written, status_may_be_written, slot_two, turns}
 use Rattle.lvm_stamps.specs.Behind.{StampsBefore}
-use Rattle.lvm_stamps.specs.Laws.{IsNoLater, IsWhole}
+use Rattle.lvm_stamps.specs.Laws.{IsNoLater}
 use Rattle.lvm_stamps.proofs.Records.{later_may_go}
 use Rattle.lvm_stamps.proofs.Stamps.{later_is_after_too}
 use Rattle.lvm_stamps.proofs.Writes.{record_is_before_next}
@@ -50,7 +50,7 @@ differ e = absurd cc
 
 -- ---- a record of the session
 
-module _ (image : Image) (group : Descriptor) (status : Status) (there : Disks) (stamp : Stamp) (homes : Homes) (whole : IsWhole image) (holds : HoldsCommitted image group status there stamp homes)
+module _ (image : Image) (group : Descriptor) (status : Status) (there : Disks) (stamp : Stamp) (homes : Homes) (whole : IsWholeImage image) (holds : HoldsCommitted image group status there stamp homes)
     (which : Kind) (framed : Framed) (later : IsNoLater (next_stamp stamp) framed.stamp) where
   abbrev w : RecordWrite
   w = write_of which framed there homes
@@ -93,7 +93,7 @@ pub status_may_go : StatusMayGo
 status_may_go image group status next there stamp homes framed whole holds frames reads later =
     status_may_be_written framed next there homes image frames reads (fit image group status there stamp homes whole holds kind.Status framed later)
 
-module _ (group : Descriptor) (status next : Status) (there : Disks) (stamp : Stamp) (homes : Homes) (framed : Framed) (old : Image) (whole : IsWhole old) (holds : HoldsCommitted old group status there stamp homes)
+module _ (group : Descriptor) (status next : Status) (there : Disks) (stamp : Stamp) (homes : Homes) (framed : Framed) (old : Image) (whole : IsWholeImage old) (holds : HoldsCommitted old group status there stamp homes)
     (frames : Frames kind.Status framed) (reads : status_of framed.content ≡ Ok next) (later : IsNoLater (next_stamp stamp) framed.stamp) (new : Image) (by : ChangesBy (IsOfRecord (write_of kind.Status framed there homes)) old new) where
   abbrev status_write : RecordWrite
   status_write = write_of kind.Status framed there homes
@@ -147,7 +147,7 @@ pub descriptor_may_go : DescriptorMayGo
 descriptor_may_go image group next status there stamp homes framed whole holds frames reads later =
     descriptor_may_be_written framed next there homes image frames reads (fit image group status there stamp homes whole holds kind.Descriptor framed later)
 
-module _ (group next : Descriptor) (status : Status) (there : Disks) (stamp : Stamp) (homes : Homes) (framed : Framed) (old : Image) (whole : IsWhole old) (holds : HoldsCommitted old group status there stamp homes)
+module _ (group next : Descriptor) (status : Status) (there : Disks) (stamp : Stamp) (homes : Homes) (framed : Framed) (old : Image) (whole : IsWholeImage old) (holds : HoldsCommitted old group status there stamp homes)
     (frames : Frames kind.Descriptor framed) (reads : descriptor_of framed.content ≡ Ok next) (later : IsNoLater (next_stamp stamp) framed.stamp) (new : Image)
     (by : ChangesBy (IsOfRecord (write_of kind.Descriptor framed there homes)) old new) where
   abbrev descriptor_write : RecordWrite

@@ -7,9 +7,8 @@ use Rattle.std.proofs.lemmas.List.Folds.{list_any-append, list_any_more}
 use Rattle.lvm_num.specs.declared.place.Pp.{Pp}
 use Rattle.lvm_num.specs.declared.descriptor.LvRow.{LvRow}
 use Rattle.lvm_num.specs.declared.status.Status.{Status}
-use Rattle.lvm_num.specs.Descriptor.{copies_of}
+use Rattle.lvm_num.specs.Descriptor.{copies_of, is_pp}
 use Rattle.lvm_num.specs.Status.{calls_missing, calls_stale}
-use Rattle.lvm_stale.specs.Table.{is_pp}
 use Rattle.lvm_status.specs.Update.{Stored, Updates}
 use Rattle.lvm_session.specs.Marks.{WantsStale, is_among}
 use Rattle.lvm_marks.proofs.Marking.{already, same_due, then_marked}

@@ -1,7 +1,7 @@
 //! Whether the copy that is open fails with a write.
 ghost use Rattle.std.specs.Prelude.{◌≡◌, ◌<◌, length, slice_get, Some};
 ghost use Rattle.std.specs.List.{list_any};
-ghost use Rattle.lvm_stale.specs.Table.{is_pp};
+ghost use Rattle.lvm_num.specs.Descriptor.{is_pp};
 ghost use Rattle.lvm_path.specs.declared.target.Target.{Target};
 ghost use Rattle.lvm_path.specs.Targets.{are_over};
 ghost use Rattle.lvm_session.specs.declared.bringing.CopyEnd.TheVariants as ending;

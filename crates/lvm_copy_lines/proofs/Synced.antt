@@ -13,7 +13,7 @@ use Rattle.lvm_session.specs.declared.open.Power.TheVariants as power
 use Rattle.lvm_session.specs.Calls.{has_numbers}
 use Rattle.lvm_session.specs.Causes.{is_over}
 use Rattle.lvm_session.specs.Sound.{IsSound}
-use Rattle.lvm_session.specs.State.{Core, State as Session}
+use Rattle.lvm_session.specs.State.{Core, State, state_of}
 use Rattle.lvm_posts.specs.declared.posts.Post.{Post}
 use Rattle.lvm_resync.specs.declared.copies.Passed.TheVariants as passed
 use Rattle.lvm_resync.specs.declared.fault.SyncFault.{SyncFault}
@@ -22,10 +22,9 @@ use Rattle.lvm_resync.specs.declared.tally.Tally.{Tally}
 use Rattle.lvm_resync.specs.Passing.{Copy, PassesCopy}
 use Rattle.lvm_resync.specs.Syncing.{NonePassed, OnePassed, Passes, SyncGives, fault_by, fault_on, group_fault, no_tally, numbers_fault, or_first, volume_fault}
 use Rattle.lvm_resync.specs.Turning.{GoesBeside, StopsFor}
-use Rattle.lvm_volume_lines.specs.passed.Driver.{state_of}
 use Rattle.lvm_volume_lines.specs.passed.RangeLines.{FailsIf, serving}
 use Rattle.lvm_volume_lines.specs.passed.HolderVariants as holder
-use Rattle.lvm_volume_lines.specs.passed.Stage.{ArePosted, ComesTo, EndsUnasked, HaveRooms, IsBetweenStage, IsCarried, IsEnded, IsFitting, OfRequests, Reply, Stage, ScriptState, is_unheard, most_refusals, patience_of_line, state_in, without_facts}
+use Rattle.lvm_volume_lines.specs.passed.Stage.{ArePosted, ComesTo, EndsUnasked, HaveRooms, IsBetweenStage, IsCarried, IsEnded, IsFittingStage, OfRequests, Reply, Stage, ScriptState, is_unheard, most_refusals, patience_of_line, state_in, without_facts}
 use Rattle.lvm_volume_lines.specs.passed.RefusalVariants as refusal
 use Rattle.lvm_volume_lines.specs.passed.ReplyVariants as reply
 use Rattle.lvm_volume_lines.proofs.passed.RangeLines.{RunsTo, carried_ends, carried_leaves, ended_is_over, over_ends, stuck_ends, table_posts, unstuck}
@@ -37,7 +36,7 @@ abbrev pub MayBe : Option SyncFault → Type 0
 MayBe None = Unit {0}
 MayBe (Some why) = MayCome why
 
-passed_may : (c : Copy) (patience left : ℕ) (old new : Session) (why : SyncFault) → PassesCopy c patience left old new (passed.Failed why) → MayCome why
+passed_may : (c : Copy) (patience left : ℕ) (old new : State) (why : SyncFault) → PassesCopy c patience left old new (passed.Failed why) → MayCome why
 passed_may c patience left old new fault.Dark it = tt
 passed_may c patience left old new fault.Off it = tt
 passed_may c patience left old new fault.Stuck it = tt
@@ -51,7 +50,7 @@ passed_may c patience left old new (fault.SyncFailed disk) it = tt
 passed_may c patience left old new (fault.NoFresh lp) it = tt
 passed_may c patience left old new (fault.Missing disk) it = tt
 
-passes_may : (first : Session) {patience left : ℕ} (copies : List Copy) (now : Session) (tally : Tally) → Passes first no_tally patience copies now tally left → MayBe tally.fault
+passes_may : (first : State) {patience left : ℕ} (copies : List Copy) (now : State) (tally : Tally) → Passes first no_tally patience copies now tally left → MayBe tally.fault
 passes_may first all now total NonePassed = tt
 passes_may first all now total (OnePassed {copies} {old} {new} {tally} c passed.Fresh rest it) = passes_may first copies old tally rest
 passes_may first all now total (OnePassed {copies} {old} {new} {tally} c passed.Made rest it) = passes_may first copies old tally rest
@@ -73,7 +72,7 @@ stops_may left core (fault.SyncFailed disk) stops = tt
 stops_may left core (fault.NoFresh lp) stops = tt
 stops_may left core (fault.Missing disk) stops = tt
 
-pub may_come : (refused : Option SyncFault) (copies : List Copy) (patience left : ℕ) (old new : Session) (result : Result ℕ SyncFault) → MayBe refused → SyncGives refused copies patience left old new result → IfErr result MayCome
+pub may_come : (refused : Option SyncFault) (copies : List Copy) (patience left : ℕ) (old new : State) (result : Result ℕ SyncFault) → MayBe refused → SyncGives refused copies patience left old new result → IfErr result MayCome
 may_come (Some why) copies patience left old new result may gives = subst (λ (r : Result ℕ SyncFault). IfErr r MayCome) (sym gives.0) may
 may_come None copies patience left old new (Ok made) may gives = tt
 may_come None copies patience left old new (Err why) may (inl syncs) = passes_may old copies new (record { made = syncs.0; fault = Some why }) syncs.1.passes
@@ -126,9 +125,9 @@ stopped_shut left core (fault.SyncFailed disk) stops heard on = absurd stops
 stopped_shut left core (fault.NoFresh lp) stops heard on = absurd stops
 stopped_shut left core (fault.Missing disk) stops heard on = absurd stops
 
-pub synced_shut : (refused : Option SyncFault) (copies : List Copy) (patience left : ℕ) (old new : Session) (result : Result ℕ SyncFault) → SyncGives refused copies patience left old new result → old.core.copy ≡ None
+pub synced_shut : (refused : Option SyncFault) (copies : List Copy) (patience left : ℕ) (old new : State) (result : Result ℕ SyncFault) → SyncGives refused copies patience left old new result → old.core.copy ≡ None
     → is_unheard (sync_reply new.core result) ≡ false → new.core.power ≡ power.On → new.core.copy ≡ None
-synced_shut (Some why) copies patience left old new result gives none heard on = ap (λ (s : Session). s.core.copy) gives.1 ∙ none
+synced_shut (Some why) copies patience left old new result gives none heard on = ap (λ (s : State). s.core.copy) gives.1 ∙ none
 synced_shut None copies patience left old new (Ok made) gives none heard on = gives.0.none
 synced_shut None copies patience left old new (Err why) (inl syncs) none heard on = syncs.1.none
 synced_shut None copies patience left old new (Err why) (inr stops) none heard on = stopped_shut left new.core why stops.stops.0 heard on
@@ -169,7 +168,7 @@ fails_if device end posts bytes stage last true ended = ended_is_over device end
 
 -- ---- the line
 
-module _ {S : Type 0} (device : S → Device) (first : S × Core) (posts : Vec Post) (bytes : Vec ℕ) (fits : IsFitting (serving first posts bytes)) (between : IsBetweenStage device (serving first posts bytes))
+module _ {S : Type 0} (device : S → Device) (first : S × Core) (posts : Vec Post) (bytes : Vec ℕ) (fits : IsFittingStage (serving first posts bytes)) (between : IsBetweenStage device (serving first posts bytes))
     (end : S × Core) (left : ℕ) (beside : GoesBeside (state_of device first) (state_of device end) patience_of_line left) (sound : IsSound (state_of device end))
     (Does : Log → ScriptState → ScriptState → Reply → Type 0) (stage : Stage S) (answer : Reply) (few : most_refusals answer ≤ 1) (rooms : HaveRooms first.1.history.room stage.posts stage.bytes)
     (does : (last : ℕ) → Does (without_facts first.1.history) (state_in device (serving first posts bytes) last) (state_in device stage last) answer) where

@@ -8,7 +8,7 @@ ghost use Rattle.lvm_volume_lines.specs.passed.TieCopies.{KeepsShownOf};
 ghost use Rattle.lvm_volume_lines.specs.passed.TieCopies.{added_by};
 ghost use Rattle.lvm_volume_lines.specs.passed.Stage.{EndsUnasked};
 ghost use Rattle.lvm_volume_lines.specs.passed.Stage.{OfGroup, OfGroupWhere};
-ghost use Rattle.lvm_volume_lines.specs.passed.Stage.{IsBetweenStage, IsFitting};
+ghost use Rattle.lvm_volume_lines.specs.passed.Stage.{IsBetweenStage, IsFittingStage};
 ghost use Rattle.lvm_volume_lines.specs.Commands.{IsCarriedOut, none_added};
 ghost use Rattle.lvm_copy_lines.specs.Copies.{MklvcopyDoes, RmlvcopyDoes};
 
@@ -69,7 +69,7 @@ fn remove_copies<S: Shelf>(
 /// Gives the volume of the name in the group that is on further copies, until it has so many, if no request of the group
 /// is open. Turns are made first until nothing is under way, and the name is looked up then.
 pub fn do_mklvcopy<S: Shelf>(alloc: Global, stage: Stage<S>, name: Name, copies: u8) -> Answered<S>
-    requires fits { IsFitting stage }
+    requires fits { IsFittingStage stage }
     requires between { IsBetweenStage S.device stage }
     ensures { EndsUnasked S.device (λ _. MklvcopyDoes name copies) ⊥ OfGroup stage result.stage result.reply }
 {
@@ -100,7 +100,7 @@ pub fn do_mklvcopy<S: Shelf>(alloc: Global, stage: Stage<S>, name: Name, copies:
 /// What stood goes on to stand where each logical partition keeps a fresh copy whose member shows the group. A copy
 /// that can't be reached is fresh too, by the status.
 pub fn do_rmlvcopy<S: Shelf>(alloc: Global, stage: Stage<S>, name: Name, copies: u8) -> Answered<S>
-    requires fits { IsFitting stage }
+    requires fits { IsFittingStage stage }
     requires between { IsBetweenStage S.device stage }
     ensures { EndsUnasked S.device (λ _. RmlvcopyDoes name copies) ⊥ (OfGroupWhere (KeepsShownOf name copies)) stage result.stage result.reply }
 {

@@ -11,7 +11,7 @@ use crate::next::{copies_at, first_copies, further_copies, with_copies};
 use lvm_core::{Driver, Prepared};
 use lvm_disk::Shelf;
 use lvm_map::{MapFault, allocate_more};
-use lvm_num::{LvRow, Memory, Pp, Rows, volume_of};
+use lvm_num::{LvRow, Memory, Pp, Rows, volume_among};
 use lvm_stale::StaleTable;
 use lvm_status::members_there;
 use lvm_volume_plan::{GroupFault, has_room, takes_commands};
@@ -79,7 +79,7 @@ fn check_more<S: Shelf>(driver: &Driver<S>, lv: u16, copies: u8) -> Result<(), G
     ensures refused { IfErr result (RefusesMklvcopy lv copies driver.now.1) }
 {
     takes_commands(driver)?;
-    let Some(row) = volume_of(driver.descriptor().lvs.as_slice(), lv) else {
+    let Some(row) = volume_among(driver.descriptor().lvs.as_slice(), lv) else {
         return Err(GroupFault::NoVolume);
     };
     if copies <= row.copies || copies > COPIES {
@@ -122,7 +122,7 @@ fn more<S: Shelf>(
     ensures { IfOk result (λ more. ArePlanned lv copies driver.now.1 more.added more.next) }
 {
     let group = driver.descriptor();
-    let Some(row) = volume_of(group.lvs.as_slice(), lv) else {
+    let Some(row) = volume_among(group.lvs.as_slice(), lv) else {
         unreachable!()
     };
     let places = map.as_slice();
@@ -141,7 +141,7 @@ fn check_fewer<S: Shelf>(driver: &Driver<S>, lv: u16, copies: u8) -> Result<(), 
     ensures refused { IfErr result (RefusesRmlvcopy lv copies driver.now.1) }
 {
     takes_commands(driver)?;
-    let Some(row) = volume_of(driver.descriptor().lvs.as_slice(), lv) else {
+    let Some(row) = volume_among(driver.descriptor().lvs.as_slice(), lv) else {
         return Err(GroupFault::NoVolume);
     };
     if copies < 1 || copies >= row.copies {
@@ -156,7 +156,7 @@ fn check_fresh<S: Shelf>(driver: &Driver<S>, lv: u16, copies: u8) -> Result<(), 
     ensures keeps { IfOk result (λ done. (row : LvRow) × KeepsFresh lv copies driver.now.1 row) }
     ensures refused { IfErr result (RefusesRmlvcopy lv copies driver.now.1) }
 {
-    let Some(row) = volume_of(driver.descriptor().lvs.as_slice(), lv) else {
+    let Some(row) = volume_among(driver.descriptor().lvs.as_slice(), lv) else {
         unreachable!()
     };
     match first_loss(driver.table(), row, copies) {
@@ -205,7 +205,7 @@ fn fewer<S: Shelf>(
     ensures { IfOk result (IsWithFewer lv copies driver.now.1) }
 {
     let group = driver.descriptor();
-    let Some(row) = volume_of(group.lvs.as_slice(), lv) else {
+    let Some(row) = volume_among(group.lvs.as_slice(), lv) else {
         unreachable!()
     };
     let map = first_copies(alloc, row, copies)?;

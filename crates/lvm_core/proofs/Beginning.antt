@@ -19,7 +19,7 @@ use Rattle.lvm_session_start.specs.Parts.{IsReserved}
 use Rattle.lvm_session_start.specs.Beginning.{first_core}
 use Rattle.lvm_session_start.proofs.Beginning.{notes_fit, pool_size}
 pub use Rattle.lvm_session_start.proofs.Beginning.{no_entries}
-use Rattle.lvm_core.specs.Sound.{HaveAllLanded, IsFitting, IsSoundBetween}
+use Rattle.lvm_core.specs.Sound.{HaveAllLanded, IsFittingBetween, IsSoundBetween}
 use Rattle.lvm_core.specs.Starting.{AreReserved}
 use Rattle.lvm_core.proofs.Dark.{landed_still}
 use Rattle.lvm_core.proofs.Own.{sound_ready}
@@ -34,7 +34,7 @@ module _ (device : Device) (p : Parts) (history : Log) (stamp : Stamp) (homes : 
   buffers : length p.pool ≡ p.room.pool
   buffers = pool_size p its
 
-  fits_first : IsFitting core
+  fits_first : IsFittingBetween core
   fits_first = record {
     valid = are.valid;
     id = ap (λ (u : Updates). u.wanted.id) its.status ∙ are.group.id;

@@ -13,7 +13,7 @@ use Rattle.lvm_vol.specs.Facts.{Fact}
 use Rattle.lvm_kept.specs.Contents.{contents_of}
 use Rattle.lvm_kept.specs.Moments.{Moment, StaysCalm}
 use Rattle.lvm_kept.specs.Plans.{Plan}
-use Rattle.lvm_steps.specs.Moments.{ImagesKept}
+use Rattle.lvm_steps.specs.Moments.{ImagesKept, SpanGoesOn}
 use Rattle.lvm_write.specs.Written.{KeepsShelf}
 use Rattle.lvm_vgda.proofs.Whole.{spelled_is_read}
 use Rattle.lvm_commit.specs.Committed.{IsAlike}
@@ -26,7 +26,7 @@ use Rattle.lvm_session.specs.State.{Core, State, is_there}
 use Rattle.lvm_core.specs.Sound.{IsSoundBetween}
 use Rattle.lvm_core.specs.Held.{IsHeld}
 use Rattle.lvm_core.specs.Settled.{IsSettled}
-use Rattle.lvm_core.specs.Committing.{CommitEnds, HasCommitted, FailsCommitted, moment_of, SpanGoesOn, LetsCommit, StaysBehind}
+use Rattle.lvm_core.specs.Committing.{CommitEnds, HasCommitted, FailsCommitted, moment_of, LetsCommit, StaysBehind}
 use Rattle.lvm_core.specs.Leaves.{IsOfCommand, NoPartition, IsHeldSince, Leaves, committing}
 use Rattle.lvm_core.specs.Steps.{CommitsDescriptor}
 use Rattle.lvm_core.proofs.Own.{SameSizes}
@@ -91,7 +91,7 @@ module _ (next : Descriptor) (before after : ℕ) (old new : State) (answer : Re
   descriptor_writes : KeepsShelf (is_there old.core) plan old.device new.device
   descriptor_writes = subst (λ (set : Disks). KeepsShelf set plan old.device new.device) (there_is old.core.descriptor old.core.status sound.fitting.group) w.settles.leaves.keeps
 
-  descriptor_keeps : (lv run : ℕ) (first : Moment) → IsHeldSince run first old → LetsCommit lv next run first old → SpanGoesOn run first old new
+  descriptor_keeps : (lv run : ℕ) (first : Moment) → IsHeldSince run first old → LetsCommit lv next run first old → SpanGoesOn run first (moment_of old) (moment_of new)
   descriptor_keeps lv run first held lets span =
       settles_keep Held Plain next plan old.core.status before after old new w.how answer w.settles (still_begun old.core) settled_is sound w.valid alike
       (λ d. (group k : Descriptor) (v : ℕ) (facts : List Fact) → descriptor_of (descriptor_bytes next) ≡ Ok k → IsOf group old.core.status → SessionIsHeld old.device group old.core.status old.core.homes

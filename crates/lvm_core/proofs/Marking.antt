@@ -1,7 +1,6 @@
 -- Marks that are wanted one after another.
 use Rattle.std.proofs.Common.{◌≡◌, ℕ, ◌+◌, ◌<◌, Bool, true, false, ◌&&◌, ◌||◌, not, List, [], length, take, get_or, None, refl, sym, ◌∙◌, ap, subst, arith}
-use Rattle.std.specs.Prelude.{◌==◌, ◌^◌, All, count_by, if◌then◌else◌}
-use Rattle.std.proofs.lemmas.Bool.{eqb-true}
+use Rattle.std.specs.Prelude.{◌^◌, All, count_by, if◌then◌else◌}
 use Rattle.std.proofs.lemmas.List.Folds.{list_any_more}
 use Rattle.lvm_num.specs.declared.place.Pp.{Pp}
 use Rattle.lvm_num.specs.declared.descriptor.Descriptor.{Descriptor}
@@ -9,11 +8,11 @@ use Rattle.lvm_num.specs.declared.descriptor.PvRow.{PvRow}
 use Rattle.lvm_num.specs.declared.record.Stamp.{Stamp}
 use Rattle.lvm_num.specs.declared.status.Status.{Status}
 use Rattle.lvm_num.specs.Disks.{Disks}
-use Rattle.lvm_num.specs.Descriptor.{is_member}
+use Rattle.lvm_num.specs.Descriptor.{is_member, is_pp}
 use Rattle.lvm_num.specs.Votes.{CanWrite}
 use Rattle.lvm_disk.specs.Device.{Device}
 use Rattle.lvm_num.specs.Status.{calls_stale}
-use Rattle.lvm_stale.specs.Table.{is_pp, SameMembers, SameMissing}
+use Rattle.lvm_stale.specs.Table.{SameMembers, SameMissing}
 use Rattle.lvm_status.specs.declared.change.Change.{Change}
 use Rattle.lvm_status.specs.declared.change.Change.TheVariants as change
 use Rattle.lvm_status.specs.Update.{Updates, Stored, seen, is_held, is_owed, no_disks}
@@ -23,6 +22,7 @@ use Rattle.lvm_commit.specs.Settling.{HasSameRows, IsForgotten, MayCommit, MaySe
 use Rattle.lvm_commit.proofs.Wanting.{row_stays}
 use Rattle.lvm_core.specs.Committing.{is_among, Marks}
 use Rattle.lvm_core.specs.Steps.{IsMarked, WantsMarksAtMost}
+pub use Rattle.lvm_num.proofs.Partitions.{one_partition as pp_is}
 
 -- ---- so far
 
@@ -47,14 +47,6 @@ pub markable_still : (old now : Status) (p : Pp) → HasSameRows old now → IsM
 markable_still old now p rows may = record { row = row_stays old now rows p.disk ∙ may.row; partition = may.partition }
 
 -- ---- one more
-
-pub pp_is : (a b : Pp) → is_pp a b ≡ true → a ≡ b
-pp_is a b e = by_tests (a.disk == b.disk) (a.pp == b.pp) refl refl e
-  where
-    by_tests : (s t : Bool) → (a.disk == b.disk) ≡ s → (a.pp == b.pp) ≡ t → s && t ≡ true → a ≡ b
-    by_tests true true s t e = let disk = eqb-true a.disk b.disk s in let pp = eqb-true a.pp b.pp t in λ i. record { disk = disk i; pp = pp i }
-    by_tests true false s t e = absurd (cc e)
-    by_tests false t s u e = absurd (cc e)
 
 more_among : (pps : List Pp) (i : ℕ) (p q : Pp) → i < length pps → p ≡ get_or pps i p → is_among (take (i + 1) pps) q ≡ (is_among (take i pps) q || is_pp q p)
 more_among pps i p q within is = list_any_more (λ (r : Pp). is_pp q r) pps i p within ∙ ap (λ (r : Pp). is_among (take i pps) q || is_pp q r) (sym is)

@@ -38,7 +38,7 @@ use Rattle.lvm_session.specs.State.{Core, State, state, is_there}
 use Rattle.lvm_session.specs.Dark.{all_dark}
 use Rattle.lvm_session.specs.Placed.{IsPlaced, ArePlaced}
 use Rattle.lvm_session.specs.Sound.{is_dark}
-use Rattle.lvm_core.specs.Sound.{HasNoneOpen, IsFitting, IsSoundBetween}
+use Rattle.lvm_core.specs.Sound.{HasNoneOpen, IsFittingBetween, IsSoundBetween}
 use Rattle.lvm_core.specs.Settled.{IsSettled}
 use Rattle.lvm_core.specs.Committing.{with_one_out, RecordsEnd, FailsCommitted, moment_of, StaysBehind}
 use Rattle.lvm_core.specs.Leaves.{KeepsHistory}
@@ -77,7 +77,7 @@ module _ (Held Plain : Type 0) (next : Descriptor) (plan : Plan) (first : Stored
   abbrev base : Descriptor → Core
   base d = record old.core { descriptor = d; status = new.core.status; homes = new.core.homes }
 
-  fits : (d : Descriptor) → IsValid d → IsAlike d old.core.descriptor → IsFitting (base d)
+  fits : (d : Descriptor) → IsValid d → IsAlike d old.core.descriptor → IsFittingBetween (base d)
   fits d its same = record {
     valid = its;
     id = s.leaves.loses.rows.id ∙ begins.rows.id ∙ sound.fitting.id ∙ sym (ap (λ (g : Descriptor). g.id) same);
@@ -137,10 +137,10 @@ module _ (Held Plain : Type 0) (next : Descriptor) (plan : Plan) (first : Stored
       out : Core
       out = record here { pool = with_one_out old.core.pool }
 
-      fits_here : IsFitting here
+      fits_here : IsFittingBetween here
       fits_here = fits old.core.descriptor sound.fitting.valid own
 
-      fits_out : IsFitting out
+      fits_out : IsFittingBetween out
       fits_out = fits_pool here (with_one_out old.core.pool) (one_out_long old.core.pool) fits_here
 
       by_how : (h : CommitEnd) → SettleEnds Held Plain 0 before first new.core.status old.device new.device h → CoreEnds next old.core new.core h answer → IsSoundBetween new

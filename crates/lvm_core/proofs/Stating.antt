@@ -10,7 +10,7 @@ use Rattle.lvm_num.specs.Status.{calls_stale}
 use Rattle.lvm_disk.specs.Counts.{NoneFalls}
 use Rattle.lvm_kept.specs.Moments.{Moment, StaysCalm}
 use Rattle.lvm_kept.specs.Plans.{Plan}
-use Rattle.lvm_steps.specs.Moments.{StaysKept}
+use Rattle.lvm_steps.specs.Moments.{StaysKept, SpanGoesOn}
 use Rattle.lvm_status.specs.Update.{Stored}
 use Rattle.lvm_write.specs.Written.{KeepsShelf}
 use Rattle.lvm_commit.specs.Committed.{IsAlike, MayMark}
@@ -26,7 +26,7 @@ use Rattle.lvm_session.specs.State.{State, is_there}
 use Rattle.lvm_core.specs.Sound.{IsSoundBetween}
 use Rattle.lvm_core.specs.Held.{IsHeld}
 use Rattle.lvm_core.specs.Settled.{IsSettled}
-use Rattle.lvm_core.specs.Committing.{MarkEnds, HasStated, FailsCommitted, is_among, AreUnused, AreMarked, Restates, moment_of, SpanGoesOn, StaysBehind}
+use Rattle.lvm_core.specs.Committing.{MarkEnds, HasStated, FailsCommitted, is_among, AreUnused, AreMarked, Restates, moment_of, StaysBehind}
 use Rattle.lvm_core.specs.Leaves.{IsOfCommand, NoDescriptor, NoPartition, KeepsStatus, IsHeldSince, Leaves, marking}
 use Rattle.lvm_core.specs.Steps.{CommitsMarks}
 use Rattle.lvm_core.proofs.LeavesLemmas.{finds_nothing, passed_behind}
@@ -161,7 +161,7 @@ module _ (stale fresh : List Pp) (before after : ℕ) (old new : State) (answer 
       ))
       w.settles.leaves.keeps
 
-  status_keeps : AreUnused old.core.descriptor (stale ++ fresh) → (run : ℕ) (first : Moment) → IsHeldSince run first old → SpanGoesOn run first old new
+  status_keeps : AreUnused old.core.descriptor (stale ++ fresh) → (run : ℕ) (first : Moment) → IsHeldSince run first old → SpanGoesOn run first (moment_of old) (moment_of new)
   status_keeps unused run first held span =
       settles_keep Held Plain old.core.descriptor plan w.first before after old new w.how answer w.settles begins settled_is sound sound.fitting.valid same
       (λ d. WantsMarks old.device old.core.descriptor w.first → SessionIsHeld old.device old.core.descriptor w.first old.core.homes → StaysKept old.device d)

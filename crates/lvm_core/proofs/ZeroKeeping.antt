@@ -19,7 +19,7 @@ use Rattle.lvm_kept.specs.Moments.{Moment, StaysCalm}
 use Rattle.lvm_kept.specs.Plans.{ChangesBy}
 use Rattle.lvm_kept.proofs.Contained.{data_writes}
 use Rattle.lvm_kept.proofs.Finding.{images_within}
-use Rattle.lvm_steps.specs.Moments.{ImagesKept, Keeps}
+use Rattle.lvm_steps.specs.Moments.{ImagesKept, Keeps, SpanGoesOn}
 use Rattle.lvm_steps.specs.Requests.{at}
 use Rattle.lvm_steps.proofs.Making.{media_may}
 use Rattle.lvm_steps.proofs.Spans.{keeps_path}
@@ -42,7 +42,7 @@ use Rattle.lvm_session.specs.Sound.{is_dark}
 use Rattle.lvm_core.specs.Sound.{HasNoneOpen, IsSoundBetween}
 use Rattle.lvm_core.specs.Held.{IsHeld}
 use Rattle.lvm_core.specs.Settled.{IsSettled}
-use Rattle.lvm_core.specs.Committing.{with_one_out, moment_of, SpanGoesOn}
+use Rattle.lvm_core.specs.Committing.{with_one_out, moment_of}
 use Rattle.lvm_core.specs.Zeros.{IsZeroOf, HasSectorsOf, GoesOnAfter, WritesZeros}
 use Rattle.lvm_core.proofs.Dark.{cut_core, dark_is}
 use Rattle.lvm_core.proofs.Own.{SameSizes, same_sizes, fits_pool, one_out_long, sound_ready, sound_dark, sound_stuck}
@@ -115,7 +115,7 @@ module _ (pp : Pp) (before after : ℕ) (old new : State) (answer : Result (Unit
       free_data_keeps old.core.descriptor old.core.status.committed (is_there old.core) pp (contents_of start) (contents_of image) facts (images_within start) settled.votes holds.shows there free
       (zeros_change old.core.descriptor.mib pp start image by) (kept start (media_may old.device m is))
 
-  zero_keeps : IsTrue (is_there old.core pp.disk) → IsFree old.core.descriptor pp → (run : ℕ) (first : Moment) → IsHeldSince run first old → SpanGoesOn run first old new
+  zero_keeps : IsTrue (is_there old.core pp.disk) → IsFree old.core.descriptor pp → (run : ℕ) (first : Moment) → IsHeldSince run first old → SpanGoesOn run first (moment_of old) (moment_of new)
   zero_keeps there free run first held span =
       let facts = old.core.history.facts in
       let goes = keeps_path (IsWriting (IsZeroOf old.core.descriptor.mib pp) old.device) run first old.device new.device facts span

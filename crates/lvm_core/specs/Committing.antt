@@ -5,15 +5,14 @@ use Rattle.lvm_num.specs.declared.place.Pp.{Pp}
 use Rattle.lvm_num.specs.declared.descriptor.Descriptor.{Descriptor}
 use Rattle.lvm_num.specs.declared.status.Status.{Status}
 use Rattle.lvm_num.specs.declared.record.Kind.TheVariants as kind
-use Rattle.lvm_num.specs.Descriptor.{IsPartitionOf}
+use Rattle.lvm_num.specs.Descriptor.{IsPartitionOf, is_pp}
 use Rattle.lvm_num.specs.DescriptorBytes.{descriptor_bytes}
 use Rattle.lvm_num.specs.Status.{calls_stale}
 use Rattle.lvm_disk.specs.Device.{IsReady, image_of}
 use Rattle.lvm_vol.specs.Facts.{Fact}
 use Rattle.lvm_kept.specs.Contents.{contents_of}
 use Rattle.lvm_kept.specs.Moments.{Moment}
-use Rattle.lvm_steps.specs.Moments.{Begins, Holds, Keeps}
-use Rattle.lvm_stale.specs.Table.{is_pp}
+use Rattle.lvm_steps.specs.Moments.{Begins, Holds}
 use Rattle.lvm_stamps.specs.Behind.{IsBehind}
 use Rattle.lvm_write.specs.Written.{IsDarkened, IsGivenUp}
 use Rattle.lvm_commit.specs.LawsOfData.{IsFree}
@@ -119,10 +118,6 @@ pub record Restates (stale fresh : List Pp) (old new : State) : Type 0 where
   pub none : NoneIsLeft old.core.descriptor old.core.status → NoneIsLeft old.core.descriptor new.core.status
 
 -- ---- the moments
-
--- A span that leads to the one moment goes on to the other.
-abbrev pub SpanGoesOn : ℕ → Moment → State → State → Type 0
-SpanGoesOn run first old new = Keeps run first (moment_of old) → Keeps run first (moment_of new)
 
 -- In a history that may have stood before the span, what lets the session's next descriptor be committed: a volume is being made or removed by it.
 abbrev pub LetsCommit : ℕ → Descriptor → ℕ → Moment → State → Type 0

@@ -13,7 +13,7 @@ use Rattle.lvm_session.specs.Placed.{ArePlaced}
 use Rattle.lvm_session.specs.Sound.{IsLit, IsDark, count_if, is_dark, out_with}
 
 -- The parts of a session are of one group, and their rooms agree.
-pub record IsFitting (core : Core) : Type 0 where
+pub record IsFittingBetween (core : Core) : Type 0 where
   pub valid : IsValid core.descriptor
   pub id : core.status.wanted.id ≡ core.descriptor.id
   pub rows : HasItsRows core.descriptor core.status.wanted
@@ -42,7 +42,7 @@ pub record IsQuiet (core : Core) : Type 0 where
   pub buffers : core.pool ≡ replicate (length core.pool) false
 
 pub record IsSoundBetween (s : State) : Type 0 where
-  pub fitting : IsFitting s.core
+  pub fitting : IsFittingBetween s.core
   pub none : HasNoneOpen s.core
   pub landed : HaveAllLanded s.core.history.facts
   -- the members that aren't missing are on the shelf

@@ -238,7 +238,7 @@ impl<S: Shelf> Driver<S> {
         ensures some { IfSome result (IsNumberOf self.now.1.descriptor.lvs name) }
         ensures none { IfNone result (HasNoVolumeNamed self.now.1.descriptor.lvs name) }
     {
-        number_of(self.session.descriptor.lvs.as_slice(), &name)
+        number_of(&self.session.descriptor, name)
     }
 
     /// The descriptor of the last command that was answered with Ok. After another answer of `commit` the next

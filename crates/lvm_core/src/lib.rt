@@ -15,6 +15,7 @@ mod zero;
 
 pub use driver::{Closed, Driver};
 pub use fault::CommitFault;
+pub use look::number_of;
 pub use parts::{Parts, Room};
 pub use prepared::Prepared;
 pub use records::{RecordBytes, encode_records};

@@ -5,16 +5,16 @@ ghost use Rattle.lvm_core.specs.Looking.{IsNumberOf, HasNoVolumeNamed};
 ghost use Rattle.lvm_session.specs.Placed.{IsPlaced, AreAllPlaced};
 
 use lvm_disk::Shelf;
-use lvm_num::{LvRow, Name, PvRow};
+use lvm_num::{Descriptor, Name, PvRow};
 use lvm_stale::StaleTable;
 
-// The number of the volume of this name.
-pub fn number_of(volumes: &[LvRow], name: &Name) -> Option<u16>
-    ensures some { IfSome result (IsNumberOf volumes.now name.now) }
-    ensures none { IfNone result (HasNoVolumeNamed volumes.now name.now) }
+/// The number of the volume of a name.
+pub fn number_of(group: &Descriptor, name: Name) -> Option<u16>
+    ensures some { IfSome result (IsNumberOf group.now.lvs name) }
+    ensures none { IfNone result (HasNoVolumeNamed group.now.lvs name) }
 {
-    for row in volumes {
-        if row.name == *name {
+    for row in group.lvs.as_slice() {
+        if row.name == name {
             return Some(row.number);
         }
     }

@@ -1,6 +1,6 @@
 -- What a session sees kept of a block is kept on the disks.
-use Rattle.std.proofs.Common.{◌≡◌, inl, inr, ⊎_elim, ℕ, ◌+◌, ◌*◌, ◌≤◌, ◌/◌, Bool, true, false, ◌&&◌, not, List, Some, refl, ap, subst, ◌∙◌, arith}
-use Rattle.std.specs.Prelude.{IsTrue, IsFalse}
+use Rattle.std.proofs.Common.{◌≡◌, inl, inr, ⊎_elim, ℕ, ◌+◌, ◌*◌, ◌≤◌, ◌/◌, Bool, ◌&&◌, not, List, Some, refl, ap, subst, ◌∙◌, arith}
+use Rattle.std.specs.Prelude.{IsTrue}
 use Rattle.std.proofs.lemmas.Nat.{div-mul-add}
 use Rattle.lvm_num.specs.declared.place.Pp.{Pp}
 use Rattle.lvm_num.specs.declared.descriptor.Mode.{Mode}
@@ -12,6 +12,7 @@ use Rattle.lvm_num.specs.Disks.{Disks}
 use Rattle.lvm_num.specs.Descriptor.{copies_of}
 use Rattle.lvm_num.specs.Geometry.{track_group_of, partition_blocks, partition_of}
 use Rattle.lvm_num.specs.Record.{Stamped}
+use Rattle.lvm_num.proofs.Booleans.{clash}
 use Rattle.lvm_vol.specs.declared.entry.Vol.TheVariants.{Lv}
 use Rattle.lvm_vol.specs.Facts.{Fact}
 use Rattle.lvm_crash.proofs.Loose.{off_by, loose_is_off}
@@ -32,10 +33,6 @@ member_there c disks group d h =
     (right_of (disks d) (passes (is_of group.id) (c.descriptor d)) (left_of (disks d && passes (is_of group.id) (c.descriptor d)) (has_room c d group) h))
     (right_of (disks d && passes (is_of group.id) (c.descriptor d)) (has_room c d group) h)
 
-both_so : (b : Bool) → IsTrue b → IsFalse b → ⊥
-both_so true h k = absurd cc
-both_so false h k = absurd cc
-
 module _ (s : ModelState) (facts : List Fact) (group : Descriptor) (c : Contents) (volumes : HasVolumes s facts group (members_showing c group)) (r : Stamped Status) (row : LvRow) (lp b : ℕ)
     (one : IsOneOf group.lvs row) (inside : IsBlockOf group.mib row lp b) (kept : BlockKept s (view_of group c) (marks_of r.value) (cut b (known facts (Lv row.number) b)) row.number b) where
   module _ (disks : Disks) where
@@ -49,7 +46,7 @@ module _ (s : ModelState) (facts : List Fact) (group : Descriptor) (c : Contents
     }
 
     never_loose : row.mode ≡ Passive → IsTrue (cut b (known facts (Lv row.number) b)).loose → ⊥
-    never_loose is loose = both_so (is_off (known facts (Lv row.number) b).mode) (off_by b (known facts (Lv row.number) b) (loose_is_off facts (Lv row.number) b) loose) (ap is_off (volumes.modes row lp b one inside ∙ is))
+    never_loose is loose = clash (is_off (known facts (Lv row.number) b).mode) (off_by b (known facts (Lv row.number) b) (loose_is_off facts (Lv row.number) b) loose) (ap is_off (volumes.modes row lp b one inside ∙ is))
 
     differ : (mode : Mode) → row.mode ≡ mode → MayDifferAfter s (view_of group c) (marks_of r.value) (cut b (known facts (Lv row.number) b)) row.number b (is_active mode)
         → MayDiffer c (Some r) row.number mode (fresh_on (members_in c disks group.id group) (Some r) row lp) (cut b (known facts (Lv row.number) b)) b
@@ -57,7 +54,7 @@ module _ (s : ModelState) (facts : List Fact) (group : Descriptor) (c : Contents
     differ Passive is (inl loose) = absurd (never_loose is loose)
     differ Passive is (inr dirty) = dirty.1
     differ Off is (inl loose) = loose
-    differ Off is (inr dirty) = absurd (both_so (s.is_passive row.number) dirty.0 (volumes.mark row one ∙ ap is_passive is))
+    differ Off is (inr dirty) = absurd (clash (s.is_passive row.number) dirty.0 (volumes.mark row one ∙ ap is_passive is))
 
     pub block_kept : IsBlockKept c group.mib (Some r) row (fresh_on (members_in c disks group.id group) (Some r) row lp) (cut b (known facts (Lv row.number) b)) b
     block_kept = record {

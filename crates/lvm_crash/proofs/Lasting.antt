@@ -1,6 +1,7 @@
 -- The state goes on describing the disks.
 use Rattle.std.proofs.Common.{◌≡◌, ◌⊎◌, inl, inr, ⊎_elim, ℕ, Bool, true, false, ◌&&◌, ◌==◌, List, [], ◌∷◌, ◌++◌, Option, Some, None, refl, sym, ap, subst, ◌∙◌, eqb-true, ◌+◌, ◌↔◌}
 use Rattle.std.specs.Prelude.{IsTrue, IsFalse, if◌then◌else◌, is_some, nat_le, nat_lt}
+use Rattle.std.proofs.lemmas.Bool.{and_right}
 use Rattle.lvm_num.specs.declared.descriptor.Mode.{Mode}
 use Rattle.lvm_num.specs.declared.descriptor.LvRow.{LvRow}
 use Rattle.lvm_num.specs.declared.descriptor.Descriptor.{Descriptor}
@@ -91,15 +92,11 @@ modes_stay group facts f of vol b = ap (λ (k : Known). k.mode) (known-push fact
 
 -- ---- disks in no group
 
-and_none : (a b : Bool) → b ≡ false → a && b ≡ false
-and_none true b h = h
-and_none false b h = refl
-
 not_over : (q : Request) (lv d b : ℕ) → q.vol ≡ Lv lv → is_over q (Disk d) b ≡ false
 not_over q lv d b is = ap (λ (vol : Vol). same_vol vol (Disk d) && nat_le q.at b && nat_lt b (q.at + q.count)) is
 
 not_about : (group : Descriptor) (f : Fact) → IsOfSession group f → (d b : ℕ) → is_about f (Disk d) b ≡ false
-not_about group f of d b = of_session group (λ (g : Fact). is_about g (Disk d) b ≡ false) (λ q at. and_none q.write (is_over q (Disk d) b) (not_over q at.0 d b at.1))
+not_about group f of d b = of_session group (λ (g : Fact). is_about g (Disk d) b ≡ false) (λ q at. and_right q.write (is_over q (Disk d) b) (not_over q at.0 d b at.1))
     (λ q how started got at. not_over q at.0 d b at.1) (λ q. refl) f of
 
 pub raw_stays : (group : Descriptor) (facts : List Fact) (f : Fact) → IsOfSession group f → (d b : ℕ) → known ((facts ++ f ∷ []) ++ Cut ∷ []) (Disk d) b ≡ known (facts ++ Cut ∷ []) (Disk d) b

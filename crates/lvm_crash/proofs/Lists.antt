@@ -4,10 +4,7 @@ use Rattle.std.specs.Prelude.{IsTrue, IsFalse, filter, if◌then◌else◌}
 use Rattle.lvm_kept.specs.Group.{IsOneOf, IsSome}
 pub use Rattle.lvm_num.proofs.ListLemmas.{of_passing}
 pub use Rattle.lvm_invariant.proofs.Small.{left_of, right_of, both_of}
-
-pub not_so : (b : Bool) → IsTrue (not b) → IsFalse b
-not_so true h = absurd cc
-not_so false h = refl
+pub use Rattle.std.proofs.lemmas.Bool.{not-true as not_so}
 
 pub so_not : (b : Bool) → IsFalse b → IsTrue (not b)
 so_not true h = absurd cc

@@ -8,7 +8,7 @@ use Rattle.lvm_num.specs.declared.descriptor.Mode.{Mode}
 use Rattle.lvm_num.specs.declared.descriptor.LvRow.{LvRow}
 use Rattle.lvm_num.specs.declared.descriptor.Descriptor.{Descriptor}
 use Rattle.lvm_num.specs.Bits.{has_bit}
-use Rattle.lvm_num.specs.Descriptor.{copies_of}
+use Rattle.lvm_num.specs.Descriptor.{copies_of, is_pp}
 use Rattle.lvm_num.specs.Record.{Stamped, newest_below}
 use Rattle.lvm_num.specs.Votes.{all_disks, votes_by, votes_in, is_enough_to_read, is_enough_to_write}
 use Rattle.lvm_num.proofs.BitsLemmas.{has-none, has-set}
@@ -18,12 +18,12 @@ use Rattle.lvm_vol.specs.declared.entry.Vol.TheVariants.{Lv}
 use Rattle.lvm_vol.specs.May.{known, unknown}
 use Rattle.lvm_num.specs.Buffer.{zero_sector}
 use Rattle.lvm_num.specs.Status.{calls_stale, calls_dirty}
+use Rattle.lvm_num.proofs.Booleans.{or_false, and_false}
 use Rattle.lvm_kept.specs.Contents.{Contents}
 use Rattle.lvm_kept.specs.Examples.{stamped, row_of, mirror, two, of_two, either_of, no_note, zeros}
 use Rattle.lvm_kept.specs.Group.{descriptor_among, is_voter, has_quorum, Finds, IsFound, IsOneOf}
 use Rattle.lvm_kept.specs.Kept.{StandsAs}
 use Rattle.lvm_num.specs.Modes.{is_active, is_passive}
-use Rattle.lvm_invariant.specs.Updates.{is_pp}
 use Rattle.lvm_invariant.specs.First.{two_disks, first_copy, second_copy, is_either, marks_with, at_rest}
 use Rattle.lvm_crash.specs.Session.{as_marks, members_showing, GroupStands, HasVolumes}
 use Rattle.lvm_crash.specs.Worked.{Shown, sizes, status_shown, GroupsHaveVotes}
@@ -176,14 +176,6 @@ first_bit d p = has-set (replicate 127 0) 0 (omega arith) p ∙ ap (λ (t : Bool
 
 swapped : (n m : ℕ) → (n == m) ≡ (m == n)
 swapped n m = grind (arith, nat_tests)
-
-or_false : (a : Bool) → a || false ≡ a
-or_false true = refl
-or_false false = refl
-
-and_false : (a : Bool) → a && false ≡ false
-and_false true = refl
-and_false false = refl
 
 which_stale : (w : Shown) (p : Pp) → calls_stale (status_shown w).value p ≡ (w.stale && is_pp p second_copy)
 which_stale w p = by w.stale

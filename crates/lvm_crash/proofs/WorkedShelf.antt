@@ -38,6 +38,7 @@ use Rattle.lvm_crash.proofs.Worked.{base, behind, stands, volumes, its_marks}
 use Rattle.lvm_crash.proofs.Lasting.{group_stands}
 use Rattle.lvm_num.specs.Disks.{Disks}
 use Rattle.lvm_num.specs.declared.descriptor.Descriptor.{Descriptor}
+use Rattle.lvm_num.proofs.Booleans.{and_false}
 
 -- ---- the records are read
 
@@ -78,10 +79,6 @@ never_before epoch seq h = grind (arith, nat_tests)
 pub none_or : {X : Type 0} (o : Option X) → ((x : X) → o ≡ Some x → ⊥) → o ≡ None
 none_or None h = refl
 none_or (Some x) h = absurd (h x refl)
-
-and_false : (a : Bool) → a && false ≡ false
-and_false true = refl
-and_false false = refl
 
 -- only the two disks have room
 pub room : (w : Shown) (d : ℕ) → has_records (image_of sizes (media_of w)) d ≡ either_of 0 1 d

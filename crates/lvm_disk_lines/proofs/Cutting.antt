@@ -22,7 +22,7 @@ use Rattle.lvm_transfer.specs.Transfer.{Relights}
 use Rattle.lvm_session.specs.declared.open.Open.{Open}
 use Rattle.lvm_session.specs.Dark.{after_arrange, all_dark}
 use Rattle.lvm_session.specs.Sound.{IsSound, waits}
-use Rattle.lvm_session.specs.State.{Core, State as Session, state, votes_there}
+use Rattle.lvm_session.specs.State.{Core, State, state, votes_there}
 use Rattle.lvm_session.specs.Turns.{ArrangesSession}
 use Rattle.lvm_keeps.proofs.Orders.{order_keeps}
 use Rattle.lvm_core.specs.Sound.{HaveAllLanded}
@@ -39,7 +39,7 @@ use Rattle.lvm_stage.specs.Ends.{EndsUnasked}
 use Rattle.lvm_stage.specs.Moments.{Aside, GoesOn, HasBegunHeld}
 use Rattle.lvm_disk_lines.specs.Shelves.{IsCut, CutDoes, PowerIsCut}
 use Rattle.lvm_stage.specs.Replies.{most_refusals}
-use Rattle.lvm_stage.specs.Stages.{GivesBack, HaveRooms, IsBetweenStage, IsFitting, history_after, history_in, history_of, posts_ended, session_in, session_of, shelf_in, shelf_of, state_in}
+use Rattle.lvm_stage.specs.Stages.{GivesBack, HaveRooms, IsBetweenStage, IsFittingStage, history_after, history_in, history_of, posts_ended, session_in, session_of, shelf_in, shelf_of, state_in}
 use Rattle.lvm_stage.specs.State.{ArePosted, IsBetween, IsOnBetween, IsTimely, StandsAlone, ScriptState, log_with, without_facts}
 use Rattle.lvm_stage.specs.declared.holder.Holder.{Holder}
 use Rattle.lvm_stage.specs.declared.reply.Reply.{Reply}
@@ -119,10 +119,10 @@ module _ (log : Log) (word : ℕ) (old new : ScriptState) (between : IsBetween o
 
   -- else they land as Dark
   module _ (core : Core) (is : old.session ≡ Some core) (history : core.history ≡ log_with log old.moment.facts) (more : core.requests ≡ [] → ⊥) (takes : first_device.arranges ≡ true) (answer : Reply) (one : most_refusals answer ≤ 1) where
-    abbrev begun : Session
+    abbrev begun : State
     begun = state first_device core
 
-    abbrev end : Session
+    abbrev end : State
     end = state cut.dark (all_dark core)
 
     on : IsOnBetween first_device core
@@ -219,7 +219,7 @@ closed_still dark closed (inr back) none = ap (λ (d : Device). d.flights) back 
 pub closed_flights : (old dark closed : Device) (word : ℕ) → old.power ≡ true → Arranges old dark (arrange.Cut word) → GivesBack dark closed → closed.flights ≡ []
 closed_flights old dark closed word on cut gives = closed_still dark closed gives (ap (λ (d : Device). d.flights) (gone_dark (with_order old (arrange.Cut word)) dark on cut.1).new_is)
 
-module _ {S : Type 0} (device : S → Device) (old : Stage S) (by : Holder S) (word : ℕ) (fits : IsFitting old) (between : IsBetweenStage device old)
+module _ {S : Type 0} (device : S → Device) (old : Stage S) (by : Holder S) (word : ℕ) (fits : IsFittingStage old) (between : IsBetweenStage device old)
     (shelf : ArrangeGives (device (shelf_in old)) (device (shelf_of by)) (arrange.Cut word) true)
     (session : session_of by ≡ option_map (after_arrange (arrange.Cut word) true) (session_in old))
     (history : history_of by ≡ history_after (arrange.Cut word) true (history_in old) (session_in old))
@@ -254,6 +254,6 @@ module _ {S : Type 0} (device : S → Device) (old : Stage S) (by : Holder S) (w
           (cut_goes (without_facts (history_in old)) word (state_in device old last) (state_in device (off last_shelf log posts bytes) last) between (stage_cut last) (whose old.holder) shelf.0 answer
           (subst (λ (a : Reply). most_refusals a ≤ 1) (sym says) (omega arith)));
       rooms = ap (λ (s : Stage S). without_facts (history_in s)) is ∙ rooms_are;
-      fits = subst IsFitting (sym is) (record { kind = tt; few = subst (λ (n : ℕ). n < 2 ^ 32) (sym room_is) fits.few; rooms = subst (λ (n : ℕ). HaveRooms n posts bytes) (sym room_is) (rooms (history_in old).room fits.rooms) });
+      fits = subst IsFittingStage (sym is) (record { kind = tt; few = subst (λ (n : ℕ). n < 2 ^ 32) (sym room_is) fits.few; rooms = subst (λ (n : ℕ). HaveRooms n posts bytes) (sym room_is) (rooms (history_in old).room fits.rooms) });
       orders = λ none. absurd (none tt);
     }

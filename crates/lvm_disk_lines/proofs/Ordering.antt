@@ -27,7 +27,7 @@ use Rattle.lvm_stage.specs.Ends.{EndsUnasked}
 use Rattle.lvm_stage.specs.Moments.{Aside, GoesOn}
 use Rattle.lvm_disk_lines.specs.Shelves.{ArrangeDoes, IsArranged, over}
 use Rattle.lvm_stage.specs.Replies.{most_refusals}
-use Rattle.lvm_stage.specs.Stages.{HaveRooms, IsBetweenStage, IsFitting, IsOfKind, history_after, history_in, history_of, session_in, session_of, shelf_in, shelf_of, state_in}
+use Rattle.lvm_stage.specs.Stages.{HaveRooms, IsBetweenStage, IsFittingStage, IsOfKind, history_after, history_in, history_of, session_in, session_of, shelf_in, shelf_of, state_in}
 use Rattle.lvm_stage.specs.State.{IsBetween, IsOnBetween, ScriptState, StandsAlone, without_facts}
 use Rattle.lvm_stage.specs.declared.holder.Holder.{Holder}
 use Rattle.lvm_stage.specs.declared.holder.Holder.TheVariants as holder
@@ -135,7 +135,7 @@ module _ (s : ScriptState) (disk : ℕ) (what : Arrange) (of_disk : IsOfDisk dis
 abbrev pub held_by : {S : Type 0} → Stage S → Holder S → Stage S
 held_by stage by = record { holder = by; posts = stage.posts; bytes = stage.bytes }
 
-fits_by : {S : Type 0} (old : Stage S) (by : Holder S) → IsFitting old → (IsOfKind old.holder → IsOfKind by) → without_facts (history_of by) ≡ without_facts (history_in old) → IsFitting (held_by old by)
+fits_by : {S : Type 0} (old : Stage S) (by : Holder S) → IsFittingStage old → (IsOfKind old.holder → IsOfKind by) → without_facts (history_of by) ≡ without_facts (history_in old) → IsFittingStage (held_by old by)
 fits_by old by fits kind same = record {
   kind = kind fits.kind;
   few = subst (λ (n : ℕ). n < 2 ^ 32) (sym room) fits.few;
@@ -173,7 +173,7 @@ module _ {S : Type 0} (device : S → Device) (old : Stage S) (by : Holder S) (d
   order : Arranges (device (shelf_in old)) after what
   order = subst (λ (d : Device). Arranges (device (shelf_in old)) d what) (order_is disk what (device (shelf_in old)) (device (shelf_of by)) of_disk shelf.1) shelf.1
 
-  pub arranged_ends : (it : Stage S) (answer : Reply) → it ≡ held_by old by → answer ≡ reply.Ok → disk < length (device (shelf_in old)).sizes → IsFitting old → IsBetweenStage device old → EndsUnasked device (λ log. ArrangeDoes disk what) (Unit {0}) Aside old it answer
+  pub arranged_ends : (it : Stage S) (answer : Reply) → it ≡ held_by old by → answer ≡ reply.Ok → disk < length (device (shelf_in old)).sizes → IsFittingStage old → IsBetweenStage device old → EndsUnasked device (λ log. ArrangeDoes disk what) (Unit {0}) Aside old it answer
   arranged_ends it answer is says there fits between = unasked_as device (λ log. ArrangeDoes disk what) (Unit {0}) Aside old old it (held_by old by) answer answer refl is refl (λ last. record {
     does = IsArranged there shelf.0 says (arranged_is last);
     goes = subst (λ (s : ScriptState). GoesOn (history_in old).run Aside answer (state_in device old last) s) (sym (arranged_is last))
@@ -207,7 +207,7 @@ module _ {S : Type 0} (device : S → Device) (old : Stage S) (by : Holder S) (w
       ∙ ap (λ (x : Log). record { moment = record { device = device (shelf_in old); facts = x.facts }; session = session_of by; posts = old.posts.items; last = last }) kept_history
       ∙ ap (λ (x : Option Core). record { moment = record { device = device (shelf_in old); facts = (history_in old).facts }; session = x; posts = old.posts.items; last = last }) (session ∙ nothing_happens what (session_in old))
 
-  pub unarranged_ends : (Does : Log → ScriptState → ScriptState → Reply → Type 0) (it : Stage S) (answer : Reply) → it ≡ held_by old by → IsFitting old → IsBetweenStage device old → most_refusals answer ≤ 1
+  pub unarranged_ends : (Does : Log → ScriptState → ScriptState → Reply → Type 0) (it : Stage S) (answer : Reply) → it ≡ held_by old by → IsFittingStage old → IsBetweenStage device old → most_refusals answer ≤ 1
       → ((last : ℕ) → state_in device (held_by old by) last ≡ state_in device old last → Does (without_facts (history_in old)) (state_in device old last) (state_in device (held_by old by) last) answer)
       → EndsUnasked device Does (Unit {0}) Aside old it answer
   unarranged_ends Does it answer is fits between one does = unasked_as device Does (Unit {0}) Aside old old it (held_by old by) answer answer refl is refl (λ last. record {

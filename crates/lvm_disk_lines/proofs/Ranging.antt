@@ -19,7 +19,7 @@ use Rattle.lvm_disk_lines.specs.Disks.{ShowsRead, blocks_text, refusal_by, write
 use Rattle.lvm_stage.specs.Ends.{EndsUnasked}
 use Rattle.lvm_stage.specs.Moments.{Aside, GoesOn}
 use Rattle.lvm_stage.specs.Replies.{IsStuck, Shows, InFull, WithoutMemory, most_refusals}
-use Rattle.lvm_stage.specs.Stages.{Between, HaveRooms, IsBetweenStage, IsFitting}
+use Rattle.lvm_stage.specs.Stages.{Between, HaveRooms, IsBetweenStage, IsFittingStage}
 use Rattle.lvm_stage.specs.State.{ScriptState, without_facts}
 use Rattle.lvm_stage.specs.declared.holder.Holder.TheVariants as holder
 use Rattle.lvm_stage.specs.declared.reply.Reply.{Reply}
@@ -60,7 +60,7 @@ read_once from (Err why) answer says = one_of answer (reply.Refused (refusal_by 
 abbrev pub off : {S : Type 0} → S → Log → Vec Post → Vec ℕ → Stage S
 off shelf log posts bytes = record { holder = holder.Off shelf log; posts = posts; bytes = bytes }
 
-module _ {S X : Type 0} (device : S → Device) (old new : S) (log is : Log) (posts : Vec Post) (bytes : Vec ℕ) (fits : IsFitting (off old log posts bytes)) (between : IsBetweenStage device (off old log posts bytes))
+module _ {S X : Type 0} (device : S → Device) (old new : S) (log is : Log) (posts : Vec Post) (bytes : Vec ℕ) (fits : IsFittingStage (off old log posts bytes)) (between : IsBetweenStage device (off old log posts bytes))
     (ordered : Ordered log.run [] log.facts) (disk before after : ℕ) (given : Result X RawFault)
     (keeps : RangeKeepsEach log.run disk before after (at (device old) log.facts) (at (device new) is.facts) given) (rooms : is ≡ record log { facts = is.facts })
     (leaves : LeavesAnswers log.facts is.facts) (answer : Reply) (stuck : given ≡ Err fault.Stuck → IsStuck answer) (one : most_refusals answer ≤ 1) where
@@ -107,7 +107,7 @@ module _ {S X : Type 0} (device : S → Device) (old new : S) (log is : Log) (po
     few = omega (arith, one);
   }
 
-  fits_then : IsFitting (off new is posts bytes)
+  fits_then : IsFittingStage (off new is posts bytes)
   fits_then = record {
     kind = tt;
     few = subst (λ (l : Log). l.room < 2 ^ 32) (sym rooms) fits.few;

@@ -4,7 +4,7 @@ ghost use Rattle.lvm_disk_lines.specs.Disks.{WriteDoes, ReadDoes, refusal_by, wr
 ghost use Rattle.lvm_stage.specs.Ends.{EndsUnasked};
 ghost use Rattle.lvm_stage.specs.Moments.{Aside};
 ghost use Rattle.lvm_stage.specs.Replies.{Shows};
-ghost use Rattle.lvm_stage.specs.Stages.{IsBetweenStage, IsFitting};
+ghost use Rattle.lvm_stage.specs.Stages.{IsBetweenStage, IsFittingStage};
 
 use lvm_core::Closed;
 use lvm_disk::Shelf;
@@ -90,7 +90,7 @@ pub fn do_write<S: Shelf>(
     count: u32,
     word: u64,
 ) -> Answered<S>
-    requires fits { IsFitting stage }
+    requires fits { IsFittingStage stage }
     requires between { IsBetweenStage S.device stage }
     requires some { 1 ≤ count }
     requires most { count ≤ 4096 }
@@ -127,7 +127,7 @@ pub fn do_read<S: Shelf>(
     at: u64,
     count: u32,
 ) -> Answered<S>
-    requires fits { IsFitting stage }
+    requires fits { IsFittingStage stage }
     requires between { IsBetweenStage S.device stage }
     requires some { 1 ≤ count }
     requires most { count ≤ 4096 }

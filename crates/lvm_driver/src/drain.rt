@@ -4,10 +4,9 @@ ghost use Rattle.lvm_disk.specs.Counts.{RoseBy};
 ghost use Rattle.lvm_disk.specs.Paths.{Path};
 ghost use Rattle.lvm_num.specs.Votes.{total_votes};
 ghost use Rattle.lvm_session.specs.declared.open.Power.TheVariants as power;
-ghost use Rattle.lvm_session.specs.State.{votes_there};
+ghost use Rattle.lvm_session.specs.State.{votes_there, state_of};
 ghost use Rattle.lvm_core.specs.declared.fault.CommitFault.TheVariants as fault;
 ghost use Rattle.lvm_running.specs.Running.{RunsOn};
-ghost use Rattle.lvm_driver.specs.Answers.{state_of};
 ghost use Rattle.lvm_driver.specs.Drains.{DrainCosts, DrainEnds, IsAny, IsTurn};
 
 use crate::driver::Driver;

@@ -9,7 +9,7 @@ ghost use Rattle.lvm_session.specs.declared.open.Power.TheVariants as power;
 ghost use Rattle.lvm_session.specs.Judging.{is_waiting};
 ghost use Rattle.lvm_session.specs.Fields.{core_of};
 ghost use Rattle.lvm_session.specs.Rooms.{HasRooms};
-ghost use Rattle.lvm_session.specs.State.{state, votes_there};
+ghost use Rattle.lvm_session.specs.State.{state, votes_there, state_of};
 ghost use Rattle.lvm_session.specs.declared.answers.CopyState.TheVariants as stage;
 ghost use Rattle.lvm_session.specs.Calls.{OpenGives, SubmitGives, TakeGives, closed, copy_state};
 ghost use Rattle.lvm_session.specs.Turns.{ArrangesSession, TurnMakes};
@@ -24,7 +24,7 @@ ghost use Rattle.lvm_tie.specs.Stamps.{AreValid};
 ghost use Rattle.lvm_running.specs.Running.{LeavesSession, RunsOn};
 ghost use Rattle.lvm_keeps_turn.specs.Reading.{GetsItsBlocks};
 ghost use Rattle.lvm_keeps_turn.specs.Telling.{TurnTells};
-ghost use Rattle.lvm_driver.specs.Answers.{IsCausedFor, IsCopyCaused, IsOffSince, state_of};
+ghost use Rattle.lvm_driver.specs.Answers.{IsCausedFor, IsCopyCaused, IsOffSince};
 
 use crate::closed::{Closed, without_freed};
 use crate::dues::{all_due, submit, take};

@@ -18,17 +18,18 @@ use Rattle.lvm_session.specs.declared.open.Open.{Open}
 use Rattle.lvm_session.specs.State.{Core}
 use Rattle.lvm_session.specs.Judging.{facts_of, is_beside, is_failing, is_held_back, is_pending, next_for}
 use Rattle.lvm_session.specs.Enabled.{admission_at, can_pin, data_at, is_admit, is_pin, landing_at, note_at, outcome_next, pinning_at, target_next}
+use Rattle.lvm_session.specs.Left.{is_held}
 use Rattle.lvm_session.specs.Requests.{wants_entry}
 use Rattle.lvm_firsts.proofs.Might.{pins_not}
-use Rattle.lvm_firsts.specs.Might.{might_pin, wants_entry as might_want}
+use Rattle.lvm_firsts.specs.Might.{might_pin}
 use Rattle.lvm_firsts.specs.declared.span.Span.{Span}
 use Rattle.lvm_firsts.specs.Spans.{is_in, Spans}
 use Rattle.lvm_due.specs.declared.due.Due.{Due}
-use Rattle.lvm_due.specs.Due.{is_held, AddsMaking, Covers, IsDue, Joins, Moves}
+use Rattle.lvm_due.specs.Due.{AddsMaking, Covers, IsDue, Joins, Moves}
 use Rattle.lvm_due.specs.Making.{might_make_admission, might_make_data, might_make_landing, might_make_note}
 use Rattle.lvm_due.proofs.Unmade.{admit_none, land_none, note_none, pin_none, start_none}
 use Rattle.lvm_due.proofs.Telling.{facts_but, failing_read, fails_beside, is_unsettled, note_same, pending_read}
-use Rattle.lvm_due.proofs.Spanning.{Keeps, adds_keep, joins_keep, not_both, out_of}
+use Rattle.lvm_due.proofs.Spanning.{KeepsSpan, adds_keep, joins_keep, not_both, out_of}
 use Rattle.lvm_due.proofs.Unread.{blocked_unread, starts_unread}
 
 -- ---- another request of the table
@@ -57,14 +58,6 @@ any_set test (x ∷ os) zero was is there same =
     let its : x ≡ was = cc there in
     ap (λ (b : Bool). b || list_any test os) (same ∙ sym (ap test its))
 any_set test (x ∷ os) (suc place) was is there same = ap (λ (b : Bool). test x || b) (any_set test os place was is there same)
-
-same_phases : (p : Phase) → might_want p ≡ wants_entry p
-same_phases phase.Held = refl
-same_phases phase.WantEntry = refl
-same_phases phase.WantRecord = refl
-same_phases phase.Data = refl
-same_phases phase.WantStatus = refl
-same_phases phase.Landed = refl
 
 -- ---- one has changed
 
@@ -120,12 +113,12 @@ module _ (frees pins : Open → Bool) (old new : Core) (place : ℕ) (moves : Mo
       not_held phase.Landed is = refl
   pins_same k o kept false not_so was =
       ap (λ (b : Bool). if b && can_pin new.cache o.request.ask then Some (event.Pin k) else None)
-      (pins_not (facts_of new o.request) o.request o.request.phase (and_left (might_want o.request.phase) (not (facts_of new o.request).pinned) (same_phases o.request.phase ∙ not_so)))
+      (pins_not (facts_of new o.request) o.request o.request.phase (and_left (wants_entry o.request.phase) (not (facts_of new o.request).pinned) not_so))
 
   -- ---- a wider span of each kind
 
   module _ (s t : Span) where
-    at_others : (was now : ℕ → Open → Option Event) → Keeps now moves.is place (length new.requests) s t → Spans was old.requests s
+    at_others : (was now : ℕ → Open → Option Event) → KeepsSpan now moves.is place (length new.requests) s t → Spans was old.requests s
         → ((k : ℕ) (o : Open) → slice_get new.requests k ≡ Some o → slice_get old.requests k ≡ Some o → is_in t k ≡ false → was k o ≡ None → now k o ≡ None) → Spans now new.requests t
     at_others was now keeps spans same = record {
       within = keeps.within (let within = spans.within in let long = long_same in omega (arith, within, long));
@@ -142,11 +135,11 @@ module _ (frees pins : Open → Bool) (old new : Core) (place : ℕ) (moves : Mo
             let earlier = get_other old.requests place moves.is k o (eqb-false k place apart) (ap (λ (os : List Open). slice_get os k) (sym moves.requests) ∙ there) in
             same k o there earlier out (spans.none k o earlier (out_of s t k (keeps.wider k) out))
 
-    note_keeps : Keeps (note_at new) moves.is place (length new.requests) s t → Spans (note_at old) old.requests s → Spans (note_at new) new.requests t
+    note_keeps : KeepsSpan (note_at new) moves.is place (length new.requests) s t → Spans (note_at old) old.requests s → Spans (note_at new) new.requests t
     note_keeps keeps spans = at_others (note_at old) (note_at new) keeps spans
         (λ k o there before out none. ap (λ (disk : Option ℕ). option_map (event.StartNote k) disk) (note_same old new moves.reads moves.notes o) ∙ none)
 
-    data_keeps : Keeps (data_at new) moves.is place (length new.requests) s t → Spans (data_at old) old.requests s → Spans (data_at new) new.requests t
+    data_keeps : KeepsSpan (data_at new) moves.is place (length new.requests) s t → Spans (data_at old) old.requests s → Spans (data_at new) new.requests t
     data_keeps keeps spans = at_others (data_at old) (data_at new) keeps spans
         (λ k o there before out none. ap (λ (target : Option ℕ). option_map (event.StartData k) target) (starts_same o) ∙ none)
 
@@ -160,15 +153,15 @@ module _ (frees pins : Open → Bool) (old new : Core) (place : ℕ) (moves : Mo
           by false is = is
 
     module _ (covers : (k : ℕ) (o : Open) → slice_get new.requests k ≡ Some o → frees o ≡ true → is_in t k ≡ true) where
-      landing_keeps : Keeps (landing_at new) moves.is place (length new.requests) s t → Spans (landing_at old) old.requests s → Spans (landing_at new) new.requests t
+      landing_keeps : KeepsSpan (landing_at new) moves.is place (length new.requests) s t → Spans (landing_at old) old.requests s → Spans (landing_at new) new.requests t
       landing_keeps keeps spans = at_others (landing_at old) (landing_at new) keeps spans
           (λ k o there before out none. ap (λ (n : Next). option_map (event.Land k) (outcome_next n)) (next_same o (λ held. moves.waits k o before held (kept frees covers k o there out))) ∙ none)
 
-      admission_keeps : Keeps (admission_at new) moves.is place (length new.requests) s t → Spans (admission_at old) old.requests s → Spans (admission_at new) new.requests t
+      admission_keeps : KeepsSpan (admission_at new) moves.is place (length new.requests) s t → Spans (admission_at old) old.requests s → Spans (admission_at new) new.requests t
       admission_keeps keeps spans = at_others (admission_at old) (admission_at new) keeps spans
           (λ k o there before out none. ap (λ (n : Next). if is_admit n then Some (event.Admit k) else None) (next_same o (λ held. moves.waits k o before held (kept frees covers k o there out))) ∙ none)
 
-    pinning_keeps : ((k : ℕ) (o : Open) → slice_get new.requests k ≡ Some o → pins o ≡ true → is_in t k ≡ true) → Keeps (pinning_at new) moves.is place (length new.requests) s t → Spans (pinning_at old) old.requests s
+    pinning_keeps : ((k : ℕ) (o : Open) → slice_get new.requests k ≡ Some o → pins o ≡ true → is_in t k ≡ true) → KeepsSpan (pinning_at new) moves.is place (length new.requests) s t → Spans (pinning_at old) old.requests s
         → Spans (pinning_at new) new.requests t
     pinning_keeps covers keeps spans = at_others (pinning_at old) (pinning_at new) keeps spans (λ k o there before out none. pins_same k o (kept pins covers k o there out) (wants_entry o.request.phase) refl none)
 

@@ -77,12 +77,12 @@ covers_nothing requests n s to = record { within = omega (arith, to); has = λ k
 -- ---- a span of requests of which one has changed
 
 -- A span has the places of another one, and that of the request that has changed, unless this makes no such event.
-pub record Keeps (make : ℕ → Open → Option Event) (is : Open) (place n : ℕ) (s t : Span) : Type 0 where
+pub record KeepsSpan (make : ℕ → Open → Option Event) (is : Open) (place n : ℕ) (s t : Span) : Type 0 where
   pub wider : (k : ℕ) → is_in s k ≡ true → is_in t k ≡ true
   pub own : is_in t place ≡ false → make place is ≡ None
   pub within : s.to ≤ n → t.to ≤ n
 
-pub adds_keep : (make : ℕ → Open → Option Event) (is : Open) (place n : ℕ) (s t : Span) (may : Bool) → place < n → (may ≡ false → make place is ≡ None) → AddsIf may place s t → Keeps make is place n s t
+pub adds_keep : (make : ℕ → Open → Option Event) (is : Open) (place n : ℕ) (s t : Span) (may : Bool) → place < n → (may ≡ false → make place is ≡ None) → AddsIf may place s t → KeepsSpan make is place n s t
 adds_keep make is place n s t true low none adds = record { wider = adds.wider; own = λ out. not_both t place adds.has out; within = λ within. adds.within n within low }
 adds_keep make is place n s t false low none same = record {
   wider = λ k it. ap (λ (x : Span). is_in x k) same ∙ it;
@@ -90,7 +90,7 @@ adds_keep make is place n s t false low none same = record {
   within = λ within. let to = ap (λ (x : Span). x.to) same in omega (arith, within, to);
 }
 
-pub joins_keep : (make : ℕ → Open → Option Event) (is : Open) (place n : ℕ) (other s t u : Span) → other.to ≤ n → Keeps make is place n s t → Joins other t u → Keeps make is place n s u
+pub joins_keep : (make : ℕ → Open → Option Event) (is : Open) (place n : ℕ) (other s t u : Span) → other.to ≤ n → KeepsSpan make is place n s t → Joins other t u → KeepsSpan make is place n s u
 joins_keep make is place n other s t u low keeps joins = record {
   wider = λ k it. joins.wider k (keeps.wider k it);
   own = λ out. keeps.own (out_of t u place (joins.wider place) out);

@@ -28,14 +28,14 @@ use Rattle.lvm_mwc.specs.Cache.{Cached}
 use Rattle.lvm_firsts.proofs.Places.{at_place}
 use Rattle.lvm_firsts.specs.declared.span.Span.{Span}
 use Rattle.lvm_firsts.specs.Might.{might_pin}
-use Rattle.lvm_firsts.specs.Spans.{is_in, Leaves, Spans}
+use Rattle.lvm_firsts.specs.Spans.{is_in, Shifts, Spans}
 use Rattle.lvm_due.specs.declared.due.Due.{Due}
 use Rattle.lvm_due.specs.Due.{AddsMaking, IsDue, ReadsSame}
 use Rattle.lvm_due.specs.Making.{might_make_admission, might_make_data, might_make_landing, might_make_note}
 use Rattle.lvm_due.proofs.Alike.{admission_alike, data_alike, landing_alike, note_alike, pinning_alike}
 use Rattle.lvm_due.proofs.Telling.{facts_but, fails_beside, is_unsettled, note_same, pending_read}
 use Rattle.lvm_due.proofs.Unmade.{admit_none, land_none, note_none, pin_none, start_none}
-use Rattle.lvm_due.proofs.Spanning.{Keeps, adds_keep, not_both, out_of}
+use Rattle.lvm_due.proofs.Spanning.{KeepsSpan, adds_keep, not_both, out_of}
 
 -- ---- one begins
 
@@ -121,7 +121,7 @@ module _ (old new : Core) (client : ℕ) (ask : Ask) (bytes : Option (List ℕ))
       ∙ ap (λ (b : Bool). let l : Facts = record (facts_of old o.request) { blocked = b } in l) (begun_behind k o there)
 
   module _ (s t : Span) where
-    begun_keeps : (was now : ℕ → Open → Option Event) → Keeps now fresh (length old.requests) (length new.requests) s t → ((k : ℕ) (o : Open) → slice_get old.requests k ≡ Some o → was k o ≡ None → now k o ≡ None)
+    begun_keeps : (was now : ℕ → Open → Option Event) → KeepsSpan now fresh (length old.requests) (length new.requests) s t → ((k : ℕ) (o : Open) → slice_get old.requests k ≡ Some o → was k o ≡ None → now k o ≡ None)
         → Spans was old.requests s → Spans now new.requests t
     begun_keeps was now keeps same spans = record {
       within = keeps.within (let within = spans.within in let long = long_begun in omega (arith, within, long));
@@ -218,7 +218,7 @@ module _ (old new : Core) (place id : ℕ) (o : Open) (there : slice_get old.req
       facts_but old new left_reads (ap (λ (c : Cached). c.notes) left_cache) e.request (left_pending e.request)
       ∙ ap (λ (c : Core). let l : Facts = record (facts_of old e.request) { blocked = is_held_back c e.request } in l) leaves
 
-  module _ (n : ℕ) (s t : Span) (few : n ≡ length new.requests) (gone : Leaves n s t) where
+  module _ (n : ℕ) (s t : Span) (few : n ≡ length new.requests) (gone : Shifts n s t) where
     left_keeps : (was now : ℕ → Open → Option Event) → ((j k : ℕ) (e : Open) → was j e ≡ None → now k e ≡ None) → Spans was old.requests s → Spans now new.requests t
     left_keeps was now same spans = record { within = let low = gone.within in omega (arith, low, few); none = none_left }
       where
@@ -232,8 +232,8 @@ module _ (old new : Core) (place id : ℕ) (o : Open) (there : slice_get old.req
             by (inl here) = same k k e (spans.none k e here (out_of s t k (gone.same k low) out))
             by (inr next) = same (k + 1) k e (spans.none (k + 1) e next (false_from_ne_true (is_in s (k + 1)) (λ is. not_both t k (gone.before k low is) out)))
 
-  pub left_due : (n : ℕ) (was now : Due) → n ≡ length new.requests → Leaves n was.landing now.landing → Leaves n was.admission now.admission → Leaves n was.pinning now.pinning → Leaves n was.note now.note
-      → Leaves n was.data now.data → IsDue old was → IsDue new now
+  pub left_due : (n : ℕ) (was now : Due) → n ≡ length new.requests → Shifts n was.landing now.landing → Shifts n was.admission now.admission → Shifts n was.pinning now.pinning → Shifts n was.note now.note
+      → Shifts n was.data now.data → IsDue old was → IsDue new now
   left_due n was now few lands admits pins notes datas due = record {
     landing = left_keeps n was.landing now.landing few lands (landing_at old) (landing_at new) (λ j k e. landing_alike old new e (left_facts e) j k) due.landing;
     admission = left_keeps n was.admission now.admission few admits (admission_at old) (admission_at new) (λ j k e. admission_alike old new e (left_facts e) j k) due.admission;

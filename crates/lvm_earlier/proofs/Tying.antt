@@ -1,8 +1,8 @@
 -- The answer of a request of an earlier session leaves a tied session tied.
-use Rattle.std.proofs.Common.{◌≡◌, inl, inr, ⊎_elim, ℕ, Bool, true, false, ◌&&◌, ◌||◌, ◌==◌, List, [], ◌∷◌, ◌++◌, Some, refl, sym, ◌∙◌, ap, subst}
+use Rattle.std.proofs.Common.{◌≡◌, inl, inr, ⊎_elim, ℕ, Bool, true, false, ◌||◌, ◌==◌, List, [], ◌∷◌, ◌++◌, Some, refl, sym, ◌∙◌, ap, subst}
 use Rattle.std.specs.Prelude.{IsFalse, is_some}
 use Rattle.std.specs.List.{list_any}
-use Rattle.std.proofs.lemmas.Bool.{ne_eqb}
+use Rattle.std.proofs.lemmas.Bool.{ne_eqb, and_right}
 use Rattle.std.proofs.lemmas.List.Folds.{list_any-append}
 use Rattle.lvm_disk.specs.Device.{Flight, image_of}
 use Rattle.lvm_kept.specs.Contents.{contents_of}
@@ -51,10 +51,6 @@ unjoined past facts r fits = record {
 own_number : (facts : List Fact) (id : ℕ) (r : Request) → asked facts id ≡ Some r → (request_of facts id).id ≡ id
 own_number facts id r is = (found_of facts id (ap is_some is)).own
 
-and_no : (a b : Bool) → b ≡ false → a && b ≡ false
-and_no true b is = is
-and_no false b is = refl
-
 module _ (past : List Fact) (s : State) (tied : IsTied past s) (id : ℕ) (its : is_answered s.core.history.facts 1 id ≡ true) (gone : list_any (is_asked 1 id) s.core.requests ≡ false) where
   abbrev core : Core
   core = s.core
@@ -84,7 +80,7 @@ module _ (past : List Fact) (s : State) (tied : IsTied past s) (id : ℕ) (its :
       let named : v.name i ≡ request_of core.history.facts at.request.request.id = ap v.name (sym at.its) ∙ tied.sees.queue.names at.place at.request at.there in
       let its_id : (request_of core.history.facts at.request.request.id).id ≡ at.request.request.id = own_number core.history.facts at.request.request.id asked.request asked.told in
       let differs : (v.name i).id == q.id ≡ false = ne_eqb (v.name i).id q.id (λ e. apart_at s sound id its gone at.place at.request at.there (sym its_id ∙ sym (ap (λ (r : Request). r.id) named) ∙ e ∙ own)) in
-      and_no ((v.name i).run == q.run) ((v.name i).id == q.id) differs
+      and_right ((v.name i).run == q.run) ((v.name i).id == q.id) differs
 
   takes_it : TakesEarlier v q
   takes_it = record {

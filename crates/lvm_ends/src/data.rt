@@ -1,7 +1,6 @@
 //! The transfer of a target of a request has ended.
 ghost use Rattle.std.specs.Prelude.{◌≡◌, ◌==◌, ◌<◌, true, Some, length, position, slice_get};
 ghost use Rattle.std.specs.List.{list_any};
-ghost use Rattle.lvm_num.specs.declared.place.Pp.{Pp};
 ghost use Rattle.lvm_path.specs.declared.target.Target.{Target};
 ghost use Rattle.lvm_pbuf.specs.Out.{IsOut};
 ghost use Rattle.lvm_session.specs.declared.flown.Owner.TheVariants as owner;

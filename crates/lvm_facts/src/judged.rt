@@ -1,6 +1,6 @@
 //! How the targets of a request count.
 ghost use Rattle.std.specs.Prelude.{◌≡◌, ◌||◌, not};
-ghost use Rattle.std.specs.List.{list_any, list_all};
+ghost use Rattle.std.specs.List.{list_all};
 ghost use Rattle.lvm_path.specs.declared.target.Target.{Target};
 ghost use Rattle.lvm_session.specs.Fields.{core_of};
 ghost use Rattle.lvm_session.specs.Judging.{all_but_sure, counts_failed, is_kept, is_marked, is_settled};

@@ -10,14 +10,13 @@ use Rattle.lvm_num.specs.declared.place.Pp.{Pp}
 use Rattle.lvm_num.specs.declared.descriptor.Mode.{Mode}
 use Rattle.lvm_num.specs.declared.descriptor.Mode.TheVariants as mode
 use Rattle.lvm_num.specs.declared.status.Status.{Status}
-use Rattle.lvm_num.specs.Descriptor.{copies_of}
+use Rattle.lvm_num.specs.Descriptor.{copies_of, is_pp}
 use Rattle.lvm_num.specs.Status.{calls_stale, calls_missing}
 use Rattle.lvm_num.proofs.BitsLemmas.{has-none, has-set}
 use Rattle.lvm_num.proofs.DisksLemmas.{has-zero, has-with}
 use Rattle.lvm_kept.specs.Examples.{mirror}
 use Rattle.lvm_status.specs.Update.{is_there, seen}
 use Rattle.lvm_status.specs.Runs.{IsSoundStatus}
-use Rattle.lvm_stale.specs.Table.{is_pp}
 use Rattle.lvm_session.specs.declared.bringing.CopyEnd.TheVariants as ending
 use Rattle.lvm_session.specs.declared.event.Event.TheVariants as event
 use Rattle.lvm_session.specs.declared.flown.Owner.TheVariants as owner

@@ -1,5 +1,5 @@
 -- A field that is read is the field that was written, and what was written is read again.
-use Rattle.std.proofs.Common.{◌≡◌, ℕ, zero, suc, ◌+◌, ◌^◌, ◌<◌, ◌≤◌, Bool, true, false, cond, ltb, ◌&&◌, List, [], ◌∷◌, ◌++◌, length, get_or, take, drop, replicate, Result, Ok, Err, refl, sym, ap, subst, ◌∙◌, append_assoc, length-append, arith}
+use Rattle.std.proofs.Common.{◌≡◌, ℕ, zero, suc, ◌+◌, ◌^◌, ◌<◌, ◌≤◌, Bool, true, false, cond, ltb, List, [], ◌∷◌, ◌++◌, length, get_or, take, drop, replicate, Result, Ok, Err, refl, sym, ap, subst, ◌∙◌, append_assoc, length-append, arith}
 use Rattle.std.specs.Prelude.{◌==◌}
 use Rattle.std.specs.List.{list_all}
 use Rattle.std.specs.Int.{Width, w8, w16, w32, w64, byte_len, from_be_bytes, to_be_bytes}
@@ -8,6 +8,8 @@ use Rattle.std.proofs.lemmas.List.{take_at, drop_at, take-append-drop, length-ta
 use Rattle.std.proofs.lemmas.Nat.{be_bytes_2, be_bytes_4, be_bytes_8, from_be_bytes-to_be_bytes_2, from_be_bytes-to_be_bytes_4, from_be_bytes-to_be_bytes_8}
 use Rattle.lvm_num.specs.Reading.{◌>>=◌, Rest, bytes_at, number_at, zeros_at, end_at}
 use Rattle.lvm_num.proofs.Records.{bytes-drop, bytes-take}
+pub use Rattle.std.proofs.lemmas.Bool.{and_parts as both}
+pub use Rattle.std.proofs.lemmas.Bool.{and_from as from_both}
 
 abbrev pub IsBytes : List ℕ → Type 0
 IsBytes bytes = (i : ℕ) → get_or bytes i 0 < 256
@@ -25,13 +27,6 @@ ok_is x y e = cc
 
 pub ok_isnt : {A : Type 0} (x : A) (place : ℕ) → done x ≡ Err place → ⊥
 ok_isnt x place e = absurd cc
-
-pub both : (a b : Bool) → a && b ≡ true → (a ≡ true) × (b ≡ true)
-both true b e = (refl, e)
-both false b e = absurd cc
-
-pub from_both : (a b : Bool) → a ≡ true → b ≡ true → a && b ≡ true
-from_both a b p q = rw (p, q) refl
 
 -- a field that is long enough and passes
 tested : {A : Type 0} (short passes : Bool) (p q : ℕ) (x y : A) → cond short (Err p) (cond passes (Ok x) (Err q)) ≡ Ok y → (short ≡ false) × (passes ≡ true) × (x ≡ y)

@@ -3,7 +3,7 @@ use Rattle.std.proofs.Common.{◌≡◌, ℕ, Bool, true, false, cond, nat_lt, �
 use Rattle.std.specs.Prelude.{position}
 use Rattle.std.specs.List.{list_any, position_or_len}
 use Rattle.std.specs.Option.{option_map_or}
-use Rattle.std.proofs.lemmas.Bool.{le-ltb}
+use Rattle.std.proofs.lemmas.Bool.{le-ltb, or_parts}
 use Rattle.lvm_vol.specs.declared.entry.Outcome.TheVariants as outcome
 use Rattle.lvm_num.specs.declared.descriptor.Policy.{Policy}
 use Rattle.lvm_num.specs.declared.descriptor.Policy.TheVariants as policy
@@ -19,7 +19,8 @@ use Rattle.lvm_path.specs.Asks.{is_write}
 use Rattle.lvm_path.specs.Next.{next_chosen, next_in, next_read, next_write, start_or_wait}
 use Rattle.lvm_path.specs.Targets.{is_begun, is_done, states_of}
 use Rattle.lvm_session.specs.Enabled.{is_admit, is_pin, outcome_next, target_next}
-use Rattle.lvm_firsts.specs.Might.{any_waits, are_at_rest, might_admit_in, might_land_in, might_start_in, none_goes, wants_entry}
+use Rattle.lvm_firsts.specs.Might.{any_waits, are_at_rest, might_admit_in, might_land_in, might_start_in, none_goes}
+use Rattle.lvm_session.specs.Requests.{wants_entry}
 
 -- ---- what something is of each thing that it may do next is so of what it does
 
@@ -72,14 +73,10 @@ not_off false is = absurd (cc is)
 
 -- ---- targets of which no transfer is left to be started
 
-either_off : (a b : Bool) → (a || b) ≡ false → (a ≡ false) × (b ≡ false)
-either_off true b is = absurd (cc is)
-either_off false b is = (refl, is)
-
 module _ {X : Type 0} (p : X → Bool) where
   all_fail : (xs : List X) → list_any p xs ≡ false → position_or_len p xs ≡ length xs
   all_fail [] is = refl
-  all_fail (x ∷ xs) is = let both = either_off (p x) (list_any p xs) is in let rest = all_fail xs both.1 in rw both.0 (omega (arith, rest))
+  all_fail (x ∷ xs) is = let both = or_parts (p x) (list_any p xs) is in let rest = all_fail xs both.1 in rw both.0 (omega (arith, rest))
 
   none_found : (xs : List X) → list_any p xs ≡ false → position p xs ≡ None
   none_found xs is = ap (λ (n : ℕ). cond (nat_lt n (length xs)) (Some n) None) (all_fail xs is) ∙ ap (λ (b : Bool). cond b (Some (length xs)) None) (le-ltb (length xs) (length xs) (omega arith))

@@ -1,6 +1,7 @@
 -- Where no row of a status calls its disk missing, the votes that are there are all.
 use Rattle.std.proofs.Common.{◌≡◌, ◌==◌, ◌&&◌, ◌||◌, ℕ, Bool, true, false, not, le_antisymm, List, [], ◌∷◌, refl, ◌∙◌, ap}
 use Rattle.std.specs.List.{list_any}
+use Rattle.std.proofs.lemmas.Bool.{or_parts}
 use Rattle.lvm_num.specs.declared.descriptor.Descriptor.{Descriptor}
 use Rattle.lvm_num.specs.declared.status.StatusRow.{StatusRow}
 use Rattle.lvm_num.specs.declared.status.Status.{Status}
@@ -9,11 +10,6 @@ use Rattle.lvm_num.specs.Status.{calls_missing}
 use Rattle.lvm_num.specs.Votes.{all_disks, total_votes, votes_in}
 use Rattle.lvm_num.proofs.VotesLemmas.{more_have_more}
 use Rattle.lvm_status.specs.Update.{members_there}
-
-neither : (a b : Bool) → (a || b) ≡ false → (a ≡ false) × (b ≡ false)
-neither false false is = (refl, refl)
-neither false true is = cc
-neither true b is = cc
 
 not_both : (a b c : Bool) → b ≡ false → c ≡ false → (a && b || c) ≡ false
 not_both false b false is none = refl
@@ -24,7 +20,7 @@ not_both a b true is none = cc
 none_missing : (rows : List StatusRow) (disk : ℕ) → list_any (λ (row : StatusRow). row.missing) rows ≡ false → list_any (λ (row : StatusRow). row.disk == disk && row.missing) rows ≡ false
 none_missing [] disk none = refl
 none_missing (row ∷ rows) disk none =
-    let parts = neither row.missing (list_any (λ (r : StatusRow). r.missing) rows) none in
+    let parts = or_parts row.missing (list_any (λ (r : StatusRow). r.missing) rows) none in
     not_both (row.disk == disk) row.missing (list_any (λ (r : StatusRow). r.disk == disk && r.missing) rows) parts.0 (none_missing rows disk parts.1)
 
 pub all_there : (d : Descriptor) (s : Status) → list_any (λ (row : StatusRow). row.missing) s.rows ≡ false → total_votes d ≡ votes_in d (members_there d s)

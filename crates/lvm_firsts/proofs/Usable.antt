@@ -1,8 +1,9 @@
 -- A target that is usable is a usable copy of the logical partition.
 use Rattle.std.proofs.Common.{◌≡◌, ◌==◌, ◌&&◌, ◌||◌, Bool, true, false, List, [], ◌∷◌, refl, sym, ◌∙◌, ap}
 use Rattle.std.specs.List.{list_any, AllByRecursion}
-use Rattle.std.proofs.lemmas.Bool.{eqb-true}
+use Rattle.std.proofs.lemmas.Bool.{eqb-true, or_right}
 use Rattle.lvm_num.specs.declared.place.Pp.{Pp}
+use Rattle.lvm_num.proofs.Booleans.{first_holds, second_holds}
 use Rattle.lvm_path.specs.declared.ask.Ask.{Ask}
 use Rattle.lvm_path.specs.declared.request.Phase.{Phase}
 use Rattle.lvm_path.specs.declared.request.Phase.TheVariants as phase
@@ -14,18 +15,6 @@ use Rattle.lvm_session.specs.Marks.{is_among}
 use Rattle.lvm_session.specs.Requests.{IsTarget}
 use Rattle.lvm_firsts.specs.Might.{any_is_usable, shows_usable}
 
-left : (a b : Bool) → a && b ≡ true → a ≡ true
-left true b is = refl
-left false b is = absurd (cc is)
-
-right : (a b : Bool) → a && b ≡ true → b ≡ true
-right true b is = is
-right false b is = absurd (cc is)
-
-or_right : (a b : Bool) → b ≡ true → (a || b) ≡ true
-or_right true b is = refl
-or_right false b is = is
-
 -- a test that a partition passes is passed by one of those that it is among
 among_any : (test : Pp → Bool) (ps : List Pp) (p : Pp) → is_among ps p ≡ true → test p ≡ true → list_any test ps ≡ true
 among_any test [] p is passes = absurd (cc is)
@@ -33,8 +22,8 @@ among_any test (q ∷ ps) p is passes = by (λ later. among_any test ps p later 
   where
     same : (p.disk == q.disk && p.pp == q.pp) ≡ true → p ≡ q
     same its =
-        let disk : p.disk ≡ q.disk = eqb-true p.disk q.disk (left (p.disk == q.disk) (p.pp == q.pp) its) in
-        let pp : p.pp ≡ q.pp = eqb-true p.pp q.pp (right (p.disk == q.disk) (p.pp == q.pp) its) in
+        let disk : p.disk ≡ q.disk = eqb-true p.disk q.disk (first_holds (p.disk == q.disk) (p.pp == q.pp) its) in
+        let pp : p.pp ≡ q.pp = eqb-true p.pp q.pp (second_holds (p.disk == q.disk) (p.pp == q.pp) its) in
         λ i. record { disk = disk i; pp = pp i }
 
     by : (is_among ps p ≡ true → list_any test ps ≡ true) → (b : Bool) → (p.disk == q.disk && p.pp == q.pp) ≡ b → (b || is_among ps p) ≡ true → (test q || list_any test ps) ≡ true

@@ -25,7 +25,7 @@ pub record Skips (place : ℕ) (old new : Span) : Type 0 where
   pub within : new.to ≡ old.to
 
 -- each place is there still, and the one before each, but those behind so many
-pub record Leaves (len : ℕ) (old new : Span) : Type 0 where
+pub record Shifts (len : ℕ) (old new : Span) : Type 0 where
   pub same : (k : ℕ) → k < len → is_in old k ≡ true → is_in new k ≡ true
   pub before : (k : ℕ) → k < len → is_in old (k + 1) ≡ true → is_in new k ≡ true
   pub within : new.to ≤ len

@@ -10,6 +10,7 @@ use Rattle.std.proofs.lemmas.List.{map-set}
 use Rattle.std.proofs.lemmas.List.Folds.{list_any_more}
 use Rattle.std.proofs.lemmas.Grind.{common_steps}
 use Rattle.std.proofs.Math.Seq.{map-set_same}
+use Rattle.lvm_num.proofs.Booleans.{or_false}
 use Rattle.lvm_flights.specs.Tickets.{has_ticket, IsLeastFree, AreBitsOf, AllTaken}
 use Rattle.lvm_flights.specs.Flights.{flight_of, flights_of, delays_of, passed, NoDelays}
 use Rattle.lvm_flights.specs.declared.flying.Flying.{Flying}
@@ -122,10 +123,6 @@ least_free l t taken none = record { free = sym (taken-list l t) ∙ none; least
 
 any_more : (l : List Flying) (i t : ℕ) (f : Flying) → i < length l → f ≡ get_or l i f → list_any (λ (g : Flying). g.ticket == t) (take (i + 1) l) ≡ (list_any (λ (g : Flying). g.ticket == t) (take i l) || (f.ticket == t))
 any_more l i t f within is = list_any_more (λ (g : Flying). g.ticket == t) l i f within ∙ ap (λ (g : Flying). list_any (λ (h : Flying). h.ticket == t) (take i l) || (g.ticket == t)) (sym is)
-
-or_false : (b : Bool) → (b || false) ≡ b
-or_false true = refl
-or_false false = refl
 
 told_by : (b : Bool) (word t u : ℕ) (some : Bool) → (u == t) ≡ b → u < 64 → some ≡ (bit_at word t == 1) → (some || b) ≡ (bit_at (bit_or word (1 * 2 ^ u % 2 ^ 64)) t == 1)
 told_by true word t u some is there was =

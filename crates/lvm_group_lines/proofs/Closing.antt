@@ -8,7 +8,7 @@ use Rattle.lvm_vol.specs.Log.{Log}
 use Rattle.lvm_session.specs.State.{Core}
 use Rattle.lvm_posts.specs.declared.posts.Post.{Post}
 use Rattle.lvm_group_lines.specs.Groups.{VaryoffDoes, VariesOff}
-use Rattle.lvm_disk_lines.specs.passed.Stage.{EndsSession, EndsUnasked, Aside, most_refusals, GivesBack, HaveRooms, IsBetweenStage, IsFitting, IsOn}
+use Rattle.lvm_disk_lines.specs.passed.Stage.{EndsSession, EndsUnasked, Aside, most_refusals, GivesBack, HaveRooms, IsBetweenStage, IsFittingStage, IsOn}
 use Rattle.lvm_disk_lines.specs.passed.Stage.{history_in, history_of, posts_ended, session_in, session_of, shelf_in, state_in, without_facts, Holder}
 use Rattle.lvm_disk_lines.specs.passed.Stage.{Reply, Stage}
 use Rattle.lvm_disk_lines.specs.passed.HolderVariants as holder
@@ -22,7 +22,7 @@ whose (holder.Off shelf history) core is = absurd (cc (is))
 whose (holder.Empty driver) core is = let e : driver.1 ≡ core = cc (is) in ap (λ (c : Core). c.history) (sym e)
 whose (holder.Serving driver) core is = let e : driver.1 ≡ core = cc (is) in ap (λ (c : Core). c.history) (sym e)
 
-module _ {S : Type 0} (device : S → Device) (old : Stage S) (fits : IsFitting old) (between : IsBetweenStage device old) (core : Core) (session : session_in old ≡ Some core) (none : core.requests ≡ [])
+module _ {S : Type 0} (device : S → Device) (old : Stage S) (fits : IsFittingStage old) (between : IsBetweenStage device old) (core : Core) (session : session_in old ≡ Some core) (none : core.requests ≡ [])
     (shelf : S) (log : Log) (posts : Vec Post) (bytes : Vec ℕ) (closed : GivesBack (device (shelf_in old)) (device shelf)) (kept : log ≡ history_in old) (ended : posts.items ≡ posts_ended (session_in old) old.posts.items)
     (rooms : (entries : ℕ) → HaveRooms entries old.posts old.bytes → HaveRooms entries posts bytes) where
   same_device : device shelf ≡ device (shelf_in old)

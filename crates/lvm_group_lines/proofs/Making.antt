@@ -21,7 +21,7 @@ use Rattle.lvm_disk_lines.specs.passed.Group.{IsMade, MkvgRefuses, MkvgGives, Ma
 use Rattle.lvm_disk_lines.specs.passed.Quiesce.{Quiesces, MkvgOnceQuiet}
 use Rattle.lvm_group_lines.specs.Groups.{itself}
 use Rattle.lvm_disk_lines.specs.passed.Stage.{StandsAlone, without_facts}
-use Rattle.lvm_disk_lines.proofs.passed.Stage.{cut_rooms, Leaves, Rests, Bears, bears_cut, bears_given_up}
+use Rattle.lvm_disk_lines.proofs.passed.Stage.{cut_rooms, RefusalLeaves, Rests, Bears, bears_cut, bears_given_up}
 use Rattle.lvm_group_lines.proofs.Coming.{CameOn, StayedOff, stays}
 use Rattle.lvm_group_lines.proofs.Quieting.{device_outcome, itself_once, on_once, quiet_orders, stayed_once}
 
@@ -29,7 +29,7 @@ use Rattle.lvm_group_lines.proofs.Quieting.{device_outcome, itself_once, on_once
 
 -- what a refusal leaves of a shelf that was at rest
 module _ (before : Device) (w : NewGroup) (patience : ℕ) (was is : Log) (old left : Device) (ready : IsReady old) (same : old.orders ≡ before.orders) where
-  leaves : (why : Cause) → MkvgRefuses w patience was is old left why → Leaves why before left
+  leaves : (why : Cause) → MkvgRefuses w patience was is old left why → RefusalLeaves why before left
   leaves (cause.NoDisk disk) refuses = record { rests = inr (subst IsReady (sym refuses.0.shelf) ready); orders = ap (λ (d : Device). d.orders) refuses.0.shelf ∙ same }
   leaves (cause.TooMany limit) refuses = record { rests = inr (subst IsReady (sym refuses.0.shelf) ready); orders = ap (λ (d : Device). d.orders) refuses.0.shelf ∙ same }
   leaves (cause.TooSmall disk) refuses = record { rests = inr (subst IsReady (sym refuses.0.shelf) ready); orders = ap (λ (d : Device). d.orders) refuses.0.shelf ∙ same }

@@ -24,7 +24,7 @@ use Rattle.lvm_disk_lines.proofs.passed.Varyon.{same_orders, wrote_broken, wrote
 use Rattle.lvm_disk_lines.specs.passed.Quiesce.{Quiesces, IsFullFor, VariesOnAt, VaryonOnceQuiet}
 use Rattle.lvm_group_lines.specs.Groups.{itself}
 use Rattle.lvm_disk_lines.specs.passed.Stage.{StandsAlone, without_facts}
-use Rattle.lvm_disk_lines.proofs.passed.Stage.{cut_rooms, Leaves, Rests, Bears, bears_cut}
+use Rattle.lvm_disk_lines.proofs.passed.Stage.{cut_rooms, RefusalLeaves, Rests, Bears, bears_cut}
 use Rattle.lvm_group_lines.proofs.Coming.{CameOn, StayedOff, stays}
 use Rattle.lvm_group_lines.proofs.Quieting.{device_outcome, itself_once, on_once, quiet_orders, stayed_once}
 
@@ -32,7 +32,7 @@ use Rattle.lvm_group_lines.proofs.Quieting.{device_outcome, itself_once, on_once
 
 -- what a refusal leaves of a shelf that was at rest
 module _ (before old left : Device) (name : List ℕ) (moment patience : ℕ) (log : Log) (ready : IsReady old) (same : old.orders ≡ before.orders) where
-  pub leaves : (why : Cause) → VaryonRefuses old left name moment patience log why → Leaves why before left
+  pub leaves : (why : Cause) → VaryonRefuses old left name moment patience log why → RefusalLeaves why before left
   leaves cause.HistoryFull refuses = record { rests = inr (subst IsReady (sym refuses.1) ready); orders = ap (λ (d : Device). d.orders) refuses.1 ∙ same }
   leaves cause.NoRecord refuses = record { rests = inr refuses.1.rested.ready; orders = refuses.1.unwritten.orders ∙ same }
   leaves cause.Ambiguous refuses = record { rests = inr refuses.1.rested.ready; orders = refuses.1.unwritten.orders ∙ same }

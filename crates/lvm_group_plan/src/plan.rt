@@ -9,7 +9,7 @@ ghost use Rattle.lvm_session_start.specs.Parts.{IsOneGroup};
 ghost use Rattle.lvm_group_plan.specs.NewGroup.{among, member_for, clear_row, disks_in_order, descriptor_for, first_absent};
 ghost use Rattle.lvm_group_plan.specs.Planned.{CanBeMade, IsChoiceFor, IsPlanOf, IsPlanned};
 
-use crate::checks::partitions_of;
+use crate::checks::partitions_on;
 use lvm_core::{Parts, Room, encode_records};
 use lvm_disk::Shelf;
 use lvm_num::{
@@ -145,7 +145,7 @@ fn members_of<S: Shelf>(
     for disk in disks {
         rows.push(PvRow {
             disk: *disk,
-            pps: partitions_of(shelf.sectors(*disk), mib),
+            pps: partitions_on(shelf.sectors(*disk), mib),
             spare: false,
         })?;
     }

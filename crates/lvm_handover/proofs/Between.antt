@@ -14,7 +14,7 @@ use Rattle.lvm_session.specs.Dark.{hand_of_copy}
 use Rattle.lvm_session.specs.Owners.{AreRows}
 use Rattle.lvm_session.specs.Placed.{ArePlaced}
 use Rattle.lvm_session.specs.Sound.{IsSound, count_if, has_number, hands_with, is_dark, is_hand, out_with, waits}
-use Rattle.lvm_core.specs.Sound.{HaveAllLanded, HasNoneOpen, IsFitting, IsQuiet, IsSoundBetween}
+use Rattle.lvm_core.specs.Sound.{HaveAllLanded, HasNoneOpen, IsFittingBetween, IsQuiet, IsSoundBetween}
 use Rattle.lvm_tie_begins.specs.Begins.{IsResting}
 
 -- where no transfer is the session's, none is out
@@ -72,7 +72,7 @@ module _ (s : State) (sound : IsSound s) (on : s.core.power ≡ power.On) (close
           by true missing = absurd (let no : true ≡ false = sym (sound.origin.still_missing disk missing) ∙ present in cc no)
           by false any = refl
 
-  fitting : IsFitting core
+  fitting : IsFittingBetween core
   fitting = record {
     valid = sound.fitting.valid;
     id = sound.fitting.id;

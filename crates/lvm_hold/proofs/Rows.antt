@@ -3,7 +3,7 @@ use Rattle.std.proofs.Common.{◌≡◌, ◌==◌, ◌<◌, ◌≤◌, ◌&&◌,
 use Rattle.std.specs.List.{All, Contains, find, filter}
 use Rattle.std.specs.Option.{option_map, option_or, IsSomeAnd, IfSome, is_some}
 use Rattle.std.proofs.lemmas.Option.{same_Some}
-use Rattle.std.proofs.lemmas.Bool.{eqb-true, eq-eqb, ltb-true, lt-ltb, ne_eqb}
+use Rattle.std.proofs.lemmas.Bool.{eqb-true, eq-eqb, ltb-true, lt-ltb, ne_eqb, and_parts}
 use Rattle.std.proofs.lemmas.List.{reverse-append}
 use Rattle.std.proofs.lemmas.List.Folds.{Any-from_list_any, find-append, list_any-from_Any}
 use Rattle.std.proofs.lemmas.List.Elements.{All-nil, All-head, All-tail, All-push, All-filter, All-contains}
@@ -88,10 +88,6 @@ same_row [] a b order in_a in_b ids = absurd (omega (arith, in_a.1))
 same_row (first ∷ rows) a b order in_a in_b ids =
     same_cases first a b rows ids order.0 (contains_cases first rows a in_a) (contains_cases first rows b in_b) (λ later_a later_b. same_row rows a b order.1 later_a later_b ids)
 
-both : (a b : Bool) → (a && b) ≡ true → (a ≡ true) × (b ≡ true)
-both true b is = (refl, is)
-both false b is = cc
-
 -- the test of `first_conflict`
 abbrev pub is_in_the_way : Row → Row → Bool
 is_in_the_way this row = nat_lt row.id this.id && conflicts row.ask this.ask
@@ -100,7 +96,7 @@ blocks_by : (rows : List Row) (this : Row) (id : ℕ) (o : Option Row) → Conta
 blocks_by rows this id None among its is = tt
 blocks_by rows this id (Some row) among its is =
     let it : IsFound (is_in_the_way this) rows row = found (is_in_the_way this) rows row is in
-    let passes : (nat_lt row.id this.id ≡ true) × (conflicts row.ask this.ask ≡ true) = both (nat_lt row.id this.id) (conflicts row.ask this.ask) it.passes in
+    let passes : (nat_lt row.id this.id ≡ true) × (conflicts row.ask this.ask ≡ true) = and_parts (nat_lt row.id this.id) (conflicts row.ask this.ask) it.passes in
     let less : row.id < this.id = ltb-true row.id this.id passes.0 in
     record {
       first = row;
@@ -151,7 +147,7 @@ blocked_cases rows id ask (Some earlier) false test order among blocks least =
     cc
 blocked_cases rows id ask None true test order among blocks least =
     let some = Any-from_list_any (is_in_the_way (record { id = id; ask = ask })) rows test in
-    let passes : (nat_lt some.1.id id ≡ true) × (conflicts some.1.ask ask ≡ true) = both (nat_lt some.1.id id) (conflicts some.1.ask ask) some.4 in
+    let passes : (nat_lt some.1.id id ≡ true) × (conflicts some.1.ask ask ≡ true) = and_parts (nat_lt some.1.id id) (conflicts some.1.ask ask) some.4 in
     absurd (least some.1.id (record {
       first = some.1;
       second = record { id = id; ask = ask };

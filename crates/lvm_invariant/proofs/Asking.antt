@@ -2,6 +2,7 @@
 use Rattle.std.proofs.Common.{◌≡◌, ⊎_elim, ℕ, ◌+◌, ◌<◌, Bool, true, false, ◌||◌, List, [], ◌∷◌, ◌++◌, Option, Some, None, refl, sym, ap, subst, ◌∙◌, eq-eqb, arith, count_by}
 use Rattle.std.specs.Prelude.{IsTrue, IsFalse, ◌==◌, if◌then◌else◌}
 use Rattle.std.specs.List.{list_any}
+use Rattle.lvm_num.proofs.Booleans.{or_false, or_true}
 use Rattle.lvm_vol.specs.declared.entry.Vol.TheVariants.{Lv}
 use Rattle.lvm_vol.specs.declared.entry.Outcome.{Outcome}
 use Rattle.lvm_vol.specs.Facts.{Request, Fact, Begun, Landed, Taken, Stands, same_request}
@@ -34,14 +35,6 @@ request_of_same q r n same is = record {
   write = is.write ∙ sym same.write;
   value = λ lv b write over. is.value lv b (sym same.write ∙ write) (sym (same.over lv b) ∙ over) ∙ sym (same.value b);
 }
-
-or_false : (a : Bool) → (a || false) ≡ a
-or_false true = refl
-or_false false = refl
-
-or_true : (a : Bool) → (a || true) ≡ true
-or_true true = refl
-or_true false = refl
 
 -- each request was there before and asks for the same
 abbrev pub ComesFrom : (ℕ → Option Queued) → (ℕ → Option Queued) → Type 0

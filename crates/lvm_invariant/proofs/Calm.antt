@@ -4,7 +4,7 @@ use Rattle.lvm_num.specs.declared.place.Pp.{Pp}
 use Rattle.lvm_num.specs.Geometry.{track_group_of}
 use Rattle.lvm_invariant.proofs.Small.{IsIn}
 use Rattle.lvm_invariant.specs.State.{Queued, ModelState, Started, told}
-use Rattle.lvm_invariant.specs.Sound.{MayDiffer, Agree, Settled, Blocks}
+use Rattle.lvm_invariant.specs.Sound.{MayDiffer, Agree, Quiescent, Blocks}
 use Rattle.lvm_invariant.proofs.Claims.{Calmer, keeping_blocks, with_requests}
 use Rattle.lvm_invariant.proofs.SoundLemmas.{keeping_live, keeping_notes, live_same, named_same, each_same}
 
@@ -21,7 +21,7 @@ module _ (old new : ModelState) (calmer : Calmer old new) (blocks : Blocks old) 
   allowed_now : (lv b : ℕ) (c : Pp) → IsIn (told old lv b).values (old.media.block lv b c) → IsIn (told new lv b).values (new.media.block lv b c)
   allowed_now lv b c h = subst (IsIn (told new lv b).values) (sym (same_block lv b c)) (subst (λ (m : Option (List (List ℕ))). IsIn m (old.media.block lv b c)) (sym (calmer.may lv b)) h)
 
-  settled_now : (lv b : ℕ) → Settled old lv b → Settled new lv b
+  settled_now : (lv b : ℕ) → Quiescent old lv b → Quiescent new lv b
   settled_now lv b settled = record {
     calm = λ i r started over. settled.calm i r (calmer.started i r started) over;
     allowed = λ c live. allowed_now lv b c (settled.allowed c (calmer.live lv b c live));

@@ -5,7 +5,7 @@ use Rattle.lvm_num.specs.declared.place.Pp.{Pp}
 use Rattle.lvm_num.specs.Geometry.{track_group_of}
 use Rattle.lvm_invariant.proofs.Small.{IsIn, never, false_by, and_left_false}
 use Rattle.lvm_invariant.specs.State.{Marks, ModelCopy, StepWrite, Going, Queued, ModelState, covers, stale_in, is_settled_stale, HasPassed, Live, Started, told}
-use Rattle.lvm_invariant.specs.Sound.{Complete, Statuses, MayDiffer, Agree, Settled, Blocks, Holds, Sound}
+use Rattle.lvm_invariant.specs.Sound.{Complete, Statuses, MayDiffer, Agree, Quiescent, Blocks, Holds, Sound}
 use Rattle.lvm_invariant.proofs.SoundLemmas.{complete_same, live_same, equal_same, recorded_same, each_same}
 use Rattle.lvm_invariant.proofs.Claims.{Quiet, CopyWriteKeepsCore, OpenKeepsCore, ClearKeepsCore}
 use Rattle.lvm_invariant.proofs.Requests.{decided, alone, past_of, one_req}
@@ -71,7 +71,7 @@ module _ (s : ModelState) (i : ℕ) (r : Queued) (value : ℕ → List ℕ) (tar
       (λ (h : (c ≡ target) × IsTrue (covers r lv b) × (block lv b c ≡ value b)). h.2)
       (live_was lv b c live)
 
-  allowed_on : (lv b : ℕ) → Settled s lv b → IsTrue (covers r lv b) → (c : Pp) → Live new lv b c → IsIn (told s lv b).values (block lv b c)
+  allowed_on : (lv b : ℕ) → Quiescent s lv b → IsTrue (covers r lv b) → (c : Pp) → Live new lv b c → IsIn (told s lv b).values (block lv b c)
   allowed_on lv b settled over c live = ⊎_elim
       (λ (l : Live s lv b c). ⊎_elim
       (λ (same : block lv b c ≡ s.media.block lv b c). subst (IsIn (told s lv b).values) (sym same) (settled.allowed c l))
@@ -90,7 +90,7 @@ module _ (s : ModelState) (i : ℕ) (r : Queued) (value : ℕ → List ℕ) (tar
       by_mode true is loose = let at = sound.tied.inside i r step.there lv b over in never (told s lv b).loose loose (sound.tied.tight lv b at.0 at.1 (inl is))
       by_mode false is loose = inr (inl loose)
 
-  settled_now : (lv b : ℕ) → Settled s lv b → Settled new lv b
+  settled_now : (lv b : ℕ) → Quiescent s lv b → Quiescent new lv b
   settled_now lv b settled = record {
     calm = λ j e started over. settled.calm j e (record { there = started.there; write = started.write; going = started.going }) over;
     allowed = λ c live. ⊎_elim

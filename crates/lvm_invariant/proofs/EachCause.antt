@@ -1,6 +1,7 @@
 -- What each event changes.
 use Rattle.std.proofs.Common.{◌≡◌, ◌⊎◌, inl, inr, ⊎_elim, ℕ, ◌≤◌, Bool, true, false, ◌&&◌, not, ◌==◌, [], ◌∷◌, ◌++◌, Option, Some, None, refl, sym, ap, subst, ◌∙◌, arith, eqb-true}
 use Rattle.std.specs.Prelude.{IsTrue, IsFalse, if◌then◌else◌}
+use Rattle.std.proofs.lemmas.Option.{same_Some}
 use Rattle.lvm_num.specs.declared.place.Pp.{Pp}
 use Rattle.lvm_num.specs.Record.{Stamped}
 use Rattle.lvm_disk.specs.Counts.{Rose}
@@ -9,7 +10,8 @@ use Rattle.lvm_vol.specs.Facts.{Fact, Begun, Landed as HasLanded, Taken}
 use Rattle.lvm_invariant.specs.State.{Marks, Stage, Todo, Flying, Badly, Queued, ModelCopy, ModelState, covers}
 use Rattle.lvm_invariant.specs.Found.{Votes}
 use Rattle.lvm_invariant.specs.Good.{Good}
-use Rattle.lvm_invariant.specs.Updates.{put, without, is_pp, staged}
+use Rattle.lvm_invariant.specs.Updates.{put, without, staged}
+use Rattle.lvm_num.specs.Descriptor.{is_pp}
 use Rattle.lvm_invariant.specs.Events.{Event, Submit, EnterStep, Admit, Pin, Read, StartWrite, Transfer, LandDone, LandLost, LandGot, LandReadFailed, LandNoFresh, EndStep, Take, TakeEarlier, Want, BeginUpdate, MoveStatus, CommitUpdate, EndUpdate, StartNote, EndNote, Open, CopyWrite, Clear, ModelStep}
 use Rattle.lvm_invariant.specs.LandNoFresh.{FindsNoFresh}
 use Rattle.lvm_invariant.specs.CopyWrite.{Passes}
@@ -20,15 +22,12 @@ use Rattle.lvm_invariant.proofs.Rising.{then_rose}
 use Rattle.lvm_invariant.proofs.CauseChanges.{Change, fails_still, cause_stays}
 use Rattle.lvm_invariant.proofs.SoundLemmas.{keeping_statuses}
 
-some_is : {X : Type 0} (a b : X) → Some a ≡ Some b → a ≡ b
-some_is a b e = cc
-
 -- what is changed at one place of the queue
 of_put : (queue : ℕ → Option Queued) (i j : ℕ) (n r : Queued) → put queue i n j ≡ Some r → ((j ≡ i) × (r ≡ n)) ⊎ ((queue j ≡ Some r) × ((j == i) ≡ false))
 of_put queue i j n r = by_test (j == i) refl
   where
     by_test : (t : Bool) → (j == i) ≡ t → (if t then Some n else queue j) ≡ Some r → ((j ≡ i) × (r ≡ n)) ⊎ ((queue j ≡ Some r) × ((j == i) ≡ false))
-    by_test true is e = inl (eqb-true j i is, sym (some_is n r e))
+    by_test true is e = inl (eqb-true j i is, sym (same_Some n r e))
     by_test false is e = inr (e, is)
 
 of_without : (queue : ℕ → Option Queued) (i j : ℕ) (r : Queued) → without queue i j ≡ Some r → queue j ≡ Some r
@@ -46,7 +45,7 @@ of_staged targets c e stage x = by_test (is_pp e c) refl
     left false b h = absurd cc
 
     by_test : (t : Bool) → is_pp e c ≡ t → (if t then Some stage else targets e) ≡ Some x → ((e.disk ≡ c.disk) × (stage ≡ x)) ⊎ (targets e ≡ Some x)
-    by_test true is h = inl (eqb-true e.disk c.disk (left (e.disk == c.disk) (e.pp == c.pp) is), some_is stage x h)
+    by_test true is h = inl (eqb-true e.disk c.disk (left (e.disk == c.disk) (e.pp == c.pp) is), same_Some stage x h)
     by_test false is h = inr h
 
 not_usable : (stale gone : Bool) → IsFalse (not stale && not gone) → IsTrue stale ⊎ IsTrue gone
@@ -232,7 +231,7 @@ module _ (votes : Votes) (s : ModelState) (w : Faults) (now : ℕ → ℕ) (rise
     missing = λ d h. inl h;
     still_missing = λ d h. h;
     committed = λ c h. inl h;
-    in_flight = λ c x flies h. inr (stale_cause c (caused.wanted c (ap (λ (m : Marks). m.stale c) (sym step.0.value) ∙ ap (λ (y : Stamped Marks). y.value.stale c) (some_is u x flies) ∙ h)));
+    in_flight = λ c x flies h. inr (stale_cause c (caused.wanted c (ap (λ (m : Marks). m.stale c) (sym step.0.value) ∙ ap (λ (y : Stamped Marks). y.value.stale c) (same_Some u x flies) ∙ h)));
     wanted = λ c h. inl h;
     brought_up = same_open s.open_copy (λ o is. is);
     failed = same_queue;
@@ -264,11 +263,11 @@ module _ (votes : Votes) (s : ModelState) (w : Faults) (now : ℕ → ℕ) (rise
   changes (StartNote flying) new step why = subst (Changes (StartNote flying)) (sym step.1) (quiet None _ refl same_queue (inl refl))
   changes (EndNote d names home flying) new step why = subst (Changes (EndNote d names home flying)) (sym step.1) (quiet None _ refl same_queue (inl refl))
   changes (Open o) new step why = subst (Changes (Open o)) (sym step.1) (still None _ refl (λ c h. inl h)
-      (λ p is. inr (subst (λ (x : ModelCopy). HasCause (record w { now = now }) x.target) (some_is o p is) (stale_cause o.target (caused.committed o.target step.0.stale)))) same_queue (inl refl))
+      (λ p is. inr (subst (λ (x : ModelCopy). HasCause (record w { now = now }) x.target) (same_Some o p is) (stale_cause o.target (caused.committed o.target step.0.stale)))) same_queue (inl refl))
   changes (CopyWrite i r value target open_copy step_write block) new step why = subst (Changes (CopyWrite i r value target open_copy step_write block)) (sym step.1) (still None _ refl (λ c h. inl h)
       (λ o is. ⊎_elim
       (λ (same : open_copy ≡ s.open_copy). inl (o, sym same ∙ is, refl))
-      (λ (p : Passes s r value target block open_copy). inl (p.old, p.is_open, sym p.same_target ∙ ap (λ (x : ModelCopy). x.target) (some_is p.new o (sym p.is_now ∙ is))))
+      (λ (p : Passes s r value target block open_copy). inl (p.old, p.is_open, sym p.same_target ∙ ap (λ (x : ModelCopy). x.target) (same_Some p.new o (sym p.is_now ∙ is))))
       step.0.open_now) same_queue (inl refl))
   changes (Clear wanted c) new step why = subst (Changes (Clear wanted c)) (sym step.1) (still None _ refl (λ e h. inl (step.0.added e h))
       (same_open s.open_copy (λ o is. is)) same_queue (inl refl))

@@ -3,6 +3,7 @@ use Rattle.std.proofs.Common.{◌≡◌, ◌⊎◌, inl, inr, ⊎_elim, ℕ, Boo
 use Rattle.std.specs.Prelude.{IsTrue, IsFalse, ◌==◌, option_map}
 use Rattle.std.specs.List.{list_any}
 use Rattle.std.proofs.lemmas.List.{append-nil}
+use Rattle.std.proofs.lemmas.Bool.{or_right as or_second}
 use Rattle.lvm_vol.specs.declared.entry.Outcome.{Outcome}
 use Rattle.lvm_vol.specs.declared.entry.Outcome.TheVariants as outcome
 use Rattle.lvm_vol.specs.Facts.{Landed as HasLanded, Request, Fact, Begun, Taken, Cut, Stands, same_request, block_of}
@@ -64,10 +65,6 @@ HasValues k = (vs : List (List ℕ)) × (k.values ≡ Some vs)
 off_some : (q : Request) (started : Bool) (x : Sector) (k : Known) → HasValues k → HasValues (ended q outcome.Off started x k)
 off_some q true x k h = (h.0 ++ x ∷ [], ap (λ (m : Option (List (List ℕ))). option_map (λ vs. vs ++ x ∷ []) m) h.1)
 off_some q false x k h = h
-
-or_second : (a b : Bool) → IsTrue b → IsTrue (a || b)
-or_second true b h = refl
-or_second false b h = h
 
 -- what a write that has started brings is allowed
 abbrev IsCared : ModelState → List Fact → ℕ → ℕ → Queued → Type 0

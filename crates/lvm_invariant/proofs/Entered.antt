@@ -2,6 +2,7 @@
 use Rattle.std.proofs.Common.{◌≡◌, ◌⊎◌, inl, inr, ⊎_elim, ℕ, ◌+◌, ◌<◌, ◌≤◌, Bool, true, false, ◌&&◌, List, [], ◌∷◌, ◌++◌, Option, Some, None, refl, sym, ap, subst, ◌∙◌, eq-eqb, arith, count_by, IfSome, nat_le, nat_lt}
 use Rattle.std.specs.Prelude.{IsTrue, IsFalse, ◌==◌, if◌then◌else◌}
 use Rattle.std.proofs.lemmas.Bool.Decides.{nat_tests}
+use Rattle.std.proofs.lemmas.Bool.{and_from}
 use Rattle.lvm_vol.specs.declared.entry.Vol.{Vol}
 use Rattle.lvm_vol.specs.declared.entry.Outcome.{Outcome}
 use Rattle.lvm_vol.specs.declared.entry.Outcome.TheVariants as outcome
@@ -29,10 +30,6 @@ use Rattle.lvm_invariant.proofs.Claims.{Alike}
 use Rattle.lvm_invariant.proofs.CrashLemmas.{the_write_is}
 use Rattle.lvm_invariant.proofs.Getting.{got_is_allowed}
 use Rattle.lvm_invariant.proofs.Quieting.{alike_by}
-
-and_both : (a b : Bool) → IsTrue a → IsTrue b → IsTrue (a && b)
-and_both true b h k = k
-and_both false b h k = absurd cc
 
 -- a write is no step of a copy
 pub write_asks : (s : ModelState) → Told s.queue s.name s.facts → (j : ℕ) (e : Queued) → s.queue j ≡ Some e → IsTrue e.write → IsFalse e.step
@@ -155,7 +152,7 @@ got_may s i r got sound t step =
     in_span q vol b same low high =
         let a : nat_le q.at b ≡ true = grind (arith, nat_tests, low) in
         let c : nat_lt b (q.at + q.count) ≡ true = grind (arith, nat_tests, high) in
-        and_both (same_vol q.vol vol && nat_le q.at b) (nat_lt b (q.at + q.count)) (and_both (same_vol q.vol vol) (nat_le q.at b) same a) c
+        and_from (same_vol q.vol vol && nat_le q.at b) (nat_lt b (q.at + q.count)) (and_from (same_vol q.vol vol) (nat_le q.at b) same a) c
 
 -- ---- NoFresh and ReadFailed
 

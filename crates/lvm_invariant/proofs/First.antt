@@ -9,8 +9,9 @@ use Rattle.lvm_invariant.specs.First.{second_copy, first_copy, is_either, two_di
 use Rattle.lvm_invariant.specs.Found.{Votes}
 use Rattle.lvm_invariant.specs.Good.{Good}
 use Rattle.lvm_invariant.specs.Sound.{Sound}
-use Rattle.lvm_invariant.specs.Updates.{is_pp}
+use Rattle.lvm_num.specs.Descriptor.{is_pp}
 use Rattle.lvm_num.specs.Record.{Stamped}
+use Rattle.lvm_num.proofs.Booleans.{and_false}
 use Rattle.lvm_invariant.specs.State.{Marks, ModelCopy, ModelState}
 use Rattle.lvm_num.specs.Modes.{is_active, is_passive}
 use Rattle.lvm_invariant.proofs.Small.{never}
@@ -22,10 +23,6 @@ nothing a e = absurd cc
 
 pub not_so : {X : Type 0} → false ≡ true → X
 not_so e = absurd cc
-
-pub and_false : (a : Bool) → IsFalse (a && false)
-and_false true = refl
-and_false false = refl
 
 -- what is known of a block once the volume is made, if the block is one of it
 abbrev known_by : Mode → Bool → Known

@@ -6,7 +6,7 @@ use Rattle.lvm_num.specs.Geometry.{track_group_of}
 use Rattle.lvm_vol.specs.May.{Known, is_off, known}
 use Rattle.lvm_invariant.specs.State.{write_of, ModelPhase, Held, Going, Landed, Queued, ModelState, covers, is_past, has_landed, is_pinning, stale_in, Live, Started, told}
 use Rattle.lvm_invariant.proofs.Small.{IsIn, never, and_left_false}
-use Rattle.lvm_invariant.specs.Sound.{Settled, Blocks, Tied, Holds, Sound, the_write}
+use Rattle.lvm_invariant.specs.Sound.{Quiescent, Blocks, Tied, Holds, Sound, the_write}
 use Rattle.lvm_invariant.proofs.SoundLemmas.{live_same, same_behind, same_statuses, equal_same, recorded_same, each_same}
 use Rattle.lvm_invariant.proofs.Effects.{GotEffect, JoinEffect}
 use Rattle.lvm_invariant.proofs.Claims.{Frame, Calmer, GotKeeps, GotIsAllowed, SubmitKeepsCore}
@@ -71,7 +71,7 @@ module _ (s : ModelState) (i : ℕ) (r : Queued) (value : ℕ → List ℕ) (fac
       let same : i ≡ j = alone s sound i j r e step.there started.there step.past (past_of e.phase Going started.going refl) (record { lv = lv; block = b; first = over; second = over_e; writes = inr started.write }) in
       never r.write (ap (λ (q : Queued). q.write) (one_req (sym step.there ∙ ap s.queue same ∙ started.there)) ∙ started.write) step.read
 
-  settled_now : (lv b : ℕ) → Settled s lv b → Settled new lv b
+  settled_now : (lv b : ℕ) → Quiescent s lv b → Quiescent new lv b
   settled_now lv b settled = record {
     calm = λ j e started over. settled.calm j e (started_was j e started) over;
     allowed = λ c live. ⊎_elim

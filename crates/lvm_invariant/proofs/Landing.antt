@@ -6,7 +6,7 @@ use Rattle.lvm_num.specs.Geometry.{track_group_of}
 use Rattle.lvm_vol.specs.May.{Known, known}
 use Rattle.lvm_invariant.proofs.Small.{IsIn, never}
 use Rattle.lvm_invariant.specs.State.{Stage, Well, Going, Landed, ModelPhase, Queued, ModelState, covers, is_settled_stale, HasPassed, Live, Started, told}
-use Rattle.lvm_invariant.specs.Sound.{Agree, Settled, Blocks, Sound}
+use Rattle.lvm_invariant.specs.Sound.{Agree, Quiescent, Blocks, Sound}
 use Rattle.lvm_invariant.proofs.Effects.{ClosesOnly, DoneEffect, LostEffect}
 use Rattle.lvm_invariant.proofs.Requests.{decided, put_cases, put_other, one_write, one_req}
 use Rattle.lvm_vol.specs.Legal.{lands}
@@ -32,7 +32,7 @@ module _ (s : ModelState) (sound : Sound s) (i : ℕ) (r : Queued) (facts : List
   elsewhere : (j lv b : ℕ) (e : Queued) → IsFalse (j == i) → Started s j e → IsTrue (covers e lv b) → IsTrue (covers r lv b) → ⊥
   elsewhere j lv b e other started over over_r = never (j == i) (eq-eqb j i (sym (one_write s sound i j lv b r e started_r started over_r over))) other
 
-  settled_off : (lv b : ℕ) → IsFalse (covers r lv b) → Settled s lv b → Settled new lv b
+  settled_off : (lv b : ℕ) → IsFalse (covers r lv b) → Quiescent s lv b → Quiescent new lv b
   settled_off lv b off settled = record {
     calm = λ j e started over. settled.calm j e (started_before j e started).1 over;
     allowed = λ e live. subst (λ (k : Known). IsIn k.values (s.media.block lv b e)) (sym (closes.outside lv b off)) (settled.allowed e (live_same s new refl lv b e live));
@@ -49,7 +49,7 @@ module _ (s : ModelState) (sound : Sound s) (i : ℕ) (r : Queued) (facts : List
           equal = inl (at.1.0, λ e live. at.1.1 e (live_same s new refl lv b e live));
         }))
         (λ (off : IsFalse (covers r lv b)). ⊎_elim
-        (λ (settled : Settled s lv b). inl (settled_off lv b off settled))
+        (λ (settled : Quiescent s lv b). inl (settled_off lv b off settled))
         (λ (by : (j : ℕ) × (e : Queued) × Started s j e × IsTrue (covers e lv b)). ⊎_elim
         (λ (same : IsTrue (by.0 == i)). never (covers r lv b) (ap (λ (q : Queued). covers q lv b) (one_req (sym started_r.there ∙ ap s.queue (sym (eqb-true _ _ same)) ∙ by.2.there)) ∙ by.3) off)
         (λ (other : IsFalse (by.0 == i)). inr (by.0, by.1, record { there = put_other s.queue i by.0 (land r) other ∙ by.2.there; write = by.2.write; going = by.2.going }, by.3))

@@ -6,7 +6,7 @@ use Rattle.lvm_num.specs.declared.place.Pp.{Pp}
 use Rattle.lvm_num.specs.Geometry.{track_group_of}
 use Rattle.lvm_invariant.specs.State.{write_of, Groups, Stage, ModelPhase, Held, WantEntry, Ready, Going, Queued, ModelState, covers, request_of, is_held, is_past, has_landed, is_pinning, stale_in, Live, Started, told}
 use Rattle.lvm_invariant.proofs.Small.{IsIn, never, and_left_false}
-use Rattle.lvm_invariant.specs.Sound.{Conflict, MayDiffer, Agree, Settled, Tied, Holds, Sound, the_write}
+use Rattle.lvm_invariant.specs.Sound.{Conflict, MayDiffer, Agree, Quiescent, Tied, Holds, Sound, the_write}
 use Rattle.lvm_invariant.proofs.SoundLemmas.{live_same, same_statuses, same_behind}
 use Rattle.lvm_invariant.proofs.Claims.{Frame, Calmer, PlainKeeps, AdmitKeepsCore}
 use Rattle.lvm_invariant.proofs.Requests.{decided, put_cases, put_other, past_of, past_not_landed, one_req}
@@ -162,9 +162,9 @@ module _ (s : ModelState) (i : ℕ) (r : Queued) (phase : ModelPhase) (several :
   }
 
   -- no write that has started goes where it goes, if one of the two writes
-  quiet_there : (lv b : ℕ) → IsTrue (covers r lv b) → Settled s lv b
+  quiet_there : (lv b : ℕ) → IsTrue (covers r lv b) → Quiescent s lv b
   quiet_there lv b over = ⊎_elim
-      (λ (settled : Settled s lv b). settled)
+      (λ (settled : Quiescent s lv b). settled)
       (λ (by : (j : ℕ) × (e : Queued) × Started s j e × IsTrue (covers e lv b)).
       let e_past : IsTrue (is_past by.1.phase) = past_of by.1.phase Going by.2.going refl in
       absurd (⊎_elim

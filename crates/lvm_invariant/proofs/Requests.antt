@@ -2,13 +2,13 @@
 use Rattle.std.proofs.Common.{◌≡◌, ◌⊎◌, inl, inr, ⊎_elim, ℕ, ◌<◌, Bool, true, false, ◌&&◌, Option, Some, refl, sym, ap, subst, ◌∙◌, eqb-true, eq-eqb, eq-or-lt_of_le, ◌≤◌}
 use Rattle.std.specs.Prelude.{IsTrue, IsFalse, ◌==◌, if◌then◌else◌}
 use Rattle.std.proofs.lemmas.Bool.{cases_lt}
+use Rattle.std.proofs.lemmas.Option.{same_Some}
 use Rattle.lvm_num.specs.declared.place.Pp.{Pp}
 use Rattle.lvm_invariant.specs.State.{Stage, ModelPhase, Held, Going, Queued, ModelState, covers, is_past, has_landed, Started}
 use Rattle.lvm_invariant.specs.Sound.{Conflict, Sound}
-use Rattle.lvm_invariant.specs.Updates.{put, is_pp, staged}
-
-some_is : {X : Type 0} (a b : X) → Some a ≡ Some b → a ≡ b
-some_is a b e = cc
+use Rattle.lvm_invariant.specs.Updates.{put, staged}
+use Rattle.lvm_num.specs.Descriptor.{is_pp}
+use Rattle.lvm_num.proofs.Partitions.{one_partition}
 
 pub one_req : {a b : Queued} → Some a ≡ Some b → a ≡ b
 one_req h = cc
@@ -22,7 +22,7 @@ pub put_cases : (queue : ℕ → Option Queued) (i j : ℕ) (r e : Queued) → p
 put_cases queue i j r e h = by_test (j == i) refl h
   where
     by_test : (t : Bool) → (j == i) ≡ t → (if t then Some r else queue j) ≡ Some e → ((j ≡ i) × (r ≡ e)) ⊎ (IsFalse (j == i) × (queue j ≡ Some e))
-    by_test true same k = inl (eqb-true _ _ same, some_is r e k)
+    by_test true same k = inl (eqb-true _ _ same, same_Some r e k)
     by_test false same k = inr (same, k)
 
 pub put_same : (queue : ℕ → Option Queued) (i : ℕ) (r : Queued) → put queue i r i ≡ Some r
@@ -60,18 +60,12 @@ and_both : (a b : Bool) → IsTrue (a && b) → IsTrue a × IsTrue b
 and_both true b h = (refl, h)
 and_both false b h = absurd cc
 
-pub pp_is : (e c : Pp) → IsTrue (is_pp e c) → e ≡ c
-pp_is e c h = let p = and_both (e.disk == c.disk) (e.pp == c.pp) h in same_pp (eqb-true _ _ p.0) (eqb-true _ _ p.1)
-  where
-    same_pp : e.disk ≡ c.disk → e.pp ≡ c.pp → e ≡ c
-    same_pp d p = λ t. record { disk = d t; pp = p t }
-
 -- what was a target at some stage, if the stage of one target changes
 pub staged_was : (targets : Pp → Option Stage) (c e : Pp) (stage x : Stage) → staged targets c stage e ≡ Some x → (y : Stage) → targets c ≡ Some y → (z : Stage) × (targets e ≡ Some z)
 staged_was targets c e stage x h y was = by_test (is_pp e c) refl h
   where
     by_test : (t : Bool) → is_pp e c ≡ t → (if t then Some stage else targets e) ≡ Some x → (z : Stage) × (targets e ≡ Some z)
-    by_test true same k = (y, ap targets (pp_is e c same) ∙ was)
+    by_test true same k = (y, ap targets (one_partition e c same) ∙ was)
     by_test false same k = (x, k)
 
 -- a target at this stage is the changed one, or was at it
@@ -82,7 +76,7 @@ staged_at targets c e stage x h = by_test (is_pp e c) refl h
     some_stage a b q = cc
 
     by_test : (t : Bool) → is_pp e c ≡ t → (if t then Some stage else targets e) ≡ Some x → ((stage ≡ x) × (e ≡ c)) ⊎ (targets e ≡ Some x)
-    by_test true same k = inl (some_stage stage x k, pp_is e c same)
+    by_test true same k = inl (some_stage stage x k, one_partition e c same)
     by_test false same k = inr k
 
 -- each target is one still

@@ -5,7 +5,7 @@ use Rattle.lvm_num.specs.declared.place.Pp.{Pp}
 use Rattle.lvm_num.specs.Geometry.{track_group_of}
 use Rattle.lvm_invariant.proofs.Small.{IsIn, never}
 use Rattle.lvm_invariant.specs.State.{Stage, Well, Queued, ModelState, covers, Started, told}
-use Rattle.lvm_invariant.specs.Sound.{Settled, Busy, Recorded, Blocks, Sound}
+use Rattle.lvm_invariant.specs.Sound.{Quiescent, Busy, Recorded, Blocks, Sound}
 use Rattle.lvm_invariant.proofs.Requests.{decided, put_same, put_other, staged_at, staged_was, staged_is, one_write, one_req, started_cases, by_started}
 use Rattle.lvm_invariant.specs.Transfer.{Restages, restaged}
 use Rattle.lvm_invariant.specs.Updates.{staged}
@@ -27,7 +27,7 @@ module _ (s : ModelState) (sound : Sound s) (i : ℕ) (r : Queued) (c : Pp) (sta
     | inr new ↦ absurd (off new.0)
   ]
 
-  settled_now : (lv b : ℕ) → Settled s lv b → Settled new lv b
+  settled_now : (lv b : ℕ) → Quiescent s lv b → Quiescent new lv b
   settled_now lv b settled = record {
     calm = λ j e started over. ⊎_elim
         (λ (is : (j ≡ i) × (next ≡ e)). off (ap (λ (q : Queued). covers q lv b) is.1 ∙ over))
@@ -89,7 +89,7 @@ module _ (s : ModelState) (sound : Sound s) (i : ℕ) (r : Queued) (c : Pp) (sta
   pub restaged_blocks : Blocks new
   restaged_blocks = record {
     each = λ lv b. ⊎_elim
-        (λ (settled : Settled s lv b). inl (settled_now lv b settled))
+        (λ (settled : Quiescent s lv b). inl (settled_now lv b settled))
         (λ (by : (j : ℕ) × (e : Queued) × Started s j e × IsTrue (covers e lv b)). ⊎_elim
         (λ (same : IsTrue (by.0 == i)). inr (i, next, is_started, ap (λ (q : Queued). covers q lv b) (one_req (sym step.started.there ∙ ap s.queue (sym (eqb-true _ _ same)) ∙ by.2.there)) ∙ by.3))
         (λ (other : IsFalse (by.0 == i)). inr (by.0, by.1, record { there = put_other s.queue i by.0 next other ∙ by.2.there; write = by.2.write; going = by.2.going }, by.3))

@@ -4,7 +4,7 @@ use Rattle.std.specs.Prelude.{IsTrue, IsFalse}
 use Rattle.lvm_num.specs.declared.place.Pp.{Pp}
 use Rattle.lvm_num.specs.Geometry.{track_group_of}
 use Rattle.lvm_invariant.specs.State.{Queued, ModelState, covers, is_settled_stale, HasPassed, Live, Named, Started, told}
-use Rattle.lvm_invariant.specs.Sound.{MayDiffer, Agree, Settled, Recorded, Blocks, Complete, Statuses, Behind}
+use Rattle.lvm_invariant.specs.Sound.{MayDiffer, Agree, Quiescent, Recorded, Blocks, Complete, Statuses, Behind}
 
 -- with the copies, and the one that is brought up, as they were
 abbrev pub keeping_open : ModelState → ModelState → ModelState
@@ -73,10 +73,10 @@ module _ (old new : ModelState) (same : keeping_reasons old new ≡ new) where
   }
 
 -- where each write that had started still has, and each block that was settled still is
-pub each_same : (old new : ModelState) → ((i : ℕ) (r : Queued) → Started old i r → Started new i r) → ((lv b : ℕ) → Settled old lv b → Settled new lv b) → Blocks old
-    → (lv b : ℕ) → Settled new lv b ⊎ ((i : ℕ) × (r : Queued) × Started new i r × IsTrue (covers r lv b))
+pub each_same : (old new : ModelState) → ((i : ℕ) (r : Queued) → Started old i r → Started new i r) → ((lv b : ℕ) → Quiescent old lv b → Quiescent new lv b) → Blocks old
+    → (lv b : ℕ) → Quiescent new lv b ⊎ ((i : ℕ) × (r : Queued) × Started new i r × IsTrue (covers r lv b))
 each_same old new started settled blocks lv b = ⊎_elim
-    (λ (h : Settled old lv b). inl (settled lv b h))
+    (λ (h : Quiescent old lv b). inl (settled lv b h))
     (λ (by : (i : ℕ) × (r : Queued) × Started old i r × IsTrue (covers r lv b)). inr (by.0, by.1, started by.0 by.1 by.2, by.3))
     (blocks.each lv b)
 

@@ -4,9 +4,10 @@ use Rattle.std.specs.Prelude.{IsTrue, IsFalse, ◌==◌}
 use Rattle.lvm_num.specs.declared.place.Pp.{Pp}
 use Rattle.lvm_num.specs.Geometry.{track_group_of}
 use Rattle.lvm_num.specs.Record.{Stamped}
+use Rattle.lvm_num.proofs.Booleans.{first_holds}
 use Rattle.lvm_invariant.proofs.Small.{IsIn, never}
 use Rattle.lvm_invariant.specs.State.{Marks, Stage, Todo, Flying, Well, ModelPhase, Ready, Going, Queued, ModelState, covers, stale_in, is_settled_stale, is_usable, HasPassed, Live, Named, Started, told}
-use Rattle.lvm_invariant.specs.Sound.{Settled, Busy, Recorded, Blocks, Complete, Sound}
+use Rattle.lvm_invariant.specs.Sound.{Quiescent, Busy, Recorded, Blocks, Complete, Sound}
 use Rattle.lvm_invariant.proofs.Requests.{decided, put_same, put_other, staged_cases, staged_was, staged_is, alone, past_of, one_req, started_cases, by_started}
 use Rattle.lvm_invariant.specs.StartWrite.{MayStart, going, started_first}
 use Rattle.lvm_invariant.proofs.SoundLemmas.{live_same, equal_same, recorded_same}
@@ -30,10 +31,6 @@ usable_fresh true missing h = absurd cc
 usable_fresh false true h = absurd cc
 usable_fresh false false h = (refl, refl)
 
-settled_committed : (a b : Bool) → IsTrue (a && b) → IsTrue a
-settled_committed true b h = refl
-settled_committed false b h = absurd cc
-
 module _ (s : ModelState) (sound : Sound s) (i : ℕ) (r : Queued) (c : Pp) (may : MayStart s i r c) where
   abbrev new : ModelState
   new = started_first s i r c
@@ -47,7 +44,7 @@ module _ (s : ModelState) (sound : Sound s) (i : ℕ) (r : Queued) (c : Pp) (may
 
   source_kept : IsFalse (s.wanted.stale may.source)
   source_kept = ⊎_elim
-      (λ (w : IsTrue (s.wanted.stale may.source)). never (s.committed.value.stale may.source) (settled_committed (s.committed.value.stale may.source) (stale_in s.in_flight may.source) (may.quiet may.source may.source_copy w)) (usable_fresh (s.committed.value.stale may.source) (s.missing may.source.disk) may.source_usable).0)
+      (λ (w : IsTrue (s.wanted.stale may.source)). never (s.committed.value.stale may.source) (first_holds (s.committed.value.stale may.source) (stale_in s.in_flight may.source) (may.quiet may.source may.source_copy w)) (usable_fresh (s.committed.value.stale may.source) (s.missing may.source.disk) may.source_usable).0)
       (λ (n : IsFalse (s.wanted.stale may.source)). n)
       (decided (s.wanted.stale may.source))
 
@@ -86,7 +83,7 @@ module _ (s : ModelState) (sound : Sound s) (i : ℕ) (r : Queued) (c : Pp) (may
       let is : r ≡ e = one_req (sym may.there ∙ ap s.queue same ∙ started.there) in
       not_both e.phase (ap (λ (q : Queued). q.phase) (sym is) ∙ may.ready) started.going
 
-  settled_where : (lv b : ℕ) → IsTrue (covers r lv b) → Settled s lv b
+  settled_where : (lv b : ℕ) → IsTrue (covers r lv b) → Quiescent s lv b
   settled_where lv b over = elim (sound.blocks.each lv b) [
     | inl settled ↦ settled
     | inr by ↦ absurd (others_elsewhere by.0 lv b by.1 by.2 over by.3)
@@ -104,7 +101,7 @@ module _ (s : ModelState) (sound : Sound s) (i : ℕ) (r : Queued) (c : Pp) (may
       (λ (n : IsFalse (j == i)). n)
       (decided (j == i))
 
-  calm_now : (lv b : ℕ) → IsFalse (covers r lv b) → Settled s lv b → Settled new lv b
+  calm_now : (lv b : ℕ) → IsFalse (covers r lv b) → Quiescent s lv b → Quiescent new lv b
   calm_now lv b off settled = record {
     calm = λ j e started over. ⊎_elim
         (λ (is : (j ≡ i) × (next ≡ e)). never (covers r lv b) (ap (λ (q : Queued). covers q lv b) is.1 ∙ over) off)
@@ -170,7 +167,7 @@ module _ (s : ModelState) (sound : Sound s) (i : ℕ) (r : Queued) (c : Pp) (may
     each = λ lv b. ⊎_elim
         (λ (over : IsTrue (covers r lv b)). inr (i, next, is_started, over))
         (λ (off : IsFalse (covers r lv b)). ⊎_elim
-        (λ (settled : Settled s lv b). inl (calm_now lv b off settled))
+        (λ (settled : Quiescent s lv b). inl (calm_now lv b off settled))
         (λ (by : (j : ℕ) × (e : Queued) × Started s j e × IsTrue (covers e lv b)).
         inr (by.0, by.1, record { there = put_other s.queue i by.0 next (another by.0 by.1 by.2) ∙ by.2.there; write = by.2.write; going = by.2.going }, by.3))
         (sound.blocks.each lv b))

@@ -7,7 +7,7 @@ use Rattle.lvm_num.specs.declared.descriptor.Mode.{Mode}
 use Rattle.lvm_num.specs.Geometry.{track_group_of}
 use Rattle.lvm_num.specs.Record.{Stamped, stamp_lt}
 use Rattle.lvm_invariant.specs.State.{Marks, Groups, Stage, Held, Queued, ModelCopy, ModelState}
-use Rattle.lvm_invariant.specs.Updates.{put, is_pp}
+use Rattle.lvm_invariant.specs.Updates.{put}
 use Rattle.lvm_invariant.specs.Found.{Votes}
 use Rattle.lvm_invariant.specs.Good.{Good}
 use Rattle.lvm_invariant.specs.Submit.{IsPlaced}
@@ -17,6 +17,7 @@ use Rattle.lvm_invariant.specs.Worked.{Leads, update, named_on, first_group}
 use Rattle.lvm_invariant.proofs.Each.{each_moment}
 use Rattle.lvm_invariant.proofs.First.{nothing, not_so, left, right, both}
 use Rattle.lvm_invariant.proofs.Small.{never}
+pub use Rattle.lvm_num.proofs.Partitions.{one_partition as pp_is}
 
 -- ---- runs of events
 
@@ -48,12 +49,6 @@ pub none_below : {X : Type 0} (j : ℕ) → j ≡ 1 → j < 1 → X
 none_below j is low = absurd (omega (arith, is, low))
 
 -- ---- the two copies
-
-pub pp_is : (a b : Pp) → IsTrue (is_pp a b) → a ≡ b
-pp_is a b is =
-    let disk : a.disk ≡ b.disk = eqb-true a.disk b.disk (left (a.disk == b.disk) (a.pp == b.pp) is) in
-    let pp : a.pp ≡ b.pp = eqb-true a.pp b.pp (right (a.disk == b.disk) (a.pp == b.pp) is) in
-    λ t. record { disk = disk t; pp = pp t }
 
 pub on_two : (e : Pp) → IsTrue (is_either e) → IsTrue (two_disks e.disk)
 on_two e = by (e.disk == 0) (e.disk == 1) (e.pp == 0)

@@ -4,7 +4,7 @@ use Rattle.std.specs.Prelude.{if◌then◌else◌}
 use Rattle.lvm_num.specs.declared.place.Pp.{Pp}
 use Rattle.lvm_disk.specs.Counts.{Rose}
 use Rattle.lvm_invariant.specs.State.{ModelState, Stage, Todo, Badly}
-use Rattle.lvm_invariant.specs.Updates.{is_pp}
+use Rattle.lvm_num.specs.Descriptor.{is_pp}
 use Rattle.lvm_invariant.specs.Found.{Votes}
 use Rattle.lvm_invariant.specs.Events.{Event, Allows, AllowsAll, made, after_all}
 use Rattle.lvm_invariant.specs.First.{first_copy, second_copy, at_rest}

@@ -11,7 +11,7 @@ use Rattle.lvm_vol.specs.declared.entry.Vol.TheVariants.{Lv}
 use Rattle.lvm_vol.specs.Facts.{block_of}
 use Rattle.lvm_vol.specs.May.{Known, known}
 use Rattle.lvm_invariant.specs.State.{Stage, Todo, Flying, Well, Badly, Ready, Queued, ModelState, covers, has_landed, is_usable, told}
-use Rattle.lvm_invariant.specs.Updates.{is_pp}
+use Rattle.lvm_num.specs.Descriptor.{is_pp}
 use Rattle.lvm_invariant.specs.Found.{Votes}
 use Rattle.lvm_invariant.specs.Good.{Good}
 use Rattle.lvm_invariant.specs.Submit.{Submits}

@@ -7,7 +7,8 @@ use Rattle.lvm_num.specs.declared.descriptor.Mode.TheVariants.{Active, Passive, 
 use Rattle.lvm_num.specs.Buffer.{zero_sector}
 use Rattle.lvm_num.specs.Record.{Stamped}
 use Rattle.lvm_invariant.specs.State.{Marks, Stage, Todo, Flying, Well, Badly, WantEntry, Ready, Queued, ModelState, covers, stale_in, is_usable, Groups}
-use Rattle.lvm_invariant.specs.Updates.{is_pp, land}
+use Rattle.lvm_invariant.specs.Updates.{land}
+use Rattle.lvm_num.specs.Descriptor.{is_pp}
 use Rattle.lvm_invariant.specs.Found.{Votes}
 use Rattle.lvm_invariant.specs.Submit.{Submits}
 use Rattle.lvm_invariant.specs.Admit.{Admits}

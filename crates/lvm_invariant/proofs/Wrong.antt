@@ -10,7 +10,7 @@ use Rattle.lvm_num.specs.declared.place.Pp.{Pp}
 use Rattle.lvm_num.specs.Geometry.{track_group_of}
 use Rattle.lvm_vol.specs.May.{Known, unknown, cut, IsValue}
 use Rattle.std.proofs.lemmas.Bool.Decides.{nat_tests}
-use Rattle.lvm_invariant.specs.Updates.{is_pp}
+use Rattle.lvm_num.specs.Descriptor.{is_pp}
 use Rattle.lvm_invariant.proofs.Small.{never}
 use Rattle.lvm_invariant.specs.State.{Marks, Groups, View, Flying, ModelState, covers, told, Started}
 use Rattle.lvm_invariant.specs.Found.{Votes}

@@ -8,8 +8,8 @@ use Rattle.lvm_vol.specs.declared.entry.Vol.TheVariants.{Lv}
 use Rattle.lvm_vol.specs.Facts.{Making, Made}
 use Rattle.lvm_num.specs.Record.{Stamped}
 use Rattle.lvm_invariant.specs.State.{Marks, Groups, ModelState}
+use Rattle.lvm_num.specs.Descriptor.{is_pp}
 use Rattle.lvm_num.specs.Modes.{is_active, is_passive}
-use Rattle.lvm_invariant.specs.Updates.{is_pp}
 use Rattle.lvm_invariant.specs.Found.{Votes}
 use Rattle.lvm_invariant.specs.Good.{Good}
 

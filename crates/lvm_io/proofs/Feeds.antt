@@ -1,10 +1,10 @@
 -- Where line feeds stand, and the lines that they end.
-use Rattle.std.proofs.Common.{◌≡◌, inl, inr, ◌≤◌, ◌<◌, ◌+◌, ◌-◌, ◌∷◌, ◌++◌, [], ℕ, suc, List, Option, Some, None, nat_lt, Bool, true, false, cond, not, ◌||◌, length, take, drop, get_or, if◌then◌else◌, refl, sym, ◌∙◌, ap, subst, arith, append_assoc}
+use Rattle.std.proofs.Common.{◌≡◌, inl, inr, ◌≤◌, ◌<◌, ◌+◌, ◌-◌, ◌∷◌, ◌++◌, [], ℕ, suc, List, Option, Some, None, nat_lt, Bool, true, false, cond, not, length, take, drop, get_or, if◌then◌else◌, refl, sym, ◌∙◌, ap, subst, arith, append_assoc}
 use Rattle.std.specs.List.{position, position_or_len, slice_range}
 use Rattle.std.proofs.lemmas.List.{take_all, append-nil, drop-drop, drop-take, length-take}
 use Rattle.std.proofs.lemmas.List.Folds.{list_any-append}
 use Rattle.std.proofs.lemmas.List.Sums.{split_at_first, passes_at_first}
-use Rattle.std.proofs.lemmas.Bool.{eqb-true, ltb-true, ltb-false}
+use Rattle.std.proofs.lemmas.Bool.{eqb-true, ltb-true, ltb-false, or_parts}
 use Rattle.lvm_io.specs.Lines.{TakesFirst, is_feed, has_feed, lines_from, lines_of}
 
 -- the place of the first line feed
@@ -43,15 +43,11 @@ first_feed bytes = first_feed_cases (nat_lt (position_or_len is_feed bytes) (len
 step_clean : (t : Bool) (front : List ℕ) (byte : ℕ) (bytes : List ℕ) → t ≡ false → (if t then front ∷ lines_from [] bytes else lines_from (front ++ byte ∷ []) bytes) ≡ lines_from (front ++ byte ∷ []) bytes
 step_clean t front byte bytes is = rw is
 
-neither : (a b : Bool) → (a || b) ≡ false → (a ≡ false) × (b ≡ false)
-neither false b is = (refl, is)
-neither true b is = cc
-
 -- bytes without a line feed are the front of the next line
 pub lines-clean : (front tail rest : List ℕ) → has_feed tail ≡ false → lines_from front (tail ++ rest) ≡ lines_from (front ++ tail) rest
 lines-clean front [] rest clean = rw append-nil
 lines-clean front (byte ∷ tail) rest clean =
-    let both : (is_feed byte ≡ false) × (has_feed tail ≡ false) = neither (is_feed byte) (has_feed tail) clean in
+    let both : (is_feed byte ≡ false) × (has_feed tail ≡ false) = or_parts (is_feed byte) (has_feed tail) clean in
     step_clean (is_feed byte) front byte (tail ++ rest) both.0 ∙ lines-clean (front ++ byte ∷ []) tail rest both.1 ∙ ap (λ (l : List ℕ). lines_from l rest) (append_assoc front (byte ∷ []) tail)
 
 -- a line that ends with a line feed

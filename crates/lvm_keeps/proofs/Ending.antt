@@ -8,6 +8,7 @@ use Rattle.std.proofs.lemmas.List.{append-nil}
 use Rattle.std.proofs.lemmas.List.Elements.{filter_map-append}
 use Rattle.std.proofs.lemmas.List.Folds.{list_any-append}
 use Rattle.lvm_num.specs.Buffer.{Buffer}
+use Rattle.lvm_num.proofs.Booleans.{or_false}
 use Rattle.lvm_vol.specs.declared.entry.Outcome.{Outcome}
 use Rattle.lvm_vol.specs.Facts.{Fact, Request, Landed, begun, begun_by}
 use Rattle.lvm_vol.specs.Log.{asked, got_without_bytes, has_id, is_answered, is_open, landed_fact, lands_id, no_request, request_of, takes_id}
@@ -30,10 +31,6 @@ use Rattle.lvm_session.specs.Sound.{IsAsked, count_if, hands_with, is_hand, outc
 use Rattle.lvm_keeps.proofs.Lists.{count_cons, length_set}
 use Rattle.lvm_keeps.proofs.Small.{both, is_false, not_so}
 use Rattle.lvm_keeps.proofs.Telling.{asked_still, open_still}
-
-or_false : (a : Bool) → a || false ≡ a
-or_false true = refl
-or_false false = refl
 
 -- each is made into another, of which two things hold
 pub mapped_two : {A : Type 0} (P Q R : A → Type 0) (f : A → A) → ((x : A) → P x → Q x → R (f x)) → (xs : List A) → AllByRecursion P xs → AllByRecursion Q xs → AllByRecursion R (map f xs)

@@ -30,6 +30,7 @@ use Rattle.lvm_session.specs.Sound.{IsSound}
 use Rattle.lvm_keeps.specs.Keeps.{LandingIsCaused}
 use Rattle.lvm_keeps.proofs.Lists.{all_at}
 use Rattle.lvm_keeps.proofs.Small.{both, is_false, not_so}
+pub use Rattle.std.proofs.lemmas.Bool.{or_parts}
 
 -- ---- what holds where a request lands so next
 
@@ -61,10 +62,6 @@ module _ (P : Outcome → Type 0) where
   by_choice k on fresh goes = by_test k.pending on _ (λ e. goes) (λ e. by_test (not k.usable) (next.Land outcome.NoFresh) (if k.changed then next.Admit else on) (λ n. by_landing outcome.NoFresh (fresh (is_false k.usable n))) (λ n. by_test k.changed next.Admit on (λ c. by_admit) (λ c. goes)))
 
 -- ---- tests of lists
-
-pub or_parts : (a b : Bool) → a || b ≡ false → (a ≡ false) × (b ≡ false)
-or_parts true b is = absurd (not_so (sym is))
-or_parts false b is = (refl, is)
 
 -- one that passes the first test, where none passes the second
 pub witness : {A : Type 0} (t u : A → Bool) (xs : List A) → list_any t xs ≡ true → list_any u xs ≡ false → (x : A) × (t x ≡ true) × (u x ≡ false)

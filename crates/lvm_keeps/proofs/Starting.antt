@@ -3,16 +3,16 @@ use Rattle.std.proofs.Common.{◌≡◌, ◌==◌, ◌≤◌, ◌<◌, ◌+◌, 
 use Rattle.std.specs.Prelude.{slice_index_or, unwrap_or}
 use Rattle.std.specs.List.{list_any, range_with_len}
 use Rattle.std.specs.Option.{option_map_or}
-use Rattle.std.proofs.lemmas.Bool.{eqb-true, lt-ltb, ltb-false}
+use Rattle.std.proofs.lemmas.Bool.{lt-ltb, ltb-false}
 use Rattle.std.proofs.lemmas.Nat.{div_below, mod_below}
 use Rattle.std.proofs.lemmas.List.Folds.{list_any_at}
 use Rattle.lvm_num.specs.declared.place.Pp.{Pp}
 use Rattle.lvm_num.specs.declared.descriptor.LvRow.{LvRow}
-use Rattle.lvm_num.specs.Descriptor.{copies_of}
+use Rattle.lvm_num.specs.Descriptor.{copies_of, is_pp}
 use Rattle.lvm_num.specs.Geometry.{partition_blocks, volume_blocks}
 use Rattle.lvm_num.specs.Status.{calls_stale}
 use Rattle.lvm_num.proofs.MapsLemmas.{find-Some}
-use Rattle.lvm_stale.specs.Table.{is_pp}
+use Rattle.lvm_num.proofs.Partitions.{one_partition}
 use Rattle.lvm_vol.specs.declared.entry.Outcome.TheVariants as outcome
 use Rattle.lvm_path.specs.declared.facts.Facts.{Facts}
 use Rattle.lvm_path.specs.declared.facts.Next.{Next}
@@ -87,14 +87,11 @@ starts_clear phase.Landed k r target write begun starts = not_starting starts
 
 -- ---- partitions
 
-pp_same : (p q : Pp) → is_pp p q ≡ true → p ≡ q
-pp_same p q is = let parts = both (p.disk == q.disk) (p.pp == q.pp) is in let disk = eqb-true p.disk q.disk parts.0 in let pp = eqb-true p.pp q.pp parts.1 in ap (λ d. record { disk = d; pp = p.pp }) disk ∙ ap (λ n. record { disk = q.disk; pp = n }) pp
-
 among_same : (xs ys : List Pp) (p : Pp) → same_pps xs ys ≡ true → is_among xs p ≡ is_among ys p
 among_same [] [] p same = refl
 among_same [] (y ∷ ys) p same = not_so same
 among_same (x ∷ xs) [] p same = not_so same
-among_same (x ∷ xs) (y ∷ ys) p same = let parts = both (is_pp x y) (same_pps xs ys) same in ap (λ z. is_pp p z || is_among xs p) (pp_same x y parts.0) ∙ ap (λ b. is_pp p y || b) (among_same xs ys p parts.1)
+among_same (x ∷ xs) (y ∷ ys) p same = let parts = both (is_pp x y) (same_pps xs ys) same in ap (λ z. is_pp p z || is_among xs p) (one_partition x y parts.0) ∙ ap (λ b. is_pp p y || b) (among_same xs ys p parts.1)
 
 -- one of a list that passes is one of those that do
 among_filter : (t : Pp → Bool) (xs : List Pp) (p : Pp) → t p ≡ true → is_among xs p ≡ true → is_among (filter t xs) p ≡ true
@@ -103,13 +100,13 @@ among_filter t (x ∷ xs) p passes among = by (is_pp p x) (t x) refl refl (λ e.
   where
     by : (a b : Bool) → is_pp p x ≡ a → t x ≡ b → (is_among xs p ≡ true → is_among (filter t xs) p ≡ true) → is_among (if b then x ∷ filter t xs else filter t xs) p ≡ true
     by true true is tx rest = ap (λ b. b || is_among (filter t xs) p) is
-    by true false is tx rest = not_so (sym tx ∙ ap t (sym (pp_same p x is)) ∙ passes)
+    by true false is tx rest = not_so (sym tx ∙ ap t (sym (one_partition p x is)) ∙ passes)
     by false true is tx rest = ap (λ b. b || is_among (filter t xs) p) is ∙ rest (sym (ap (λ b. b || is_among xs p) is) ∙ among)
     by false false is tx rest = rest (sym (ap (λ b. b || is_among xs p) is) ∙ among)
 
 -- what fails for each fails for one of them
 none_at : (t : Pp → Bool) (xs : List Pp) (p : Pp) → list_any t xs ≡ false → is_among xs p ≡ true → t p ≡ false
-none_at t xs p none among = let one = witness (is_pp p) t xs among none in ap t (pp_same p one.0 one.1) ∙ one.2
+none_at t xs p none among = let one = witness (is_pp p) t xs among none in ap t (one_partition p one.0 one.1) ∙ one.2
 
 neither : (t u : Pp → Bool) (xs : List Pp) → list_any t xs ≡ false → list_any u xs ≡ false → list_any (λ (x : Pp). t x || u x) xs ≡ false
 neither t u [] a b = refl

@@ -17,7 +17,8 @@ use Rattle.lvm_vol.proofs.Order.{ordered-push}
 use Rattle.lvm_path.specs.declared.target.Target.{Target}
 use Rattle.lvm_path.specs.Asks.{is_write, lv_of}
 use Rattle.lvm_path.specs.Targets.{are_over, is_begun, is_failed}
-use Rattle.lvm_stale.specs.Table.{is_pp}
+use Rattle.lvm_num.specs.Descriptor.{is_pp}
+use Rattle.lvm_num.proofs.Booleans.{and_false}
 use Rattle.lvm_session.specs.declared.answers.Taken.TheVariants as answer
 use Rattle.lvm_session.specs.declared.bringing.OpenCopy.{OpenCopy}
 use Rattle.lvm_session.specs.declared.flown.Owner.TheVariants as owner
@@ -55,10 +56,6 @@ none_flies (t ∷ ts) (suc target) none = none_flies ts target (rest (is_flying 
     rest : (b : Bool) → b || list_any (λ (u : Target). is_flying u.state) ts ≡ false → list_any (λ (u : Target). is_flying u.state) ts ≡ false
     rest true is = absurd (not_so (sym is))
     rest false is = is
-
-and_false : (a : Bool) → a && false ≡ false
-and_false true = refl
-and_false false = refl
 
 module _ (s : State) (sound : IsSound s) (place : ℕ) (o : Open) (there : slice_get s.core.requests place ≡ Some o) (over : is_waiting o ≡ false) where
   abbrev core : Core

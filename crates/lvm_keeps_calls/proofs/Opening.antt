@@ -3,18 +3,18 @@ use Rattle.std.proofs.Common.{◌≡◌, ◌≤◌, ◌<◌, ◌+◌, ◌-◌, �
 use Rattle.std.specs.Prelude.{All, Err, IsTrue, MatchOption, Ok, Result, count_by, filter, find, is_none, unwrap_or}
 use Rattle.std.specs.List.{AllByRecursion, list_any}
 use Rattle.std.specs.Option.{option_map_or}
-use Rattle.std.proofs.lemmas.Bool.{ltb-true}
+use Rattle.std.proofs.lemmas.Bool.{ltb-true, and_right}
 use Rattle.std.proofs.lemmas.List.Folds.{list_any-append}
 use Rattle.std.proofs.lemmas.List.Sums.{count_by-le-length}
 use Rattle.lvm_num.specs.declared.descriptor.LvRow.{LvRow}
 use Rattle.lvm_num.specs.declared.descriptor.PvRow.{PvRow}
 use Rattle.lvm_num.specs.declared.place.Pp.{Pp}
-use Rattle.lvm_num.specs.Descriptor.{copies_of, is_size, volume_of}
+use Rattle.lvm_num.specs.Descriptor.{copies_of, is_size, volume_of, is_pp}
 use Rattle.lvm_num.specs.Disks.{has}
 use Rattle.lvm_num.specs.Geometry.{partition_blocks, track_group_of}
 use Rattle.lvm_num.specs.Status.{calls_dirty, calls_stale}
 use Rattle.lvm_num.proofs.Bounds.{few_members, few_volumes}
-use Rattle.lvm_stale.specs.Table.{is_pp}
+use Rattle.lvm_num.proofs.Booleans.{first_holds}
 use Rattle.lvm_disk.specs.Counts.{Counts}
 use Rattle.lvm_disk.specs.Device.{Flight}
 use Rattle.lvm_vol.specs.Log.{next_id}
@@ -83,18 +83,9 @@ fine_of core copies p is = by (is_settled core p) (is_missing core p.disk) (list
     by true true c d s t o n e = absurd (cc e)
     by false b c d s t o n e = absurd (cc e)
 
--- settled, it is stale by the committed status
-settled_stale : (a b : Bool) → a && b ≡ true → a ≡ true
-settled_stale true b e = refl
-settled_stale false b e = not_so e
-
 true_so : (a : Bool) → (a ≡ false → ⊥) → a ≡ true
 true_so true none = refl
 true_so false none = absurd (none refl)
-
-and_no : (a b : Bool) → b ≡ false → a && b ≡ false
-and_no true b e = e
-and_no false b e = refl
 
 none_below : (n : ℕ) → nat_lt n 0 ≡ false
 none_below n = grind (arith)
@@ -198,7 +189,7 @@ module _ (s : State) (sound : IsSound s) (on : s.core.power ≡ power.On) (none 
   -- ---- it has passed nothing
 
   not_caught : (group : ℕ) (p : Pp) → is_caught now.core group p ≡ false
-  not_caught group p = and_no (is_pp p pp) (nat_lt group 0) (none_below group)
+  not_caught group p = and_right (is_pp p pp) (nat_lt group 0) (none_below group)
 
   was_none : (group : ℕ) (p : Pp) → is_caught core group p ≡ false
   was_none group p = of_none (λ (k : OpenCopy). is_running k && is_pp p k.pp && nat_lt group k.cursor) false
@@ -260,7 +251,7 @@ module _ (s : State) (sound : IsSound s) (on : s.core.power ≡ power.On) (none 
         where
           all_none : (ts : List Target) → AllByRecursion (λ (t : Target). may_lack (aged o) t && is_caught now.core (group_in core o.request.ask) t.pp ≡ false) ts
           all_none [] = tt
-          all_none (t ∷ ts) = (and_no (may_lack (aged o) t) (is_caught now.core (group_in core o.request.ask) t.pp) (not_caught (group_in core o.request.ask) t.pp), all_none ts)
+          all_none (t ∷ ts) = (and_right (may_lack (aged o) t) (is_caught now.core (group_in core o.request.ask) t.pp) (not_caught (group_in core o.request.ask) t.pp), all_none ts)
 
           left_same : (p : Pp) → is_among (pps_of o.request.targets.items) p || is_left_out core o.request.ask p ≡ true
               → is_among (pps_of o.request.targets.items) p || is_left_out now.core o.request.ask p ≡ true
@@ -269,7 +260,7 @@ module _ (s : State) (sound : IsSound s) (on : s.core.power ≡ power.On) (none 
   -- ---- the copy
 
   stale : is_stale core pp ≡ true
-  stale = settled_stale (is_stale core pp) _ fine.settled
+  stale = first_holds (is_stale core pp) _ fine.settled
 
   wanted : is_wanted_stale core pp ≡ true
   wanted = true_so (is_wanted_stale core pp) (λ clear. not_so (sym (of_none (λ (k : OpenCopy). is_running k && is_whole core k && is_pp pp k.pp) false) ∙ going.clearings pp (ap (λ b. b || calls_stale (unwrap_or core.status.in_flight core.status.committed) pp) stale) clear))

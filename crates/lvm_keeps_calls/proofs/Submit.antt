@@ -14,6 +14,7 @@ use Rattle.lvm_num.specs.Descriptor.{IsValid, most_members, most_volumes, volume
 use Rattle.lvm_num.specs.Geometry.{volume_blocks}
 use Rattle.lvm_num.specs.Status.{calls_dirty}
 use Rattle.lvm_num.proofs.Bounds.{few_members, few_volumes}
+use Rattle.lvm_num.proofs.Booleans.{or_false, and_false, or_true}
 use Rattle.lvm_disk.specs.Device.{Flight}
 use Rattle.lvm_vol.specs.declared.entry.Vol.TheVariants.{Lv}
 use Rattle.lvm_vol.specs.Facts.{Request as Asked, Begun}
@@ -62,18 +63,6 @@ use Rattle.lvm_keeps.proofs.Updates.{one_if}
 use Rattle.lvm_keeps.proofs.Whole.{sound_when_on}
 use Rattle.lvm_keeps_calls.proofs.Growing.{answered_other, asked_new, asked_other, chunks_long, few_begin, next_is, open_new, open_other, outcome_new, place_earlier, place_new}
 use Rattle.lvm_keeps_calls.proofs.Places.{blocks_fit}
-
-or_false : (a : Bool) → a || false ≡ a
-or_false true = refl
-or_false false = refl
-
-and_false : (a : Bool) → a && false ≡ false
-and_false true = refl
-and_false false = refl
-
-or_true : (a : Bool) → a || true ≡ true
-or_true true = refl
-or_true false = refl
 
 -- ---- one is put behind the others
 

@@ -22,7 +22,8 @@ use Rattle.lvm_path.specs.declared.facts.Next.TheVariants as next
 use Rattle.lvm_path.specs.Asks.{is_write, lv_of}
 use Rattle.lvm_path.specs.Targets.{are_over, is_begun, is_done, is_failed, is_over as is_ended}
 use Rattle.lvm_path.specs.Next.{first_phase}
-use Rattle.lvm_stale.specs.Table.{is_pp}
+use Rattle.lvm_num.specs.Descriptor.{is_pp}
+use Rattle.lvm_num.proofs.Booleans.{and_false}
 use Rattle.lvm_status.specs.Update.{Stored, seen}
 use Rattle.lvm_status.specs.Runs.{IsSoundStatus}
 use Rattle.lvm_session.specs.declared.bringing.OpenCopy.{OpenCopy}
@@ -53,10 +54,6 @@ use Rattle.lvm_keeps_events.proofs.Chosen.{IsAdmissible, IsChosen, admissible, c
 use Rattle.lvm_keeps_events.proofs.Landing.{entries_left, only_entries, pins_left}
 use Rattle.lvm_keeps_events.proofs.Marking.{IsMarked, keeps as marked_keeps, marked, now as marked_now, target_caused as marked_caused}
 use Rattle.lvm_keeps_events.proofs.Tables.{any_set_less}
-
-and_false : (a : Bool) → a && false ≡ false
-and_false true = refl
-and_false false = refl
 
 -- ---- new targets
 

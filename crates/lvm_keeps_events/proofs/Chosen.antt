@@ -10,11 +10,11 @@ use Rattle.std.proofs.lemmas.List.Kept.{AllPairs-cons, AllPairs-filter}
 use Rattle.lvm_num.specs.declared.place.Pp.{Pp}
 use Rattle.lvm_num.specs.declared.descriptor.LvRow.{LvRow}
 use Rattle.lvm_num.specs.declared.descriptor.Policy.{Policy}
-use Rattle.lvm_num.specs.Descriptor.{IsVolume, copies_of}
+use Rattle.lvm_num.specs.Descriptor.{IsVolume, copies_of, is_pp}
 use Rattle.lvm_num.specs.Status.{calls_missing, calls_stale}
 use Rattle.lvm_num.proofs.MapsLemmas.{find-Some}
+use Rattle.lvm_num.proofs.Booleans.{or_true}
 use Rattle.lvm_map.proofs.PlaceLemmas.{laid_out, lp_below, mib_positive}
-use Rattle.lvm_stale.specs.Table.{is_pp}
 use Rattle.lvm_vol.specs.declared.entry.Outcome.TheVariants as outcome
 use Rattle.lvm_sched.specs.Reads.{AreCopiesAbove, IsReadOrder, others}
 use Rattle.lvm_sched.specs.declared.writes.TargetState.TheVariants as stage
@@ -171,11 +171,6 @@ any_filter t u on (x ∷ xs) some = by (u x) (t x) refl refl (λ e. any_filter t
     by true false p q rest e = not_so (sym q ∙ on x p)
     by false true p q rest e = ap (λ c. c || list_any u (filter t xs)) p ∙ rest e
     by false false p q rest e = rest e
-
--- each is one of them
-or_true : (a : Bool) → a || true ≡ true
-or_true true = refl
-or_true false = refl
 
 all_among : (ps : List Pp) → AllByRecursion (λ (p : Pp). is_among ps p ≡ true) ps
 all_among [] = tt

@@ -9,7 +9,7 @@ use Rattle.lvm_num.specs.declared.place.Pp.{Pp}
 use Rattle.lvm_num.specs.declared.status.Status.{Status}
 use Rattle.lvm_num.specs.Disks.{has}
 use Rattle.lvm_num.specs.Status.{calls_stale}
-use Rattle.lvm_stale.specs.Table.{is_pp}
+use Rattle.lvm_num.specs.Descriptor.{is_pp}
 use Rattle.lvm_disk.specs.Device.{Flight}
 use Rattle.lvm_hold.specs.declared.queue.Held.{Held}
 use Rattle.lvm_hold.specs.declared.queue.Row.{Row}
@@ -37,16 +37,16 @@ use Rattle.lvm_keeps.proofs.Small.{both, is_false, not_so}
 use Rattle.lvm_keeps.proofs.Still.{copy_stepped, same_next}
 use Rattle.lvm_keeps_events.proofs.Over.{even_rows, none_filter, out_no_hand, without_step}
 use Rattle.lvm_keeps_events.proofs.Finding.{filter_alike}
-use Rattle.lvm_keeps_events.proofs.Review.{Clears, Ending, Reviewed, and_of, due, flies_is, its_copy, left_behind, mid, missing_is, not_wanted, now, pp_self, held_by, settled_on, stale_is, still_clear, to_be_cleared, uncleared, usable_is, wanted_on}
+use Rattle.lvm_keeps_events.proofs.Review.{Clears, WriteEnd, Reviewed, and_of, due, flies_is, its_copy, left_behind, mid, missing_is, not_wanted, now, pp_self, held_by, settled_on, stale_is, still_clear, to_be_cleared, uncleared, usable_is, wanted_on}
 
 -- it goes on as it is, or ends, which is an update less and less work
-abbrev pub Fewer : (e : Ending) → Reviewed e → Type 0
+abbrev pub Fewer : (e : WriteEnd) → Reviewed e → Type 0
 Fewer e r =
     ((copy_ends (mid e) ≡ None) × (option_map_or (copy_updates (now e r)) r.copy 0 ≡ option_map_or (copy_updates e.core) e.core.copy 0) × (option_map_or (copy_left (now e r)) r.copy 0 ≡ option_map_or (copy_left e.core) e.core.copy 0))
     ⊎ ((option_map_or (copy_updates (now e r)) r.copy 0 + 1 ≤ option_map_or (copy_updates e.core) e.core.copy 0) × (option_map_or (copy_left (now e r)) r.copy 0 + 256 ≤ option_map_or (copy_left e.core) e.core.copy 0))
 
 -- What is true of it, of its place in the hold queue and of its buffer.
-pub record Brings (e : Ending) (r : Reviewed e) : Type 0 where
+pub record Brings (e : WriteEnd) (r : Reviewed e) : Type 0 where
   pub caught : (group : ℕ) (p : Pp) → is_caught e.core group p ≡ false → is_caught (now e r) group p ≡ false
   pub blocked : (place : ℕ) (ask : Held) → is_blocked e.core.queue.rows place ask ≡ false → is_blocked r.queue.rows place ask ≡ false
   pub room : r.queue.room ≡ e.core.queue.room
@@ -75,7 +75,7 @@ still_by core next c rest true false true true true on e = e
 still_by core next c rest true false true false true on e = not_so (on refl)
 still_by core next c rest true false false d f on e = e
 
-module _ (e : Ending) (status : Stored) (marks : WantsStale (due e) e.next status) (still : copy_ends (mid e) ≡ None) where
+module _ (e : WriteEnd) (status : Stored) (marks : WantsStale (due e) e.next status) (still : copy_ends (mid e) ≡ None) where
   abbrev core : Core
   core = e.core
 
@@ -183,7 +183,7 @@ pub record IsEnded (core : Core) (c : OpenCopy) (at : Step) (queue : Waiting) : 
   pub rows : queue.rows ≡ (if is_out at then with_row (step_row core c) (waiting_rows core.requests) else waiting_rows core.requests)
   pub blocked : (place : ℕ) (ask : Held) → is_blocked core.queue.rows place ask ≡ false → is_blocked queue.rows place ask ≡ false
 
-module _ (e : Ending) (c : OpenCopy) (is : e.core.copy ≡ Some c) where
+module _ (e : WriteEnd) (c : OpenCopy) (is : e.core.copy ≡ Some c) where
   rows_were : e.core.queue.rows ≡ (if has_row e.core c then with_row (step_row e.core c) (waiting_rows e.core.requests) else waiting_rows e.core.requests)
   rows_were = e.going.queue ∙ ap (λ m. option_map_or (λ (k : OpenCopy). if has_row e.core k then with_row (step_row e.core k) (waiting_rows e.core.requests) else waiting_rows e.core.requests) m (waiting_rows e.core.requests)) is
 
@@ -252,7 +252,7 @@ runs_of core c how ends = by (is_running c) (if is_missing core c.pp.disk then S
     by true m i = refl
     by false m i = absurd (cc i)
 
-module _ (e : Ending) (status : Stored) (marks : WantsStale (due e) e.next status) (c : OpenCopy) (is : e.core.copy ≡ Some c) (how : CopyEnd) (ends : copy_ends (mid e) ≡ Some how) (at : Step) (queue : Waiting) (its : IsEnded e.core c at queue) where
+module _ (e : WriteEnd) (status : Stored) (marks : WantsStale (due e) e.next status) (c : OpenCopy) (is : e.core.copy ≡ Some c) (how : CopyEnd) (ends : copy_ends (mid e) ≡ Some how) (at : Step) (queue : Waiting) (its : IsEnded e.core c at queue) where
   abbrev before : Core
   before = e.core
 
@@ -386,7 +386,7 @@ module _ (e : Ending) (status : Stored) (marks : WantsStale (due e) e.next statu
 
 -- ---- one or the other
 
-module _ (e : Ending) (new : Core) (reviews : Reviews (mid e) new) (P : Core → Type 0) (on : (still : copy_ends (mid e) ≡ None) → P (now e (going_on e new.status reviews.marks still)))
+module _ (e : WriteEnd) (new : Core) (reviews : Reviews (mid e) new) (P : Core → Type 0) (on : (still : copy_ends (mid e) ≡ None) → P (now e (going_on e new.status reviews.marks still)))
     (over : (c : OpenCopy) (is : e.core.copy ≡ Some c) (how : CopyEnd) (ends : copy_ends (mid e) ≡ Some how) (at : Step) (queue : Waiting) (its : IsEnded e.core c at queue) → P (now e (at_end e new.status reviews.marks c is how ends at queue its))) where
   abbrev made : OpenCopy → CopyEnd → Bool → Core
   made c how b = record (mid e) { copy = Some (record c { step = if b then c.step else step.Idle; end = Some how }); queue = if b then e.core.queue else record e.core.queue { rows = without c.place e.core.queue.rows }; pool = with_back e.pool (hand_of c.step); status = new.status }

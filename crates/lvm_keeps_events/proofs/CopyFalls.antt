@@ -8,7 +8,7 @@ use Rattle.std.specs.Prelude.{count_by, IfSome}
 use Rattle.lvm_num.specs.Disks.{has}
 use Rattle.lvm_num.specs.declared.place.Pp.{Pp}
 use Rattle.lvm_hold.specs.Waiting.{Waiting, without}
-use Rattle.lvm_stale.specs.Table.{is_pp}
+use Rattle.lvm_num.specs.Descriptor.{is_pp}
 use Rattle.lvm_status.specs.Update.{Stored}
 use Rattle.lvm_session.specs.Bringing.{after_copy_end, copy_ends, end_of, groups_of, is_done_end, is_idle, is_whole, marked_by_end, with_end}
 use Rattle.lvm_session.specs.Judging.{copies_in, is_missing, is_running}

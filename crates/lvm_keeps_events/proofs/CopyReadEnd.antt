@@ -5,7 +5,7 @@ use Rattle.std.specs.List.{remove}
 use Rattle.std.specs.Option.{option_map_or}
 use Rattle.lvm_num.specs.Buffer.{Buffer}
 use Rattle.lvm_num.specs.declared.place.Pp.{Pp}
-use Rattle.lvm_stale.specs.Table.{is_pp}
+use Rattle.lvm_num.specs.Descriptor.{is_pp}
 use Rattle.lvm_disk.specs.Device.{Device, Flight, Media}
 use Rattle.lvm_disk.specs.Steps.{EndsDone}
 use Rattle.lvm_session.specs.declared.bringing.OpenCopy.{OpenCopy}

@@ -10,7 +10,7 @@ use Rattle.lvm_hold.specs.Waiting.{Waiting, is_blocked, without}
 use Rattle.std.specs.Option.{option_map_or}
 use Rattle.lvm_num.specs.Buffer.{Buffer}
 use Rattle.lvm_num.specs.declared.place.Pp.{Pp}
-use Rattle.lvm_stale.specs.Table.{is_pp}
+use Rattle.lvm_num.specs.Descriptor.{is_pp}
 use Rattle.lvm_disk.specs.Device.{Device, Flight, Media}
 use Rattle.lvm_disk.specs.Counts.{Counts, Rose}
 use Rattle.lvm_disk.specs.Steps.{CountsFailure, EndsDone, EndsFailed, Removes}
@@ -58,6 +58,7 @@ use Rattle.lvm_session.specs.Ends.{MissesSource}
 use Rattle.lvm_session.specs.Causes.{FailedSinceOpening}
 use Rattle.lvm_session.specs.Sound.{IsReadFrom}
 use Rattle.std.specs.Prelude.{find, is_none}
+use Rattle.lvm_num.proofs.Booleans.{and_false}
 use Rattle.lvm_keeps_events.proofs.Removal.{IsOut, taken_out}
 
 -- ---- lists of partitions
@@ -115,17 +116,9 @@ usable_of true true wanted gone e = not_so e
 usable_of true false false true e = not_so e
 usable_of false stale wanted gone e = not_so e
 
-or_here : (a b : Bool) → b ≡ true → a || b ≡ true
-or_here true b e = refl
-or_here false b e = e
-
 none_both : (b x : Bool) → b && false && x ≡ false
 none_both true x = refl
 none_both false x = refl
-
-none_right : (b : Bool) → b && false ≡ false
-none_right true = refl
-none_right false = refl
 
 -- ---- how it ends where its sources are all tried
 
@@ -208,7 +201,7 @@ copy_read_fail_keeps at old new sound on event = by_end (copy_ends mid) refl new
     -- nothing comes to be wanted stale, since it isn't whole
     not_marked : (m : Option CopyEnd) (p : Pp) → marked_by_end mid m p ≡ false
     not_marked None p = refl
-    not_marked (Some how) p = ap (λ (b : Bool). not (is_done_end how) && (b && is_pp p c.pp)) short ∙ none_right (not (is_done_end how))
+    not_marked (Some how) p = ap (λ (b : Bool). not (is_done_end how) && (b && is_pp p c.pp)) short ∙ and_false (not (is_done_end how))
 
     status_is : new.core.status ≡ old.core.status
     status_is = event.misses.reviews.marks.same (λ p due. going.behind p (by (is_entailed old.core p) (marked_by_end mid (copy_ends mid) p) (not_marked (copy_ends mid) p) due))

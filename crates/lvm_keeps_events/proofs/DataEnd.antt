@@ -10,7 +10,7 @@ use Rattle.lvm_disk.specs.Counts.{Counts, Rose}
 use Rattle.lvm_disk.specs.Device.{Device, Flight}
 use Rattle.lvm_disk.specs.Steps.{CountsFailure}
 use Rattle.lvm_hold.specs.Waiting.{Waiting, without}
-use Rattle.lvm_stale.specs.Table.{is_pp}
+use Rattle.lvm_num.specs.Descriptor.{is_pp}
 use Rattle.lvm_path.specs.Asks.{is_write}
 use Rattle.lvm_path.specs.Targets.{are_over, is_begun}
 use Rattle.lvm_path.specs.declared.request.Request.{Request}

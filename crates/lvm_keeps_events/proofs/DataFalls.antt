@@ -7,7 +7,7 @@ use Rattle.lvm_num.specs.declared.place.Pp.{Pp}
 use Rattle.lvm_num.specs.declared.status.Status.{Status}
 use Rattle.lvm_hold.specs.Waiting.{Waiting, without}
 use Rattle.lvm_sched.specs.Writes.{is_waiting as is_unstarted}
-use Rattle.lvm_stale.specs.Table.{is_pp}
+use Rattle.lvm_num.specs.Descriptor.{is_pp}
 use Rattle.lvm_path.specs.Asks.{is_write}
 use Rattle.lvm_path.specs.Targets.{are_over, end_state, is_done}
 use Rattle.lvm_path.specs.declared.request.Phase.TheVariants as phase

@@ -7,7 +7,8 @@ use Rattle.std.proofs.lemmas.Bool.{eq-eqb, eqb-true, eqb-false, ne_eqb}
 use Rattle.lvm_num.specs.declared.place.Pp.{Pp}
 use Rattle.lvm_num.specs.declared.descriptor.Mode.{Mode}
 use Rattle.lvm_num.specs.declared.descriptor.Mode.TheVariants as mode
-use Rattle.lvm_stale.specs.Table.{is_pp}
+use Rattle.lvm_num.specs.Descriptor.{is_pp}
+use Rattle.lvm_num.proofs.Booleans.{and_false}
 use Rattle.lvm_disk.specs.Device.{Device, Flight, Range}
 use Rattle.lvm_disk.specs.Steps.{IsFresh, Starts}
 use Rattle.lvm_vol.specs.Log.{is_open}
@@ -56,10 +57,6 @@ unstarted stage.Waiting e = refl
 unstarted stage.Flying e = not_so e
 unstarted stage.Done e = not_so e
 unstarted stage.Failed e = not_so e
-
-and_false : (a : Bool) → a && false ≡ false
-and_false true = refl
-and_false false = refl
 
 -- the record that it has stays the one of its volume's mode
 pinned_on : (p : Phase) (r s : Request) → (p ≡ phase.WantRecord) ⊎ (p ≡ phase.Data) → s.pinned ≡ r.pinned → length s.targets.items ≡ length r.targets.items → IsPinned p r → IsPinned phase.Data s

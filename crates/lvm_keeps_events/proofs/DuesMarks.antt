@@ -6,7 +6,7 @@ use Rattle.std.specs.Prelude.{AllPairs, count_by, slice_index_or}
 use Rattle.lvm_num.specs.declared.place.Pp.{Pp}
 use Rattle.lvm_sched.specs.declared.writes.TargetState.{TargetState}
 use Rattle.lvm_sched.specs.declared.writes.TargetState.TheVariants as stage
-use Rattle.lvm_stale.specs.Table.{is_pp}
+use Rattle.lvm_num.specs.Descriptor.{is_pp}
 use Rattle.lvm_path.specs.Asks.{is_write}
 use Rattle.lvm_path.specs.Targets.{are_over, is_done, is_failed, is_over as is_ended}
 use Rattle.lvm_path.specs.declared.request.Request.{Request}
@@ -20,6 +20,7 @@ use Rattle.lvm_keeps.proofs.Lists.{count_cons}
 use Rattle.lvm_keeps.proofs.Small.{both, not_so}
 use Rattle.lvm_keeps_events.proofs.CopyReadFail.{pp_is}
 use Rattle.lvm_keeps_events.proofs.Lists.{all_and, all_true_at, and_false, any_at, or_true}
+pub use Rattle.lvm_num.proofs.Partitions.{one_partition as pp_same}
 
 -- ---- targets of partitions
 
@@ -33,10 +34,6 @@ pub record IsOn (ts : List Target) (p : Pp) : Type 0 where
 -- one behind it
 abbrev later : (x : Target) (ts : List Target) (p : Pp) → IsOn ts p → IsOn (x ∷ ts) p
 later x ts p it = record { place = suc it.place; target = it.target; there = it.there; pp_is = it.pp_is }
-
--- partitions that a test calls the same are one
-pub pp_same : (p q : Pp) → is_pp p q ≡ true → p ≡ q
-pp_same p q is = sym (pp_is p q is)
 
 pub on_one : (ts : List Target) (p : Pp) → is_among (pps_of ts) p ≡ true → IsOn ts p
 on_one [] p e = not_so e

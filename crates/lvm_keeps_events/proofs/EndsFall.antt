@@ -14,7 +14,7 @@ use Rattle.lvm_num.specs.Status.{calls_missing}
 use Rattle.lvm_mwc.specs.declared.notes.DiskNotes.{DiskNotes}
 use Rattle.lvm_mwc.proofs.NamedLemmas.{named_after_all}
 use Rattle.lvm_mwc.specs.Notes.{both_name, names_group}
-use Rattle.lvm_mwc.specs.Runs.{Ending}
+use Rattle.lvm_mwc.specs.Runs.{NoteEnds}
 use Rattle.lvm_mwc.specs.Cache.{after_end, ended, ended_as, flight_names, is_named, notes_on}
 use Rattle.lvm_mwc.specs.Entries.{pins_of}
 use Rattle.lvm_status.specs.Update.{Stored}
@@ -44,11 +44,11 @@ use Rattle.lvm_keeps_events.proofs.Copies.{at_end, by_review, ends_so, goes_on, 
 use Rattle.lvm_keeps_events.proofs.FallsStatus.{falls, left_is, phase_less, request_by}
 use Rattle.lvm_keeps_events.proofs.Finding.{length_taken}
 use Rattle.lvm_keeps_events.proofs.NoteFail.{note_follows}
-use Rattle.lvm_keeps_events.proofs.Review.{Ending as Changed, and_of, mid}
+use Rattle.lvm_keeps_events.proofs.Review.{WriteEnd, and_of, mid}
 use Rattle.lvm_keeps_events.proofs.StatusEnd.{status_follows}
 
 -- whatever the review makes of the copy
-reviewed_falls : (e : Changed) (new : Core) → e.core.power ≡ power.On → Reviews (mid e) new → ((d : ℕ) → is_missing (mid e) d ≡ false → notes_on (mid e).cache d ≡ notes_on e.core.cache d) → length e.flying + 1 ≡ length e.core.flying → left_of new < left_of e.core
+reviewed_falls : (e : WriteEnd) (new : Core) → e.core.power ≡ power.On → Reviews (mid e) new → ((d : ℕ) → is_missing (mid e) d ≡ false → notes_on (mid e).cache d ≡ notes_on e.core.cache d) → length e.flying + 1 ≡ length e.core.flying → left_of new < left_of e.core
 reviewed_falls e new on reviews noted shorter = by_review e new reviews (λ (k : Core). left_of k < left_of e.core)
     (λ still. falls e (going_on e new.status reviews.marks still) (goes_on e new.status reviews.marks still) noted shorter on)
     (λ c is how ends at queue its. falls e (at_end e new.status reviews.marks c is how ends at queue its) (ends_so e new.status reviews.marks c is how ends at queue its) noted shorter on)
@@ -127,7 +127,7 @@ module _ (core : Core) (going : IsGoing core) (disk at : ℕ) (row : Flown) (the
       unnamed = is_false (is_named after.cache t.pp.disk (lv_of r.ask) (group_of r.ask)) b.1
 
       by : (n f : Bool) → is_named core.cache t.pp.disk (lv_of r.ask) (group_of r.ask) ≡ n → flight_names core.cache t.pp.disk (lv_of r.ask) (group_of r.ask) ≡ f → lacks_note core r t ≡ true
-      by true f i j = not_so (sym unnamed ∙ named_after_all core.cache (Ending disk true ∷ []) t.pp.disk (lv_of r.ask) (group_of r.ask) (keep (both r.pinned (not (is_missing core t.pp.disk)) b.0).0, tt) i)
+      by true f i j = not_so (sym unnamed ∙ named_after_all core.cache (NoteEnds disk true ∷ []) t.pp.disk (lv_of r.ask) (group_of r.ask) (keep (both r.pinned (not (is_missing core t.pp.disk)) b.0).0, tt) i)
       by false true i j = of_disk (t.pp.disk == disk) refl
         where
           of_disk : (s : Bool) → (t.pp.disk == disk) ≡ s → lacks_note core r t ≡ true

@@ -10,7 +10,7 @@ use Rattle.lvm_num.specs.Geometry.{partition_blocks}
 use Rattle.lvm_num.specs.Status.{calls_stale}
 use Rattle.lvm_num.specs.declared.place.Pp.{Pp}
 use Rattle.lvm_hold.specs.Waiting.{Waiting}
-use Rattle.lvm_stale.specs.Table.{is_pp}
+use Rattle.lvm_num.specs.Descriptor.{is_pp}
 use Rattle.lvm_path.specs.Asks.{at_of, is_write}
 use Rattle.lvm_path.specs.Targets.{are_over, end_state, is_done, is_failed}
 use Rattle.lvm_path.specs.declared.request.Request.{Request}
@@ -31,14 +31,14 @@ use Rattle.lvm_keeps.proofs.Lists.{all_at, all_on, set_beside, set_here}
 use Rattle.lvm_keeps.proofs.Small.{both, is_false, not_so}
 use Rattle.lvm_keeps_events.proofs.Aims.{at_state}
 use Rattle.lvm_keeps_events.proofs.DuesMarks.{due_one, has_failed, is_sure_done, IsDueOne, own_pp, pp_same, unsure_among}
-use Rattle.lvm_keeps_events.proofs.Failing.{kept, Leaves, leaves, parted, pool, queue}
+use Rattle.lvm_keeps_events.proofs.Failing.{kept, LeavesParts, leaves, parted, pool, queue}
 use Rattle.lvm_keeps_events.proofs.Learning.{failed_badly, its, learnt, request}
 use Rattle.lvm_keeps_events.proofs.Groups.{group_low, whole_passes}
 use Rattle.lvm_keeps_events.proofs.Lists.{all_and, and_false, any_at, either, none_by, or_false, or_true}
 
 -- What is left of the copy, the hold queue and the pool, and which partitions are due to be stale, where the request has learned so of this partition.
 pub record IsEntailed (core : Core) (o : Open) (ok : Bool) (p : Pp) (queue : Waiting) (copy : Option OpenCopy) (pool : List Bool) (due : Pp → Bool) : Type 0 where
-  pub left : Leaves core queue copy pool
+  pub left : LeavesParts core queue copy pool
   pub wants : (q : Pp) → is_among (due_of core o.request) q ≡ true → due q ≡ true
   pub due_is : (q : Pp) → due q ≡ true → (is_among (due_of core o.request) q ≡ true) ⊎ (is_held_stale core q ≡ true)
   pub apart : (c : OpenCopy) → copy ≡ Some c → is_running c ≡ true → is_whole core c ≡ true → due c.pp ≡ false

@@ -4,6 +4,7 @@ use Rattle.std.specs.Prelude.{MatchBool, is_some, take, unwrap_or}
 use Rattle.std.specs.List.{list_any, remove, AllByRecursion}
 use Rattle.std.proofs.lemmas.Bool.{eq-eqb, eqb-true, ne_eqb}
 use Rattle.lvm_num.specs.Buffer.{Buffer, Sector}
+use Rattle.lvm_num.proofs.Booleans.{or_true, or_false}
 use Rattle.lvm_vol.specs.declared.entry.Outcome.{Outcome}
 use Rattle.lvm_vol.specs.Facts.{Fact, Request as Asked, Landed}
 use Rattle.lvm_vol.specs.Log.{asked, is_got, is_open, lands_id, no_request, request_of, takes_id}
@@ -43,14 +44,6 @@ outcome_now (g ∷ facts) f id none lands = by (lands_id id g) (λ e. outcome_no
     by : (b : Bool) → (list_any (lands_id id) facts ≡ false → outcome_in (facts ++ f ∷ []) id ≡ outcome_by f) → b || list_any (lands_id id) facts ≡ false → (if b then outcome_by g else outcome_in (facts ++ f ∷ []) id) ≡ outcome_by f
     by true rest e = not_so (sym e)
     by false rest e = rest e
-
-or_true : (a : Bool) → a || true ≡ true
-or_true true = refl
-or_true false = refl
-
-or_false : (a : Bool) → a || false ≡ a
-or_false true = refl
-or_false false = refl
 
 -- ---- the entry
 

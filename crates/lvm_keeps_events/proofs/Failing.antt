@@ -41,7 +41,7 @@ abbrev pub parted : Core → Waiting → Option OpenCopy → List Bool → Core
 parted core queue copy pool = changed core core.history core.requests queue copy pool core.flying core.cache.entries core.last
 
 -- nothing more is in the way or caught up with, and what is in hand is out
-pub record Leaves (core : Core) (queue : Waiting) (copy : Option OpenCopy) (pool : List Bool) : Type 0 where
+pub record LeavesParts (core : Core) (queue : Waiting) (copy : Option OpenCopy) (pool : List Bool) : Type 0 where
   pub room : queue.room ≡ core.queue.room
   pub long : length pool ≡ length core.pool
   pub free : (place : ℕ) (ask : Held) → is_blocked core.queue.rows place ask ≡ false → is_blocked queue.rows place ask ≡ false
@@ -54,7 +54,7 @@ pub record Leaves (core : Core) (queue : Waiting) (copy : Option OpenCopy) (pool
 
 -- ---- it stays
 
-pub kept : (core : Core) → IsGoing core → Leaves core core.queue core.copy core.pool
+pub kept : (core : Core) → IsGoing core → LeavesParts core core.queue core.copy core.pool
 kept core going = record {
   room = refl;
   long = refl;
@@ -168,7 +168,7 @@ module _ (core : Core) (going : IsGoing core) (c : OpenCopy) (is : core.copy ≡
       (λ e. no_hand c.step) its.tried (source_on c.step (copies_in core.descriptor c.lv c.lp) its.source) (λ runs busy. not_so runs)
       (λ runs short. not_so runs) (λ runs whole. not_so runs)
 
-  pub leaves : Leaves core queue (Some ended) pool
+  pub leaves : LeavesParts core queue (Some ended) pool
   leaves = record {
     room = room_by (is_out c.step);
     long = back_long core.pool (hand_of c.step);
@@ -188,11 +188,11 @@ module _ (core : Core) (going : IsGoing core) (c : OpenCopy) (is : core.copy ≡
 
 -- ---- a request beside it
 
-pub one_on : (core : Core) (queue : Waiting) (copy : Option OpenCopy) (pool : List Bool) → Leaves core queue copy pool → (x : Open) → IsOpenOne core x → IsOpenOne (parted core queue copy pool) x
+pub one_on : (core : Core) (queue : Waiting) (copy : Option OpenCopy) (pool : List Bool) → LeavesParts core queue copy pool → (x : Open) → IsOpenOne core x → IsOpenOne (parted core queue copy pool) x
 one_on core queue copy pool left x it = open_on core core.history core.requests queue copy pool core.flying core.cache.entries core.last x (left.free (place_of x.request.id) (held_of x.request.ask)) (left.caught (group_in core x.request.ask)) it
 
 -- the rows of others stay
-module _ (core : Core) (queue : Waiting) (copy : Option OpenCopy) (pool : List Bool) (left : Leaves core queue copy pool) where
+module _ (core : Core) (queue : Waiting) (copy : Option OpenCopy) (pool : List Bool) (left : LeavesParts core queue copy pool) where
   transfer_on : (who : Owner) (g : Flight) → IsTransferOf core who g → IsTransferOf (parted core queue copy pool) who g
   transfer_on (owner.Data id target) g of = data_still core (parted core queue copy pool) refl id target g of
   transfer_on (owner.Status d) g of = status_still core (parted core queue copy pool) refl d g of

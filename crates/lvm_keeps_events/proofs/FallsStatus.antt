@@ -9,12 +9,11 @@ use Rattle.lvm_num.specs.declared.descriptor.PvRow.{PvRow}
 use Rattle.lvm_num.specs.declared.place.Pp.{Pp}
 use Rattle.lvm_num.specs.declared.record.NoteEntry.{NoteEntry}
 use Rattle.lvm_num.specs.declared.status.Status.{Status}
-use Rattle.lvm_num.specs.Descriptor.{is_member}
+use Rattle.lvm_num.specs.Descriptor.{is_member, is_pp}
 use Rattle.lvm_num.specs.Disks.{has}
 use Rattle.lvm_num.specs.Status.{calls_stale}
 use Rattle.lvm_num.specs.Votes.{is_enough_to_write}
 use Rattle.lvm_num.proofs.VotesLemmas.{more_have_more, more_is_enough}
-use Rattle.lvm_stale.specs.Table.{is_pp}
 use Rattle.lvm_mwc.specs.Cache.{flight_names, is_named, notes_on}
 use Rattle.lvm_mwc.specs.Notes.{both_name, names_group}
 use Rattle.lvm_mwc.specs.declared.notes.DiskNotes.{DiskNotes}
@@ -42,7 +41,7 @@ use Rattle.lvm_keeps_events.proofs.Copies.{Brings, Fewer}
 use Rattle.lvm_keeps_events.proofs.Finding.{any_known, count_with, sum_on}
 use Rattle.lvm_keeps_events.proofs.Follows.{in_flight_of}
 use Rattle.lvm_keeps_events.proofs.Keeping.{dirty_same, there_by}
-use Rattle.lvm_keeps_events.proofs.Review.{Ending, Reviewed, and_of, flies_is, mid, missing_is, missing_on, nothing_new, now, of_now, settled_on, was_there}
+use Rattle.lvm_keeps_events.proofs.Review.{WriteEnd, Reviewed, and_of, flies_is, mid, missing_is, missing_on, nothing_new, now, of_now, settled_on, was_there}
 
 -- ---- what a copy may still make of a write
 
@@ -177,7 +176,7 @@ at_most_update : (b : Bool) → if_so b update_work ≤ 256
 at_most_update true = omega arith
 at_most_update false = omega arith
 
-module _ (e : Ending) (r : Reviewed e) (brings : Brings e r) (noted : (d : ℕ) → is_missing (mid e) d ≡ false → notes_on (mid e).cache d ≡ notes_on e.core.cache d) (shorter : length e.flying + 1 ≡ length e.core.flying) where
+module _ (e : WriteEnd) (r : Reviewed e) (brings : Brings e r) (noted : (d : ℕ) → is_missing (mid e) d ≡ false → notes_on (mid e).cache d ≡ notes_on e.core.cache d) (shorter : length e.flying + 1 ≡ length e.core.flying) where
   abbrev core : Core
   core = e.core
 

@@ -37,7 +37,7 @@ use Rattle.lvm_keeps_events.proofs.Copies.{Brings, at_end, by_review, ends_so, g
 use Rattle.lvm_keeps_events.proofs.Follows.{Follows}
 use Rattle.lvm_keeps_events.proofs.Keeping.{e, keeps, one_over, still_caused}
 use Rattle.lvm_keeps_events.proofs.Requests.{NamesStay}
-use Rattle.lvm_keeps_events.proofs.Review.{Ending, Reviewed, mid, now}
+use Rattle.lvm_keeps_events.proofs.Review.{WriteEnd, Reviewed, mid, now}
 
 module _ (old : State) (sound : IsSound old) (on : old.core.power ≡ power.On) (disk : ℕ) (next : Stored) (follows : Follows old.core disk next) (notes : List DiskNotes) (homes : Homes)
     (at : ℕ) (row : Flown) (there : slice_get old.core.flying at ≡ Some row) (f : Flight) (f_there : slice_get old.device.flights at ≡ Some f) (buf : Buffer) (number : buf.number ≡ f.buf.number) where
@@ -53,7 +53,7 @@ module _ (old : State) (sound : IsSound old) (on : old.core.power ≡ power.On) 
   abbrev flights : List Flight
   flights = remove old.device.flights at
 
-  abbrev pub ended : Ending
+  abbrev pub ended : WriteEnd
   ended = e old sound on disk next follows flying pool notes homes
 
   going : IsGoing core

@@ -9,10 +9,10 @@ use Rattle.lvm_num.specs.declared.place.Pp.{Pp}
 use Rattle.lvm_num.specs.declared.record.Stamp.{Stamp}
 use Rattle.lvm_num.specs.declared.status.Status.{Status}
 use Rattle.lvm_num.specs.declared.status.StatusRow.{StatusRow}
-use Rattle.lvm_num.specs.Descriptor.{is_member}
+use Rattle.lvm_num.specs.Descriptor.{is_member, is_pp}
 use Rattle.lvm_num.specs.Disks.{has}
 use Rattle.lvm_num.specs.Status.{calls_dirty, calls_missing, calls_stale}
-use Rattle.lvm_stale.specs.Table.{has_row, is_pp}
+use Rattle.lvm_stale.specs.Table.{has_row}
 use Rattle.lvm_disk.specs.Counts.{Counts, Rose}
 use Rattle.lvm_disk.specs.Device.{Device, Flight, Media}
 use Rattle.lvm_mwc.specs.Cache.{has_disk}
@@ -49,7 +49,7 @@ use Rattle.lvm_keeps_events.proofs.Copies.{Brings, Fewer, runs_of}
 use Rattle.lvm_keeps_events.proofs.Finding.{all_two, count_alike, count_less, found, some_kept}
 use Rattle.lvm_keeps_events.proofs.Follows.{Follows, Loses, in_flight_of}
 use Rattle.lvm_keeps_events.proofs.Requests.{NamesStay, requests_on}
-use Rattle.lvm_keeps_events.proofs.Review.{Clears, Ending, Reviewed, and_of, behind_now, flies_is, fresh_now, held_by, here, its_copy, left_behind, mid, missing_is, missing_on, nothing_new, now, or_right, undone, sure_by, usable_is, wanted_by, was_there}
+use Rattle.lvm_keeps_events.proofs.Review.{Clears, WriteEnd, Reviewed, and_of, behind_now, flies_is, fresh_now, held_by, here, its_copy, left_behind, mid, missing_is, missing_on, nothing_new, now, or_right, undone, sure_by, usable_is, wanted_by, was_there}
 
 four : (a b c d : Bool) → a || b || c || d ≡ true → (a ≡ true) ⊎ ((b ≡ true) ⊎ ((c ≡ true) ⊎ (d ≡ true)))
 four true b c d i = inl refl
@@ -63,7 +63,7 @@ at_most_one : (b : Bool) → if_so b 1 ≤ 1
 at_most_one true = omega arith
 at_most_one false = omega arith
 
-module _ (e : Ending) (r : Reviewed e) (brings : Brings e r) where
+module _ (e : WriteEnd) (r : Reviewed e) (brings : Brings e r) where
   abbrev core : Core
   core = e.core
 
@@ -142,7 +142,7 @@ module _ (e : Ending) (r : Reviewed e) (brings : Brings e r) where
 -- ---- all of it
 
 module _ (old : State) (sound : IsSound old) (on : old.core.power ≡ power.On) (disk : ℕ) (next : Stored) (follows : Follows old.core disk next) (flying : List Flown) (pool : List Bool) (notes : List DiskNotes) (homes : Homes) where
-  abbrev pub e : Ending
+  abbrev pub e : WriteEnd
   e = record { core = old.core; going = (sound.on on).going; disk = disk; next = next; follows = follows; flying = flying; pool = pool; notes = notes; homes = homes }
 
   module _ (media : Option Media) (counts : Counts) (flights : List Flight) (more : (d : ℕ) → old.device.counts.faults d ≤ counts.faults d) (rise : (d : ℕ) → is_missing (mid e) d ≡ true → (is_missing old.core d ≡ true) ⊎ Rose (old.device.counts.faults d) (counts.faults d)) (r : Reviewed e) where

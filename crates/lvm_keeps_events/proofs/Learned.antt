@@ -13,7 +13,7 @@ use Rattle.lvm_disk.specs.Counts.{Counts, Rose}
 use Rattle.lvm_disk.specs.Device.{Device, Flight, Media}
 use Rattle.lvm_hold.specs.Waiting.{Waiting}
 use Rattle.lvm_sched.specs.declared.writes.TargetState.TheVariants as stage
-use Rattle.lvm_stale.specs.Table.{is_pp}
+use Rattle.lvm_num.specs.Descriptor.{is_pp}
 use Rattle.lvm_path.specs.Asks.{is_write, lv_of}
 use Rattle.lvm_path.specs.Targets.{are_over, end_state, is_done, is_failed, is_over as is_ended}
 use Rattle.lvm_path.specs.declared.ask.Ask.{Ask}
@@ -57,7 +57,7 @@ use Rattle.lvm_keeps_events.proofs.Counts.{counts_keep, rose_since}
 use Rattle.lvm_keeps_events.proofs.Removal.{as_many, count_taken, none_left, others, rows_left, tickets_left}
 use Rattle.lvm_keeps_events.proofs.DuesMarks.{among_get, due_one, is_sure_done, is_sure_target, IsDueOne, IsSpared, left_due, on_one, own_pp, pp_same, spared}
 use Rattle.lvm_keeps_events.proofs.Entailing.{IsEntailed}
-use Rattle.lvm_keeps_events.proofs.Failing.{Leaves, one_on as one_beside, parted, rows_on as rows_beside}
+use Rattle.lvm_keeps_events.proofs.Failing.{LeavesParts, one_on as one_beside, parted, rows_on as rows_beside}
 use Rattle.lvm_keeps_events.proofs.Learning.{asked_now, begun_so, failed_badly, in_data, laid, learnt, none_done, none_flies, others_fly, past, ready, request, shape, told, waits, was_flying}
 use Rattle.lvm_keeps_events.proofs.Lists.{all_and, all_pair, all_true_at, and_false, any_at, any_on, either, found_at, or_true, set_either}
 use Rattle.lvm_keeps_events.proofs.Staling.{blamed_by, bring_on as bring_staler, clean_same, due_wanted, end_on, entailed_less, held_by, IsStaler, kept_less, left_on as left_staler, may_less, members_same, missing_same, one_on as one_staler, ready_on as ready_staler, rows_on as rows_staler, staler, stays_on, sure_less, wanted_less, wanted_more}
@@ -203,7 +203,7 @@ module _ (old : State) (sound : IsSound old) (on : old.core.power ≡ power.On) 
     abbrev pub now : State
     now = state device after
 
-    left : Leaves core queue copy pool
+    left : LeavesParts core queue copy pool
     left = entailed.left
 
     -- ---- requests

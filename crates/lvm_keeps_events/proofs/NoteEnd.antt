@@ -12,7 +12,7 @@ use Rattle.lvm_mwc.specs.declared.notes.DiskNotes.{DiskNotes}
 use Rattle.lvm_mwc.specs.Cache.{Cached, after_end, ended, ended_as, flight_on, has_disk, is_named, notes_on}
 use Rattle.lvm_mwc.specs.Entries.{pins_of}
 use Rattle.lvm_mwc.specs.Notes.{is_of_disk}
-use Rattle.lvm_mwc.specs.Runs.{Ending}
+use Rattle.lvm_mwc.specs.Runs.{NoteEnds}
 use Rattle.lvm_mwc.proofs.FirstsLemmas.{find-with, find-with_other}
 use Rattle.lvm_mwc.proofs.NamedLemmas.{named_after_all}
 use Rattle.lvm_path.specs.declared.request.Phase.{Phase}
@@ -141,7 +141,7 @@ module _ (s : State) (sound : IsSound s) (on : s.core.power ≡ power.On) (disk 
 
   named_on : (x : Open) → IsKept x → (m : Mode) → IsRecorded m x.request.phase x.request → has_record x.request.phase ≡ true → 2 ≤ length x.request.targets.items → has_names core m x.request ≡ true → has_names now.core m x.request ≡ true
   named_on x keep mode.Active rec has two names = all_true (λ (t : Target). is_named core.cache t.pp.disk (lv_of x.request.ask) (group_of x.request.ask)) (λ (t : Target). is_named now.core.cache t.pp.disk (lv_of x.request.ask) (group_of x.request.ask))
-      (λ t named. named_after_all core.cache (Ending disk true ∷ []) t.pp.disk (lv_of x.request.ask) (group_of x.request.ask) (keep (pinned_by x.request.phase x.request has rec two), tt) named) x.request.targets.items names
+      (λ t named. named_after_all core.cache (NoteEnds disk true ∷ []) t.pp.disk (lv_of x.request.ask) (group_of x.request.ask) (keep (pinned_by x.request.phase x.request has rec two), tt) named) x.request.targets.items names
   named_on x keep mode.Passive rec has two names = names
   named_on x keep mode.Off rec has two names = names
 

@@ -13,7 +13,7 @@ use Rattle.lvm_disk.specs.Steps.{CountsFailure, EndsFailed}
 use Rattle.lvm_mwc.specs.Cache.{after_end, flight_on, has_disk, is_named, notes_on}
 use Rattle.lvm_mwc.specs.Entries.{pins_of}
 use Rattle.lvm_mwc.specs.declared.notes.DiskNotes.{DiskNotes}
-use Rattle.lvm_mwc.specs.Runs.{Ending}
+use Rattle.lvm_mwc.specs.Runs.{NoteEnds}
 use Rattle.lvm_mwc.proofs.NamedLemmas.{named_after_all}
 use Rattle.lvm_status.specs.declared.change.Change.TheVariants as change
 use Rattle.lvm_status.specs.Update.{Stored, Updates, seen, without_disk}
@@ -95,7 +95,7 @@ note_fail_keeps at disk old new sound on event =
         by false is i = inl i
 
     names : (d lv group : ℕ) → 1 ≤ pins_of old.core.cache.entries lv group → is_named old.core.cache d lv group ≡ true → is_named (after_end old.core.cache disk false) d lv group ≡ true
-    names d lv group pinned named = named_after_all old.core.cache (Ending disk false ∷ []) d lv group (pinned, tt) named
+    names d lv group pinned named = named_after_all old.core.cache (NoteEnds disk false ∷ []) d lv group (pinned, tt) named
 
     disks : (d : ℕ) → has_disk (after_end old.core.cache disk false) d ≡ has_disk old.core.cache d
     disks d = same_disks old.core.cache disk false d

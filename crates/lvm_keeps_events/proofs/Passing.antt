@@ -6,7 +6,7 @@ use Rattle.std.specs.List.{AllByRecursion, list_any, range_with_len, remove}
 use Rattle.std.specs.Option.{option_map_or}
 use Rattle.std.specs.Prelude.{count_by, IfSome, is_none, slice_index_or, unwrap_or}
 use Rattle.lvm_num.specs.Buffer.{Buffer}
-use Rattle.lvm_num.specs.Descriptor.{copies_of, is_member}
+use Rattle.lvm_num.specs.Descriptor.{copies_of, is_member, is_pp}
 use Rattle.lvm_num.specs.Disks.{has}
 use Rattle.lvm_num.specs.Geometry.{partition_blocks}
 use Rattle.lvm_num.specs.Status.{calls_dirty, calls_stale}
@@ -21,7 +21,7 @@ use Rattle.lvm_vol.specs.Log.{next_id}
 use Rattle.lvm_hold.specs.Conflicts.{conflicts, have_common_block}
 use Rattle.lvm_hold.specs.Waiting.{is_blocked, Waiting, without}
 use Rattle.lvm_hold.specs.declared.queue.Row.{Row}
-use Rattle.lvm_stale.specs.Table.{has_row as has_disk_row, is_pp, SameMissing}
+use Rattle.lvm_stale.specs.Table.{has_row as has_disk_row, SameMissing}
 use Rattle.lvm_path.specs.Asks.{at_of, count_of, is_write, lv_of}
 use Rattle.lvm_path.specs.Targets.{is_begun, is_done, is_failed}
 use Rattle.lvm_path.specs.declared.ask.Ask.{Ask}

@@ -12,7 +12,7 @@ use Rattle.lvm_num.specs.declared.place.Pp.{Pp}
 use Rattle.lvm_num.specs.declared.status.Status.{Status}
 use Rattle.lvm_num.specs.Geometry.{partition_blocks}
 use Rattle.lvm_num.specs.Status.{calls_dirty}
-use Rattle.lvm_stale.specs.Table.{is_pp}
+use Rattle.lvm_num.specs.Descriptor.{is_pp}
 use Rattle.lvm_hold.specs.declared.queue.Held.{Held}
 use Rattle.lvm_hold.specs.Waiting.{is_blocked}
 use Rattle.lvm_mwc.specs.Cache.{is_named}
@@ -37,7 +37,7 @@ use Rattle.lvm_keeps.proofs.Still.{shape_still}
 use Rattle.lvm_keeps_events.proofs.NoteEnd.{all_true, pinned_by}
 use Rattle.lvm_keeps_events.proofs.Finding.{any_on, count_with, found, some_there}
 use Rattle.lvm_keeps_events.proofs.Follows.{in_flight_of}
-use Rattle.lvm_keeps_events.proofs.Review.{Clears, Ending, Reviewed, and_of, flies_is, mid, now, of_now, or_right, pp_self, settled_on, sure_by, wanted_on}
+use Rattle.lvm_keeps_events.proofs.Review.{Clears, WriteEnd, Reviewed, and_of, flies_is, mid, now, of_now, or_right, pp_self, settled_on, sure_by, wanted_on}
 
 -- ---- tests
 
@@ -95,10 +95,10 @@ whole_caught core r laid p c =
 -- ---- each request
 
 -- the notes name what is pinned still
-abbrev pub NamesStay : Ending → Type 0
+abbrev pub NamesStay : WriteEnd → Type 0
 NamesStay e = (disk lv group : ℕ) → 1 ≤ pins_of e.core.cache.entries lv group → is_named e.core.cache disk lv group ≡ true → is_named (mid e).cache disk lv group ≡ true
 
-module _ (e : Ending) (r : Reviewed e) (names : NamesStay e) (caught : (group : ℕ) (p : Pp) → is_caught e.core group p ≡ false → is_caught (now e r) group p ≡ false)
+module _ (e : WriteEnd) (r : Reviewed e) (names : NamesStay e) (caught : (group : ℕ) (p : Pp) → is_caught e.core group p ≡ false → is_caught (now e r) group p ≡ false)
     (blocked : (place : ℕ) (ask : Held) → is_blocked e.core.queue.rows place ask ≡ false → is_blocked r.queue.rows place ask ≡ false) where
   abbrev core : Core
   core = e.core

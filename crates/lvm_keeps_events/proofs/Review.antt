@@ -3,13 +3,12 @@ use Rattle.std.proofs.Common.{◌≡◌, ◌⊎◌, inl, inr, ◌==◌, ℕ, Boo
 use Rattle.std.specs.Prelude.{IfSome, unwrap_or}
 use Rattle.std.specs.List.{list_any, range_with_len}
 use Rattle.std.specs.Option.{option_map_or}
-use Rattle.std.proofs.lemmas.Bool.{eq-eqb}
+use Rattle.std.proofs.lemmas.Bool.{eq-eqb, or_left}
 use Rattle.lvm_num.specs.declared.descriptor.LvRow.{LvRow}
 use Rattle.lvm_num.specs.declared.place.Pp.{Pp}
 use Rattle.lvm_num.specs.declared.status.Status.{Status}
-use Rattle.lvm_num.specs.Descriptor.{copies_of}
+use Rattle.lvm_num.specs.Descriptor.{copies_of, is_pp}
 use Rattle.lvm_num.specs.Status.{calls_missing, calls_stale}
-use Rattle.lvm_stale.specs.Table.{is_pp}
 use Rattle.lvm_hold.specs.Waiting.{Waiting}
 use Rattle.lvm_mwc.specs.declared.notes.DiskNotes.{DiskNotes}
 use Rattle.lvm_status.specs.Update.{Stored, Updates}
@@ -30,11 +29,13 @@ use Rattle.lvm_keeps_events.proofs.CopyReadFail.{is_here, pp_is}
 use Rattle.lvm_keeps_events.proofs.OnePlace.{one_lp}
 use Rattle.lvm_keeps_events.proofs.Finding.{any_on, found, row_found, some_there}
 use Rattle.lvm_keeps_events.proofs.Follows.{Follows, Loses, in_flight_of}
+pub use Rattle.std.proofs.lemmas.Bool.{and_from as and_of}
+pub use Rattle.std.proofs.lemmas.Bool.{or_right}
 
 -- ---- what has ended
 
 -- A session that goes on, and what the end of a write changes of it before the review.
-pub record Ending : Type 0 where
+pub record WriteEnd : Type 0 where
   pub core : Core
   pub going : IsGoing core
   pub disk : ℕ
@@ -46,15 +47,15 @@ pub record Ending : Type 0 where
   pub homes : Homes
 
 -- the session between the end and its review
-abbrev pub mid : Ending → Core
+abbrev pub mid : WriteEnd → Core
 mid e = record e.core { flying = e.flying; pool = e.pool; status = e.next; cache = record e.core.cache { notes = e.notes }; homes = e.homes }
 
 -- what the review wants stale
-abbrev pub due : Ending → Pp → Bool
+abbrev pub due : WriteEnd → Pp → Bool
 due e p = is_entailed (mid e) p || marked_by_end (mid e) (copy_ends (mid e)) p
 
 -- What the review leaves of the status, the hold queue, the copy and the pool.
-pub record Reviewed (e : Ending) : Type 0 where
+pub record Reviewed (e : WriteEnd) : Type 0 where
   pub status : Stored
   pub marks : WantsStale (due e) e.next status
   pub queue : Waiting
@@ -62,22 +63,10 @@ pub record Reviewed (e : Ending) : Type 0 where
   pub pool : List Bool
 
 -- the session after the review
-abbrev pub now : (e : Ending) → Reviewed e → Core
+abbrev pub now : (e : WriteEnd) → Reviewed e → Core
 now e r = record e.core { flying = e.flying; pool = r.pool; status = r.status; cache = record e.core.cache { notes = e.notes }; homes = e.homes; queue = r.queue; copy = r.copy }
 
 -- ---- tests
-
-pub and_of : (a b : Bool) → a ≡ true → b ≡ true → a && b ≡ true
-and_of true b i j = j
-and_of false b i j = not_so i
-
-pub or_right : (a b : Bool) → b ≡ true → a || b ≡ true
-or_right true b e = refl
-or_right false b e = e
-
-or_left : (a b : Bool) → a ≡ true → a || b ≡ true
-or_left true b e = refl
-or_left false b e = not_so e
 
 or_self : (b : Bool) → b || b ≡ true → b ≡ true
 or_self true e = refl
@@ -178,7 +167,7 @@ entailed_on one two p same fresh gone replaces is = subst (λ d. list_any (λ (r
 
 -- ---- before the review
 
-module _ (e : Ending) where
+module _ (e : WriteEnd) where
   abbrev core : Core
   core = e.core
 
@@ -317,7 +306,7 @@ module _ (e : Ending) where
 
 -- ---- after it
 
-module _ (e : Ending) (r : Reviewed e) where
+module _ (e : WriteEnd) (r : Reviewed e) where
   abbrev old : Core
   old = e.core
 

@@ -3,7 +3,7 @@ use Rattle.std.proofs.Common.{◌&&◌, ◌==◌, [], ap, arith, Bool, false, fi
 use Rattle.std.proofs.lemmas.Bool.{le-leb, leb-true}
 use Rattle.std.specs.List.{list_any, range_with_len}
 use Rattle.std.specs.Prelude.{count_by, is_none, unwrap_or}
-use Rattle.lvm_num.specs.Descriptor.{copies_of, is_member}
+use Rattle.lvm_num.specs.Descriptor.{copies_of, is_member, is_pp}
 use Rattle.lvm_num.specs.Disks.{has}
 use Rattle.lvm_num.specs.Status.{calls_dirty, calls_stale}
 use Rattle.lvm_num.specs.declared.descriptor.Descriptor.{Descriptor}
@@ -16,7 +16,7 @@ use Rattle.lvm_num.specs.declared.record.Stamp.{Stamp}
 use Rattle.lvm_num.specs.declared.status.Status.{Status}
 use Rattle.lvm_num.specs.declared.status.StatusRow.{StatusRow}
 use Rattle.lvm_disk.specs.Device.{Flight}
-use Rattle.lvm_stale.specs.Table.{has_row, is_pp, SameMissing}
+use Rattle.lvm_stale.specs.Table.{has_row, SameMissing}
 use Rattle.lvm_path.specs.Asks.{lv_of}
 use Rattle.lvm_path.specs.Targets.{is_done, is_failed}
 use Rattle.lvm_path.specs.declared.ask.Ask.{Ask}

@@ -3,7 +3,7 @@ use Rattle.std.proofs.Common.{◌≡◌, ◌⊎◌, inl, inr, ◌==◌, ◌≤�
 use Rattle.std.specs.Prelude.{IfSome, bytes_eq, count_by, is_none, is_some, position, slice_index_or, unwrap_or}
 use Rattle.std.specs.List.{list_all, list_any, AllByRecursion}
 use Rattle.std.specs.Option.{option_map, option_map_or}
-use Rattle.std.proofs.lemmas.Bool.{eq-eqb, eqb-true, ltb-true}
+use Rattle.std.proofs.lemmas.Bool.{eq-eqb, eqb-true, ltb-true, or_parts}
 use Rattle.std.proofs.lemmas.Bool.Decides.{nat_tests}
 use Rattle.lvm_num.specs.Buffer.{Buffer}
 use Rattle.lvm_num.specs.declared.descriptor.Descriptor.{Descriptor}
@@ -17,7 +17,7 @@ use Rattle.lvm_num.specs.declared.status.Status.{Status}
 use Rattle.lvm_num.specs.declared.status.StatusRow.{StatusRow}
 use Rattle.lvm_num.specs.Disks.{has}
 use Rattle.lvm_num.specs.Status.{calls_dirty, calls_missing, calls_stale}
-use Rattle.lvm_num.specs.Descriptor.{is_member}
+use Rattle.lvm_num.specs.Descriptor.{is_member, is_pp}
 use Rattle.lvm_num.specs.Votes.{is_enough_to_write, votes_in}
 use Rattle.lvm_disk.specs.Device.{Flight}
 use Rattle.lvm_vol.specs.declared.entry.Outcome.{Outcome}
@@ -33,7 +33,6 @@ use Rattle.lvm_mwc.proofs.FirstsLemmas.{none_at}
 use Rattle.lvm_sched.specs.declared.writes.TargetState.{TargetState}
 use Rattle.lvm_sched.specs.declared.writes.TargetState.TheVariants as stage
 use Rattle.lvm_sched.specs.Writes.{is_flying, is_waiting as is_unstarted, next_target}
-use Rattle.lvm_stale.specs.Table.{is_pp}
 use Rattle.lvm_path.specs.declared.ask.Ask.{Ask}
 use Rattle.lvm_path.specs.declared.facts.Facts.{Facts}
 use Rattle.lvm_path.specs.declared.facts.Next.{Next}
@@ -66,6 +65,7 @@ use Rattle.lvm_session.specs.Owners.{AreRows, flies, same_owner, target_flies}
 use Rattle.lvm_session.specs.Requests.{IsOpenOne, IsPhase, IsRecorded, IsRequest, is_failed_and_sure, is_past_held, is_wanted_due, is_wanted_dirty, mode_for, wants_status, will_be_kept}
 use Rattle.lvm_session.specs.Sound.{IsCopy, IsGoing, IsSound, count_if, has_number, is_dark, is_hand, pins, waiting_rows, with_row}
 use Rattle.std.proofs.lemmas.Slice.Eq.{bytes_eq-Decides}
+use Rattle.lvm_num.proofs.Booleans.{and_false}
 use Rattle.lvm_keeps.specs.Falls.{NeverStandsStill}
 use Rattle.lvm_keeps.proofs.Lists.{all_at, count_cons}
 use Rattle.lvm_keeps.proofs.Small.{both, is_false, not_so}
@@ -75,14 +75,6 @@ use Rattle.lvm_keeps_events.proofs.Chosen.{there_now}
 
 -- ---- tests and lists
 
-or_both : (a b : Bool) → a || b ≡ false → (a ≡ false) × (b ≡ false)
-or_both true b e = not_so (sym e)
-or_both false b e = (refl, e)
-
-and_false : (a : Bool) → a && false ≡ false
-and_false true = refl
-and_false false = refl
-
 or_none : (a b : Option Event) → or_next a b ≡ None → (a ≡ None) × (b ≡ None)
 or_none None b e = (refl, e)
 or_none (Some it) b e = absurd (cc e)
@@ -90,7 +82,7 @@ or_none (Some it) b e = absurd (cc e)
 module _ {A : Type 0} where
   pub all_false : (t : A → Bool) (xs : List A) → list_any t xs ≡ false → AllByRecursion (λ (x : A). t x ≡ false) xs
   all_false t [] none = tt
-  all_false t (x ∷ xs) none = let it = or_both (t x) (list_any t xs) none in (it.0, all_false t xs it.1)
+  all_false t (x ∷ xs) none = let it = or_parts (t x) (list_any t xs) none in (it.0, all_false t xs it.1)
 
   none_any : (t : A → Bool) (xs : List A) → AllByRecursion (λ (x : A). t x ≡ false) xs → list_any t xs ≡ false
   none_any t [] all = refl
@@ -149,7 +141,7 @@ no_target how ts idle none = sym (states_wait ts) ∙ by how none
 
 all_ended : (ts : List Target) → list_any (λ (t : Target). is_flying t.state) ts ≡ false → list_any (λ (t : Target). is_unstarted t.state) ts ≡ false → are_over ts ≡ true
 all_ended [] a b = refl
-all_ended (t ∷ ts) a b = by t.state (or_both (is_flying t.state) (list_any (λ (u : Target). is_flying u.state) ts) a) (or_both (is_unstarted t.state) (list_any (λ (u : Target). is_unstarted u.state) ts) b) (λ e f. all_ended ts e f)
+all_ended (t ∷ ts) a b = by t.state (or_parts (is_flying t.state) (list_any (λ (u : Target). is_flying u.state) ts) a) (or_parts (is_unstarted t.state) (list_any (λ (u : Target). is_unstarted u.state) ts) b) (λ e f. all_ended ts e f)
   where
     by : (st : TargetState) → (is_flying st ≡ false) × (list_any (λ (u : Target). is_flying u.state) ts ≡ false) → (is_unstarted st ≡ false) × (list_any (λ (u : Target). is_unstarted u.state) ts ≡ false)
         → (list_any (λ (u : Target). is_flying u.state) ts ≡ false → list_any (λ (u : Target). is_unstarted u.state) ts ≡ false → are_over ts ≡ true) → is_ended st && are_over ts ≡ true
@@ -222,7 +214,7 @@ module _ (core : Core) (wanted : (p : Pp) → is_wanted_stale core p ≡ is_stal
   none_sure [] over kept few = refl
   none_sure (t ∷ ts) over kept few =
       let a = both (is_ended t.state) (are_over ts) over in
-      let b = or_both (is_done t.state && is_sure core t.pp) (list_any (λ (u : Target). is_done u.state && is_sure core u.pp) ts) kept in
+      let b = or_parts (is_done t.state && is_sure core t.pp) (list_any (λ (u : Target). is_done u.state && is_sure core u.pp) ts) kept in
       let more = count_cons (is_failed_and_sure core) t ts in
       ap (λ c. c && list_all (λ (u : Target). is_settled core u.pp) ts) (settled t.pp ∙ by (is_done t.state) (is_failed t.state) (is_sure core t.pp) (is_stale core t.pp) (sure_is t.pp) a.0 b.0 (omega (arith, more, few))) ∙ none_sure ts a.1 b.1 (omega (arith, more, few))
     where
@@ -241,7 +233,7 @@ module _ (core : Core) (wanted : (p : Pp) → is_wanted_stale core p ≡ is_stal
       a = both (is_ended t.state) (are_over ts) over
 
       b : (is_done t.state && is_sure core t.pp ≡ false) × (list_any (λ (u : Target). is_done u.state && is_sure core u.pp) ts ≡ false)
-      b = or_both (is_done t.state && is_sure core t.pp) (list_any (λ (u : Target). is_done u.state && is_sure core u.pp) ts) kept
+      b = or_parts (is_done t.state && is_sure core t.pp) (list_any (λ (u : Target). is_done u.state && is_sure core u.pp) ts) kept
 
       failed : (d f u : Bool) → u ≡ true → d || f ≡ true → d && u ≡ false → count_if (f && u) ≡ 1
       failed true f true e over_so not_kept = not_so (sym not_kept)
@@ -277,7 +269,7 @@ module _ (core : Core) (wanted : (p : Pp) → is_wanted_stale core p ≡ is_stal
 
 found_none : (es : List CacheEntry) (lv group : ℕ) → has_entry es lv group ≡ false → pins_of es lv group ≡ 0
 found_none [] lv group none = refl
-found_none (e ∷ es) lv group none = let it = or_both (is_entry lv group e) (has_entry es lv group) none in ap (λ b. option_map_or (λ (x : CacheEntry). x.pins) (if b then Some e else find (is_entry lv group) es) 0) it.0 ∙ found_none es lv group it.1
+found_none (e ∷ es) lv group none = let it = or_parts (is_entry lv group e) (has_entry es lv group) none in ap (λ b. option_map_or (λ (x : CacheEntry). x.pins) (if b then Some e else find (is_entry lv group) es) 0) it.0 ∙ found_none es lv group it.1
 
 unpinned_all : (es : List CacheEntry) → Differ es → ((lv group : ℕ) → pins_of es lv group ≡ 0) → count_by (λ (e : CacheEntry). not (is_unpinned e)) es ≡ 0
 unpinned_all [] differ none = refl
@@ -572,7 +564,7 @@ module _ (s : State) (sound : IsSound s) (on : s.core.power ≡ power.On) (votes
         where
           of : (rows : List PvRow) → list_any (λ (r : PvRow). has core.status.writes.unstarted r.disk) rows ≡ false → list_any (λ (r : PvRow). has core.status.writes.unstarted r.disk || has core.status.writes.started r.disk) rows ≡ false
           of [] e = refl
-          of (r ∷ rows) e = let it = or_both (has core.status.writes.unstarted r.disk) (list_any (λ (q : PvRow). has core.status.writes.unstarted q.disk) rows) e in
+          of (r ∷ rows) e = let it = or_parts (has core.status.writes.unstarted r.disk) (list_any (λ (q : PvRow). has core.status.writes.unstarted q.disk) rows) e in
               ap (λ b. (b || has core.status.writes.started r.disk) || list_any (λ (q : PvRow). has core.status.writes.unstarted q.disk || has core.status.writes.started q.disk) rows) it.0
               ∙ ap (λ b. b || list_any (λ (q : PvRow). has core.status.writes.unstarted q.disk || has core.status.writes.started q.disk) rows) (none_out (owner.Status r.disk)) ∙ of rows it.1
 

@@ -1,7 +1,7 @@
 -- Disks of zeros hold no record.
-use Rattle.std.proofs.Common.{◌≡◌, ℕ, zero, suc, ◌<◌, ◌≤◌, ◌&&◌, Bool, true, false, List, ◌++◌, Option, None, Some, Result, refl, ap, ◌∙◌, arith}
+use Rattle.std.proofs.Common.{◌≡◌, ℕ, zero, suc, ◌<◌, ◌≤◌, Bool, true, false, List, ◌++◌, Option, None, Some, Result, refl, ap, ◌∙◌, arith}
 use Rattle.std.specs.Prelude.{if◌then◌else◌, option_and_then, nat_le, nat_lt}
-use Rattle.std.proofs.lemmas.Bool.{ltb-true, leb-true}
+use Rattle.std.proofs.lemmas.Bool.{ltb-true, leb-true, and_parts}
 use Rattle.lvm_num.specs.declared.descriptor.Descriptor.{Descriptor}
 use Rattle.lvm_num.specs.declared.record.Kind.{Kind}
 use Rattle.lvm_num.specs.declared.record.Kind.TheVariants as kind
@@ -40,10 +40,6 @@ none_newest content_of kind.Status sectors zeros =
     let f : record_in kind.Status (joined sectors 128 64) ≡ None = nothing_held kind.Status sectors 128 63 (zeros 128 (omega arith)) in
     λ t. newer (option_and_then (λ r. read_under r.stamp (content_of r.content)) (e t)) (option_and_then (λ r. read_under r.stamp (content_of r.content)) (f t))
 
-and_true : (a b : Bool) → a && b ≡ true → (a ≡ true) × (b ≡ true)
-and_true true b e = (refl, e)
-and_true false b e = absurd cc
-
 module _ (image : Image) (blank : IsBlank image) where
   none_at : {X : Type 0} (content_of : List ℕ → Result X ℕ) (kind : Kind) (d : ℕ) → newest_at content_of kind image d ≡ None
   none_at content_of kind d = by_room (has_records image d) refl
@@ -51,7 +47,7 @@ module _ (image : Image) (blank : IsBlank image) where
       by_room : (room : Bool) → has_records image d ≡ room → (if room then newest_on content_of kind (image.sector d) else None) ≡ None
       by_room false is = refl
       by_room true is =
-          let both = and_true (nat_lt d image.disks) (nat_le data_start (image.size d)) is in
+          let both = and_parts (nat_lt d image.disks) (nat_le data_start (image.size d)) is in
           let there : d < image.disks = ltb-true d image.disks both.0 in
           let large : data_start ≤ image.size d = leb-true data_start (image.size d) both.1 in
           none_newest content_of kind (image.sector d) (λ s lt. blank d s there (omega (arith, lt, large)))

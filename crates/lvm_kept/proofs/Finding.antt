@@ -16,6 +16,7 @@ use Rattle.lvm_num.specs.Votes.{votes_by, votes_in, all_disks, is_enough_to_read
 use Rattle.lvm_num.specs.Record.{Stamped, stamp_lt, newest_below}
 use Rattle.lvm_num.proofs.VotesLemmas.{read_meets_write, read_meets_read}
 use Rattle.lvm_num.proofs.Newest.{is_one, is_last}
+use Rattle.lvm_num.proofs.Booleans.{first_holds}
 use Rattle.lvm_rec.specs.Slots.{newest_on}
 use Rattle.lvm_disk.specs.Device.{Image}
 use Rattle.lvm_kept.specs.Contents.{has_records, newest_at, descriptor_on, status_on, Contents}
@@ -28,10 +29,6 @@ use Rattle.lvm_kept.specs.Committed.{SameVotes, Stands, ImagesAreWithin, QuorumM
 pub passed : {X : Type 0} (test : Bool) (o : Option X) (r : X) → (if test then o else None) ≡ Some r → (test ≡ true) × (o ≡ Some r)
 passed true o r e = (refl, e)
 passed false o r e = absurd cc
-
-pub first_passed : (a b : Bool) → a && b ≡ true → a ≡ true
-first_passed true b e = refl
-first_passed false b e = absurd cc
 
 let_through : {X : Type 0} (test : Bool) (o : Option X) → test ≡ true → (if test then o else None) ≡ o
 let_through true o e = refl
@@ -149,8 +146,8 @@ can_read_by c disks id g group f same = sym (enough-too g group (is_voter c disk
 -- a voter is among the disks
 voter_in : (c : Contents) (disks : Disks) (id d : ℕ) → IsTrue (is_voter c disks id d) → IsTrue (disks d)
 unfolding is_voter
-voter_in c disks id d v = first_passed (disks d) (passes (is_of id) (c.descriptor d))
-    (first_passed (disks d && passes (is_of id) (c.descriptor d)) (passes (has_room c d) (descriptor_among c disks id)) v)
+voter_in c disks id d v = first_holds (disks d) (passes (is_of id) (c.descriptor d))
+    (first_holds (disks d && passes (is_of id) (c.descriptor d)) (passes (has_room c d) (descriptor_among c disks id)) v)
 
 pub finds_status : QuorumFindsStatus
 unfolding status_among
@@ -211,7 +208,7 @@ finding_reads c disks id g f =
 -- ---- images
 
 here : {X : Type 0} (content_of : List ℕ → Result X ℕ) (kind : Kind) (image : Image) (d : ℕ) (r : Stamped X) → newest_at content_of kind image d ≡ Some r → d < image.disks
-here content_of kind image d r e = ltb-true d image.disks (first_passed (nat_lt d image.disks) (nat_le data_start (image.size d)) (passed (has_records image d) (newest_on content_of kind (image.sector d)) r e).0)
+here content_of kind image d r e = ltb-true d image.disks (first_holds (nat_lt d image.disks) (nat_le data_start (image.size d)) (passed (has_records image d) (newest_on content_of kind (image.sector d)) r e).0)
 
 pub images_within : ImagesAreWithin
 unfolding descriptor_on status_on

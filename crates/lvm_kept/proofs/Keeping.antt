@@ -16,10 +16,7 @@ use Rattle.lvm_num.specs.Geometry.{data_start}
 use Rattle.lvm_kept.specs.Moments.{Calm}
 use Rattle.lvm_kept.specs.Raw.{raw_request, Carries}
 use Rattle.lvm_kept.proofs.Values.{Among, after_cut, cut_adds_none, cut_adds_more, cut_adds_it, also_adds, also_is, known_more, open_now, closes}
-
-pub either : (b : Bool) → (b ≡ true) ⊎ (b ≡ false)
-either true = inl refl
-either false = inr refl
+pub use Rattle.std.proofs.lemmas.Bool.{cases_Bool as either}
 
 -- what a history makes of each block after a cut, seen as one more entry
 pub of_kept : (image : Image) (facts : List Fact) → RawKept image facts → (d b : ℕ) → d < image.disks → data_start ≤ b → b < image.size d → May (cut b (known facts (Disk d) b)) (image.sector d b)

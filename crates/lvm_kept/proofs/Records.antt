@@ -21,6 +21,7 @@ use Rattle.lvm_kept.specs.Contents.{newest_at, descriptor_on, status_on, note_on
 use Rattle.lvm_kept.specs.Plans.{ChangesBy}
 use Rattle.lvm_kept.specs.Torn.{NewestStays, RecordWrite, on_disk, IsOfRecord, IsOtherOrRecord, StandsOn, MayWriteAll, written, NewestIsOldOrNew, WholeIsNew, DescriptorWriteShows, StatusWriteShows, EarlierStaysBefore}
 use Rattle.lvm_kept.proofs.Contained.{room-same, newest-same, at-same, note-same, data-same}
+pub use Rattle.lvm_num.proofs.Booleans.{clash as never}
 
 -- ---- places
 
@@ -55,10 +56,6 @@ slot-to kind.Status slot k two lt = omega arith
 pub is_or_not : (b : Bool) → IsTrue b ⊎ IsFalse b
 is_or_not true = inl refl
 is_or_not false = inr refl
-
-pub never : (b : Bool) → IsTrue b → IsFalse b → ⊥
-never true t f = absurd cc
-never false t f = absurd cc
 
 -- what a plan brings to the place of a part of the record is that part
 pub part_is : (w : RecordWrite) (d part : ℕ) (value : Sector) → Frames w.kind w.framed → w.slots d < 2 → part < record_sectors (length w.framed.content)

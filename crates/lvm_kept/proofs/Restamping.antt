@@ -2,7 +2,7 @@
 use Rattle.std.proofs.Common.{◌≡◌, ◌⊎◌, inl, inr, ⊎_elim, ℕ, ◌<◌, Bool, true, false, ◌&&◌, List, [], ◌∷◌, ◌++◌, Option, Some, None, refl, sym, ap, subst, ◌∙◌}
 use Rattle.std.specs.Prelude.{IsTrue, ◌==◌, not, if◌then◌else◌, filter}
 use Rattle.std.specs.List.{AllByRecursion}
-use Rattle.std.proofs.lemmas.Bool.{eqb-true}
+use Rattle.std.proofs.lemmas.Bool.{eqb-true, and_parts, and_from}
 use Rattle.std.proofs.lemmas.Bool.Decides.{nat_tests}
 use Rattle.std.proofs.Common.{arith}
 use Rattle.lvm_num.specs.declared.record.Stamp.{Stamp}
@@ -34,14 +34,6 @@ use Rattle.lvm_kept.proofs.SameBlocks.{same_blocks}
 
 -- ---- fewer disks
 
-both : (a b : Bool) → a && b ≡ true → (a ≡ true) × (b ≡ true)
-both true b e = (refl, e)
-both false b e = absurd cc
-
-and_true : (a b : Bool) → a ≡ true → b ≡ true → a && b ≡ true
-and_true true b p q = q
-and_true false b p q = absurd cc
-
 -- a member in a set is one among all disks
 among_all : (in_set own room : Bool) → in_set && own && room ≡ true → true && own && room ≡ true
 among_all true own room e = e
@@ -66,7 +58,7 @@ narrower P p q more xs = narrower_on P p q xs (λ x one. more x)
 module _ (c : Contents) (small big : Disks) (more : (d : ℕ) → IsTrue (small d) → IsTrue (big d)) where
   fewer_copies : (P : Pp → Type 0) (status : Option (Stamped Status)) (row : LvRow) (lp : ℕ) → AllByRecursion P (fresh_on big status row lp) → AllByRecursion P (fresh_on small status row lp)
   fewer_copies P status row lp all = narrower P (λ (p : Pp). big p.disk && not (is_stale_by status p)) (λ (p : Pp). small p.disk && not (is_stale_by status p))
-      (λ p e. let parts = both (small p.disk) (not (is_stale_by status p)) e in and_true (big p.disk) (not (is_stale_by status p)) (more p.disk parts.0) parts.1)
+      (λ p e. let parts = and_parts (small p.disk) (not (is_stale_by status p)) e in and_from (big p.disk) (not (is_stale_by status p)) (more p.disk parts.0) parts.1)
       (copies_of row lp) all
 
   fewer_differ : (status : Option (Stamped Status)) (row : LvRow) (lp : ℕ) (mode : Mode) (lv : ℕ) (k : Known) (b : ℕ)

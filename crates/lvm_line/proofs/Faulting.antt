@@ -12,7 +12,7 @@ use Rattle.lvm_parse.specs.declared.command.Command.{Command}
 use Rattle.lvm_operands.specs.declared.rest.Misfit.{Misfit}
 use Rattle.lvm_status.specs.Update.{Stored}
 use Rattle.lvm_commit.specs.Settling.{HasLostQuorum, there}
-use Rattle.lvm_session.specs.State.{Core, State as Session}
+use Rattle.lvm_session.specs.State.{Core, State}
 use Rattle.lvm_session.specs.Judging.{is_missing}
 use Rattle.lvm_core.specs.declared.fault.CommitFault.{CommitFault}
 use Rattle.lvm_core.specs.declared.fault.CommitFault.TheVariants as commit
@@ -40,11 +40,11 @@ at_most_half group have few = go group.quorum few
     go false is = let none = ltb-false 0 have is in omega (arith, none)
 
 -- what is left has the counts of the shelf
-counts_left : (ends : Bool) (left : Session) (old new : ScriptState) → IsLeft ends left old new → new.moment.device.counts ≡ left.device.counts
+counts_left : (ends : Bool) (left : State) (old new : ScriptState) → IsLeft ends left old new → new.moment.device.counts ≡ left.device.counts
 counts_left true left old new over = ap (λ (d : Device). d.counts) over.lit
 counts_left false left old new stays = ap (λ (d : Device). d.counts) stays.device
 
-none_left : (left : Session) (old new : ScriptState) → IsLeft true left old new → new.session ≡ None
+none_left : (left : State) (old new : ScriptState) → IsLeft true left old new → new.session ≡ None
 none_left left old new over = over.session
 
 -- why the turns before the command have ended is no want of votes for a quorum
@@ -81,7 +81,7 @@ rose_in_line left a b c few before later =
     subst (λ (n : ℕ). RoseBy n a c) sum (rose_then (patience_of_line - left) left a b c before later)
 
 module _ (read : Result (Option Command) Misfit) (other : IsOther read) (failed : (d : ℕ) (a b : Counts) → Rose (a.faults d) (b.faults d) → HasFailed read d a b) where
-  module _ (old new : ScriptState) (core : Core) (patience : ℕ) (mid left : Session) (some : old.session ≡ Some core) (drains : Drains core old patience mid) where
+  module _ (old new : ScriptState) (core : Core) (patience : ℕ) (mid left : State) (some : old.session ≡ Some core) (drains : Drains core old patience mid) where
     faults_since : (disk : ℕ) (n : Counts) → Rose (mid.device.counts.faults disk) (n.faults disk) → Rose (old.moment.device.counts.faults disk) (n.faults disk)
     faults_since disk n rose = rose_before (drains.runs.leaves.keeps.counts.faults disk) rose
 
@@ -145,6 +145,6 @@ module _ (read : Result (Option Command) Misfit) (other : IsOther read) (failed 
     }
     known_so plain facts leaves = record { cause = has_by read _ old new other tt; off = λ is. absurd (cc (is)); unwritten = λ have total is. absurd (cc (is)) }
 
-  pub known_group : (why : GroupFault) (old new : ScriptState) (core : Core) (patience : ℕ) (mid left : Session) → old.session ≡ Some core → Drains core old patience mid → FaultFacts why patience mid left → IsLeft (ends_session why) left old new
+  pub known_group : (why : GroupFault) (old new : ScriptState) (core : Core) (patience : ℕ) (mid left : State) → old.session ≡ Some core → Drains core old patience mid → FaultFacts why patience mid left → IsLeft (ends_session why) left old new
       → Known read (refusal_for why) old new
   known_group why old new core patience mid left some drains facts leaves = known_so old new core patience mid left some drains why facts leaves

@@ -10,7 +10,7 @@ use Rattle.lvm_parse.specs.Grammar.{line_of}
 use Rattle.lvm_parse.specs.Answering.{IsMkvgLine}
 use Rattle.lvm_core.specs.declared.parts.Room.{Room}
 use Rattle.lvm_session.specs.State.{Core}
-use Rattle.lvm_copy_lines.specs.passed.Stage.{CommandEnds, IsAsked, IsLeftBy, is_unheard, GoesOn, InFull, Shows, WithoutMemory, most_refusals, IsBetweenStage, IsFitting}
+use Rattle.lvm_copy_lines.specs.passed.Stage.{CommandEnds, IsAsked, IsLeftBy, is_unheard, GoesOn, InFull, Shows, WithoutMemory, most_refusals, IsBetweenStage, IsFittingStage}
 use Rattle.lvm_copy_lines.specs.passed.Stage.{history_in, history_of, session_in, shelf_in, session_of, state_in, IsBetween, ScriptState, without_facts}
 use Rattle.lvm_copy_lines.specs.passed.Stage.{Holder, Reply, Stage}
 use Rattle.lvm_copy_lines.specs.passed.GroupLines.{MkvgDoes, NoMemoryForLine, NoMkvgWhileOn, DiskShows, DiskOfGroup, GroupShows, GroupThatIsOn}
@@ -153,7 +153,7 @@ served_by device room it other old kept answer new says last asked is left same 
     (subst (λ (r : Reply). CommandEnds device (λ log. CommandDoes log room other) (IsOrder (Ok (Some other))) (role_of (Ok (Some other))) old new r last last) (sym same) ends) count
 
 -- and one that changes nothing
-pub listed_by : {S : Type 0} (device : S → Device) (room : Room) (it other : Command) (old new : Stage S) (answer : Reply) (last asked : ℕ) → it ≡ other → IsFitting old → IsBetweenStage device old → new ≡ old → most_refusals answer ≤ 1
+pub listed_by : {S : Type 0} (device : S → Device) (room : Room) (it other : Command) (old new : Stage S) (answer : Reply) (last asked : ℕ) → it ≡ other → IsFittingStage old → IsBetweenStage device old → new ≡ old → most_refusals answer ≤ 1
     → ((log : Log) → state_in device new last ≡ state_in device old last → CommandDoes log room other (state_in device old last) (state_in device new last) answer) → asked ≡ asked_after (Ok (Some other)) asked
     → CommandIsDone device room it old new answer last last asked asked
 listed_by device room it other old new answer last asked is fits between same one does count =
@@ -162,7 +162,7 @@ listed_by device room it other old new answer last asked is fits between same on
       does = does (without_facts (history_in old)) (ap (λ (s : Stage _). state_in device s last) same);
       goes = same_goes (history_in old).run (role_of (Ok (Some other))) answer (state_in device old last) (state_in device new last) between one (ap (λ (s : Stage _). state_in device s last) same);
       rooms = ap (λ (s : Stage _). without_facts (history_in s)) same;
-      fits = subst IsFitting (sym same) fits;
+      fits = subst IsFittingStage (sym same) fits;
       orders = λ none. ap (λ (s : Stage _). (device (shelf_in s)).orders) same;
     })
     count

@@ -7,7 +7,7 @@ use Rattle.lvm_disk.proofs.Rising.{rose_after}
 use Rattle.lvm_session.specs.declared.answers.Turned.{Turned}
 use Rattle.lvm_session.specs.declared.answers.Turned.TheVariants as turned
 use Rattle.lvm_session.specs.Calls.{has_numbers}
-use Rattle.lvm_session.specs.State.{Core, State as Session, votes_there}
+use Rattle.lvm_session.specs.State.{Core, State, votes_there}
 use Rattle.lvm_turn_losses.proofs.Votes.{votes_go}
 use Rattle.lvm_posts.specs.declared.asked.Asked.{Asked}
 use Rattle.lvm_posts.specs.declared.fault.RangeFault.{RangeFault}
@@ -17,7 +17,7 @@ use Rattle.lvm_copy_lines.specs.passed.AskRangeFaultVariants as ask
 use Rattle.lvm_copy_lines.specs.Resyncing.{IsSynced, NoGroupForSync, NoVolumeForSync, NothingSyncs, OtherGroupForSync, SyncGroupDoes, SyncVolumeDoes, SyncsGroup, SyncsVolume, sync_reply}
 use Rattle.lvm_copy_lines.specs.passed.Resync.{Copy, SyncCause, SyncFault, group_copies, group_fault, volume_copies, volume_fault}
 use Rattle.lvm_copy_lines.specs.passed.SyncFaultVariants as sync
-use Rattle.lvm_copy_lines.specs.passed.RangeLines.{FailsBy, FailsIf, LeavesBy, StopsAs, session_over}
+use Rattle.lvm_copy_lines.specs.passed.RangeLines.{FailsBy, FailsIf, CarriesBy, StopsAs, session_over}
 use Rattle.lvm_copy_lines.specs.passed.RangeLines.{Tells, TellsAll, TellsNone, Ending, ask_refusal, range_refusal, EndsWell, Fails, IsFinished}
 use Rattle.lvm_copy_lines.specs.passed.RangeLines.{Finishes, NoMemory, NotBegun, NotPosted, NotThere, OnVolume, Posted, Posts, PostDoes, RdDoes}
 use Rattle.lvm_copy_lines.specs.passed.RangeLines.{ShowsBlocks, ShowsThem, There, WhileOff, WrDoes, NoStepWhileOff, NothingMoves, StepDoes, Steps}
@@ -60,11 +60,11 @@ volume_told name Happens why old new told (There core lv some its happens) = tol
 module _ (old new : ScriptState) (between : IsBetween old.moment old.session old.posts) where
   -- ---- rd and wr
 
-  module _ (write : Option ℕ) (Says : Session → Asked → Reply → Type 0) (lv at count : ℕ) (core : Core) (some : old.session ≡ Some core) (end : Session) (asked : Asked) where
+  module _ (write : Option ℕ) (Says : State → Asked → Reply → Type 0) (lv at count : ℕ) (core : Core) (some : old.session ≡ Some core) (end : State) (asked : Asked) where
     range_told : (why : RangeFault) → IsFinished write lv at count core old new end asked (Err why) → Told (range_refusal why) old new
     range_told why its = by why its.caused its.ends
       where
-        counts : LeavesBy end.core.power end old.posts old.last new → new.moment.device.counts ≡ end.device.counts
+        counts : CarriesBy end.core.power end old.posts old.last new → new.moment.device.counts ≡ end.device.counts
         counts left = leaves_counts end old.posts old.last new left
 
         by : (w : RangeFault) → RangeCause lv its.left (session_over old core) end w → FailsBy w end old.posts old.last new → Told (range_refusal w) old new
@@ -79,13 +79,13 @@ module _ (old new : ScriptState) (between : IsBetween old.moment old.session old
         by fault.ReadFailed lost left = told_easy _ old new (failed_cause old new core end between its.runs.leaves its.sound (counts left) lost) (λ e. cc) (λ h t e. cc)
         by (fault.NoFresh lp) none left = told_easy _ old new tt (λ e. cc) (λ h t e. cc)
 
-  module _ (write : Option ℕ) (Says : Session → Asked → Reply → Type 0) (why : Refusal) (says : (end : Session) (asked : Asked) → Says end asked (reply.Refused why) → Told why old new) where
+  module _ (write : Option ℕ) (Says : State → Asked → Reply → Type 0) (why : Refusal) (says : (end : State) (asked : Asked) → Says end asked (reply.Refused why) → Told why old new) where
     finish_told : (lv at count : ℕ) (core : Core) → old.session ≡ Some core → Finishes write Says lv at count core old new (reply.Refused why) → Told why old new
     finish_told lv at count core some (NotBegun none) = told_by why (ask_refusal none.why) old new none.refused.0 (told_ask none.why old new)
     finish_told lv at count core some (EndsWell end asked done shows) = says end asked shows
     finish_told lv at count core some (Fails end asked failed done is) = told_by why (range_refusal failed) old new is (range_told write Says lv at count core some end asked failed done)
 
-  blocks_told : (at : ℕ) (why : Refusal) (end : Session) (asked : Asked) → ShowsBlocks at end asked (reply.Refused why) → Told why old new
+  blocks_told : (at : ℕ) (why : Refusal) (end : State) (asked : Asked) → ShowsBlocks at end asked (reply.Refused why) → Told why old new
   blocks_told at why end asked (ShowsThem got) = by got.shows
     where
       by : {text : List ℕ} → Shows text (reply.Refused why) → Told why old new
@@ -129,7 +129,7 @@ module _ (old new : ScriptState) (between : IsBetween old.moment old.session old
   synced_told : (refused : Core → Option SyncFault) (copies : List Copy) (core : Core) (why : Refusal) → old.session ≡ Some core → IsSynced refused copies core old new (reply.Refused why) → Told why old new
   synced_told refused copies core why some its = by its.result its.caused its.says
     where
-      end : Session
+      end : State
       end = its.end
 
       counts : new.moment.device.counts ≡ end.device.counts
@@ -179,7 +179,7 @@ module _ (old new : ScriptState) (between : IsBetween old.moment old.session old
   step_told turns why (NothingMoves core some none is same) = absurd (cc (is))
   step_told turns why (Steps core some volumes stepped) = by stepped.how stepped.stops stepped.says
     where
-      end : Session
+      end : State
       end = stepped.end
 
       counts : new.moment.device.counts ≡ end.device.counts

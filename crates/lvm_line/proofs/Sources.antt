@@ -6,7 +6,7 @@ use Rattle.lvm_disk.specs.Counts.{Counts, Rose}
 use Rattle.lvm_core.specs.Looking.{IsNumberOf}
 use Rattle.lvm_session.specs.Causes.{AnyFailedSince, was_usable}
 use Rattle.lvm_session.specs.Judging.{copies_in}
-use Rattle.lvm_session.specs.State.{Core, State as Session, state}
+use Rattle.lvm_session.specs.State.{Core, State, state}
 use Rattle.lvm_posts.specs.declared.asked.Asked.{Asked}
 use Rattle.lvm_posts.specs.declared.fault.RangeFault.{RangeFault}
 use Rattle.lvm_posts.specs.declared.fault.RangeFault.TheVariants as fault
@@ -29,8 +29,8 @@ as_refused : (why other : Refusal) (lp : ℕ) → reply.Refused why ≡ reply.Re
 as_refused why other lp says is = cc (says, is)
 
 module _ (old new : ScriptState) (name : List ℕ) (lp : ℕ) where
-  module _ (write : Option ℕ) (Says : Session → Asked → Reply → Type 0) (why : Refusal) (is_so : why ≡ refusal.NoFresh lp) (never : (end : Session) (asked : Asked) → Says end asked (reply.Refused why) → ⊥) (at count : ℕ) where
-    lacked : (core : Core) (lv : ℕ) → old.session ≡ Some core → IsNumberOf core.descriptor.lvs name lv → (end : Session) (asked : Asked) (failed : RangeFault) → IsFinished write lv at count core old new end asked (Err failed)
+  module _ (write : Option ℕ) (Says : State → Asked → Reply → Type 0) (why : Refusal) (is_so : why ≡ refusal.NoFresh lp) (never : (end : State) (asked : Asked) → Says end asked (reply.Refused why) → ⊥) (at count : ℕ) where
+    lacked : (core : Core) (lv : ℕ) → old.session ≡ Some core → IsNumberOf core.descriptor.lvs name lv → (end : State) (asked : Asked) (failed : RangeFault) → IsFinished write lv at count core old new end asked (Err failed)
         → range_refusal failed ≡ refusal.NoFresh lp → LackedSource name lp old new
     lacked core lv some named end asked failed its is = by failed its.caused its.ends is
       where
@@ -55,7 +55,7 @@ module _ (old new : ScriptState) (name : List ℕ) (lp : ℕ) where
     volume_lacks (NotThere core some none says) = absurd (let e = as_refused why refusal.NoVolume lp says.0 is_so in cc e)
     volume_lacks (There core lv some named done) = finished_lacks core lv some named done
 
-  never_blocks : (at : ℕ) (why : Refusal) → why ≡ refusal.NoFresh lp → (end : Session) (asked : Asked) → ShowsBlocks at end asked (reply.Refused why) → ⊥
+  never_blocks : (at : ℕ) (why : Refusal) → why ≡ refusal.NoFresh lp → (end : State) (asked : Asked) → ShowsBlocks at end asked (reply.Refused why) → ⊥
   never_blocks at why is_so end asked (NoMemory says) = let e = as_refused why refusal.Memory lp says is_so in cc e
   never_blocks at why is_so end asked (ShowsThem got) = by got.shows
     where

@@ -6,7 +6,7 @@ use Rattle.lvm_core.specs.declared.parts.Room.{Room}
 use Rattle.lvm_parse.specs.declared.command.Command.{Command}
 use Rattle.lvm_operands.specs.declared.rest.Misfit.{Misfit}
 use Rattle.lvm_parse.specs.Grammar.{line_of}
-use Rattle.lvm_copy_lines.specs.passed.Stage.{CommandEnds, IsBetweenStage, IsFitting, IsLeftBy, IsStuck, Reply, Stage, history_in, is_unheard, most_refusals}
+use Rattle.lvm_copy_lines.specs.passed.Stage.{CommandEnds, IsBetweenStage, IsFittingStage, IsLeftBy, IsStuck, Reply, Stage, history_in, is_unheard, most_refusals}
 use Rattle.lvm_copy_lines.specs.passed.Stage.{shelf_in, state_in, without_facts}
 use Rattle.lvm_copy_lines.proofs.passed.Stage.{left_still}
 use Rattle.lvm_line.specs.Lines.{CommandDoes, CommandInPlace, DoesInPlace, IsFinished, IsOrder, LineDoes, LineEnds, StandsBehind, asked_after, role_of}
@@ -14,7 +14,7 @@ use Rattle.lvm_line.specs.declared.line.InPlace.{InPlace}
 use Rattle.lvm_line.specs.declared.line.InPlace.TheVariants as in_place
 use Rattle.lvm_line.proofs.Lining.{line_read, line_still, listed_by, stage_named}
 
-module _ {S : Type 0} (device : S → Device) (old : Stage S) (fits : IsFitting old) (between : IsBetweenStage device old) where
+module _ {S : Type 0} (device : S → Device) (old : Stage S) (fits : IsFittingStage old) (between : IsBetweenStage device old) where
   -- a listing, behind which all is as it was
   pub lists_in_place : (c other : Command) (answer : Reply) → c ≡ other → most_refusals answer ≤ 1 → is_unheard answer ≡ false → 0 ≡ asked_after (Ok (Some other)) 0
       → ((log : Log) (room : Room) (new : Stage S) (last : ℕ) → state_in device new last ≡ state_in device old last → CommandDoes log room other (state_in device old last) (state_in device new last) answer)

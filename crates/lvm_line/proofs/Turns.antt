@@ -9,10 +9,10 @@ use Rattle.lvm_session.specs.declared.open.Power.{Power}
 use Rattle.lvm_session.specs.declared.open.Power.TheVariants as power
 use Rattle.lvm_session.specs.Causes.{AnyFailedSince}
 use Rattle.lvm_session.specs.Sound.{IsSound, is_dark}
-use Rattle.lvm_session.specs.State.{Core, State as Session, state}
+use Rattle.lvm_session.specs.State.{Core, State, state}
 use Rattle.lvm_turn_losses.specs.Losing.{LostForFaults}
 use Rattle.lvm_copy_lines.specs.passed.Ranges.{AnyFailed}
-use Rattle.lvm_copy_lines.specs.passed.RangeLines.{FailsIf, IsOverWith, LeavesBy}
+use Rattle.lvm_copy_lines.specs.passed.RangeLines.{FailsIf, IsOverWith, CarriesBy}
 use Rattle.lvm_copy_lines.specs.passed.Running.{LeavesSession}
 use Rattle.lvm_copy_lines.specs.passed.Stage.{IsBetween, IsClosed, ScriptState, patience_of_line}
 use Rattle.lvm_line.specs.Causes.{HasFailedInSession}
@@ -23,17 +23,17 @@ closed_counts : (p : Power) (old new : Device) → IsClosed p old new → new.co
 closed_counts power.On old new is = ap (λ (d : Device). d.counts) is
 closed_counts _ old new is = ap (λ (d : Device). d.counts) is
 
-module _ (end : Session) (posts : List Post) (last : ℕ) (new : ScriptState) where
+module _ (end : State) (posts : List Post) (last : ℕ) (new : ScriptState) where
   pub over_counts : IsOverWith end posts last new → new.moment.device.counts ≡ end.device.counts
   over_counts over = closed_counts end.core.power end.device new.moment.device over.shelf
 
-  left_counts : (p : Power) → LeavesBy p end posts last new → new.moment.device.counts ≡ end.device.counts
+  left_counts : (p : Power) → CarriesBy p end posts last new → new.moment.device.counts ≡ end.device.counts
   left_counts power.On is = ap (λ (s : ScriptState). s.moment.device.counts) is
   left_counts power.Off over = over_counts over
   left_counts power.Dark over = over_counts over
   left_counts power.Stuck over = over_counts over
 
-  pub leaves_counts : LeavesBy end.core.power end posts last new → new.moment.device.counts ≡ end.device.counts
+  pub leaves_counts : CarriesBy end.core.power end posts last new → new.moment.device.counts ≡ end.device.counts
   leaves_counts left = left_counts end.core.power left
 
   pub fails_counts : (b : Bool) → FailsIf b end posts last new → new.moment.device.counts ≡ end.device.counts
@@ -42,7 +42,7 @@ module _ (end : Session) (posts : List Post) (last : ℕ) (new : ScriptState) wh
 
 -- ---- what has happened
 
-module _ (old new : ScriptState) (core : Core) (end : Session) (between : IsBetween old.moment old.session old.posts) (leaves : LeavesSession (state old.moment.device core) end) (sound : IsSound end)
+module _ (old new : ScriptState) (core : Core) (end : State) (between : IsBetween old.moment old.session old.posts) (leaves : LeavesSession (state old.moment.device core) end) (sound : IsSound end)
     (counts : new.moment.device.counts ≡ end.device.counts) where
   -- the power was on
   pub dark_cause : end.core.power ≡ power.Dark → Rose old.moment.device.counts.cuts new.moment.device.counts.cuts

@@ -1,6 +1,5 @@
 pub mod CopyLines
 pub mod DiskLines
-pub mod Driver
 pub mod Group
 pub mod GroupLines
 pub mod HolderVariants

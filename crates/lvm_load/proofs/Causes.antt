@@ -44,10 +44,6 @@ use Rattle.lvm_load.proofs.Waiting.{asks_wait, behind_waits, fresh_wait, left_by
 
 -- ---- lists of requests
 
-or_true : (b : Bool) → b || true ≡ true
-or_true true = refl
-or_true false = refl
-
 -- one that waits for its client waits
 some_waits : (client id : ℕ) (os : List Open) → list_any (waits_for client id) os ≡ true → list_any is_waiting os ≡ true
 some_waits client id [] is = not_so is

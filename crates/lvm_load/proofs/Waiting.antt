@@ -3,7 +3,7 @@ use Rattle.std.proofs.Common.{◌≡◌, ◌≤◌, ◌<◌, ◌+◌, ◌==◌, 
 use Rattle.std.specs.Prelude.{Err, MatchOption, Ok, is_none, nat_lt, position, set}
 use Rattle.std.specs.List.{list_any}
 use Rattle.std.specs.Option.{option_map_or}
-use Rattle.std.proofs.lemmas.Bool.{cases_lt, eq-eqb, eqb-true, eqb-false, ltb-false, or_right}
+use Rattle.std.proofs.lemmas.Bool.{cases_lt, eq-eqb, eqb-true, eqb-false, ltb-false, or_right, or_parts}
 use Rattle.std.proofs.lemmas.List.{length-append}
 use Rattle.std.proofs.lemmas.List.Folds.{list_any-append}
 use Rattle.std.proofs.lemmas.List.Quantifiers.{position-Some}
@@ -275,16 +275,12 @@ all_waiting first new clients after left k id has = ⊎_elim (λ less. left.own 
         let e : ◌≡◌ {A = Option ℕ} None (Some id) = sym past ∙ sym (left.others k le) ∙ has in
         cc e
 
-neither : (a b : Bool) → a || b ≡ false → (a ≡ false) × (b ≡ false)
-neither true b is = absurd (cc is)
-neither false b is = (refl, is)
-
 -- so behind a turn, whether what has landed is taken or nothing has
 pub behind_waits : (old mid new : State) (clients after : List Client) (answer : Turned) → AreWaiting old.core clients → TurnMakes old mid answer → (b : Bool) → might_have_landed old mid answer ≡ b → TakesWhere b mid new clients after
     → AreWaiting new.core after
 behind_waits old mid new clients after answer waiting made true may takes k id has = all_waiting mid new clients after (left_by_each mid clients (length clients) new after takes) k id has
 behind_waits old mid new clients after answer waiting made false may still k id has =
-    let no = neither (nat_lt (length old.core.history.facts) (length mid.core.history.facts)) (is_last answer) may in
+    let no = or_parts (nat_lt (length old.core.history.facts) (length mid.core.history.facts)) (is_last answer) may in
     let same = turn_keeps old mid answer made no.1 (ltb-false (length old.core.history.facts) (length mid.core.history.facts) no.0) in
     ap (λ (s : State). list_any (waits_for (k + 1) id) s.core.requests) still.0 ∙ same (k + 1) id ∙ waiting k id (ap (λ (cs : List Client). open_of cs k) (sym still.1) ∙ has)
 

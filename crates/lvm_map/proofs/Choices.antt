@@ -10,7 +10,7 @@ use Rattle.std.proofs.lemmas.List.Kept.{AllPairs-filter}
 use Rattle.lvm_num.specs.declared.place.Pp.{Pp}
 use Rattle.lvm_num.specs.declared.descriptor.PvRow.{PvRow}
 use Rattle.lvm_num.specs.Disks.{Disks}
-use Rattle.lvm_map.specs.FirstFit.{is_on, free_of, may_take}
+use Rattle.lvm_map.specs.FirstFit.{has_partition_on, free_of, may_take}
 use Rattle.lvm_map.specs.Room.{is_open, IsTaken, Takes}
 use Rattle.lvm_map.proofs.FreeLists.{free-head_disk, members-taken}
 
@@ -19,14 +19,14 @@ first pps = slice_get pps 0
 
 -- ---- the first choice is that of the first open member
 
-closed : (others free more : List Pp) (lists : List (List Pp)) → ((pp : Pp) (rest : List Pp) → free ≡ pp ∷ rest → is_on others pp.disk ≡ true)
+closed : (others free more : List Pp) (lists : List (List Pp)) → ((pp : Pp) (rest : List Pp) → free ≡ pp ∷ rest → has_partition_on others pp.disk ≡ true)
     → first more ≡ option_and_then first (find (is_open others) lists)
     → first more ≡ option_and_then first (cond (is_open others free) (Some free) (find (is_open others) lists))
 closed others [] more lists on later = later
 closed others (pp ∷ rest) more lists on later =
     later ∙ ap (λ b. option_and_then first (cond (not b) (Some (pp ∷ rest)) (find (is_open others) lists))) (sym (on pp rest refl))
 
-open_ : (others free more : List Pp) (lists : List (List Pp)) → ((pp : Pp) (rest : List Pp) → free ≡ pp ∷ rest → is_on others pp.disk ≡ false)
+open_ : (others free more : List Pp) (lists : List (List Pp)) → ((pp : Pp) (rest : List Pp) → free ≡ pp ∷ rest → has_partition_on others pp.disk ≡ false)
     → first more ≡ option_and_then first (find (is_open others) lists)
     → first (free ++ more) ≡ option_and_then first (cond (is_open others free) (Some free) (find (is_open others) lists))
 open_ others [] more lists off later = later
@@ -37,14 +37,14 @@ pub first_choice : (usable : Disks) (used others : List Pp) (rows : List PvRow)
     → first (flat_map (free_of used) (filter (may_take usable others) rows))
     ≡ option_and_then first (find (is_open others) (map (free_of used) (filter (may_take usable []) rows)))
 first_choice usable used others [] = refl
-first_choice usable used others (row ∷ rows) = by_tests (first_choice usable used others rows) (usable row.disk) row.spare (is_on others row.disk) refl
+first_choice usable used others (row ∷ rows) = by_tests (first_choice usable used others rows) (usable row.disk) row.spare (has_partition_on others row.disk) refl
   where
-    its : (b : Bool) → is_on others row.disk ≡ b → (pp : Pp) (rest : List Pp) → free_of used row ≡ pp ∷ rest → is_on others pp.disk ≡ b
-    its b is pp rest same = ap (is_on others) (free-head_disk used row pp rest same) ∙ is
+    its : (b : Bool) → has_partition_on others row.disk ≡ b → (pp : Pp) (rest : List Pp) → free_of used row ≡ pp ∷ rest → has_partition_on others pp.disk ≡ b
+    its b is pp rest same = ap (has_partition_on others) (free-head_disk used row pp rest same) ∙ is
 
     by_tests : first (flat_map (free_of used) (filter (may_take usable others) rows))
         ≡ option_and_then first (find (is_open others) (map (free_of used) (filter (may_take usable []) rows)))
-        → (u s o : Bool) → is_on others row.disk ≡ o
+        → (u s o : Bool) → has_partition_on others row.disk ≡ o
         → first (flat_map (free_of used) (cond (u && not s && not o) (row ∷ filter (may_take usable others) rows) (filter (may_take usable others) rows)))
         ≡ option_and_then first (find (is_open others) (map (free_of used) (cond (u && not s && true) (row ∷ filter (may_take usable []) rows) (filter (may_take usable []) rows))))
     by_tests later false s o is = later

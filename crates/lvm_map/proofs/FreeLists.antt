@@ -2,47 +2,27 @@
 use Rattle.std.proofs.Common.{◌≡◌, ◌≢◌, inl, inr, ℕ, zero, suc, ◌<◌, Bool, true, false, cond, ◌&&◌, ◌||◌, not, List, [], ◌∷◌, ◌++◌, length, map, get_or, set, Some, refl, sym, ap, subst, ◌∙◌, arith}
 use Rattle.std.specs.Prelude.{◌==◌, All, AllPairs, filter, slice_get}
 use Rattle.std.specs.List.{range_with_len}
-use Rattle.std.proofs.lemmas.Bool.{cases_Bool, eqb-true, eq-eqb}
+use Rattle.std.proofs.lemmas.Bool.{cases_Bool}
 use Rattle.std.proofs.lemmas.List.{length-map}
 use Rattle.std.proofs.lemmas.List.Elements.{All-map, All-head, All-tail, All-filter, All-weaker, filter_agree}
 use Rattle.std.proofs.lemmas.List.Folds.{list_any-append}
 use Rattle.std.proofs.lemmas.List.FromFn.{length-range_with_len, get_or-map-range_with_len}
 use Rattle.lvm_num.specs.declared.place.Pp.{Pp}
 use Rattle.lvm_num.specs.declared.descriptor.PvRow.{PvRow}
+use Rattle.lvm_num.specs.Descriptor.{is_pp}
 use Rattle.lvm_num.proofs.Pairs.{AllPairs-right}
+use Rattle.lvm_num.proofs.Booleans.{or_false}
 use Rattle.lvm_map.specs.FirstFit.{is_among, partitions_of, free_of}
+pub use Rattle.lvm_num.proofs.Partitions.{one_partition as is_pp-true}
+pub use Rattle.lvm_num.proofs.Partitions.{same_partition as is_pp-same}
 
 -- ---- one partition
-
-abbrev pub is_pp : Pp → Pp → Bool
-is_pp a b = a.disk == b.disk && a.pp == b.pp
-
-both_true : (a b : Bool) → a && b ≡ true → (a ≡ true) × (b ≡ true)
-both_true true b e = (refl, e)
-both_true false b e = absurd cc
-
-pub is_pp-true : (a b : Pp) → is_pp a b ≡ true → a ≡ b
-is_pp-true a b is =
-    let parts = both_true (a.disk == b.disk) (a.pp == b.pp) is in
-    let disk : a.disk ≡ b.disk = eqb-true a.disk b.disk parts.0 in
-    let pp : a.pp ≡ b.pp = eqb-true a.pp b.pp parts.1 in
-    λ t. record { disk = disk t; pp = pp t }
-
-pub is_pp-same : (a b : Pp) → a ≡ b → is_pp a b ≡ true
-is_pp-same a b same =
-    let disk : a.disk == b.disk ≡ true = eq-eqb a.disk b.disk (ap (λ (p : Pp). p.disk) same) in
-    let pp : a.pp == b.pp ≡ true = eq-eqb a.pp b.pp (ap (λ (p : Pp). p.pp) same) in
-    λ t. disk t && pp t
 
 pub is_pp-apart : (a b : Pp) → a ≢ b → is_pp a b ≡ false
 is_pp-apart a b apart = elim (cases_Bool (is_pp a b)) [
   | inl is ↦ absurd (apart (is_pp-true a b is))
   | inr isnt ↦ isnt
 ]
-
-pub or_false : (a : Bool) → a || false ≡ a
-or_false true = refl
-or_false false = refl
 
 pub among-more : (used : List Pp) (pp x : Pp) → is_among (used ++ pp ∷ []) x ≡ is_among used x || is_pp pp x
 among-more used pp x =

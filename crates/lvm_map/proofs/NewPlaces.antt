@@ -1,7 +1,7 @@
 -- What first fit chooses is free.
-use Rattle.std.proofs.Common.{◌≡◌, ◌≢◌, ℕ, zero, suc, ◌%◌, ◌<◌, ◌≤◌, Bool, true, false, cond, ◌&&◌, ◌||◌, not, List, [], ◌∷◌, ◌++◌, length, get_or, take, Some, nat_lt, refl, sym, ap, subst, ◌∙◌, arith, rules}
+use Rattle.std.proofs.Common.{◌≡◌, ◌≢◌, ℕ, zero, suc, ◌%◌, ◌<◌, ◌≤◌, Bool, true, false, cond, ◌&&◌, not, List, [], ◌∷◌, ◌++◌, length, get_or, take, Some, nat_lt, refl, sym, ap, subst, ◌∙◌, arith, rules}
 use Rattle.std.specs.Prelude.{◌==◌, All, AllPairs, find, filter, flat_map, slice_get}
-use Rattle.std.proofs.lemmas.Bool.{eq-eqb}
+use Rattle.std.proofs.lemmas.Bool.{eq-eqb, not-true, or_parts}
 use Rattle.std.proofs.lemmas.Bool.Decides.{nat_tests}
 use Rattle.std.proofs.lemmas.List.{length-take-le}
 use Rattle.std.proofs.lemmas.List.Elements.{All-head, All-filter, filter_passes}
@@ -12,7 +12,7 @@ use Rattle.lvm_num.specs.declared.descriptor.Descriptor.{Descriptor}
 use Rattle.lvm_num.specs.Descriptor.{IsValid, member_of, partitions_used}
 use Rattle.lvm_num.specs.Disks.{Disks}
 use Rattle.lvm_num.proofs.Pairs.{AllPairs-right}
-use Rattle.lvm_map.specs.FirstFit.{is_among, is_on, partitions_of, free_of, may_take, choices, Asked, others_in, kept_next, IsFirstFit}
+use Rattle.lvm_map.specs.FirstFit.{is_among, has_partition_on, partitions_of, free_of, may_take, choices, Asked, others_in, kept_next, IsFirstFit}
 use Rattle.lvm_map.specs.Laws.{IsNewPlace}
 use Rattle.lvm_map.proofs.FreeLists.{free-head_disk, partitions-at, partitions-size, AllPairs-first}
 use Rattle.lvm_map.proofs.Fitting.{get-within}
@@ -90,19 +90,11 @@ head_below used row pp rest is =
     All-head (λ (p : Pp). p.pp < row.pps) pp rest
     (subst (All (λ (p : Pp). p.pp < row.pps)) is (All-filter (λ p. not (is_among used p)) (λ (p : Pp). p.pp < row.pps) (partitions_of row) (numbers_below row)))
 
-not_true : (b : Bool) → not b ≡ true → b ≡ false
-not_true true is = absurd cc
-not_true false is = refl
-
 head_free : (used : List Pp) (row : PvRow) (pp : Pp) (rest : List Pp) → free_of used row ≡ pp ∷ rest → is_among used pp ≡ false
 head_free used row pp rest is =
-    not_true (is_among used pp)
+    not-true (is_among used pp)
     (All-head (λ (p : Pp). not (is_among used p) ≡ true) pp rest
     (subst (All (λ (p : Pp). not (is_among used p) ≡ true)) is (filter_passes (λ p. not (is_among used p)) (partitions_of row))))
-
-or_parts : (a b : Bool) → a || b ≡ false → (a ≡ false) × (b ≡ false)
-or_parts true b is = absurd cc
-or_parts false b is = (refl, is)
 
 and_parts : (a b c : Bool) → a && not b && not c ≡ true → (a ≡ true) × (b ≡ false) × (c ≡ false)
 and_parts true false false is = (refl, refl, refl)
@@ -125,7 +117,7 @@ new_place d usable asked pps k pp valid fits is new =
     let choice = choice_of (may_take usable (others_in asked front)) (partitions_used d ++ front) d.pvs pp next in
     let row = choice.row in
     let disk : pp.disk ≡ row.disk = free-head_disk (partitions_used d ++ front) row pp choice.rest choice.free in
-    let takes = and_parts (usable row.disk) row.spare (is_on (others_in asked front) row.disk) choice.takes in
+    let takes = and_parts (usable row.disk) row.spare (has_partition_on (others_in asked front) row.disk) choice.takes in
     let unused = or_parts (is_among (partitions_used d) pp) (is_among front pp)
     (sym (list_any-append (λ (p : Pp). p.disk == pp.disk && p.pp == pp.pp) (partitions_used d) front) ∙ head_free (partitions_used d ++ front) row pp choice.rest choice.free) in
     let member = member_is d.pvs choice.place row valid.members.disks_differ choice.within choice.there in
@@ -137,5 +129,5 @@ new_place d usable asked pps k pp valid fits is new =
       no_spare = takes.1;
       free = unused.0;
       new = unused.1;
-      apart = ap (is_on (others_in asked front)) disk ∙ takes.2;
+      apart = ap (has_partition_on (others_in asked front)) disk ∙ takes.2;
     }

@@ -11,13 +11,13 @@ use Rattle.lvm_num.specs.declared.descriptor.PvRow.{PvRow}
 use Rattle.lvm_num.specs.declared.descriptor.LvRow.{LvRow}
 use Rattle.lvm_num.specs.declared.descriptor.Descriptor.{Descriptor}
 use Rattle.lvm_num.specs.Bits.{has_bit}
-use Rattle.lvm_num.specs.Descriptor.{IsPartitionOf, IsValid, partitions_in, partitions_used}
+use Rattle.lvm_num.specs.Descriptor.{IsPartitionOf, IsValid, partitions_in, partitions_used, is_pp}
 use Rattle.lvm_num.specs.Marks.{spot}
 use Rattle.lvm_num.proofs.Pairs.{All-left, All-right}
 use Rattle.lvm_num.proofs.Spots.{bounded}
 use Rattle.lvm_map.specs.FirstFit.{is_among, partitions_of, free_of}
 use Rattle.lvm_map.specs.Room.{IsBounded}
-use Rattle.lvm_map.proofs.FreeLists.{is_pp, is_pp-same, is_pp-apart, filter_same, partitions-at, partitions-size}
+use Rattle.lvm_map.proofs.FreeLists.{is_pp-same, is_pp-apart, filter_same, partitions-at, partitions-size}
 
 -- the partitions that volumes use are of disks of the shelf
 pub used_bounded : (d : Descriptor) → IsValid d → All IsBounded (partitions_used d)

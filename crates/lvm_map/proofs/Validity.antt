@@ -1,7 +1,7 @@
 -- The descriptor with what was allocated is valid.
-use Rattle.std.proofs.Common.{◌≡◌, ◌≢◌, ◌⊎◌, inl, inr, ℕ, suc, ◌+◌, ◌-◌, ◌*◌, ◌/◌, ◌%◌, ◌<◌, ◌≤◌, Bool, true, false, cond, ◌&&◌, ◌||◌, List, ◌∷◌, ◌++◌, length, get_or, set, take, drop, Some, nat_lt, refl, sym, ap, subst, ◌∙◌, arith}
+use Rattle.std.proofs.Common.{◌≡◌, ◌≢◌, ◌⊎◌, inl, inr, ℕ, suc, ◌+◌, ◌-◌, ◌*◌, ◌/◌, ◌%◌, ◌<◌, ◌≤◌, true, false, cond, ◌&&◌, ◌||◌, List, ◌∷◌, ◌++◌, length, get_or, set, take, drop, Some, nat_lt, refl, sym, ap, subst, ◌∙◌, arith}
 use Rattle.std.specs.Prelude.{◌==◌, All, AllPairs, insert, slice_get}
-use Rattle.std.proofs.lemmas.Bool.{cases_lt, cases_eq, eq-eqb, false≢true}
+use Rattle.std.proofs.lemmas.Bool.{cases_lt, cases_eq, eq-eqb, false≢true, or_left, or_right}
 use Rattle.std.proofs.lemmas.Bool.Decides.{nat_tests}
 use Rattle.std.proofs.lemmas.List.{get_or-take, get_or-drop, get_or_append_left, get_or-append_right, get_or-append-add, get_or-set_same, get_or-set_other, length-set, length-append, length-drop, length-take, length-take-le, set-get_or, set_split, take-append-drop, same_lists}
 use Rattle.std.proofs.Math.Nat.{mul-le-mul_right}
@@ -14,7 +14,7 @@ use Rattle.lvm_num.specs.declared.descriptor.Descriptor.{Descriptor}
 use Rattle.lvm_num.specs.Descriptor.{IsVolume, AreVolumes, IsPartitionOf, IsLaidOut, AreMaps, IsValid, copies_of, most_volumes, partitions_in, partitions_used}
 use Rattle.lvm_num.specs.Disks.{Disks}
 use Rattle.lvm_num.proofs.Pairs.{All-left, All-right, AllPairs-left, AllPairs-right, AllPairs-across, AllPairs-append}
-use Rattle.lvm_map.specs.FirstFit.{is_among, is_on, choices, Asked, kept_next, others_in, IsFirstFit, IsAllocated, new_volume, more_copies}
+use Rattle.lvm_map.specs.FirstFit.{is_among, has_partition_on, choices, Asked, kept_next, others_in, IsFirstFit, IsAllocated, new_volume, more_copies}
 use Rattle.lvm_map.specs.Laws.{IsNewPlace}
 use Rattle.lvm_map.proofs.FreeLists.{is_pp-same}
 use Rattle.lvm_map.proofs.Fitting.{get-within, get-get_or}
@@ -29,13 +29,6 @@ among_at xs k e lt =
 
 among-append : (xs ys : List Pp) (pp : Pp) → is_among (xs ++ ys) pp ≡ is_among xs pp || is_among ys pp
 among-append xs ys pp = list_any-append (λ (p : Pp). p.disk == pp.disk && p.pp == pp.pp) xs ys
-
-or_left : (a b : Bool) → a ≡ true → a || b ≡ true
-or_left a b is = ap (λ x. x || b) is
-
-or_right : (a b : Bool) → b ≡ true → a || b ≡ true
-or_right true b is = refl
-or_right false b is = is
 
 -- one that isn't among the others is none of them
 none_of : (xs : List Pp) (pp other : Pp) → is_among xs pp ≡ false → is_among xs other ≡ true → pp ≢ other
@@ -232,10 +225,10 @@ module _ (d : Descriptor) (valid : IsValid d) (usable : Disks) (asked : Asked) (
               let start : length before - length before % c ≡ lp * c = ap (λ n. n - n % c) before-size ∙ omega (arith, b-parts.1) in
               let others : others_in asked before ≡ drop (lp * c) before = ap (λ n. drop n before) start in
               let a-there : get_or (drop (lp * c) before) a e ≡ get_or pps a-k e = get_or-drop (lp * c) before a e ∙ get_or-take b-k pps a-k e (omega arith) in
-              let on : is_on (drop (lp * c) before) (get_or pps b-k e).disk ≡ true =
+              let on : has_partition_on (drop (lp * c) before) (get_or pps b-k e).disk ≡ true =
               list_any_at (λ (p : Pp). p.disk == (get_or pps b-k e).disk) (drop (lp * c) before) a e (omega (arith, length-drop (lp * c) before))
               (eq-eqb (get_or (drop (lp * c) before) a e).disk (get_or pps b-k e).disk (ap (λ (p : Pp). p.disk) a-there ∙ disks)) in
-              false≢true (sym it.apart ∙ ap (λ (them : List Pp). is_on them (get_or pps b-k e).disk) others ∙ on)
+              false≢true (sym it.apart ∙ ap (λ (them : List Pp). has_partition_on them (get_or pps b-k e).disk) others ∙ on)
         ]
 
 -- ---- the maps of all volumes

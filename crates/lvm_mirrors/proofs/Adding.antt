@@ -9,7 +9,7 @@ use Rattle.lvm_num.specs.declared.place.Pp.{Pp}
 use Rattle.lvm_num.specs.declared.descriptor.LvRow.{LvRow}
 use Rattle.lvm_num.specs.declared.descriptor.Descriptor.{Descriptor}
 use Rattle.lvm_num.specs.declared.status.Status.{Status}
-use Rattle.lvm_num.specs.Descriptor.{copies_of, is_member, volume_of}
+use Rattle.lvm_num.specs.Descriptor.{copies_of, is_member, volume_of, is_pp}
 use Rattle.lvm_num.specs.Status.{calls_stale}
 use Rattle.lvm_num.specs.Votes.{CanWrite}
 use Rattle.lvm_num.proofs.ListLemmas.{any_one}
@@ -21,7 +21,6 @@ use Rattle.lvm_kept.specs.Kept.{Kept}
 use Rattle.lvm_kept.specs.Moments.{Moment}
 use Rattle.lvm_kept.proofs.Finding.{images_within}
 use Rattle.lvm_disk.specs.Device.{Media, image_of}
-use Rattle.lvm_stale.specs.Table.{is_pp}
 use Rattle.lvm_commit.specs.Committed.{IsAlike, ShowsCommitted}
 use Rattle.lvm_commit.specs.LawsOfData.{IsFree}
 use Rattle.lvm_commit.specs.LawsOfVolumes.{VolumeServes}

@@ -1,7 +1,7 @@
 -- What a descriptor in which a volume has other copies needs of the disks.
-use Rattle.std.proofs.Common.{◌≡◌, ⊎_elim, ℕ, ◌<◌, Bool, true, false, ◌&&◌, ◌++◌, List, Option, Some, None, refl, sym, ap, subst, ◌∙◌}
+use Rattle.std.proofs.Common.{◌≡◌, ⊎_elim, ℕ, ◌<◌, ◌&&◌, ◌++◌, List, Option, Some, None, refl, sym, ap, subst, ◌∙◌}
 use Rattle.std.specs.Prelude.{not, take, IsTrue, IsFalse, IfSome, All, Contains}
-use Rattle.std.proofs.lemmas.Bool.{false≢true}
+use Rattle.std.proofs.lemmas.Bool.{not-true}
 use Rattle.std.proofs.lemmas.List.Elements.{All-contains}
 use Rattle.lvm_num.specs.declared.place.Pp.{Pp}
 use Rattle.lvm_num.specs.declared.descriptor.LvRow.{LvRow}
@@ -39,10 +39,6 @@ use Rattle.lvm_copy_plan.proofs.Rows.{one_found, named, own_row, differs}
 use Rattle.lvm_copy_plan.proofs.More as more
 use Rattle.lvm_copy_plan.proofs.Fewer as fewer
 
-off : (b : Bool) → IsTrue (not b) → IsFalse b
-off true is = absurd (false≢true is)
-off false is = refl
-
 module _ (d : Descriptor) (lv copies : ℕ) (row : LvRow) (valid : IsValid d) (volume : volume_of d lv ≡ Some row)
     (c : Contents) (status : Status) (there : Disks) (facts : List Fact) (within : IsWithinDisks c) (enough : CanWrite d there) (shows : ShowsCommitted c d status there) (kept : Kept c facts) where
   -- the volume keeps its shape
@@ -73,7 +69,7 @@ module _ (d : Descriptor) (lv copies : ℕ) (row : LvRow) (valid : IsValid d) (v
       subst (λ (o : Option (Stamped Status)). IsSome (fresh_on (members_in c all_disks d.id d) o row lp)) read (kept.lasting.some all_disks d.id d d by_all.reads (all_disks, shows.found) row lp its_row lt) in
       let p = some_passing (λ (p : Pp). members_in c all_disks d.id d p.disk && not (is_stale_by (Some shows.stands) p)) (copies_of row lp) some in
       let both = split (members_in c all_disks d.id d p.0.disk) (not (calls_stale shows.stands.value p.0)) p.2 in
-      (p.0, p.1, ap (λ (s : Status). calls_stale s p.0) (sym shows.committed) ∙ off (calls_stale shows.stands.value p.0) both.1, both.0)
+      (p.0, p.1, ap (λ (s : Status). calls_stale s p.0) (sym shows.committed) ∙ not-true (calls_stale shows.stands.value p.0) both.1, both.0)
 
   -- with more copies, which are stale
   module _ (usable : Disks) (pps : List Pp) (grows : row.copies < copies) (all : IsAllocated d usable (more_copies row copies) pps) where

@@ -14,7 +14,7 @@ use Rattle.lvm_mwc.specs.Firsts.{with_first}
 use Rattle.lvm_mwc.specs.Entries.{has_entry, pins_of, are_all_pinned, with_pin, note_of}
 use Rattle.lvm_mwc.specs.Notes.{is_of_disk, names_group, both_name, common, MayStand}
 use Rattle.lvm_mwc.specs.Cache.{Cached, IsNew, notes_on, is_named, no_notes, after_start, after_end, started, ended}
-use Rattle.lvm_mwc.specs.Runs.{Call, Pins, Unpins, StartsNote, Ending, after, after_all, IsPinnedBefore, Sectors, no_sectors, sectors_ended, sectors_in, sectors_after, Knows}
+use Rattle.lvm_mwc.specs.Runs.{Call, Pins, Unpins, StartsNote, NoteEnds, after, after_all, IsPinnedBefore, Sectors, no_sectors, sectors_ended, sectors_in, sectors_after, Knows}
 use Rattle.lvm_mwc.proofs.FirstsLemmas.{find-with, find-with_other}
 use Rattle.lvm_mwc.proofs.NotesLemmas.{notes_of}
 use Rattle.lvm_mwc.proofs.PinsLemmas.{note-names, pinned_is_there}
@@ -98,7 +98,7 @@ named_after : (c : Cached) (call : Call) (disk lv group : ℕ) → 0 < pins_of c
 named_after c (Pins l g) disk lv group pinned named = named_after_pin (are_all_pinned c.entries l g) c l g disk lv group named
 named_after c (Unpins l g) disk lv group pinned named = named
 named_after c (StartsNote d) disk lv group pinned named = named_after_start (d == disk) c d disk lv group refl (pinned_is_there c.entries lv group pinned) named
-named_after c (Ending d ok) disk lv group pinned named = named_after_end (d == disk) c d disk ok lv group refl named
+named_after c (NoteEnds d ok) disk lv group pinned named = named_after_end (d == disk) c d disk ok lv group refl named
 
 pub named_after_all : (c : Cached) (calls : List Call) (disk lv group : ℕ) → IsPinnedBefore c calls lv group → is_named c disk lv group ≡ true → is_named (after_all c calls) disk lv group ≡ true
 named_after_all c [] disk lv group pinned named = named
@@ -183,7 +183,7 @@ tracks_after : (c : Cached) (call : Call) (disk : ℕ) (s : Sectors) → TracksO
 tracks_after c (Pins l g) disk s on = tracks_pin (are_all_pinned c.entries l g) c l g disk s on
 tracks_after c (Unpins l g) disk s on = record { notes = on.notes; there = on.there; tracks = on.tracks }
 tracks_after c (StartsNote d) disk s on = tracks_start (d == disk) c d disk s refl on
-tracks_after c (Ending d ok) disk s on = tracks_end (d == disk) c d disk ok s refl on
+tracks_after c (NoteEnds d ok) disk s on = tracks_end (d == disk) c d disk ok s refl on
 
 tracks_after_all : (c : Cached) (calls : List Call) (disk : ℕ) (s : Sectors) → TracksOn c disk s → TracksOn (after_all c calls) disk (sectors_after c disk s calls)
 tracks_after_all c [] disk s on = on

@@ -11,7 +11,7 @@ use Rattle.lvm_mwc.specs.Firsts.{without_first}
 use Rattle.lvm_mwc.specs.Entries.{is_entry, is_unpinned, has_entry, pins_of, are_all_pinned, room_for, with_pin, with_unpin, note_of, Differ, AreEntries}
 use Rattle.lvm_mwc.specs.Notes.{names_group}
 use Rattle.lvm_mwc.specs.Cache.{Cached}
-use Rattle.lvm_mwc.specs.Runs.{Call, Pins, Unpins, StartsNote, Ending, IsAllowed, AreAllowed, after, after_all, pins_in, unpins_in, pins_given, pins_taken}
+use Rattle.lvm_mwc.specs.Runs.{Call, Pins, Unpins, StartsNote, NoteEnds, IsAllowed, AreAllowed, after, after_all, pins_in, unpins_in, pins_given, pins_taken}
 use Rattle.lvm_mwc.proofs.FirstsLemmas.{none_passes, find-without, find-with, find-with_other}
 use Rattle.lvm_mwc.proofs.EntriesLemmas.{less, is_entry-same, room_differs, pinned_entries, unpinned_entries, has_place}
 
@@ -102,7 +102,7 @@ pub pins_after : (c : Cached) (call : Call) (lv group : ℕ) → AreEntries c.en
 pins_after c (Pins l g) lv group are allowed = after_a_pin (are_all_pinned c.entries l g) (l == lv && g == group) c l g lv group refl are.differ
 pins_after c (Unpins l g) lv group are allowed = after_an_unpin (l == lv && g == group) c.entries l g lv group refl allowed
 pins_after c (StartsNote disk) lv group are allowed = refl
-pins_after c (Ending disk ok) lv group are allowed = refl
+pins_after c (NoteEnds disk ok) lv group are allowed = refl
 
 entries_after_pin : (all : Bool) (c : Cached) (l g : ℕ) → are_all_pinned c.entries l g ≡ all → AreEntries c.entries → IsEntry (record { lv = l; group = g }) → AreEntries (cond all c (record c { entries = with_pin c.entries l g })).entries
 entries_after_pin true c l g is are its = are
@@ -112,7 +112,7 @@ pub entries_after : (c : Cached) (call : Call) → AreEntries c.entries → IsAl
 entries_after c (Pins l g) are allowed = entries_after_pin (are_all_pinned c.entries l g) c l g refl are allowed.0
 entries_after c (Unpins l g) are allowed = unpinned_entries c.entries l g are
 entries_after c (StartsNote disk) are allowed = are
-entries_after c (Ending disk ok) are allowed = are
+entries_after c (NoteEnds disk ok) are allowed = are
 
 pub entries_after_all : (c : Cached) (calls : List Call) → AreEntries c.entries → AreAllowed c calls → AreEntries (after_all c calls).entries
 entries_after_all c [] are allowed = are

@@ -15,6 +15,7 @@ use Rattle.lvm_num.specs.Descriptor.{is_member}
 use Rattle.lvm_num.specs.Disks.{Disks}
 use Rattle.lvm_num.specs.Status.{IsStatusRow, calls_stale}
 use Rattle.lvm_num.proofs.MapsLemmas.{find-None}
+use Rattle.lvm_num.proofs.Booleans.{and_true}
 use Rattle.lvm_next.specs.Rows.{AreMemberRows}
 
 -- ---- the row of a disk
@@ -93,10 +94,6 @@ one_more n d x y same = combine (nat_lt d n) (nat_lt d (n + 1)) (n == d) x y (el
     | inr ne ↦ inr (inr (grind (arith, nat_tests), grind (arith, nat_tests), grind (arith, nat_tests)))
   ]
 ])
-
-and_true : (a : Bool) → a && true ≡ a
-and_true true = refl
-and_true false = refl
 
 pub none_more : (n d : ℕ) (x : Bool) → (d ≡ n → x ≡ false) → nat_lt d n && x ≡ nat_lt d (n + 1) && x
 none_more n d x none = sym (or_false (nat_lt d n && x) ((n == d) && false) (and_none (n == d))) ∙ one_more n d x false (λ e. sym (none e))

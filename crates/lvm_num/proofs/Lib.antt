@@ -1,4 +1,5 @@
 pub mod BitsLemmas
+pub mod Booleans
 pub mod Bounds
 pub mod DisksLemmas
 pub mod Fresh
@@ -12,6 +13,7 @@ pub mod Needed
 pub mod Newest
 pub mod Notes
 pub mod Pairs
+pub mod Partitions
 pub mod Records
 pub mod Spots
 pub mod Torn

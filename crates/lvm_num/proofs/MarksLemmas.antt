@@ -1,8 +1,8 @@
 -- Marking the partitions of maps one by one.
-use Rattle.std.proofs.Common.{◌≡◌, ◌≢◌, ◌⊎◌, inl, inr, ⊎_elim, ℕ, ◌+◌, ◌<◌, Bool, true, false, ◌||◌, List, [], ◌∷◌, ◌++◌, append-nil, length, get_or, take, drop, refl, sym, ap, subst, ◌∙◌, arith}
+use Rattle.std.proofs.Common.{◌≡◌, ◌≢◌, ◌⊎◌, ⊎_elim, ℕ, ◌+◌, ◌<◌, Bool, true, false, ◌||◌, List, [], ◌∷◌, ◌++◌, append-nil, length, get_or, take, drop, refl, sym, ap, subst, ◌∙◌, arith}
 use Rattle.std.specs.Prelude.{◌==◌, All, AllPairs}
 use Rattle.std.specs.List.{list_any}
-use Rattle.std.proofs.lemmas.Bool.{false≢true, eq-eqb, eqb-true}
+use Rattle.std.proofs.lemmas.Bool.{false≢true, eq-eqb, eqb-true, or_parts, or_cases}
 use Rattle.std.proofs.lemmas.List.{take_more, drop_more, take-append-drop, get_or_append_left, get_or_default, length-append}
 use Rattle.std.proofs.lemmas.Bool.Decides.{nat_tests}
 use Rattle.std.proofs.lemmas.List.Concat.{flat_map-append}
@@ -19,14 +19,6 @@ use Rattle.lvm_num.proofs.Pairs.{AllPairs-more, AllPairs-append, AllPairs-left, 
 abbrev pub Marked : List ℕ → List ℕ → List Pp → Type 0
 Marked before now map = (k : ℕ) → has_bit now k ≡ has_bit before k || list_any (λ (pp : Pp). k == spot pp) map
 
-or_false : (a b : Bool) → a || b ≡ false → (a ≡ false) × (b ≡ false)
-or_false true b e = absurd cc
-or_false false b e = (refl, e)
-
-or_true : (a b : Bool) → a || b ≡ true → (a ≡ true) ⊎ (b ≡ true)
-or_true true b e = inl refl
-or_true false b e = inr e
-
 or_assoc : (a b c : Bool) → (a || b) || c ≡ a || (b || c)
 or_assoc true b c = refl
 or_assoc false b c = refl
@@ -35,7 +27,7 @@ pub free-more : (counts before now : List ℕ) (map : List Pp) (i : ℕ) (e : Pp
     → AreFree counts before (take i map) → Marked before now (take i map)
     → IsWithin counts (get_or map i e) → has_bit now (spot (get_or map i e)) ≡ false → AreFree counts before (take (i + 1) map)
 free-more counts before now map i e lt old marked here unmarked =
-    let both = or_false (has_bit before (spot (get_or map i e))) (list_any (λ (pp : Pp). spot (get_or map i e) == spot pp) (take i map))
+    let both = or_parts (has_bit before (spot (get_or map i e))) (list_any (λ (pp : Pp). spot (get_or map i e) == spot pp) (take i map))
     (sym (marked (spot (get_or map i e))) ∙ unmarked) in
     record {
       within = All-more (IsWithin counts) map i e lt old.within here;
@@ -63,7 +55,7 @@ marked_not_free counts before now map i e lt marked is free =
     (λ (twice : list_any (λ (pp : Pp). spot (get_or map i e) == spot pp) (take i map) ≡ true).
     let found = some_before (λ (pp : Pp). spot (get_or map i e) == spot pp) map i (omega arith) twice in
     free.once found.0 i e found.1 lt (sym (eqb-true (spot (get_or map i e)) (spot (get_or map found.0 e)) (found.2 e))))
-    (or_true (has_bit before (spot (get_or map i e))) (list_any (λ (pp : Pp). spot (get_or map i e) == spot pp) (take i map))
+    (or_cases (has_bit before (spot (get_or map i e))) (list_any (λ (pp : Pp). spot (get_or map i e) == spot pp) (take i map))
     (sym (marked (spot (get_or map i e))) ∙ is))
 
 -- ---- one map after the other
@@ -97,7 +89,7 @@ counted-more counts before now lvs i e lt old marked laid free =
       laid_out = All-more IsLaidOut lvs i e lt old.laid_out laid;
       once = subst (AllPairs (λ (a b : Pp). spot a ≢ spot b)) (sym more) (AllPairs-append (λ (a b : Pp). spot a ≢ spot b) old-pps own old.once free.once
           (λ j k d j-lt k-lt same.
-          let none = (or_false (has_bit before (spot (get_or own k d))) (list_any (λ (pp : Pp). spot (get_or own k d) == spot pp) old-pps)
+          let none = (or_parts (has_bit before (spot (get_or own k d))) (list_any (λ (pp : Pp). spot (get_or own k d) == spot pp) old-pps)
           (sym (marked (spot (get_or own k d))) ∙ free.free k d k-lt)).1 in
           false≢true (sym none ∙ list_any_at (λ (pp : Pp). spot (get_or own k d) == spot pp) old-pps j d j-lt (eq-eqb (spot (get_or own k d)) (spot (get_or old-pps j d)) (sym same)))));
     }

@@ -15,6 +15,7 @@ use Rattle.lvm_num.specs.declared.record.Kind.{Kind}
 use Rattle.lvm_num.specs.declared.record.Kind.TheVariants.{Descriptor, Status}
 use Rattle.lvm_num.specs.declared.record.Framed.{Framed}
 use Rattle.lvm_num.specs.Record.{record_sectors, longest_content, payload, frame, joined, record_bytes, IsRecord, payload_of, announced, may_be, record_in, HeldIsRead, ReadIsHeld}
+pub use Rattle.std.proofs.lemmas.Bool.{and_parts as both_true}
 
 -- ---- pieces of equal size
 
@@ -192,10 +193,6 @@ below64 bytes fits = omega (arith, fits 0, fits 1, fits 2, fits 3, fits 4, fits 
 pub then_is : {X : Type 0} (test : Bool) (x r : X) → then_some test x ≡ Some r → (test ≡ true) × (x ≡ r)
 then_is true x r e = (refl, cc)
 then_is false x r e = absurd cc
-
-pub both_true : (a b : Bool) → a && b ≡ true → (a ≡ true) × (b ≡ true)
-both_true true b e = (refl, e)
-both_true false b e = absurd cc
 
 pub read_is_held : ReadIsHeld
 unfolding record_in

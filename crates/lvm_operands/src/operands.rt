@@ -1,14 +1,14 @@
 //! The next word of a line: an operand, an option that stands alone, or none.
 ghost use Rattle.std.specs.Prelude.{◌≡◌, [], MatchResult};
-ghost use Rattle.lvm_literals.specs.Words.{disk_in, number_in, count_in, word_in, name_in, partitions_in, turns_in, size_in, copies_in, mode_in, policy_in};
+ghost use Rattle.lvm_literals.specs.Words.{disk_in, number_in, count_in, word_in, name_in, partition_count_in, turns_in, size_in, copy_count_in, mode_in, policy_in};
 ghost use Rattle.lvm_operands.specs.Reading.{next_column, is_next, operand, option, ends, last};
 ghost use Rattle.lvm_operands.specs.Rests.{left, word_at, with_word, fitted, Reads};
 
 use crate::rest::{Misfit, Rest, Word};
 use crate::scan::next_word;
 use lvm_literals::{
-    copies_of, count_of, disk_of, hex_word, mode_of, name_of, number_of, partitions_of, policy_of,
-    size_of, turns_of,
+    copy_count_of, count_of, disk_of, hex_word, mode_of, name_of, number_of, partition_count_of,
+    policy_of, size_of, turns_of,
 };
 use lvm_num::{Mode, Name, Policy};
 
@@ -87,10 +87,10 @@ pub fn name(rest: Rest<'_>) -> Result<(Name, Rest<'_>), Misfit>
 /// LPS: how many logical partitions.
 #[tactic(auto, using(crate::proofs::NextWord::operand_lacks))]
 pub fn partitions(rest: Rest<'_>) -> Result<(u32, Rest<'_>), Misfit>
-    ensures { Reads (operand partitions_in (left rest.entry)) result }
+    ensures { Reads (operand partition_count_in (left rest.entry)) result }
 {
     let (word, rest) = word(rest)?;
-    fit(partitions_of(word.bytes), word.column, rest)
+    fit(partition_count_of(word.bytes), word.column, rest)
 }
 
 /// TURNS: how many turns.
@@ -114,10 +114,10 @@ pub fn size(rest: Rest<'_>) -> Result<(u16, Rest<'_>), Misfit>
 /// N: how many copies.
 #[tactic(auto, using(crate::proofs::NextWord::operand_lacks))]
 pub fn copies(rest: Rest<'_>) -> Result<(u8, Rest<'_>), Misfit>
-    ensures { Reads (operand copies_in (left rest.entry)) result }
+    ensures { Reads (operand copy_count_in (left rest.entry)) result }
 {
     let (word, rest) = word(rest)?;
-    fit(copies_of(word.bytes), word.column, rest)
+    fit(copy_count_of(word.bytes), word.column, rest)
 }
 
 /// The mode of a volume.
@@ -186,7 +186,7 @@ pub fn last_name(rest: Rest<'_>) -> Result<Name, Misfit>
 
 /// LPS, and the line ends.
 pub fn last_partitions(rest: Rest<'_>) -> Result<u32, Misfit>
-    ensures { result ≡ last partitions_in (left rest.entry) }
+    ensures { result ≡ last partition_count_in (left rest.entry) }
 {
     let (partitions, rest) = partitions(rest)?;
     ends(rest, partitions)
@@ -202,7 +202,7 @@ pub fn last_turns(rest: Rest<'_>) -> Result<u32, Misfit>
 
 /// N, and the line ends.
 pub fn last_copies(rest: Rest<'_>) -> Result<u8, Misfit>
-    ensures { result ≡ last copies_in (left rest.entry) }
+    ensures { result ≡ last copy_count_in (left rest.entry) }
 {
     let (copies, rest) = copies(rest)?;
     ends(rest, copies)

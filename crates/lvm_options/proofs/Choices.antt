@@ -4,7 +4,7 @@ use Rattle.std.specs.Prelude.{codes, is_some}
 use Rattle.std.specs.Option.{option_map}
 use Rattle.lvm_options.specs.declared.chosen.MkvgOptions.{MkvgOptions}
 use Rattle.lvm_options.specs.declared.chosen.MklvOptions.{MklvOptions}
-use Rattle.lvm_literals.specs.Words.{size_in, name_in, copies_in, mode_in, policy_in}
+use Rattle.lvm_literals.specs.Words.{size_in, name_in, copy_count_in, mode_in, policy_in}
 use Rattle.lvm_operands.specs.Reading.{NoOption, Alone, Valued, is_new}
 use Rattle.lvm_options.specs.Options.{mkvg_choice, mklv_choice}
 
@@ -23,7 +23,7 @@ mkvg_none o word f y s = rw (f, y, s) refl
 pub mklv_name : (o : MklvOptions) (word : List ℕ) → is_new word (codes "-y") (is_some o.name) ≡ true → mklv_choice o word ≡ Valued (λ value. option_map (λ name. record o { name = Some name }) (name_in value))
 mklv_name o word y = rw y refl
 
-pub mklv_copies : (o : MklvOptions) (word : List ℕ) → is_new word (codes "-y") (is_some o.name) ≡ false → is_new word (codes "-c") (is_some o.copies) ≡ true → mklv_choice o word ≡ Valued (λ value. option_map (λ copies. record o { copies = Some copies }) (copies_in value))
+pub mklv_copies : (o : MklvOptions) (word : List ℕ) → is_new word (codes "-y") (is_some o.name) ≡ false → is_new word (codes "-c") (is_some o.copies) ≡ true → mklv_choice o word ≡ Valued (λ value. option_map (λ copies. record o { copies = Some copies }) (copy_count_in value))
 mklv_copies o word y c = rw (y, c) refl
 
 pub mklv_mode : (o : MklvOptions) (word : List ℕ) → is_new word (codes "-y") (is_some o.name) ≡ false → is_new word (codes "-c") (is_some o.copies) ≡ false → is_new word (codes "-w") (is_some o.mode) ≡ true → mklv_choice o word ≡ Valued (λ value. option_map (λ mode. record o { mode = Some mode }) (mode_in value))

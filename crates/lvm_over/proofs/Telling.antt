@@ -5,6 +5,7 @@ use Rattle.std.specs.List.{list_any}
 use Rattle.std.proofs.lemmas.List.{append-nil}
 use Rattle.std.proofs.lemmas.List.Elements.{filter_map-append}
 use Rattle.std.proofs.lemmas.List.Folds.{list_any-append}
+use Rattle.lvm_num.proofs.Booleans.{and_true}
 use Rattle.lvm_vol.specs.Facts.{Request, Fact, Cut, begun_by, begun}
 use Rattle.lvm_vol.specs.Log.{Log, has_id, asked, is_open, lands_id, is_uncut, with_fact, cut_log}
 
@@ -27,10 +28,6 @@ open_still facts more id none =
     by_tests true true c = refl
     by_tests true false c = refl
     by_tests false b c = refl
-
-and_true : (a : Bool) → a && true ≡ a
-and_true true = refl
-and_true false = refl
 
 -- an entry that is about no request changes nothing
 pub open_quiet : (facts : List Fact) (f : Fact) (id : ℕ) → BeginNone (f ∷ []) → lands_id id f ≡ false → is_open (facts ++ f ∷ []) id ≡ is_open facts id

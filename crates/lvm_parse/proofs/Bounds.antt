@@ -11,7 +11,7 @@ use Rattle.lvm_parse.specs.declared.command.Command.TheVariants as command
 use Rattle.lvm_operands.specs.declared.rest.Misfit.{Misfit}
 use Rattle.lvm_literals.specs.Line.{is_plain, is_remark, too_long_or, unreadable_at}
 use Rattle.lvm_operands.specs.Line.{WordAt, Left, finished, words_from, left_at}
-use Rattle.lvm_literals.specs.Words.{number_in, count_in, partitions_in, turns_in, copies_in, word_in, name_in, disk_in}
+use Rattle.lvm_literals.specs.Words.{number_in, count_in, partition_count_in, turns_in, copy_count_in, word_in, name_in, disk_in}
 use Rattle.lvm_operands.specs.declared.range.BlockRange.{BlockRange}
 use Rattle.lvm_operands.specs.Reading.{misfit, then_, or_misfit, column_of, next_column, operand_of, operand, option_of, option, ends_of, ends, last, is_next, blocks, last_blocks, Choice, NoOption, Alone, Valued, options_of, options, required, further_disk, one_or_more, disks_of, disks}
 use Rattle.lvm_options.specs.Options.{mkvg_choice, no_mkvg_options, mklv_choice, no_mklv_options}
@@ -220,10 +220,10 @@ step_in : (high : ℕ) (l : Left) → LeftIn high l → In high (step l)
 step_in high l b = last_then high turns_in l b command.Step
 
 mklvcopy_in : (high : ℕ) (l : Left) → LeftIn high l → In high (mklvcopy l)
-mklvcopy_in high l b = operand_then high name_in l b _ (λ name b. last_then high copies_in name.1 b (command.Mklvcopy name.0))
+mklvcopy_in high l b = operand_then high name_in l b _ (λ name b. last_then high copy_count_in name.1 b (command.Mklvcopy name.0))
 
 rmlvcopy_in : (high : ℕ) (l : Left) → LeftIn high l → In high (rmlvcopy l)
-rmlvcopy_in high l b = operand_then high name_in l b _ (λ name b. last_then high copies_in name.1 b (command.Rmlvcopy name.0))
+rmlvcopy_in high l b = operand_then high name_in l b _ (λ name b. last_then high copy_count_in name.1 b (command.Rmlvcopy name.0))
 
 lspv_in : (high : ℕ) (l : Left) → LeftIn high l → In high (lspv l)
 lspv_in high l b = last_then high disk_in l b command.Lspv
@@ -254,7 +254,7 @@ lsvg_in : (high : ℕ) (l : Left) → LeftIn high l → In high (lsvg l)
 lsvg_in high l b = last_then high name_in (option (codes "-l") l).1 (option_is_in high (codes "-l") l b) (command.Lsvg (option (codes "-l") l).0)
 
 mklv_in : (high : ℕ) (l : Left) → LeftIn high l → In high (mklv l)
-mklv_in high l b = options_then high mklv_choice no_mklv_options l b _ (λ o b. required_then high o.0.name o.1 b _ (λ name. operand_then high name_in o.1 b _ (λ group b. last_then high partitions_in group.1 b (command.Mklv name (unwrap_or o.0.copies 1) (unwrap_or o.0.mode mode.Active) (unwrap_or o.0.policy policy.Parallel) group.0))))
+mklv_in high l b = options_then high mklv_choice no_mklv_options l b _ (λ o b. required_then high o.0.name o.1 b _ (λ name. operand_then high name_in o.1 b _ (λ group b. last_then high partition_count_in group.1 b (command.Mklv name (unwrap_or o.0.copies 1) (unwrap_or o.0.mode mode.Active) (unwrap_or o.0.policy policy.Parallel) group.0))))
 
 rmlv_in : (high : ℕ) (l : Left) → LeftIn high l → In high (rmlv l)
 rmlv_in high l b = last_then high name_in (option (codes "-f") l).1 (option_is_in high (codes "-f") l b) command.Rmlv

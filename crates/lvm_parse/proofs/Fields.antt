@@ -1,15 +1,15 @@
 -- What the grammar says of the numbers and the disks of a command.
-use Rattle.std.proofs.Common.{◌≡◌, ◌≢◌, ◌≤◌, ◌<◌, zero, suc, ◌∷◌, ◌++◌, [], ℕ, List, Bool, true, false, not, ◌&&◌, ◌||◌, length, Option, Some, None, Result, Ok, Err, is_some, if◌then◌else◌, get_or, refl, sym, ◌∙◌, ap, subst, arith, eq-eqb}
+use Rattle.std.proofs.Common.{◌≡◌, ◌≢◌, ◌≤◌, ◌<◌, zero, suc, ◌∷◌, ◌++◌, [], ℕ, List, Bool, true, false, not, ◌&&◌, length, Option, Some, None, Result, Ok, Err, is_some, if◌then◌else◌, get_or, refl, sym, ◌∙◌, ap, subst, arith, eq-eqb}
 use Rattle.std.specs.Prelude.{◌==◌, nat_le, nat_lt, AllPairs, IsTrue, codes, bytes_eq, unwrap_or}
 use Rattle.std.specs.Option.{ForSome, option_map}
 use Rattle.std.specs.List.{list_any}
-use Rattle.std.proofs.lemmas.Bool.{leb-true}
+use Rattle.std.proofs.lemmas.Bool.{leb-true, and_parts, or_parts, not-true}
 use Rattle.std.proofs.lemmas.List.Quantifiers.{all_pairs_push}
 use Rattle.lvm_num.specs.Descriptor.{is_size}
 use Rattle.lvm_num.specs.Name.{is_name}
 use Rattle.lvm_num.specs.declared.descriptor.Mode.{Mode}
 use Rattle.lvm_num.specs.declared.descriptor.Mode.TheVariants.{Active, Off, Passive}
-use Rattle.lvm_literals.specs.Words.{only, number_in, number_within, count_in, size_in, name_in, disk_in, word_in, mode_in, partitions_in, turns_in, copies_in, policy_in}
+use Rattle.lvm_literals.specs.Words.{only, number_in, number_within, count_in, size_in, name_in, disk_in, word_in, mode_in, partition_count_in, turns_in, copy_count_in, policy_in}
 use Rattle.lvm_operands.specs.declared.range.BlockRange.{BlockRange}
 use Rattle.lvm_operands.specs.declared.rest.Misfit.{Misfit}
 use Rattle.lvm_literals.specs.Line.{is_remark, unreadable_at}
@@ -29,11 +29,6 @@ use Rattle.lvm_parse.specs.Within.{IsWithin}
 Fits : Result Command Misfit → Type 0
 Fits (Ok c) = IsWithin c
 Fits (Err e) = Unit {0}
-
-both : (a b : Bool) → (a && b) ≡ true → (a ≡ true) × (b ≡ true)
-both true true e = (refl, refl)
-both true false e = absurd (cc (e))
-both false b e = absurd (cc (e))
 
 fits_then : {A : Type 0} (r : Result A Misfit) (next : A → Result Command Misfit) → ((a : A) → r ≡ Ok a → Fits (next a)) → Fits (then_ r next)
 unfolding Fits
@@ -67,7 +62,7 @@ unfolding operand
 counted l v is =
     let word = operand_means count_in l.words l.end v is in
     let passes = only_passes (λ n. nat_le 1 n && nat_le n 4096) (number_in word.0) v.0 word.1 in
-    let parts = both (nat_le 1 v.0) (nat_le v.0 4096) passes in
+    let parts = and_parts (nat_le 1 v.0) (nat_le v.0 4096) passes in
     (leb-true 1 v.0 parts.0, leb-true v.0 4096 parts.1)
 
 -- the line ends behind a value
@@ -112,11 +107,11 @@ last_blocks_counted l range is = go (blocks l) refl is
     go (Ok found) read same = subst IsCounted (at_end found.1.words found.0 range same) (blocks_counted l found read)
     go (Err e) read same = absurd (cc (same))
 
-some_partitions : (l : Left) (lps : ℕ) → last partitions_in l ≡ Ok lps → 1 ≤ lps
+some_partitions : (l : Left) (lps : ℕ) → last partition_count_in l ≡ Ok lps → 1 ≤ lps
 some_partitions l lps is =
-    let word = last_means partitions_in l lps is in
+    let word = last_means partition_count_in l lps is in
     let passes = only_passes (λ n. nat_le 1 n && nat_le n 65535) (number_in word.0) lps word.1 in
-    leb-true 1 lps (both (nat_le 1 lps) (nat_le lps 65535) passes).0
+    leb-true 1 lps (and_parts (nat_le 1 lps) (nat_le lps 65535) passes).0
 
 -- a value that must stand does
 found_of : {T : Type 0} (o : Option T) (column : ℕ) (v : T) → or_misfit o column ≡ Ok v → o ≡ Some v
@@ -183,24 +178,16 @@ choice_is_built : (o : MklvOptions) (word : List ℕ) → IsBuilt o → Keeping 
 unfolding IsBuilt
 choice_is_built o word built =
     keeping_if IsBuilt (is_new word (codes "-y") (is_some o.name)) _ _ (with_other (λ name. record o { name = Some name }) name_in (λ name. built))
-    (keeping_if IsBuilt (is_new word (codes "-c") (is_some o.copies)) _ _ (with_other (λ copies. record o { copies = Some copies }) copies_in (λ copies. built))
+    (keeping_if IsBuilt (is_new word (codes "-c") (is_some o.copies)) _ _ (with_other (λ copies. record o { copies = Some copies }) copy_count_in (λ copies. built))
     (keeping_if IsBuilt (is_new word (codes "-w") (is_some o.mode)) _ _ (with_mode o)
     (keeping_if IsBuilt (is_new word (codes "-d") (is_some o.policy)) _ _ (with_other (λ policy. record o { policy = Some policy }) policy_in (λ policy. built)) tt)))
 
 -- ---- disks
 
-neither : (a b : Bool) → (a || b) ≡ false → (a ≡ false) × (b ≡ false)
-neither false b e = (refl, e)
-neither true b e = absurd (cc (e))
-
-not_true : (b : Bool) → not b ≡ true → b ≡ false
-not_true false e = refl
-not_true true e = absurd (cc (e))
-
 none_of : (p : ℕ → Bool) (xs : List ℕ) → list_any p xs ≡ false → (k d : ℕ) → k < length xs → p (get_or xs k d) ≡ false
 none_of p [] none k d lt = absurd (omega (arith, lt))
-none_of p (x ∷ xs) none zero d lt = (neither (p x) (list_any p xs) none).0
-none_of p (x ∷ xs) none (suc k) d lt = none_of p xs (neither (p x) (list_any p xs) none).1 k d (omega (arith, lt))
+none_of p (x ∷ xs) none zero d lt = (or_parts (p x) (list_any p xs) none).0
+none_of p (x ∷ xs) none (suc k) d lt = none_of p xs (or_parts (p x) (list_any p xs) none).1 k d (omega (arith, lt))
 
 disks_differ : (before : List ℕ) (words : List WordAt) (end : ℕ) (all : List ℕ) → AllPairs (λ a b. a ≢ b) before → disks_of before words end ≡ Ok all → (1 ≤ length all) × AllPairs (λ a b. a ≢ b) all
 disks_differ [] [] end all differ is = absurd (cc (is))
@@ -211,7 +198,7 @@ disks_differ before (w ∷ words) end all differ is = go (further_disk before w.
         → then_ (or_misfit found w.column) (λ disk. disks_of (before ++ disk ∷ []) words end) ≡ Ok all → (1 ≤ length all) × AllPairs (λ a b. a ≢ b) all
     go (Some disk) found rec same =
         let passes = only_passes (is_further before) (disk_in w.bytes) disk found in
-        let new = not_true (list_any (λ other. other == disk) before) (both (not (list_any (λ other. other == disk) before)) (nat_lt (length before) 128) passes).0 in
+        let new = not-true (list_any (λ other. other == disk) before) (and_parts (not (list_any (λ other. other == disk) before)) (nat_lt (length before) 128) passes).0 in
         rec disk (all_pairs_push (λ a b. a ≢ b) before disk differ (λ k d lt equal. (let yes = eq-eqb (get_or before k d) disk equal in let no = none_of (λ other. other == disk) before new k d lt in cc (yes, no)))) same
     go None found rec same = absurd (cc (same))
 
@@ -252,21 +239,21 @@ fits_step : (l : Left) → Fits (step l)
 unfolding Fits
 fits_step l = fits_then (last turns_in l) _ (λ turns t.
     let word = last_means turns_in l turns t in
-    let parts = both (nat_le 1 turns) (nat_le turns 1000000) (only_passes (λ n. nat_le 1 n && nat_le n 1000000) (number_in word.0) turns word.1) in
+    let parts = and_parts (nat_le 1 turns) (nat_le turns 1000000) (only_passes (λ n. nat_le 1 n && nat_le n 1000000) (number_in word.0) turns word.1) in
     (leb-true 1 turns parts.0, leb-true turns 1000000 parts.1))
 
-few_copies : (l : Left) (copies : ℕ) → last copies_in l ≡ Ok copies → copies ≤ 9
+few_copies : (l : Left) (copies : ℕ) → last copy_count_in l ≡ Ok copies → copies ≤ 9
 few_copies l copies is =
-    let word = last_means copies_in l copies is in
-    leb-true copies 9 (both (nat_le 0 copies) (nat_le copies 9) (only_passes (λ n. nat_le 0 n && nat_le n 9) (number_in word.0) copies word.1)).1
+    let word = last_means copy_count_in l copies is in
+    leb-true copies 9 (and_parts (nat_le 0 copies) (nat_le copies 9) (only_passes (λ n. nat_le 0 n && nat_le n 9) (number_in word.0) copies word.1)).1
 
 fits_mklvcopy : (l : Left) → Fits (mklvcopy l)
 unfolding Fits
-fits_mklvcopy l = fits_then (operand name_in l) _ (λ name n. fits_then (last copies_in name.1) _ (λ copies c. few_copies name.1 copies c))
+fits_mklvcopy l = fits_then (operand name_in l) _ (λ name n. fits_then (last copy_count_in name.1) _ (λ copies c. few_copies name.1 copies c))
 
 fits_rmlvcopy : (l : Left) → Fits (rmlvcopy l)
 unfolding Fits
-fits_rmlvcopy l = fits_then (operand name_in l) _ (λ name n. fits_then (last copies_in name.1) _ (λ copies c. few_copies name.1 copies c))
+fits_rmlvcopy l = fits_then (operand name_in l) _ (λ name n. fits_then (last copy_count_in name.1) _ (λ copies c. few_copies name.1 copies c))
 
 fits_cut : (l : Left) → Fits (cut l)
 unfolding Fits
@@ -291,7 +278,7 @@ fits_lslv l = fits_if (option (codes "-m") l).0 _ _ (fits_then (last name_in (op
 fits_mklv : (l : Left) → Fits (mklv l)
 unfolding Fits IsBuilt options
 fits_mklv l = fits_then (options mklv_choice no_mklv_options l) _ (λ o options_are. fits_then (required o.0.name o.1) _ (λ name named.
-    fits_then (operand name_in o.1) _ (λ group in_group. fits_then (last partitions_in group.1) _ (λ lps partitions_are. (some_partitions group.1 lps partitions_are, in_mode o options_are o.0.mode refl)))))
+    fits_then (operand name_in o.1) _ (λ group in_group. fits_then (last partition_count_in group.1) _ (λ lps partitions_are. (some_partitions group.1 lps partitions_are, in_mode o options_are o.0.mode refl)))))
   where
     in_mode : (o : MklvOptions × Left) → options mklv_choice no_mklv_options l ≡ Ok o → (given : Option Mode) → o.0.mode ≡ given → unwrap_or given Active ≡ Passive → ⊥
     in_mode o options_are None is passive = cc (passive)

@@ -16,6 +16,7 @@ use Rattle.lvm_vol.specs.declared.entry.Vol.TheVariants.{Disk}
 use Rattle.lvm_kept.specs.Raw.{next_write}
 use Rattle.lvm_steps.specs.Requests.{next_read}
 use Rattle.std.specs.Simd.{first_chunks}
+use Rattle.lvm_num.proofs.Booleans.{or_false as or_none}
 use Rattle.lvm_vol.specs.Log.{with_fact, next_request, asked, request_of, has_id, lands_id, is_open, is_uncut, is_uncut_from, is_uncut_after, Log, cut_log, no_request, awaited, need, needed, blocks_begun, spare_entries, spare_bytes}
 use Rattle.lvm_vol.specs.declared.entry.Outcome.TheVariants as outcome
 use Rattle.lvm_transfer.specs.declared.moves.Moved.{Moved}
@@ -172,10 +173,6 @@ pub read_ended :
 read_ended h started last id disk from count how is named after = ended_by h started last id (next_read h.run h.facts disk from count) (λ (facts : List Fact) (r : Request). read_ends facts r how) is named after
 
 -- ---- what stays so
-
-or_none : (b : Bool) → (b || false) ≡ b
-or_none true = refl
-or_none false = refl
 
 some_or : {X : Type 0} (a b : Option X) → is_some (option_or a b) ≡ (is_some a || is_some b)
 some_or None b = refl

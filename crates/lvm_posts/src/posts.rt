@@ -1,5 +1,5 @@
 //! Ranges that are posted: they are answered later, perhaps once their session is gone.
-ghost use Rattle.std.specs.Prelude.{◌≡◌, ◌≤◌, ◌<◌, ◌+◌, ◌++◌, ℕ, true, [], map};
+ghost use Rattle.std.specs.Prelude.{◌≡◌, ◌<◌, ◌+◌, ◌++◌, true, [], map};
 ghost use Rattle.lvm_vol.specs.Log.{is_answered};
 ghost use Rattle.lvm_vol.specs.Order.{Ordered};
 ghost use Rattle.lvm_session.specs.Sound.{outcome_in};

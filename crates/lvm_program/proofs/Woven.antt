@@ -19,7 +19,7 @@ use Rattle.lvm_operands.specs.declared.rest.Misfit.{Misfit}
 use Rattle.lvm_core.specs.declared.parts.Room.{Room}
 use Rattle.lvm_posts.specs.declared.posts.Post.{Post}
 use Rattle.lvm_session.specs.declared.open.Power.TheVariants as power
-use Rattle.lvm_session.specs.State.{Core, State as Session, state}
+use Rattle.lvm_session.specs.State.{Core, State, state}
 use Rattle.lvm_load.specs.declared.totals.Totals.{Totals}
 use Rattle.lvm_load.specs.declared.workload.Workload.{Workload}
 use Rattle.lvm_load.specs.declared.workload.Woven.{Woven}
@@ -123,7 +123,7 @@ module _ (log : Log) (room : Room) (past : List Fact) (group volume : List ℕ) 
 -- ---- the workload
 
 -- turns and calls don't leave a session stuck that was on
-pub runs_unstuck : (old new : Session) → RunsOn old new → old.core.power ≡ power.On → new.core.power ≡ power.Stuck → ⊥
+pub runs_unstuck : (old new : State) → RunsOn old new → old.core.power ≡ power.On → new.core.power ≡ power.Stuck → ⊥
 runs_unstuck old new runs on stuck = by runs.leaves.keeps.power
   where
     by : (new.core.power ≡ old.core.power) ⊎ (new.core.power ≡ power.Dark) ⊎ ((old.core.power ≡ power.On) × (new.core.power ≡ power.Off)) → ⊥
@@ -264,14 +264,14 @@ module _ (woven : Woven) (requests : ℕ) (status : ExitStatus) (before : Option
 -- ---- the totals behind further turns
 
 -- no request begins in them
-turns_begin : (waiting : Bool) (last end : Session) → TurnsBehind waiting last end → Gains 0 last.core.history.facts end.core.history.facts
-turns_begin true last end same = subst (λ (s : Session). Gains 0 last.core.history.facts s.core.history.facts) (sym same) (gains_none last.core.history.facts)
+turns_begin : (waiting : Bool) (last end : State) → TurnsBehind waiting last end → Gains 0 last.core.history.facts end.core.history.facts
+turns_begin true last end same = subst (λ (s : State). Gains 0 last.core.history.facts s.core.history.facts) (sym same) (gains_none last.core.history.facts)
 turns_begin false last end turns =
     each_turn (λ old new. Gains 0 old.core.history.facts new.core.history.facts) (λ s. gains_none s.core.history.facts)
     (λ a b c one two. gains_then 0 0 a.core.history.facts b.core.history.facts c.core.history.facts one two) turn_gains last end turns
 
 -- so what isn't begun has its causes by the totals that are told there
-pub causes_still : (lv blocks requests : ℕ) (start : Weaving) (last end : Session) (woven : Woven) (totals : Totals) → Weaves lv blocks requests start last woven.waiting → HasCauses lv blocks requests start last woven
+pub causes_still : (lv blocks requests : ℕ) (start : Weaving) (last end : State) (woven : Woven) (totals : Totals) → Weaves lv blocks requests start last woven.waiting → HasCauses lv blocks requests start last woven
     → woven.totals ≡ totals_of requests (entries_since (length start.session.core.history.facts) last.core.history.facts) → TurnsBehind woven.waiting last end
     → totals ≡ totals_of requests (entries_since (length start.session.core.history.facts) end.core.history.facts) → HasCauses lv blocks requests start last (record { totals = totals; waiting = woven.waiting })
 causes_still lv blocks requests start last end woven totals weaves causes told turns tells =

@@ -5,9 +5,9 @@ ghost use Rattle.lvm_disk.specs.Device.{IsReady};
 ghost use Rattle.lvm_core.specs.Starting.{IsRoom};
 ghost use Rattle.lvm_session.specs.declared.open.Power.TheVariants as power;
 ghost use Rattle.lvm_session.specs.Sound.{IsSound};
-ghost use Rattle.lvm_top.specs.passed.Driver.{state_of};
+ghost use Rattle.lvm_session.specs.State.{state_of};
 ghost use Rattle.lvm_top.specs.passed.Running.{RunsOn};
-ghost use Rattle.lvm_top.specs.passed.Stage.{IsBetweenStage, IsFitting, IsStuck, history_in, moment_in, most_refusals, session_in, state_in, without_facts};
+ghost use Rattle.lvm_top.specs.passed.Stage.{IsBetweenStage, IsFittingStage, IsStuck, history_in, moment_in, most_refusals, session_in, state_in, without_facts};
 ghost use Rattle.lvm_top.specs.Run.{ran};
 ghost use Rattle.lvm_top.specs.Script.{passage};
 ghost use Rattle.lvm_program.specs.Woven.{EndsWoven, HasAsked, IsDrawable, IsDrawn, IsMade, IsServed, IsSized, EndsRefused, HasServed, PromisesWoven, TellsWoven, TurnsBehind, asked_woven, copy_count, exit_of, is_whole, mkvg_line, mklv_line, refusal_text, refusals_told, status_woven, total_line, totals_text, untold, with_ill, with_well};
@@ -86,11 +86,11 @@ fn make_volume<S: Shelf, C: Clock>(
     volume: &[u8],
 ) -> Made<S>
     requires between { IsBetweenStage S.device stage }
-    requires fits { IsFitting stage }
+    requires fits { IsFittingStage stage }
     requires room { IsRoom room }
     ensures made { IsMade (without_facts (history_in stage)) room group.now volume.now (state_in S.device stage (C.last clock.old)) result.reply (state_in S.device result.stage (C.last clock.new)) }
     ensures rooms { without_facts (history_in result.stage) ≡ without_facts (history_in stage) }
-    ensures fits { IsFitting result.stage }
+    ensures fits { IsFittingStage result.stage }
     ensures asked { HasAsked group.now volume.now (C.asked clock.old) (C.asked clock.new) }
 {
     let made = do_line(alloc, stage, clock, room, group);
@@ -263,7 +263,7 @@ fn is_ok(reply: &Reply) -> bool
 fn refuse<S: Shelf, O: Sink>(alloc: Global, out: &mut O, stage: Stage<S>, why: Reply) -> Ended<S>
     requires off { IsStuck why → session_in stage ≡ None }
     requires between { (IsStuck why → ⊥) → IsBetweenStage S.device stage }
-    requires fits { IsFitting stage }
+    requires fits { IsFittingStage stage }
     requires few { most_refusals why ≤ 2 }
     ensures refused { EndsRefused why (history_in stage).run (moment_in S.device stage) (session_in stage) (exit_of S.device result (passage O.held O.faults out.old out.new)) }
     ensures rooms { IsSomeAnd result.history (λ log. without_facts log ≡ without_facts (history_in stage)) }
@@ -318,7 +318,7 @@ fn end_woven<S: Shelf, O: Sink>(
 ) -> Ended<S>
     requires off { IsStuck made.reply → session_in made.stage ≡ None }
     requires between { (IsStuck made.reply → ⊥) → IsBetweenStage S.device made.stage }
-    requires fits { IsFitting made.stage }
+    requires fits { IsFittingStage made.stage }
     requires few { most_refusals made.reply ≤ 2 }
     requires served { made.reply ≡ Reply.Ok → IsServed (session_in made.stage) }
     requires some { IsDrawable load.now × (1 ≤ blocks) }

@@ -218,16 +218,16 @@ one_cut old new left lit dark =
 
 -- ---- all that have ended so far
 
-pub record Ending (before left : ℕ) (old now : Device) : Type 0 where
+pub record EndedSoFar (before left : ℕ) (old now : Device) : Type 0 where
   pub ends : TransfersEnd old now
   pub lit : IsLit now
   pub spends : Spends before left old now
   pub costs : EndsWhile before old left now
 
-pub none_yet : (left : ℕ) (old : Device) → IsLit old → Ending left left old old
+pub none_yet : (left : ℕ) (old : Device) → IsLit old → EndedSoFar left left old old
 none_yet left old lit = record { ends = Here tt; lit = lit; spends = spends_none left old; costs = NoneYet }
 
-pub one_more : (before left after : ℕ) (old now new : Device) → Ending before left old now → 1 ≤ left → OneEnds left after now new → Ending before after old new
+pub one_more : (before left after : ℕ) (old now new : Device) → EndedSoFar before left old now → 1 ≤ left → OneEnds left after now new → EndedSoFar before after old new
 one_more before left after old now new so_far some one = record {
   ends = Then so_far.ends one.step tt;
   lit = one.lit;
@@ -236,6 +236,6 @@ one_more before left after old now new so_far some one = record {
 }
 
 -- and then the power was cut
-pub cut_costs : (before left after : ℕ) (old now new : Device) → Ending before left old now → 1 ≤ left → OneIsCut left after now new → CutCosts before after old new
+pub cut_costs : (before left after : ℕ) (old now new : Device) → EndedSoFar before left old now → 1 ≤ left → OneIsCut left after now new → CutCosts before after old new
 cut_costs before left after old now new so_far some cut =
     record { now = now; ends = subst (λ (n : ℕ). EndsWhile before old n now) (sym cut.same) so_far.costs; some = let same = cut.same in omega (arith, some, same); cuts = cut.cuts }

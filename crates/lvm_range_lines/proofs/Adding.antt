@@ -9,14 +9,13 @@ use Rattle.lvm_raw.specs.Pieces.{piece_count}
 use Rattle.lvm_session.specs.declared.open.Power.{Power}
 use Rattle.lvm_session.specs.declared.open.Power.TheVariants as power
 use Rattle.lvm_session.specs.Sound.{IsSound}
-use Rattle.lvm_session.specs.State.{Core, state}
-use Rattle.lvm_group_lines.specs.passed.Driver.{state_of}
+use Rattle.lvm_session.specs.State.{Core, state, state_of}
 use Rattle.lvm_group_lines.specs.passed.Running.{RunsOn}
 use Rattle.lvm_posts.specs.declared.asked.Asked.{Asked}
 use Rattle.lvm_posts.specs.declared.posts.Post.{Post}
 use Rattle.lvm_group_lines.specs.passed.Ranges.{AskRangeFault, Asks, IsAskedFor, range_fault}
 use Rattle.lvm_group_lines.proofs.passed.Ranges.{room_first}
-use Rattle.lvm_group_lines.specs.passed.Stage.{Reply, Stage, EndsUnasked, OfRequests, most_refusals, HaveRooms, IsBetweenStage, IsCarried, IsFitting}
+use Rattle.lvm_group_lines.specs.passed.Stage.{Reply, Stage, EndsUnasked, OfRequests, most_refusals, HaveRooms, IsBetweenStage, IsCarried, IsFittingStage}
 use Rattle.lvm_group_lines.specs.passed.Stage.{state_in, ArePosted}
 use Rattle.lvm_group_lines.specs.passed.ReplyVariants as reply
 use Rattle.lvm_group_lines.proofs.passed.Stage.{posts_need}
@@ -41,7 +40,7 @@ asks_room name write at count old new asked on asks some = by_fault (range_fault
         omega (arith, some, pieces, entries)
     by_fault (Some why) none gives = absurd (let is = gives.0 in cc is)
 
-module _ {S : Type 0} (device : S → Device) (first : S × Core) (posts : Vec Post) (bytes : Vec ℕ) (fits : IsFitting (serving first posts bytes)) (between : IsBetweenStage device (serving first posts bytes))
+module _ {S : Type 0} (device : S → Device) (first : S × Core) (posts : Vec Post) (bytes : Vec ℕ) (fits : IsFittingStage (serving first posts bytes)) (between : IsBetweenStage device (serving first posts bytes))
     (name : List ℕ) (at count word : ℕ) (mid : S × Core) (asked : Asked) (asks : AsksByName name (Some word) at count first.1 mid.1 (Ok asked)) (its : IsAskedFor (Some word) count first.1 mid.1 asked) where
   -- there is room for its post
   pub has_place : vec_len posts < vec_capacity posts

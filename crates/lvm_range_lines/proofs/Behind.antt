@@ -11,7 +11,7 @@ use Rattle.lvm_steps.specs.Requests.{at}
 use Rattle.lvm_core.specs.Leaves.{is_of_volume}
 use Rattle.lvm_core.specs.Sound.{HaveAllLanded}
 use Rattle.lvm_keeps.proofs.Lists.{count_cons}
-use Rattle.lvm_session.specs.State.{Core, State as Session}
+use Rattle.lvm_session.specs.State.{Core, State}
 use Rattle.lvm_group_lines.specs.passed.Quiesce.{IsBehindEach}
 use Rattle.lvm_stamps.specs.Behind.{IsBehind}
 use Rattle.lvm_session.specs.Sound.{IsLit}
@@ -19,7 +19,7 @@ use Rattle.lvm_group_lines.specs.passed.Tie.{LeavesDescriptors}
 use Rattle.lvm_posts.specs.declared.posts.Post.{Post}
 use Rattle.lvm_posts.specs.Posts.{takings}
 use Rattle.lvm_group_lines.specs.passed.HolderVariants as holder
-use Rattle.lvm_group_lines.specs.passed.Stage.{Reply, Stage, GoesOn, HasBegunHeld, IsAlone, OfRequests, IsStuck, most_refusals, HaveRooms, IsFitting}
+use Rattle.lvm_group_lines.specs.passed.Stage.{Reply, Stage, GoesOn, HasBegunHeld, IsAlone, OfRequests, IsStuck, most_refusals, HaveRooms, IsFittingStage}
 use Rattle.lvm_group_lines.specs.passed.Stage.{history_in, session_in, shelf_in, state_in, ArePosted, IsOnBetween, StandsAlone, ScriptState}
 use Rattle.lvm_group_lines.specs.passed.TieCommands.{StandsAfter}
 use Rattle.lvm_range_lines.specs.declared.answers.Answers.{Answers}
@@ -41,7 +41,7 @@ gone_long NoGone = refl
 gone_long (OneGone {posts} {facts} {answers} before post have total answer ended ends) =
     let was = gone_long before in let a = length-append answers (answer ∷ []) in let b = length-append posts (post ∷ []) in omega (arith, was, a, b)
 
-posts_long : {first now : Session} {posts : List Post} {endings : List Ending} → TakesPosts first posts now endings → length endings ≡ length posts
+posts_long : {first now : State} {posts : List Post} {endings : List Ending} → TakesPosts first posts now endings → length endings ≡ length posts
 posts_long NoPost = refl
 posts_long (OnePost {posts} {mid} {answers} before post new answer takes) =
     let was = posts_long before in let a = length-append answers (answer ∷ []) in let b = length-append posts (post ∷ []) in omega (arith, was, a, b)
@@ -49,7 +49,7 @@ posts_long (OnePost {posts} {mid} {answers} before post new answer takes) =
 pub gone_few : {first now : List Fact} {posts : List Post} {endings : List Ending} → TakesGone first posts now endings → (answer : Reply) → Tells endings answer → most_refusals answer ≤ length posts + 1
 gone_few takes answer tells = tells_few _ answer _ (gone_long takes) tells
 
-pub posts_few : {first now : Session} {posts : List Post} {endings : List Ending} → TakesPosts first posts now endings → (answer : Reply) → Tells endings answer → most_refusals answer ≤ length posts + 1
+pub posts_few : {first now : State} {posts : List Post} {endings : List Ending} → TakesPosts first posts now endings → (answer : Reply) → Tells endings answer → most_refusals answer ≤ length posts + 1
 posts_few takes answer tells = tells_few _ answer _ (posts_long takes) tells
 
 -- an answer that tells of posts is none of being stuck
@@ -135,7 +135,7 @@ module _ {S : Type 0} (device : S → Device) (closed stage : Stage S) (answer :
 
 -- ---- a stage without a session
 
-module _ {S : Type 0} (device : S → Device) (old : Stage S) (off : session_in old ≡ None) (fits : IsFitting old) (shelf : S) (log after : Log) (items : List Post) (posts1 : Vec Post) (bytes1 : Vec ℕ) (a : Answers) (stage : Stage S) (answer : Reply)
+module _ {S : Type 0} (device : S → Device) (old : Stage S) (off : session_in old ≡ None) (fits : IsFittingStage old) (shelf : S) (log after : Log) (items : List Post) (posts1 : Vec Post) (bytes1 : Vec ℕ) (a : Answers) (stage : Stage S) (answer : Reply)
     (same_shelf : device shelf ≡ device (shelf_in old)) (log_is : log ≡ history_in old) (items_are : items ≡ old.posts.items) (takes : GathersGone log.facts items after.facts a) (rooms : after ≡ record log { facts = after.facts })
     (keeps : (first : Moment) (d : Device) → Keeps log.run first (at d log.facts) → Keeps log.run first (at d after.facts)) (later : KeepsLater log.facts after.facts) (tells : (endings : List Ending) → Gathers endings a → Tells endings answer)
     (empty : posts1.items ≡ []) (rooms1 : HaveRooms (history_in old).room posts1 bytes1) (is : stage ≡ record { holder = holder.Off shelf after; posts = posts1; bytes = bytes1 }) where
@@ -157,7 +157,7 @@ module _ {S : Type 0} (device : S → Device) (old : Stage S) (off : session_in 
     later = subst (λ (l : Log). KeepsLater (history_in old).facts l.facts) (sym after_is) (subst (λ (l : Log). KeepsLater l.facts after.facts) log_is later);
   }
 
-  pub fits_behind : IsFitting stage
+  pub fits_behind : IsFittingStage stage
   fits_behind =
       let room : after.room ≡ (history_in old).room = ap (λ (l : Log). l.room) rooms ∙ ap (λ (l : Log). l.room) log_is in
-      subst IsFitting (sym is) (record { kind = tt; few = subst (λ n. n < 2 ^ 32) (sym room) fits.few; rooms = subst (λ n. HaveRooms n posts1 bytes1) (sym room) rooms1 })
+      subst IsFittingStage (sym is) (record { kind = tt; few = subst (λ n. n < 2 ^ 32) (sym room) fits.few; rooms = subst (λ n. HaveRooms n posts1 bytes1) (sym room) rooms1 })

@@ -18,21 +18,20 @@ use Rattle.lvm_session.specs.declared.open.Power.TheVariants as power
 use Rattle.lvm_session.specs.Causes.{is_over}
 use Rattle.lvm_session.specs.Sound.{IsLit, IsSound, is_dark}
 use Rattle.lvm_group_lines.specs.passed.Tie.{moment_of}
-use Rattle.lvm_session.specs.State.{Core, votes_there}
-use Rattle.lvm_group_lines.specs.passed.Driver.{state_of}
+use Rattle.lvm_session.specs.State.{Core, votes_there, state_of}
 use Rattle.lvm_group_lines.specs.passed.Running.{LeavesSession, RunsOn}
 use Rattle.lvm_group_lines.proofs.passed.Running.{stays_unstuck}
 use Rattle.lvm_posts.specs.declared.posts.Post.{Post}
 use Rattle.lvm_posts.specs.Posts.{ended_with}
 use Rattle.lvm_posts.proofs.Closed.{over_answered}
 use Rattle.lvm_group_lines.specs.passed.Stage.{Holder, Reply, Stage, EndsUnasked, GoesOn, OfRequests, most_refusals, HaveRooms, IsBetweenStage}
-use Rattle.lvm_group_lines.specs.passed.Stage.{IsCarried, IsClosed, IsEnded, IsFitting, IsOfKind, history_in, moment_in, posts_ended, session_of}
+use Rattle.lvm_group_lines.specs.passed.Stage.{IsCarried, IsClosed, IsEnded, IsFittingStage, IsOfKind, history_in, moment_in, posts_ended, session_of}
 use Rattle.lvm_group_lines.specs.passed.Stage.{shelf_in, state_in, ArePosted, IsOnBetween, IsTimely, ScriptState, without_facts}
 use Rattle.lvm_group_lines.specs.passed.HolderVariants as holder
 use Rattle.lvm_group_lines.specs.passed.RefusalVariants as refusal
 use Rattle.lvm_group_lines.specs.passed.ReplyVariants as reply
 use Rattle.lvm_group_lines.proofs.passed.Stage.{end_posts, IsRun, before_end, later_end, over_goes, run_goes, spanned}
-use Rattle.lvm_range_lines.specs.Leaving.{IsOverWith, Leaves, LeavesBy, serving}
+use Rattle.lvm_range_lines.specs.Leaving.{IsOverWith, CarriesTo, CarriesBy, serving}
 
 -- ---- as states
 
@@ -40,14 +39,14 @@ pub ended_is_over : {S : Type 0} (device : S → Device) (end : S × Core) (post
 ended_is_over device end posts stage last ended = record { shelf = ended.shelf; facts = ap (λ (log : Log). log.facts) ended.history; session = ended.session; posted = ended.posted; clock = refl }
 
 carried_leaves_by : {S : Type 0} (device : S → Device) (end : S × Core) (posts : Vec Post) (bytes : Vec ℕ) (p : Power) (stage : Stage S) (last : ℕ) → end.1.power ≡ p → IsCarried device end posts bytes p stage
-    → LeavesBy p (state_of device end) posts.items last (state_in device stage last)
+    → CarriesBy p (state_of device end) posts.items last (state_in device stage last)
 carried_leaves_by device end posts bytes power.On stage last is carried = ap (λ (s : Stage _). state_in device s last) carried
 carried_leaves_by device end posts bytes power.Off stage last is carried = ended_is_over device end posts.items stage last carried
 carried_leaves_by device end posts bytes power.Dark stage last is carried = ended_is_over device end posts.items stage last carried
 carried_leaves_by device end posts bytes power.Stuck stage last is carried = ended_is_over device end posts.items stage last carried
 
 pub carried_leaves : {S : Type 0} (device : S → Device) (end : S × Core) (posts : Vec Post) (bytes : Vec ℕ) (stage : Stage S) (last : ℕ) → IsCarried device end posts bytes end.1.power stage
-    → Leaves (state_of device end) posts.items last (state_in device stage last)
+    → CarriesTo (state_of device end) posts.items last (state_in device stage last)
 carried_leaves device end posts bytes stage last carried = carried_leaves_by device end posts bytes end.1.power stage last refl carried
 
 -- ---- what fits
@@ -75,7 +74,7 @@ pub record RunsTo {S : Type 0} (device : S → Device) (first end : S × Core) :
 pub runs_to : {S : Type 0} (device : S → Device) (first end : S × Core) → RunsOn (state_of device first) (state_of device end) → IsSound (state_of device end) → RunsTo device first end
 runs_to device first end runs sound = record { leaves = runs.leaves; orders = runs.orders; sound = sound }
 
-module _ {S : Type 0} (device : S → Device) (first : S × Core) (posts : Vec Post) (bytes : Vec ℕ) (fits : IsFitting (serving first posts bytes)) (between : IsBetweenStage device (serving first posts bytes)) where
+module _ {S : Type 0} (device : S → Device) (first : S × Core) (posts : Vec Post) (bytes : Vec ℕ) (fits : IsFittingStage (serving first posts bytes)) (between : IsBetweenStage device (serving first posts bytes)) where
   abbrev old : Stage S
   old = serving first posts bytes
 
@@ -108,7 +107,7 @@ module _ {S : Type 0} (device : S → Device) (first : S × Core) (posts : Vec P
         goes = subst (λ (s : Stage S). GoesOn first.1.history.run OfRequests answer (state_in device old last) (state_in device s last)) (sym is)
             (run_goes OfRequests (state_in device old last) first.1 (state_of device end) (its last) answer (state_in device (serving end posts1 bytes1) last) refl on shut posted (λ not_asking. absurd (not_asking tt)) few);
         rooms = ap (λ (s : Stage S). without_facts (history_in s)) is ∙ same_rooms;
-        fits = subst IsFitting (sym is) (record {
+        fits = subst IsFittingStage (sym is) (record {
           kind = volumes_stay;
           few = subst (λ n. n < 2 ^ 32) (sym room_is) fits.few;
           rooms = subst (λ n. HaveRooms n posts1 bytes1) (sym room_is) rooms;
@@ -127,7 +126,7 @@ module _ {S : Type 0} (device : S → Device) (first : S × Core) (posts : Vec P
             let long = length-map posts1.items (ended_with (votes_there end.1) (total_votes end.1.descriptor)) in
             omega (arith, few, same, long)
 
-        fits_then : IsFitting stage
+        fits_then : IsFittingStage stage
         fits_then = record {
           kind = off_kind stage.holder ended.session;
           few = subst (λ n. n < 2 ^ 32) (sym (ap (λ (log : Log). log.room) ended.history ∙ room_is)) fits.few;

@@ -3,7 +3,7 @@ use Rattle.std.proofs.Common.{◌≡◌, ◌≤◌, ℕ, refl, sym, ◌∙◌, a
 use Rattle.lvm_disk.specs.Device.{Device}
 use Rattle.lvm_vol.specs.Log.{Log}
 use Rattle.lvm_group_lines.specs.passed.Stage.{Holder, Refusal, Reply, Stage, EndsUnasked, OfRequests, IsRefused, most_refusals, IsBetweenStage}
-use Rattle.lvm_group_lines.specs.passed.Stage.{IsFitting, history_in, state_in, ScriptState, without_facts}
+use Rattle.lvm_group_lines.specs.passed.Stage.{IsFittingStage, history_in, state_in, ScriptState, without_facts}
 use Rattle.lvm_group_lines.specs.passed.ReplyVariants as reply
 use Rattle.lvm_group_lines.proofs.passed.Stage.{refused_ends, still_ends, unasked_as}
 
@@ -11,12 +11,12 @@ use Rattle.lvm_group_lines.proofs.passed.Stage.{refused_ends, still_ends, unaske
 abbrev pub held_by : {S : Type 0} → Stage S → Holder S → Stage S
 held_by stage h = record { holder = h; posts = stage.posts; bytes = stage.bytes }
 
-module _ {S : Type 0} (device : S → Device) (Does : Log → ScriptState → ScriptState → Reply → Type 0) (stage : Stage S) (fits : IsFitting stage) (between : IsBetweenStage device stage) (h : Holder S) (is : stage.holder ≡ h) where
+module _ {S : Type 0} (device : S → Device) (Does : Log → ScriptState → ScriptState → Reply → Type 0) (stage : Stage S) (fits : IsFittingStage stage) (between : IsBetweenStage device stage) (h : Holder S) (is : stage.holder ≡ h) where
   stage_is : stage ≡ held_by stage h
   stage_is = ap (held_by stage) is
 
-  pub fits_now : IsFitting (held_by stage h)
-  fits_now = subst IsFitting stage_is fits
+  pub fits_now : IsFittingStage (held_by stage h)
+  fits_now = subst IsFittingStage stage_is fits
 
   pub between_now : IsBetweenStage device (held_by stage h)
   between_now = subst (IsBetweenStage device) stage_is between

@@ -11,13 +11,12 @@ use Rattle.lvm_session.specs.declared.open.Power.{Power}
 use Rattle.lvm_session.specs.declared.open.Power.TheVariants as power
 use Rattle.lvm_session.specs.Causes.{is_over}
 use Rattle.lvm_session.specs.Sound.{IsSound}
-use Rattle.lvm_session.specs.State.{Core, votes_there}
-use Rattle.lvm_group_lines.specs.passed.Driver.{state_of}
+use Rattle.lvm_session.specs.State.{Core, votes_there, state_of}
 use Rattle.lvm_group_lines.specs.passed.Running.{RunsOn}
 use Rattle.lvm_posts.specs.declared.posts.Post.{Post}
 use Rattle.lvm_posts.specs.Posts.{ended_with}
 use Rattle.lvm_posts.proofs.Closed.{over_answered}
-use Rattle.lvm_group_lines.specs.passed.Stage.{Reply, Stage, HaveRooms, IsEnded, IsFitting, history_in, posts_ended, ArePosted}
+use Rattle.lvm_group_lines.specs.passed.Stage.{Reply, Stage, HaveRooms, IsEnded, IsFittingStage, history_in, posts_ended, ArePosted}
 use Rattle.lvm_group_lines.proofs.passed.Stage.{end_posts}
 use Rattle.lvm_range_lines.specs.Leaving.{serving}
 use Rattle.lvm_range_lines.specs.Taking.{GoesBehind, IsClosedBehind, LandedEnds}
@@ -36,7 +35,7 @@ not_on p (inl is) on = let e = sym on ∙ is in cc e
 not_on p (inr (inl is)) on = let e = sym on ∙ is in cc e
 not_on p (inr (inr is)) on = let e = sym on ∙ is in cc e
 
-module _ {S : Type 0} (device : S → Device) (driver : S × Core) (posts : Vec Post) (bytes : Vec ℕ) (fits : IsFitting (serving driver posts bytes)) where
+module _ {S : Type 0} (device : S → Device) (driver : S × Core) (posts : Vec Post) (bytes : Vec ℕ) (fits : IsFittingStage (serving driver posts bytes)) where
   pub goes_landed : (p : Power) → p ≡ power.On → (stage : Stage S) (answer : Reply) → GoesBehind device driver stage answer posts.items → LandedEnds device driver posts bytes p stage answer
   goes_landed power.On on stage answer goes = goes
   goes_landed power.Off on stage answer goes = absurd (cc on)
@@ -55,7 +54,7 @@ module _ {S : Type 0} (device : S → Device) (driver : S × Core) (posts : Vec 
     room_on : end.1.history.room ≡ driver.1.history.room
     room_on = ap (λ (log : Log). log.room) runs.leaves.keeps.log
 
-    pub fits_on : IsFitting (serving end none bytes)
+    pub fits_on : IsFittingStage (serving end none bytes)
     fits_on = record {
       kind = λ empty. fits.kind (sym (ap (λ (d : Descriptor). d.lvs) runs.leaves.keeps.descriptor) ∙ empty);
       few = subst (λ n. n < 2 ^ 32) (sym room_on) fits.few;
@@ -68,7 +67,7 @@ module _ {S : Type 0} (device : S → Device) (driver : S × Core) (posts : Vec 
     room_then : (history_in stage).room ≡ driver.1.history.room
     room_then = ap (λ (log : Log). log.room) ended.history
 
-    pub fits_ended : IsFitting stage
+    pub fits_ended : IsFittingStage stage
     fits_ended = record {
       kind = off_kind stage.holder ended.session;
       few = subst (λ n. n < 2 ^ 32) (sym room_then) fits.few;

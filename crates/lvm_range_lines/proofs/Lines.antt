@@ -12,8 +12,7 @@ use Rattle.lvm_session.specs.declared.open.Power.{Power}
 use Rattle.lvm_session.specs.declared.open.Power.TheVariants as power
 use Rattle.lvm_session.specs.Causes.{is_over}
 use Rattle.lvm_session.specs.Sound.{IsSound}
-use Rattle.lvm_session.specs.State.{Core, State as Session, state, votes_there}
-use Rattle.lvm_group_lines.specs.passed.Driver.{state_of}
+use Rattle.lvm_session.specs.State.{Core, State, state, votes_there, state_of}
 use Rattle.lvm_group_lines.specs.passed.Running.{RunsOn}
 use Rattle.lvm_group_lines.proofs.passed.Running.{runs_both}
 use Rattle.lvm_posts.specs.declared.asked.Asked.{Asked}
@@ -26,7 +25,7 @@ use Rattle.lvm_group_lines.specs.passed.Ranges.{AskRangeGives, Asks, IsAskedFor,
 use Rattle.lvm_group_lines.specs.passed.Ranges.{KeepsOthers, IsUnfinished, RangeCause}
 use Rattle.lvm_group_lines.proofs.passed.Ranges.{range_cause}
 use Rattle.lvm_group_lines.specs.passed.Stage.{Reply, Stage, EndsUnasked, OfRequests, InFull, Shows, WithoutMemory, most_refusals, HaveRooms}
-use Rattle.lvm_group_lines.specs.passed.Stage.{ComesTo, IsBetweenStage, IsCarried, IsFitting, state_in, ArePosted, ScriptState, is_unheard}
+use Rattle.lvm_group_lines.specs.passed.Stage.{ComesTo, IsBetweenStage, IsCarried, IsFittingStage, state_in, ArePosted, ScriptState, is_unheard}
 use Rattle.lvm_group_lines.specs.passed.HolderVariants as holder
 use Rattle.lvm_group_lines.specs.passed.ReplyVariants as reply
 use Rattle.lvm_group_lines.proofs.passed.Stage.{over_landed}
@@ -57,12 +56,12 @@ ends_heard facts asked have total (FirstFails k why less before fails is) =
     told_heard (piece_lp asked k) have total fails.how (fails.fault ∙ ap (λ (w : RangeFault). Some w) same)
 
 -- then some piece hasn't landed,
-stuck_unfinished : (asked : Asked) (left : ℕ) (old new : Session) → FinishGives asked left old new (Err fault.Stuck) → IsUnfinished asked new
+stuck_unfinished : (asked : Asked) (left : ℕ) (old new : State) → FinishGives asked left old new (Err fault.Stuck) → IsUnfinished asked new
 stuck_unfinished asked left old new (Finished mid path table votes takes) = absurd (ends_heard new.core.history.facts asked (votes_there mid.core) (total_votes mid.core.descriptor) takes.ends)
 stuck_unfinished asked left old new (WasStuck path table unfinished none is) = unfinished
 
 -- and the session is on
-pub unfinished_on : (asked : Asked) (s : Session) → IsSound s → (s.core.power ≡ power.Stuck → ⊥) → IsUnfinished asked s → s.core.power ≡ power.On
+pub unfinished_on : (asked : Asked) (s : State) → IsSound s → (s.core.power ≡ power.Stuck → ⊥) → IsUnfinished asked s → s.core.power ≡ power.On
 unfinished_on asked s sound heard unfinished = by s.core.power refl
   where
     over : is_over s.core.power ≡ true → ⊥
@@ -84,8 +83,8 @@ only_stuck (fault.NoFresh lp) e = absurd (cc e)
 
 -- ---- the line
 
-module _ {S : Type 0} (device : S → Device) (first : S × Core) (posts : Vec Post) (bytes : Vec ℕ) (fits : IsFitting (serving first posts bytes)) (between : IsBetweenStage device (serving first posts bytes))
-    (name : List ℕ) (write : Option ℕ) (at count : ℕ) (Says : Session → Asked → Reply → Type 0)
+module _ {S : Type 0} (device : S → Device) (first : S × Core) (posts : Vec Post) (bytes : Vec ℕ) (fits : IsFittingStage (serving first posts bytes)) (between : IsBetweenStage device (serving first posts bytes))
+    (name : List ℕ) (write : Option ℕ) (at count : ℕ) (Says : State → Asked → Reply → Type 0)
     (mid : S × Core) (asked : Asked) (asks : AsksByName name write at count first.1 mid.1 (Ok asked)) (its : IsAskedFor write count first.1 mid.1 asked) (shelf : mid.0 ≡ first.0) (kept : KeepsPosts first.1 mid.1)
     (begins : RunsOn (state_of device first) (state_of device mid))
     (end : S × Core) (others : KeepsOthers asked mid.1 end.1) (runs : RunsOn (state_of device mid) (state_of device end)) (sound : IsSound (state_of device end)) where
@@ -169,7 +168,7 @@ module _ {S : Type 0} (device : S → Device) (first : S × Core) (posts : Vec P
 -- ---- the lines of blocks
 
 -- they are one refusal at most
-pub blocks_few : (at : ℕ) (end : Session) (asked : Asked) (answer : Reply) → ShowsBlocks at end asked answer → most_refusals answer ≤ 1
+pub blocks_few : (at : ℕ) (end : State) (asked : Asked) (answer : Reply) → ShowsBlocks at end asked answer → most_refusals answer ≤ 1
 blocks_few at end asked answer (NoMemory is) = subst (λ (a : Reply). most_refusals a ≤ 1) (sym is) (omega arith)
 blocks_few at end asked answer (ShowsThem shows) = by shows.shows
   where
@@ -188,6 +187,6 @@ asks_at name write at count old new asked asks = by_fault (range_fault old taken
     by_fault None gives = (let e : asked ≡ gives.0 = let is = gives.1 in cc is in ap (λ (a : Asked). a.at) e) ∙ gives.2.at_is
     by_fault (Some why) gives = absurd (let is = gives.0 in cc is)
 
-pub at_range : (at : ℕ) (asked : Asked) → asked.at ≡ at → (end : Session) (done : Result Reply RangeFault) → IfOk done (ShowsBlocks asked.at end asked) → IfOk done (ShowsBlocks at end asked)
+pub at_range : (at : ℕ) (asked : Asked) → asked.at ≡ at → (end : State) (done : Result Reply RangeFault) → IfOk done (ShowsBlocks asked.at end asked) → IfOk done (ShowsBlocks at end asked)
 at_range at asked is end (Ok answer) shows = subst (λ n. ShowsBlocks n end asked answer) is shows
 at_range at asked is end (Err why) shows = tt

@@ -7,13 +7,12 @@ use Rattle.lvm_vol.specs.Log.{Log}
 use Rattle.lvm_session.specs.declared.open.Power.{Power}
 use Rattle.lvm_session.specs.declared.open.Power.TheVariants as power
 use Rattle.lvm_session.specs.Sound.{IsSound}
-use Rattle.lvm_session.specs.State.{Core, state}
-use Rattle.lvm_group_lines.specs.passed.Driver.{state_of}
+use Rattle.lvm_session.specs.State.{Core, state, state_of}
 use Rattle.lvm_group_lines.specs.passed.Running.{RunsOn}
 use Rattle.lvm_posts.specs.declared.posts.Post.{Post}
 use Rattle.lvm_group_lines.specs.passed.Ranges.{AskRangeGives}
 use Rattle.lvm_group_lines.specs.passed.Stage.{Refusal, Reply, Stage, EndsUnasked, OfRequests, most_refusals, HaveRooms, IsBetweenStage, IsCarried}
-use Rattle.lvm_group_lines.specs.passed.Stage.{IsFitting, state_in, ScriptState}
+use Rattle.lvm_group_lines.specs.passed.Stage.{IsFittingStage, state_in, ScriptState}
 use Rattle.lvm_group_lines.specs.passed.RefusalVariants as refusal
 use Rattle.lvm_group_lines.specs.passed.ReplyVariants as reply
 use Rattle.lvm_range_lines.specs.Leaving.{KeepsPosts, serving}
@@ -21,7 +20,7 @@ use Rattle.lvm_range_lines.specs.Refusals.{ask_refusal}
 use Rattle.lvm_range_lines.specs.Requests.{AsksByName, HasNone, IsNotAsked, NotThere, OnVolume, Refuses, Takes, There}
 use Rattle.lvm_range_lines.proofs.Ending.{RunsTo, carried_ends, runs_to}
 
-module _ {S : Type 0} (device : S → Device) (first : S × Core) (posts : Vec Post) (bytes : Vec ℕ) (fits : IsFitting (serving first posts bytes)) (between : IsBetweenStage device (serving first posts bytes))
+module _ {S : Type 0} (device : S → Device) (first : S × Core) (posts : Vec Post) (bytes : Vec ℕ) (fits : IsFittingStage (serving first posts bytes)) (between : IsBetweenStage device (serving first posts bytes))
     (name : List ℕ) (write : Option ℕ) (at count : ℕ) (Happens : ScriptState → ScriptState → Reply → Core → ℕ → Type 0)
     (not_asked : (old new : ScriptState) (answer : Reply) (core : Core) (lv : ℕ) → IsNotAsked write lv at count core old new answer → Happens old new answer core lv)
     (mid : S × Core) (why : Refusal) (asks : AsksByName name write at count first.1 mid.1 (Err why)) (shelf : mid.0 ≡ first.0) (kept : KeepsPosts first.1 mid.1)

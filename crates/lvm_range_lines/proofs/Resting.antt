@@ -6,14 +6,13 @@ use Rattle.lvm_vol.specs.Facts.{Fact, Begun, Landed, Taken, Making, Made, Split,
 use Rattle.lvm_vol.specs.Log.{Log}
 use Rattle.lvm_vol.specs.Order.{Ordered}
 use Rattle.lvm_steps.specs.Requests.{at}
-use Rattle.lvm_session.specs.State.{Core, State as Session, state}
+use Rattle.lvm_session.specs.State.{Core, State, state, state_of}
 use Rattle.lvm_session.specs.Sound.{IsSound}
 use Rattle.lvm_core.specs.Settled.{IsSettled as IsSettledCore}
-use Rattle.lvm_group_lines.specs.passed.Driver.{state_of}
 use Rattle.lvm_group_lines.specs.passed.Running.{RunsOn}
 use Rattle.lvm_posts.specs.declared.posts.Post.{Post}
 use Rattle.lvm_group_lines.specs.passed.TieCommands.{StandsAfter}
-use Rattle.lvm_group_lines.specs.passed.Stage.{Reply, Stage, EndsUnasked, GoesOn, OfRequests, HaveRooms, IsBetweenStage, IsFitting, history_in}
+use Rattle.lvm_group_lines.specs.passed.Stage.{Reply, Stage, EndsUnasked, GoesOn, OfRequests, HaveRooms, IsBetweenStage, IsFittingStage, history_in}
 use Rattle.lvm_group_lines.specs.passed.Stage.{session_in, shelf_in, state_in, ArePosted, IsOnBetween, ScriptState, without_facts}
 use Rattle.lvm_group_lines.specs.passed.ReplyVariants as reply
 use Rattle.lvm_group_lines.proofs.passed.Stage.{still_goes, IsToldOf, posts_few}
@@ -49,7 +48,7 @@ few_posts log on posts ordered few told posted =
 
 -- ---- while no session is on
 
-module _ {S : Type 0} (device : S → Device) (old stage : Stage S) (answer : Reply) (off : session_in old ≡ None) (between : IsBetweenStage device old) (waits : WaitsBehind device old stage answer) (fits : IsFitting stage) where
+module _ {S : Type 0} (device : S → Device) (old stage : Stage S) (answer : Reply) (off : session_in old ≡ None) (between : IsBetweenStage device old) (waits : WaitsBehind device old stage answer) (fits : IsFittingStage stage) where
   pub off_ends : EndsUnasked device (λ log. WaitDoes) ⊥ OfRequests old stage answer
   off_ends last = record {
     does = WhileOff (waits_off device old stage answer waits off last);
@@ -62,7 +61,7 @@ module _ {S : Type 0} (device : S → Device) (old stage : Stage S) (answer : Re
 
 -- ---- a session without volumes
 
-module _ {S : Type 0} (device : S → Device) (first : S × Core) (posts : Vec Post) (bytes : Vec ℕ) (fits : IsFitting (resting first posts bytes)) (between : IsBetweenStage device (resting first posts bytes))
+module _ {S : Type 0} (device : S → Device) (first : S × Core) (posts : Vec Post) (bytes : Vec ℕ) (fits : IsFittingStage (resting first posts bytes)) (between : IsBetweenStage device (resting first posts bytes))
     (end : S × Core) (enters : Enters (state_of device first) (state_of device end)) (endings : List Ending) (takes : TakesPosts (state_of device first) posts.items (state_of device end) endings)
     (runs : RunsOn (state_of device first) (state_of device end)) (sound : IsSound (state_of device end)) (none : Vec Post) (empty : none.items ≡ []) (rooms : HaveRooms first.1.history.room none bytes)
     (stage : Stage S) (is : stage ≡ resting end none bytes) (answer : Reply) (tells : Tells endings answer) where
@@ -91,16 +90,16 @@ module _ {S : Type 0} (device : S → Device) (first : S × Core) (posts : Vec P
   sound_then = subst IsSound enters.is sound
 
   log_is : end.1.history ≡ record first.1.history { facts = facts }
-  log_is = ap (λ (s : Session). s.core.history) enters.is
+  log_is = ap (λ (s : State). s.core.history) enters.is
 
-  abbrev behind : Session → ℕ → ScriptState
+  abbrev behind : State → ℕ → ScriptState
   behind s last = record { moment = at s.device s.core.history.facts; session = Some s.core; posts = []; last = last }
 
   goes_as : (last : ℕ) → state_in device stage last ≡ behind (state_of device end) last
   goes_as last = ap (λ (s : Stage S). state_in device s last) is ∙ ap (λ (ps : List Post). record { moment = at (device end.0) end.1.history.facts; session = Some end.1; posts = ps; last = last }) empty
 
   after_is : (last : ℕ) → state_in device stage last ≡ behind (state (device first.0) core) last
-  after_is last = goes_as last ∙ ap (λ (s : Session). behind s last) enters.is
+  after_is last = goes_as last ∙ ap (λ (s : State). behind s last) enters.is
 
   still_stands : (past : List Fact) → StandsAfter past (device first.0) first.1 → StandsAfter past (device first.0) core
   still_stands past stands = record {
@@ -137,10 +136,10 @@ module _ {S : Type 0} (device : S → Device) (first : S × Core) (posts : Vec P
     does = AtRest first.1 refl no_volume (record { answers = endings; end = state_of device end; takes = takes; runs = runs; sound = sound; goes = goes_as last; tells = tells });
     goes = subst (GoesOn first.1.history.run OfRequests answer (state_in device old last)) (sym (after_is last)) (goes_there last);
     rooms = ap (λ (s : Stage S). without_facts (history_in s)) is ∙ ap without_facts log_is;
-    fits = subst IsFitting (sym is) (record {
-      kind = ap (λ (s : Session). s.core.descriptor.lvs) enters.is ∙ no_volume;
+    fits = subst IsFittingStage (sym is) (record {
+      kind = ap (λ (s : State). s.core.descriptor.lvs) enters.is ∙ no_volume;
       few = subst (λ n. n < 2 ^ 32) (sym (ap (λ (log : Log). log.room) log_is)) fits.few;
       rooms = subst (λ n. HaveRooms n none bytes) (sym (ap (λ (log : Log). log.room) log_is)) rooms;
     });
-    orders = λ none. ap (λ (s : Stage S). (device (shelf_in s)).orders) is ∙ ap (λ (s : Session). s.device.orders) enters.is;
+    orders = λ none. ap (λ (s : Stage S). (device (shelf_in s)).orders) is ∙ ap (λ (s : State). s.device.orders) enters.is;
   }

@@ -10,15 +10,15 @@ use Rattle.lvm_session.specs.declared.open.Power.{Power}
 use Rattle.lvm_session.specs.declared.open.Power.TheVariants as power
 use Rattle.lvm_session.specs.Causes.{is_over}
 use Rattle.lvm_session.specs.Sound.{IsSound}
-use Rattle.lvm_session.specs.State.{Core}
-use Rattle.lvm_group_lines.specs.passed.Driver.{state_of, IsAny}
+use Rattle.lvm_session.specs.State.{Core, state_of}
+use Rattle.lvm_group_lines.specs.passed.Driver.{IsAny}
 use Rattle.lvm_group_lines.proofs.passed.Ranges.{answered_for}
 use Rattle.lvm_group_lines.specs.passed.Running.{RunsOn}
 use Rattle.lvm_group_lines.proofs.passed.Running.{runs_both}
 use Rattle.lvm_posts.specs.declared.posts.Post.{Post}
 use Rattle.lvm_group_lines.specs.passed.RefusalVariants as refusal
 use Rattle.lvm_group_lines.specs.passed.Stage.{Reply, Stage, EndsUnasked, GoesOn, OfRequests, IsStuck, most_refusals, HaveRooms, IsBetweenStage}
-use Rattle.lvm_group_lines.specs.passed.Stage.{IsCarried, IsEnded, IsFitting, history_in, shelf_in, state_in, ArePosted, ScriptState, without_facts}
+use Rattle.lvm_group_lines.specs.passed.Stage.{IsCarried, IsEnded, IsFittingStage, history_in, shelf_in, state_in, ArePosted, ScriptState, without_facts}
 use Rattle.lvm_group_lines.specs.passed.ReplyVariants as reply
 use Rattle.lvm_group_lines.proofs.passed.Stage.{over_goes}
 use Rattle.lvm_range_lines.specs.Leaving.{GoesOnWith, Waited, serving}
@@ -37,7 +37,7 @@ none_posted facts core posts none = subst (λ (ps : List Post). ArePosted facts 
 pub heard_ok : IsStuck reply.Ok → ⊥
 heard_ok stuck = cc stuck
 
-module _ {S : Type 0} (device : S → Device) (first : S × Core) (posts : Vec Post) (bytes : Vec ℕ) (fits : IsFitting (serving first posts bytes)) (between : IsBetweenStage device (serving first posts bytes))
+module _ {S : Type 0} (device : S → Device) (first : S × Core) (posts : Vec Post) (bytes : Vec ℕ) (fits : IsFittingStage (serving first posts bytes)) (between : IsBetweenStage device (serving first posts bytes))
     (mid : S × Core) (turns : Path (TurnsForPosts posts.items) IsAny (state_of device first) (state_of device mid)) (runs : RunsOn (state_of device first) (state_of device mid)) (sound : IsSound (state_of device mid))
     (left : ℕ) (waited : Waited left (state_of device first) (state_of device mid)) (posted : ArePosted mid.1.history.facts (Some mid.1) posts.items) where
   abbrev Does : Log → ScriptState → ScriptState → Reply → Type 0
@@ -54,7 +54,7 @@ module _ {S : Type 0} (device : S → Device) (first : S × Core) (posts : Vec P
 
   -- ---- it goes on
 
-  module _ (landed : AllHaveLanded posts.items (state_of device mid)) (stage : Stage S) (answer : Reply) (fits_then : IsFitting stage) where
+  module _ (landed : AllHaveLanded posts.items (state_of device mid)) (stage : Stage S) (answer : Reply) (fits_then : IsFittingStage stage) where
     module _ (on : mid.1.power ≡ power.On) (goes : GoesBehind device mid stage answer posts.items) where
       all : RunsOn (state_of device first) (state_of device goes.end)
       all = runs_both (state_of device first) (state_of device mid) (state_of device goes.end) runs goes.runs
@@ -66,7 +66,7 @@ module _ {S : Type 0} (device : S → Device) (first : S × Core) (posts : Vec P
       room_is = ap (λ (log : Log). log.room) to_end.leaves.keeps.log
 
       rooms1 : HaveRooms first.1.history.room goes.none goes.bytes
-      rooms1 = subst (λ n. HaveRooms n goes.none goes.bytes) room_is (subst IsFitting goes.is fits_then).rooms
+      rooms1 = subst (λ n. HaveRooms n goes.none goes.bytes) room_is (subst IsFittingStage goes.is fits_then).rooms
 
       goes_as : (last : ℕ) → GoesOnWith (state_of device goes.end) [] last (state_in device stage last)
       goes_as last = ap (λ (s : Stage S). state_in device s last) goes.is

@@ -4,6 +4,7 @@ use Rattle.std.specs.Prelude.{is_some, unwrap_or}
 use Rattle.std.specs.List.{list_any}
 use Rattle.std.proofs.lemmas.List.{append-nil}
 use Rattle.std.proofs.lemmas.List.Folds.{list_any-append}
+use Rattle.lvm_num.proofs.Booleans.{or_false}
 use Rattle.lvm_vol.specs.declared.entry.Outcome.{Outcome}
 use Rattle.lvm_vol.specs.declared.entry.Outcome.TheVariants as outcome
 use Rattle.lvm_vol.specs.Facts.{Fact, Request, Begun, Stands, begun, begun_by}
@@ -22,10 +23,6 @@ use Rattle.lvm_keeps.proofs.Small.{not_so}
 use Rattle.lvm_keeps.proofs.Telling.{asked_still, outcome_still}
 use Rattle.lvm_ranges.specs.Keeping.{KeepsRequests}
 use Rattle.lvm_ranges.specs.Reading.{AreReads, IsReadAt, NoRead, OneRead}
-
-or_false : (a : Bool) → a || false ≡ a
-or_false true = refl
-or_false false = refl
 
 -- ---- how a request has landed
 

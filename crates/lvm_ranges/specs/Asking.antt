@@ -9,9 +9,8 @@ use Rattle.lvm_vol.specs.Log.{asked as told, blocks_begun, next_id, spare_bytes,
 use Rattle.lvm_raw.specs.Pieces.{piece_count}
 use Rattle.lvm_session.specs.declared.open.Power.TheVariants as power
 use Rattle.lvm_session.specs.Calls.{has_numbers}
-use Rattle.lvm_session.specs.State.{Core}
+use Rattle.lvm_session.specs.State.{Core, state_of}
 use Rattle.lvm_running.specs.Running.{RunsOn}
-use Rattle.lvm_driver.specs.Answers.{state_of}
 use Rattle.lvm_posts.specs.declared.asked.Asked.{Asked}
 use Rattle.lvm_posts.specs.Pieces.{IsLaidOut}
 use Rattle.lvm_posts.specs.Posts.{AreHeld}

@@ -1,6 +1,6 @@
 -- A copy by a read and a write, and one copy after another.
 use Rattle.std.proofs.Common.{◌≡◌, inl, inr, ℕ, ◌+◌, ◌<◌, Bool, true, false, IsTrue, IsFalse, refl, ◌∙◌, subst, eq-eqb}
-use Rattle.std.specs.Prelude.{◌==◌, ◌||◌, ◌⊎◌, List, [], ◌∷◌}
+use Rattle.std.specs.Prelude.{◌==◌, ◌⊎◌, List, [], ◌∷◌}
 use Rattle.lvm_num.specs.Buffer.{Buffer, Sector}
 use Rattle.lvm_num.specs.Disks.{Disks}
 use Rattle.lvm_disk.specs.Counts.{Rose}
@@ -18,6 +18,8 @@ use Rattle.lvm_write.specs.Writes.{DiskWritesLeave, IsBack}
 use Rattle.lvm_recovery.specs.declared.copying.Recopy.{Recopy}
 use Rattle.lvm_recovery.proofs.Logged.{in_run, just_first, only_planned, only_then}
 use Rattle.lvm_recovery.specs.Copying.{IsInRun, LogsJust, LogsOnly, StopsInCopy, run_at, IsLeftOut, HasFailedAlone, IsOfStep, HoldsRun, RunHolds, StepGives, is_of_copy, IsOfCopy, CopyGives}
+pub use Rattle.std.proofs.lemmas.Bool.{or_left as or_first}
+pub use Rattle.std.proofs.lemmas.Bool.{or_right as or_second}
 
 -- ---- what is done is done by more, too
 
@@ -84,14 +86,6 @@ module _ (number : ℕ) (old mid : Device) (buf : Buffer) (back : IsBack number 
   }
 
 -- ---- a read and a write
-
-pub or_first : (p q : Bool) → IsTrue p → IsTrue (p || q)
-or_first true q p = refl
-or_first false q p = absurd cc
-
-pub or_second : (p q : Bool) → IsTrue q → IsTrue (p || q)
-or_second true q is = refl
-or_second false q is = is
 
 module _ (one : Recopy) (buf : Buffer) (p q : ℕ) (old mid : Device) where
   read_does : DiskWritesLeave (λ d. d == one.from.disk) (IsOfStep false one.from buf) p q old mid → DiskWritesLeave (is_of_copy one) (IsOfCopy old one) p q old mid

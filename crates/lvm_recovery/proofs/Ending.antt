@@ -11,6 +11,7 @@ use Rattle.lvm_num.specs.Disks.{Disks}
 use Rattle.lvm_num.specs.Geometry.{data_start, partition_blocks, sectors_needed}
 use Rattle.lvm_num.specs.Descriptor.{IsValid, IsPartitionOf, copies_of, partitions_used}
 use Rattle.lvm_num.specs.Record.{Stamped}
+use Rattle.lvm_num.proofs.Booleans.{first_holds}
 use Rattle.lvm_disk.specs.Device.{image_of}
 use Rattle.lvm_kept.specs.Contents.{Contents, contents_of}
 use Rattle.lvm_kept.specs.Group.{IsOneOf, is_named, is_stale_by, fresh_on}
@@ -23,7 +24,8 @@ use Rattle.lvm_recover.proofs.Copying.{left_passes}
 use Rattle.lvm_recover.proofs.Images.{images_are_recopied}
 use Rattle.lvm_recovery.specs.declared.copying.Recopy.{Recopy}
 use Rattle.lvm_recovery.specs.Copying.{MayTransfer, IsOfCopies}
-use Rattle.lvm_recovery.specs.Planned.{place_on, IsPlannedCopy}
+use Rattle.lvm_recovery.specs.Planned.{IsPlannedCopy}
+use Rattle.lvm_map.specs.Places.{place_on}
 use Rattle.lvm_recover.proofs.Beginning.{usable_stay, next_leaves_none, is_at}
 use Rattle.lvm_recovery.specs.Ending.{NextSamePlan, RestatedMayEqualise, SameNotesSamePlan, HaveSectors, PlannedMayBeMade, EqualisedEnds}
 use Rattle.lvm_recovery.proofs.AllCopied.{one_at, at_index}
@@ -61,16 +63,12 @@ inside_disk mib pp pps r size low room needed =
     let part : partition_blocks mib * pp + partition_blocks mib ≤ partition_blocks mib * pps = grind (arith, low) in
     omega (arith, part, room, needed)
 
-left_true : (p q : Bool) → IsTrue (p && q) → IsTrue p
-left_true true q is = refl
-left_true false q is = absurd cc
-
 room_of : (group : Descriptor) (status : Option (Stamped Status)) (there : Disks) (sizes : List ℕ) (row : LvRow) (lp g : ℕ) (usable : List Pp) (p : Pp) (place : Place) → IsValid group → HaveSectors sizes group there → IsOneOf group.lvs row
     → fresh_on there status row lp ≡ usable → IsOneOf usable p → place ≡ place_on group.mib p (g * 256) → MayTransfer sizes place
 room_of group status there sizes row lp g usable p place valid have volume is one at =
     let passed = left_passes (λ (q : Pp). there q.disk && not (is_stale_by status q)) (copies_of row lp) usable is p one in
     let of = at_one (IsPartitionOf group) (partitions_used group) p valid.maps.places (of_rows group.lvs row p volume (of_map row lp p passed.0)) in
-    let large = have p.disk of.0 (left_true (there p.disk) (not (is_stale_by status p)) passed.1) of.1 in
+    let large = have p.disk of.0 (first_holds (there p.disk) (not (is_stale_by status p)) passed.1) of.1 in
     let some = mib_positive group valid in
     let positive : 0 < partition_blocks group.mib = omega (arith, some) in
     let last = (is_at group.mib g 255 some (omega arith)).rest in

@@ -9,6 +9,7 @@ use Rattle.lvm_num.specs.declared.descriptor.LvRow.{LvRow}
 use Rattle.lvm_num.specs.Bits.{has_bit}
 use Rattle.lvm_num.specs.Buffer.{zero_sector}
 use Rattle.lvm_num.specs.Note.{Noted, entries_below, note_in}
+use Rattle.lvm_num.proofs.Booleans.{clash}
 use Rattle.lvm_disk.specs.Device.{image_of}
 use Rattle.lvm_kept.specs.Contents.{Contents, contents_of}
 use Rattle.lvm_kept.specs.Examples.{mirror, two, either_of}
@@ -22,7 +23,8 @@ use Rattle.lvm_commit.specs.Committed.{ShowsCommitted}
 use Rattle.lvm_recovery.specs.declared.copying.Recopy.{Recopy}
 use Rattle.lvm_recovery.specs.Copying.{MayCopy}
 use Rattle.lvm_recovery.specs.Examples.{PairsCopy, first_to_second}
-use Rattle.lvm_recovery.specs.Planned.{place_on, IsPlannedCopy, ArePlanned}
+use Rattle.lvm_recovery.specs.Planned.{IsPlannedCopy, ArePlanned}
+use Rattle.lvm_map.specs.Places.{place_on}
 use Rattle.lvm_recovery.proofs.Planned.{planned_are_apart}
 
 abbrev torn : Pair
@@ -113,9 +115,6 @@ zeros_name : (t : Bool) (lv group : ℕ) → names_if (if t then note_in zero_se
 unfolding entries_below
 zeros_name true lv group = refl
 zeros_name false lv group = refl
-
-clash : (b : Bool) → b ≡ true → b ≡ false → ⊥
-clash b e f = cc
 
 off_is : Off ≡ Active → ⊥
 off_is e = cc

@@ -11,6 +11,7 @@ use Rattle.std.proofs.lemmas.List.Kept.{Contains-dedup, Contains-from_dedup}
 use Rattle.std.proofs.lemmas.List.Filters.{dedup_is}
 use Rattle.lvm_num.specs.declared.record.NoteEntry.{NoteEntry}
 use Rattle.lvm_num.specs.Disks.{Disks}
+use Rattle.lvm_num.proofs.Booleans.{clash}
 use Rattle.lvm_rec.specs.declared.notes.Note.{Note}
 use Rattle.lvm_rec.specs.Note.{noted_of}
 use Rattle.lvm_kept.specs.Group.{IsOneOf, is_named, names_if}
@@ -43,10 +44,6 @@ row_at s rows k row same low is = ap (λ (l : List SurveyRow). slice_get l k) (s
 note_is : (s : Survey) (k : ℕ) (row : SurveyRow) → slice_get s.rows k ≡ Some row → (lv g : ℕ) → is_named (surveyed s) k lv g ≡ names_if (option_map noted_of row.note) lv g
 note_is s k row at lv g = ap (λ (o : Option SurveyRow). names_if (option_and_then (λ (r : SurveyRow). option_map noted_of r.note) o) lv g) at
 
-no_one : (t : Bool) → IsTrue t → t ≡ false → ⊥
-no_one true is none = absurd cc
-no_one false is none = absurd cc
-
 -- nothing is named there
 pub none_more : (s : Survey) (disks : Disks) (groups : List TrackGroup) (k : ℕ) → AreNamedBelow s disks groups k → ((one : TrackGroup) → IsTrue (disks k) → IsTrue (is_named (surveyed s) k one.volume one.group) → ⊥) → AreNamedBelow s disks groups (k + 1)
 none_more s disks groups k so_far none = record {
@@ -58,10 +55,10 @@ none_more s disks groups k so_far none = record {
 }
 
 pub off_more : (s : Survey) (disks : Disks) (groups : List TrackGroup) (k : ℕ) (row : SurveyRow) → AreRows s → AreNamedBelow s disks groups k → slice_get s.rows k ≡ Some row → disks row.disk ≡ false → AreNamedBelow s disks groups (k + 1)
-off_more s disks groups k row own so_far at off = none_more s disks groups k so_far (λ one on named. no_one (disks k) on (ap disks (sym (own.own k row at)) ∙ off))
+off_more s disks groups k row own so_far at off = none_more s disks groups k so_far (λ one on named. clash (disks k) on (ap disks (sym (own.own k row at)) ∙ off))
 
 pub empty_more : (s : Survey) (disks : Disks) (groups : List TrackGroup) (k : ℕ) (row : SurveyRow) → AreNamedBelow s disks groups k → slice_get s.rows k ≡ Some row → row.note ≡ None → AreNamedBelow s disks groups (k + 1)
-empty_more s disks groups k row so_far at none = none_more s disks groups k so_far (λ one on named. no_one (is_named (surveyed s) k one.volume one.group) named (note_is s k row at one.volume one.group ∙ ap (λ (o : Option Note). names_if (option_map noted_of o) one.volume one.group) none))
+empty_more s disks groups k row so_far at none = none_more s disks groups k so_far (λ one on named. clash (is_named (surveyed s) k one.volume one.group) named (note_is s k row at one.volume one.group ∙ ap (λ (o : Option Note). names_if (option_map noted_of o) one.volume one.group) none))
 
 -- an entry that names it
 entry_of : (entries : List NoteEntry) (one : TrackGroup) → IsTrue (list_any (λ (e : NoteEntry). e.lv == one.volume && e.group == one.group) entries) → IsOneOf (map group_of entries) one

@@ -20,8 +20,10 @@ use Rattle.lvm_num.specs.Modes.{is_active}
 use Rattle.lvm_rest.proofs.Rows.{row_is_volume}
 use Rattle.lvm_recovery.specs.declared.copying.Recopy.{Recopy}
 use Rattle.lvm_recovery.specs.declared.plan.TrackGroup.{TrackGroup}
-use Rattle.lvm_recovery.specs.Planned.{place_on, IsNamedByOne, IsPlannedCopy}
-use Rattle.lvm_recovery.specs.Plan.{usable_by, copies_from, copies_of_group, copies_in, copies_named, NamedArePlanned}
+use Rattle.lvm_recovery.specs.Planned.{IsNamedByOne, IsPlannedCopy}
+use Rattle.lvm_map.specs.Places.{place_on}
+use Rattle.lvm_recovery.specs.Plan.{usable_by, copies_from, copies_of_group, copies_of_found, copies_named, NamedArePlanned}
+pub use Rattle.std.proofs.lemmas.Bool.{and_parts as both}
 
 -- ---- lists
 
@@ -73,11 +75,6 @@ active_is Active is = refl
 active_is Passive is = absurd cc
 active_is Off is = absurd cc
 
-pub both : (p q : Bool) → p && q ≡ true → (p ≡ true) × (q ≡ true)
-both true true is = (refl, refl)
-both true false is = absurd cc
-both false q is = absurd cc
-
 module _ (c : Contents) (group : Descriptor) (status : Stamped Status) (there : Disks) (valid : IsValid group) where
   -- ---- each is planned
 
@@ -110,7 +107,7 @@ module _ (c : Contents) (group : Descriptor) (status : Stamped Status) (there : 
       of_usable row g one volume parts.0 parts.1 named (fresh_on there (Some status) row (partition_of group.mib (g * 256))) refl among
   of_group row g one volume named false tests among = absurd among
 
-  of_named : (e : TrackGroup) (one : Recopy) → IsNamedByOne c there e.volume e.group → (o : Option LvRow) → volume_of group e.volume ≡ o → IsOneOf (copies_in group.mib status.value there e.group o) one → IsPlannedCopy c group (Some status) there one
+  of_named : (e : TrackGroup) (one : Recopy) → IsNamedByOne c there e.volume e.group → (o : Option LvRow) → volume_of group e.volume ≡ o → IsOneOf (copies_of_found group.mib status.value there e.group o) one → IsPlannedCopy c group (Some status) there one
   of_named e one named None found among = absurd among
   of_named e one named (Some row) found among =
       of_group row e.group one (volume_is_row group e.volume row found) (subst (λ (n : ℕ). IsNamedByOne c there n e.group) (sym (has_number group.lvs e.volume row found)) named)
@@ -135,7 +132,7 @@ module _ (c : Contents) (group : Descriptor) (status : Stamped Status) (there : 
       (to_map (λ (x : Pp). record { from = place_on group.mib p.first (p.g * 256); into = place_on group.mib x (p.g * 256) }) p.others p.copy p.further))
 
   to_named : (one : Recopy) (p : IsPlannedCopy c group (Some status) there one) → IsOneOf (copies_named group status.value there (record { volume = p.row.number; group = p.g })) one
-  to_named one p = subst (λ (o : Option LvRow). IsOneOf (copies_in group.mib status.value there p.g o) one) (sym (row_is_volume group p.row valid p.volume)) (to_group one p)
+  to_named one p = subst (λ (o : Option LvRow). IsOneOf (copies_of_found group.mib status.value there p.g o) one) (sym (row_is_volume group p.row valid p.volume)) (to_group one p)
 
 pub named_are_planned : NamedArePlanned
 named_are_planned c group status there named valid are = record {

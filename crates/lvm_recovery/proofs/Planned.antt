@@ -31,7 +31,8 @@ use Rattle.lvm_recover.proofs.Images.{images_are_recopied}
 use Rattle.lvm_recover.proofs.Beginning.{is_at}
 use Rattle.lvm_recovery.specs.declared.copying.Recopy.{Recopy}
 use Rattle.lvm_recovery.specs.Copying.{IsAt, IsOfCopies, IsCopied}
-use Rattle.lvm_recovery.specs.Planned.{place_on, IsNamedByOne, IsPlannedCopy, ArePlanned, PlannedAreApart, PlannedAreFromFirst, PlannedAreEqualled}
+use Rattle.lvm_recovery.specs.Planned.{IsNamedByOne, IsPlannedCopy, ArePlanned, PlannedAreApart, PlannedAreFromFirst, PlannedAreEqualled}
+use Rattle.lvm_map.specs.Places.{place_on}
 use Rattle.lvm_recovery.proofs.AllCopied.{place_of_one}
 
 -- ---- lists

@@ -13,7 +13,7 @@ use Rattle.lvm_kept.proofs.Entries.{volume_is_row}
 use Rattle.lvm_commit.proofs.Copies.{of_rows}
 use Rattle.lvm_recovery.specs.declared.copying.Recopy.{Recopy}
 use Rattle.lvm_recovery.specs.declared.plan.TrackGroup.{TrackGroup}
-use Rattle.lvm_recovery.specs.Plan.{copies_of_group, copies_in, copies_named}
+use Rattle.lvm_recovery.specs.Plan.{copies_of_group, copies_of_found, copies_named}
 use Rattle.lvm_recovery.proofs.AllCopied.{one_at, at_index}
 use Rattle.lvm_recovery.proofs.Planned.{at_one}
 
@@ -51,9 +51,9 @@ flat_map_next f xs k d before after low was is =
 
 pub none_named : (group : Descriptor) (status : Status) (disks : Disks) (rows : List LvRow) (one : TrackGroup) (before : List Recopy) → rows ≡ group.lvs → None ≡ find (λ (r : LvRow). r.number == one.volume) rows → before ≡ before ++ copies_named group status disks one
 none_named group status disks rows one before same found =
-    sym (append-nil before) ∙ ap (λ (o : Option LvRow). before ++ copies_in group.mib status disks one.group o) (sym (row_found group rows one.volume None same found))
+    sym (append-nil before) ∙ ap (λ (o : Option LvRow). before ++ copies_of_found group.mib status disks one.group o) (sym (row_found group rows one.volume None same found))
 
 pub some_named : (group : Descriptor) (status : Status) (disks : Disks) (rows : List LvRow) (one : TrackGroup) (row : LvRow) (before after : List Recopy) → rows ≡ group.lvs → Some row ≡ find (λ (r : LvRow). r.number == one.volume) rows
     → after ≡ before ++ copies_of_group group.mib status disks row one.group → after ≡ before ++ copies_named group status disks one
 some_named group status disks rows one row before after same found is =
-    is ∙ ap (λ (o : Option LvRow). before ++ copies_in group.mib status disks one.group o) (sym (row_found group rows one.volume (Some row) same found))
+    is ∙ ap (λ (o : Option LvRow). before ++ copies_of_found group.mib status disks one.group o) (sym (row_found group rows one.volume (Some row) same found))

@@ -1,5 +1,5 @@
 -- Ranges that are written while copies are made.
-use Rattle.std.proofs.Common.{◌≡◌, inr, ℕ, ◌+◌, ◌-◌, ◌*◌, ◌%◌, ◌<◌, ◌≤◌, ◌&&◌, Bool, true, false, not, List, ◌∷◌, Option, Some, refl, sym, ap, subst, ◌∙◌, arith}
+use Rattle.std.proofs.Common.{◌≡◌, inr, ℕ, ◌+◌, ◌-◌, ◌*◌, ◌%◌, ◌<◌, ◌≤◌, ◌&&◌, not, List, ◌∷◌, Option, Some, sym, ap, subst, ◌∙◌, arith}
 use Rattle.std.specs.Prelude.{IsTrue}
 use Rattle.std.proofs.Math.Nat.{mod-lt}
 use Rattle.lvm_num.specs.declared.place.Place.{Place}
@@ -11,6 +11,7 @@ use Rattle.lvm_num.specs.Disks.{Disks}
 use Rattle.lvm_num.specs.Geometry.{partition_blocks, sector_of, track_group_of}
 use Rattle.lvm_num.specs.Descriptor.{IsValid, copies_of}
 use Rattle.lvm_num.specs.Record.{Stamped}
+use Rattle.lvm_num.proofs.Booleans.{first_holds}
 use Rattle.lvm_disk.specs.Device.{Range}
 use Rattle.lvm_kept.specs.Contents.{Contents}
 use Rattle.lvm_kept.specs.Group.{is_voter, status_among, is_stale_by, is_named, fresh_on, IsOneOf}
@@ -23,10 +24,6 @@ use Rattle.lvm_recovery.specs.Copying.{IsInRun}
 use Rattle.lvm_recovery.specs.Ending.{RunsAreOfCopies}
 use Rattle.lvm_recovery.specs.Planned.{IsPlannedCopy}
 use Rattle.lvm_recovery.proofs.Planned.{group_of_start, block_inside, sector_is}
-
-left_true : (p q : Bool) → IsTrue (p && q) → IsTrue p
-left_true true q is = refl
-left_true false q is = absurd cc
 
 module _ (old : Contents) (disks : Disks) (group : Descriptor) (was : Stamped Status) (valid : IsValid group) (was_found : status_among old disks group.id ≡ Some was)
     (one : Recopy) (p : IsPlannedCopy old group (Some was) (is_voter old disks group.id) one) (range : Range) (run : IsInRun one.into range) where
@@ -80,7 +77,7 @@ module _ (old : Contents) (disks : Disks) (group : Descriptor) (was : Stamped St
   stands_there : IsTrue (there range.disk)
   stands_there =
       let passed = left_passes (λ (q : Pp). there q.disk && not (is_stale_by (Some was) q)) (copies_of p.row p.lp) (p.first ∷ p.others) p.usable p.copy (inr p.further) in
-      subst (λ (d : ℕ). IsTrue (there d)) disk_is (left_true (there p.copy.disk) (not (is_stale_by (Some was) p.copy)) passed.1)
+      subst (λ (d : ℕ). IsTrue (there d)) disk_is (first_holds (there p.copy.disk) (not (is_stale_by (Some was) p.copy)) passed.1)
 
   pub of_copy : IsTrue (is_voter old disks group.id range.disk) × IsCopyRange old disks group.id group range
   of_copy = (

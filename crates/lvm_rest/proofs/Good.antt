@@ -17,7 +17,7 @@ use Rattle.lvm_num.specs.Votes.{all_disks, CanWrite}
 use Rattle.lvm_disk.specs.Device.{Flight, IsInFlight, image_of}
 use Rattle.lvm_vol.specs.declared.entry.Vol.TheVariants.{Lv}
 use Rattle.lvm_vol.specs.May.{Known, known, cut, is_off, IsValue}
-use Rattle.lvm_vol.specs.Standing.{Standing, Absent, Open, Settled as IsMade, Shape, volumes_in}
+use Rattle.lvm_vol.specs.Standing.{Standing, Absent, Open, Settled, Shape, volumes_in}
 use Rattle.lvm_kept.specs.Contents.{Contents, contents_of}
 use Rattle.lvm_kept.specs.Group.{status_among, ReadsBy, status_by, is_stale_by, fresh_on, block_at, IsBlockOf, is_named, IsOneOf, IsSome, HoldOne}
 use Rattle.lvm_kept.specs.Kept.{StandsAs, MayDiffer as MayDifferOn, IsBlockKept, BlocksKept}
@@ -26,8 +26,8 @@ use Rattle.lvm_kept.proofs.Finding.{some_same, finding_reads, images_within}
 use Rattle.lvm_commit.specs.Committed.{ShowsCommitted}
 use Rattle.lvm_commit.proofs.Found.{only_found, status_read}
 use Rattle.lvm_invariant.specs.State.{Marks, Queued, ModelCopy, ModelState, Live, stale_in, told}
+use Rattle.lvm_invariant.specs.Sound.{MayDiffer, Agree, Quiescent, Sound}
 use Rattle.lvm_num.specs.Modes.{is_active, is_passive}
-use Rattle.lvm_invariant.specs.Sound.{MayDiffer, Agree, Settled, Sound}
 use Rattle.lvm_invariant.specs.Found.{Votes, Found}
 use Rattle.lvm_invariant.specs.Good.{Good}
 use Rattle.lvm_crash.specs.Session.{as_marks, marks_shown, AreVotesOf, members_showing, GroupStands, HasVolumes, Describes}
@@ -90,7 +90,7 @@ shown_parts id (Some t) r is = by (t.value.id == id) refl is
 
 -- a volume that is found has its shape
 its_shape : (mib : ℕ) (standing : Standing) (shape : Option Shape) (row : LvRow) → StandsAs mib standing shape (Some row) → shape ≡ Some (record { blocks = volume_blocks mib row.lps; mode = row.mode })
-its_shape mib IsMade shape row stands = stands
+its_shape mib Settled shape row stands = stands
 its_shape mib Open shape row stands = stands
 its_shape mib Absent shape row stands = absurd stands
 
@@ -251,16 +251,16 @@ module _ (votes : Votes) (s : ModelState) (group : Descriptor) (status : Status)
     ]
     equal_by Off is (inr loose) = inr (inl (loose_uncut b (told s row.number b) (closed row lp b one inside) loose))
 
-    settled_at : Settled s row.number b
+    settled_at : Quiescent s row.number b
     settled_at = record {
       calm = λ i r started over. no_request i r started.there;
       allowed = allowed;
       equal = subst (λ (x : Bool). Agree s row.number b ⊎ MayDiffer s row.number b x) (sym (sees.copies.notes row one)) (equal_by row.mode refl all_members);
     }
 
-  settled : (lv b : ℕ) → Settled s lv b
+  settled : (lv b : ℕ) → Quiescent s lv b
   settled lv b = elim (block_in group lv b) [
-    | inl at ↦ subst (λ (n : ℕ). Settled s n b) at.number (settled_at at.row at.lp b at.volume at.inside)
+    | inl at ↦ subst (λ (n : ℕ). Quiescent s n b) at.number (settled_at at.row at.lp b at.volume at.inside)
     | inr none ↦ record {
       calm = λ i r started over. no_request i r started.there;
       allowed = λ p live. absurd (none (sees.copies.inside lv b p live.copy));

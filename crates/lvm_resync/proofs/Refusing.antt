@@ -4,12 +4,12 @@ use Rattle.std.proofs.lemmas.Bool.Decides.{nat_tests}
 use Rattle.std.specs.Prelude.{MatchOption, is_some, unwrap_or}
 use Rattle.std.specs.List.{list_any}
 use Rattle.std.specs.Option.{option_map_or}
+use Rattle.std.proofs.lemmas.Option.{same_Some}
 use Rattle.lvm_num.specs.declared.descriptor.LvRow.{LvRow}
 use Rattle.lvm_num.specs.declared.place.Pp.{Pp}
 use Rattle.lvm_num.specs.declared.status.Status.{Status}
-use Rattle.lvm_num.specs.Descriptor.{copies_of, volume_of}
+use Rattle.lvm_num.specs.Descriptor.{copies_of, volume_of, is_pp}
 use Rattle.lvm_num.specs.Status.{calls_stale}
-use Rattle.lvm_stale.specs.Table.{is_pp}
 use Rattle.lvm_disk.specs.Counts.{Counts}
 use Rattle.lvm_session.specs.declared.answers.CopyFault.{CopyFault}
 use Rattle.lvm_session.specs.declared.answers.CopyFault.TheVariants as refusal
@@ -32,9 +32,6 @@ IsRefusedSo core p refusal.Busy = ⊥
 IsRefusedSo core p refusal.NoVolume = ⊥
 IsRefusedSo core p refusal.OutOfRange = ⊥
 
-the_one : {A : Type 0} (a b : A) → Some a ≡ Some b → a ≡ b
-the_one a b e = cc e
-
 module _ (core : Core) (c : Copy) (may : MayPass core c) (why : CopyFault) where
   at_copy : (copies : List Pp) → refusal_at core copies c.pp ≡ Some why → IsRefusedSo core c.pp why
   at_copy copies e = by (is_settled core c.pp) (is_missing core c.pp.disk) (list_any (λ (q : Pp). not (is_pp q c.pp) && is_usable core q) copies) (has_numbers core) refl refl e
@@ -42,11 +39,11 @@ module _ (core : Core) (c : Copy) (may : MayPass core c) (why : CopyFault) where
       by : (s m u n : Bool) → is_settled core c.pp ≡ s → has_numbers core ≡ n
           → (if not s then Some refusal.AlreadyFresh else if m then Some (refusal.Missing c.pp.disk) else if not u then Some refusal.NoFresh else if n then None else Some refusal.HistoryFull) ≡ Some why
           → IsRefusedSo core c.pp why
-      by false m u n i j f = subst (IsRefusedSo core c.pp) (the_one refusal.AlreadyFresh why f) i
-      by true true u n i j f = subst (IsRefusedSo core c.pp) (the_one (refusal.Missing c.pp.disk) why f) tt
-      by true false false n i j f = subst (IsRefusedSo core c.pp) (the_one refusal.NoFresh why f) tt
+      by false m u n i j f = subst (IsRefusedSo core c.pp) (same_Some refusal.AlreadyFresh why f) i
+      by true true u n i j f = subst (IsRefusedSo core c.pp) (same_Some (refusal.Missing c.pp.disk) why f) tt
+      by true false false n i j f = subst (IsRefusedSo core c.pp) (same_Some refusal.NoFresh why f) tt
       by true false true true i j f = absurd (cc f)
-      by true false true false i j f = subst (IsRefusedSo core c.pp) (the_one refusal.HistoryFull why f) j
+      by true false true false i j f = subst (IsRefusedSo core c.pp) (same_Some refusal.HistoryFull why f) j
 
   in_row : (row : LvRow) → volume_of core.descriptor c.lv ≡ Some row → refusal_in core row c.lp c.number ≡ Some why → IsRefusedSo core c.pp why
   in_row row is e =
@@ -75,8 +72,8 @@ module _ (core : Core) (c : Copy) (may : MayPass core c) (why : CopyFault) where
   refused_so e = by core.power refl e
     where
       by : (p : Power) → core.power ≡ p → refusal_when p (refusal_on core c.lv c.lp c.number) ≡ Some why → IsRefusedSo core c.pp why
-      by power.Dark is f = subst (IsRefusedSo core c.pp) (the_one refusal.Dark why f) is
-      by power.Off is f = subst (IsRefusedSo core c.pp) (the_one refusal.Off why f) is
+      by power.Dark is f = subst (IsRefusedSo core c.pp) (same_Some refusal.Dark why f) is
+      by power.Off is f = subst (IsRefusedSo core c.pp) (same_Some refusal.Off why f) is
       by power.Stuck is f = on_session f
       by power.On is f = on_session f
 

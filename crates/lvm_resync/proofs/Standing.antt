@@ -3,6 +3,7 @@ use Rattle.std.proofs.Common.{◌≡◌, ◌⊎◌, inl, inr, ◌≤◌, ℕ, Bo
 use Rattle.std.specs.Prelude.{IfSome, count_by, is_none, slice_index_or}
 use Rattle.std.specs.List.{list_any, AllByRecursion}
 use Rattle.std.specs.Option.{option_map_or}
+use Rattle.std.proofs.lemmas.Bool.{or_parts}
 use Rattle.lvm_num.specs.declared.descriptor.Descriptor.{Descriptor}
 use Rattle.lvm_num.specs.declared.descriptor.PvRow.{PvRow}
 use Rattle.lvm_num.specs.declared.status.Status.{Status}
@@ -46,10 +47,6 @@ none_flown core (row ∷ rows) (f ∷ flights) are none = absurd (cc none)
 
 -- ---- tests
 
-or_both : (a b : Bool) → a || b ≡ false → (a ≡ false) × (b ≡ false)
-or_both true b e = absurd (cc e)
-or_both false b e = (refl, e)
-
 or_none : (a b : Option Event) → or_next a b ≡ None → (a ≡ None) × (b ≡ None)
 or_none None b e = (refl, e)
 or_none (Some it) b e = absurd (cc e)
@@ -64,7 +61,7 @@ not_false false e = absurd (cc e)
 
 all_false : {A : Type 0} (t : A → Bool) (xs : List A) → list_any t xs ≡ false → AllByRecursion (λ (x : A). t x ≡ false) xs
 all_false t [] none = tt
-all_false t (x ∷ xs) none = let it = or_both (t x) (list_any t xs) none in (it.0, all_false t xs it.1)
+all_false t (x ∷ xs) none = let it = or_parts (t x) (list_any t xs) none in (it.0, all_false t xs it.1)
 
 module _ (s : State) (sound : IsSound s) (drained : IsDrained s) where
   abbrev core : Core
@@ -114,7 +111,7 @@ module _ (s : State) (sound : IsSound s) (drained : IsDrained s) where
     hands_none : (os : List Open) → AllByRecursion (IsOpenOne core) os → list_any is_waiting os ≡ false → count_by (λ (o : Open). is_hand 0 o.got) os ≡ 0
     hands_none [] all e = refl
     hands_none (o ∷ os) all e =
-        let it = or_both (is_waiting o) (list_any is_waiting os) e in
+        let it = or_parts (is_waiting o) (list_any is_waiting os) e in
         let more = count_cons (λ (x : Open). is_hand 0 x.got) o os in
         let here : count_if (is_hand 0 o.got) ≡ 0 = ap (λ m. count_if (is_hand 0 m)) (all.0.over it.0).hand in
         let rest = hands_none os all.1 it.1 in
@@ -165,7 +162,7 @@ module _ (s : State) (sound : IsSound s) (drained : IsDrained s) where
 
         not_owed : (rows : List PvRow) → list_any (λ (r : PvRow). has core.status.writes.unstarted r.disk) rows ≡ false → list_any (λ (r : PvRow). has core.status.writes.unstarted r.disk || has core.status.writes.started r.disk) rows ≡ false
         not_owed [] e = refl
-        not_owed (r ∷ rows) e = let it = or_both (has core.status.writes.unstarted r.disk) (list_any (λ (q : PvRow). has core.status.writes.unstarted q.disk) rows) e in
+        not_owed (r ∷ rows) e = let it = or_parts (has core.status.writes.unstarted r.disk) (list_any (λ (q : PvRow). has core.status.writes.unstarted q.disk) rows) e in
             ap (λ b. (b || has core.status.writes.started r.disk) || list_any (λ (q : PvRow). has core.status.writes.unstarted q.disk || has core.status.writes.started q.disk) rows) it.0
             ∙ ap (λ b. b || list_any (λ (q : PvRow). has core.status.writes.unstarted q.disk || has core.status.writes.started q.disk) rows) (none_out (owner.Status r.disk)) ∙ not_owed rows it.1
 

@@ -3,9 +3,10 @@ use Rattle.std.proofs.Common.{◌≡◌, ◌⊎◌, inl, inr, ◌≤◌, ◌++�
 use Rattle.std.specs.Prelude.{IfSome, MatchOption, is_none, unwrap_or}
 use Rattle.std.specs.List.{list_any}
 use Rattle.std.specs.Option.{option_map_or}
+use Rattle.std.proofs.lemmas.Bool.{or_right}
 use Rattle.lvm_num.specs.declared.place.Pp.{Pp}
 use Rattle.lvm_num.specs.Status.{calls_stale}
-use Rattle.lvm_stale.specs.Table.{is_pp}
+use Rattle.lvm_num.specs.Descriptor.{is_pp}
 use Rattle.lvm_disk.specs.Counts.{Rose}
 use Rattle.lvm_disk.specs.Device.{Device}
 use Rattle.lvm_disk.specs.Paths.{Here, Then}
@@ -289,10 +290,6 @@ at_behind [] c d zero e = inr (let f : c ≡ d = cc e in sym f)
 at_behind [] c d (suc place) e = absurd (cc e)
 at_behind (x ∷ copies) c d zero e = inl e
 at_behind (x ∷ copies) c d (suc place) e = at_behind copies c d place e
-
-or_right : (a b : Bool) → b ≡ true → a || b ≡ true
-or_right true b e = refl
-or_right false b e = e
 
 -- What is left behind them, where none stays stale.
 pub record Left (first now : State) (copies : List Copy) (made : Pp → Bool) : Type 0 where

@@ -2,8 +2,7 @@
 ghost use Rattle.std.specs.Prelude.{◌≡◌, true, false, IfOk};
 ghost use Rattle.lvm_session.specs.declared.open.Power.TheVariants as power;
 ghost use Rattle.lvm_session.specs.Judging.{is_stale};
-ghost use Rattle.lvm_session.specs.State.{Core};
-ghost use Rattle.lvm_driver.specs.Answers.{state_of};
+ghost use Rattle.lvm_session.specs.State.{Core, state_of};
 ghost use Rattle.lvm_resync.specs.Passing.{BringsUp, HasEnded, IsAnsweredBy, IsJustOpened, IsPassedBy, JudgesCopy, MayPass, MayRefuse, PassesOrEnds, Runs, copy_of};
 ghost use Rattle.lvm_resync.specs.Turning.{GoesBeside};
 

@@ -1,7 +1,7 @@
 //! Turns beside which copies are brought up.
 ghost use Rattle.std.specs.Prelude.{◌≡◌, None};
 ghost use Rattle.lvm_session.specs.declared.open.Power.TheVariants as power;
-ghost use Rattle.lvm_driver.specs.Answers.{state_of};
+ghost use Rattle.lvm_session.specs.State.{state_of};
 ghost use Rattle.lvm_resync.specs.Turning.{GoesBeside, IsUnderWay, TurnEnds};
 
 use crate::fault::SyncFault;

@@ -69,8 +69,8 @@ module _ (old new : Image) (by : ChangesBy (IsOutside kind.Descriptor) old new) 
 -- ---- a step of the shelf
 
 -- no transfer goes to a slot of descriptors then, and no descriptor becomes found
-abbrev Leaves : Device → Device → Type 0
-Leaves old new = LeavesDescriptors old → LeavesDescriptors new × MayFindNoMore old new
+abbrev LeavesFound : Device → Device → Type 0
+LeavesFound old new = LeavesDescriptors old → LeavesDescriptors new × MayFindNoMore old new
 
 -- a shelf as large, to which no order was given, and whose power goes off by a cut alone
 pub record Steps (old new : Device) : Type 0 where

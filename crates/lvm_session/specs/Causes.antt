@@ -5,7 +5,7 @@ use Rattle.lvm_num.specs.declared.place.Pp.{Pp}
 use Rattle.lvm_num.specs.Disks.{has}
 use Rattle.lvm_num.specs.Status.{calls_stale, calls_missing}
 use Rattle.lvm_num.specs.Votes.{votes_in, is_enough_to_write}
-use Rattle.lvm_stale.specs.Table.{is_pp}
+use Rattle.lvm_num.specs.Descriptor.{is_pp}
 use Rattle.lvm_status.specs.Update.{members_there}
 use Rattle.lvm_disk.specs.Counts.{Rose}
 use Rattle.lvm_disk.specs.Device.{Device}

@@ -5,9 +5,8 @@ use Rattle.std.specs.Option.{option_map_or}
 use Rattle.lvm_num.specs.Buffer.{Buffer}
 use Rattle.lvm_num.specs.declared.place.Pp.{Pp}
 use Rattle.lvm_num.specs.declared.descriptor.LvRow.{LvRow}
-use Rattle.lvm_num.specs.Descriptor.{IsValid, is_member, volume_of}
+use Rattle.lvm_num.specs.Descriptor.{IsValid, is_member, volume_of, is_pp}
 use Rattle.lvm_num.specs.Disks.{has}
-use Rattle.lvm_stale.specs.Table.{is_pp}
 use Rattle.lvm_disk.specs.Device.{Device, Flight}
 use Rattle.lvm_vol.specs.declared.entry.Vol.TheVariants.{Lv}
 use Rattle.lvm_vol.specs.Facts.{Request as Asked, Fact, Making, Made, Split, Removing, Removed, Begun, Landed, Taken, Cut, On, begun}

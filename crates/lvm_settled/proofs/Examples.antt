@@ -36,7 +36,7 @@ use Rattle.lvm_mwc.specs.declared.notes.DiskNotes.{DiskNotes}
 use Rattle.lvm_session.specs.State.{Core, state, is_there}
 use Rattle.lvm_session.specs.declared.open.Power.TheVariants as power
 use Rattle.lvm_session.proofs.Parts.{none_written}
-use Rattle.lvm_core.specs.Sound.{IsFitting, IsQuiet, IsSoundBetween}
+use Rattle.lvm_core.specs.Sound.{IsFittingBetween, IsQuiet, IsSoundBetween}
 use Rattle.lvm_session.specs.Placed.{IsPlaced}
 use Rattle.lvm_core.proofs.Beginning.{no_entries}
 use Rattle.lvm_core.proofs.Own.{sound_ready}
@@ -136,7 +136,7 @@ module _ (x : Pair) (below : (d s : ℕ) → s < 4096 → x.stands d s ≡ zero_
 -- ---- the session
 
 -- its parts are of one group
-fits : (x : Pair) → IsFitting (core_of x)
+fits : (x : Pair) → IsFittingBetween (core_of x)
 fits x = record {
   valid = valid x.mode;
   id = refl;

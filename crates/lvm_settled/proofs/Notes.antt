@@ -5,6 +5,7 @@ use Rattle.std.proofs.lemmas.Bool.{false≢true}
 use Rattle.lvm_num.specs.declared.descriptor.Mode.{Mode}
 use Rattle.lvm_num.specs.Buffer.{Sector, zero_sector}
 use Rattle.lvm_num.specs.Note.{Noted, entries_below, note_in}
+use Rattle.lvm_num.proofs.Booleans.{and_true}
 use Rattle.lvm_disk.specs.Device.{image_of}
 use Rattle.lvm_kept.specs.Contents.{Contents, contents_of}
 use Rattle.lvm_kept.specs.Group.{is_named, names_if}
@@ -35,10 +36,6 @@ module _ (mode : Mode) (dirty lost : Bool) (note : Sector) where
   -- what the first disk's note says of the first track group
   first_named : names_if (note_in note) 1 0 ≡ is_named (contents_of (image_of pair_sizes (media_of x))) 0 1 0
   first_named = sym (ap (λ (c : Contents). is_named c 0 1 0) shown)
-
-and_true : (b : Bool) → b && true ≡ b
-and_true true = refl
-and_true false = refl
 
 -- zeros name nothing
 zeros_name : (lv group : ℕ) → names_if (note_in zero_sector) lv group ≡ false

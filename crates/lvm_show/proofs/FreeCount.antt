@@ -11,11 +11,11 @@ use Rattle.std.proofs.lemmas.List.Sums.{sum_by-cons, length-filter}
 use Rattle.lvm_num.specs.declared.place.Pp.{Pp}
 use Rattle.lvm_num.specs.declared.descriptor.PvRow.{PvRow}
 use Rattle.lvm_num.specs.declared.descriptor.Descriptor.{Descriptor}
-use Rattle.lvm_num.specs.Descriptor.{IsValid, IsPartitionOf, partitions_used}
+use Rattle.lvm_num.specs.Descriptor.{IsValid, IsPartitionOf, partitions_used, is_pp}
 use Rattle.lvm_num.proofs.MapsLemmas.{find-Some}
 use Rattle.lvm_num.proofs.Pairs.{AllPairs-right}
 use Rattle.lvm_map.specs.FirstFit.{is_among, partitions_of, free_of}
-use Rattle.lvm_map.proofs.FreeLists.{is_pp, is_pp-true, is_pp-same, is_pp-apart, partitions-size, AllPairs-first}
+use Rattle.lvm_map.proofs.FreeLists.{is_pp-true, is_pp-same, is_pp-apart, partitions-size, AllPairs-first}
 
 abbrev one_if : Bool → ℕ
 one_if b = cond b 1 0

@@ -6,7 +6,7 @@ use Rattle.lvm_stage.specs.Ends.{CommandEnds, EndsUnasked}
 use Rattle.lvm_stage.specs.Asking.{IsAsked}
 use Rattle.lvm_stage.specs.Moments.{Role}
 use Rattle.lvm_stage.specs.Replies.{IsRefused, most_refusals}
-use Rattle.lvm_stage.specs.Stages.{IsBetweenStage, IsFitting, shelf_in, history_in, state_in}
+use Rattle.lvm_stage.specs.Stages.{IsBetweenStage, IsFittingStage, shelf_in, history_in, state_in}
 use Rattle.lvm_stage.specs.State.{ScriptState, without_facts}
 use Rattle.lvm_stage.specs.declared.reply.Refusal.{Refusal}
 use Rattle.lvm_stage.specs.declared.reply.Reply.{Reply}
@@ -30,7 +30,7 @@ module _ {S : Type 0} (device : S → Device) (Does : Log → ScriptState → Sc
   pub unasked_as : (old was new is : Stage S) (answer says : Reply) → old ≡ was → new ≡ is → answer ≡ says → EndsUnasked device Does Orders role was is says → EndsUnasked device Does Orders role old new answer
   unasked_as old was new is answer says old_is new_is answer_is ends = λ last. ends_as old was new is answer says last last old_is new_is answer_is (ends last)
 
-  module _ (old new : Stage S) (answer : Reply) (fits : IsFitting old) (between : IsBetweenStage device old) (same : new ≡ old) (one : most_refusals answer ≤ 1) where
+  module _ (old new : Stage S) (answer : Reply) (fits : IsFittingStage old) (between : IsBetweenStage device old) (same : new ≡ old) (one : most_refusals answer ≤ 1) where
     rooms : without_facts (history_in new) ≡ without_facts (history_in old)
     rooms = ap (λ (s : Stage S). without_facts (history_in s)) same
 
@@ -45,7 +45,7 @@ module _ {S : Type 0} (device : S → Device) (Does : Log → ScriptState → Sc
           does = does last still;
           goes = same_goes (history_in old).run role answer (state_in device old last) (state_in device new last) between one still;
           rooms = rooms;
-          fits = subst IsFitting (sym same) fits;
+          fits = subst IsFittingStage (sym same) fits;
           orders = orders;
         }
 
@@ -56,12 +56,12 @@ module _ {S : Type 0} (device : S → Device) (Does : Log → ScriptState → Sc
       does = does;
       goes = asked_goes (history_in old).run role answer (state_in device old before) (state_in device new after) between one asked;
       rooms = rooms;
-      fits = subst IsFitting (sym same) fits;
+      fits = subst IsFittingStage (sym same) fits;
       orders = orders;
     }
 
   -- a line is refused, and nothing changes
-  pub refused_ends : (old new : Stage S) (answer : Reply) → IsFitting old → IsBetweenStage device old → new ≡ old → (why : Refusal) → answer ≡ reply.Refused why
+  pub refused_ends : (old new : Stage S) (answer : Reply) → IsFittingStage old → IsBetweenStage device old → new ≡ old → (why : Refusal) → answer ≡ reply.Refused why
       → ((last : ℕ) → IsRefused why answer (state_in device old last) (state_in device new last) → Does (without_facts (history_in old)) (state_in device old last) (state_in device new last) answer)
       → EndsUnasked device Does Orders role old new answer
   refused_ends old new answer fits between same why says does = still_ends old new answer fits between same (one_refused answer why says) (λ last still. does last (says, still))

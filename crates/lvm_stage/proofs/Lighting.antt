@@ -44,7 +44,7 @@ Rests cause.Stuck old left = left.power ≡ true
 Rests _ old left = StaysOrRests old left
 
 -- what a refusal leaves, before the power is put on again
-pub record Leaves (why : Cause) (old left : Device) : Type 0 where
+pub record RefusalLeaves (why : Cause) (old left : Device) : Type 0 where
   pub rests : Rests why old left
   pub orders : left.orders ≡ old.orders
 

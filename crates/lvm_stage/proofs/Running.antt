@@ -24,7 +24,7 @@ use Rattle.lvm_session.specs.Causes.{is_over}
 use Rattle.lvm_session.specs.Judging.{is_waiting}
 use Rattle.lvm_session.specs.Requests.{IsLanded}
 use Rattle.lvm_session.specs.Sound.{IsLit, IsSound, is_dark, waits}
-use Rattle.lvm_session.specs.State.{Core, State as Session, state}
+use Rattle.lvm_session.specs.State.{Core, State, state}
 use Rattle.lvm_status.specs.Members.{HasItsRows}
 use Rattle.lvm_core.specs.Sound.{HaveAllLanded}
 use Rattle.lvm_tie_copies.specs.passed.Tie.{IsGood, moment_of}
@@ -49,7 +49,7 @@ none_waits (o ∷ os) id all = by (is_waiting o) all.0.landed (none_waits os id 
     by true is rest = absurd (let e : true ≡ false = is in cc e)
     by false is rest = rest
 
-pub over_landed : (s : Session) → IsSound s → is_over s.core.power ≡ true → HaveAllLanded s.core.history.facts
+pub over_landed : (s : State) → IsSound s → is_over s.core.power ≡ true → HaveAllLanded s.core.history.facts
 over_landed s sound over id = sound.told.each id ∙ none_waits s.core.requests id (sound.over over).landed
 
 -- how its shelf is closed: by steps that add no crash image; then the power is on, and the transfers that are out stay
@@ -73,7 +73,7 @@ closes_dark old new none is = record {
   waited = ap (λ (d : Device). d.counts.waits) is;
 }
 
-closes : (s : Session) (new : Device) → IsSound s → IsClosed s.core.power s.device new → (s.core.power ≡ power.Stuck → ⊥) → Closes s.device new
+closes : (s : State) (new : Device) → IsSound s → IsClosed s.core.power s.device new → (s.core.power ≡ power.Stuck → ⊥) → Closes s.device new
 closes s new sound = by s.core.power refl
   where
     by : (p : Power) → s.core.power ≡ p → IsClosed p s.device new → (p ≡ power.Stuck → ⊥) → Closes s.device new
@@ -85,7 +85,7 @@ closes s new sound = by s.core.power refl
 -- ---- from one state to the next
 
 -- What leads from a session of a group with volumes to this one.
-pub record IsRun (role : Role) (old : ScriptState) (core : Core) (end : Session) : Type 0 where
+pub record IsRun (role : Role) (old : ScriptState) (core : Core) (end : State) : Type 0 where
   pub alone : (new : ScriptState) → IsAlone role old new → IfSome old.session (StandsAlone old.moment.device)
   pub session : old.session ≡ Some core
   pub facts : old.moment.facts ≡ core.history.facts
@@ -94,8 +94,8 @@ pub record IsRun (role : Role) (old : ScriptState) (core : Core) (end : Session)
   pub leaves : LeavesSession (state old.moment.device core) end
   pub sound : IsSound end
 
-module _ (role : Role) (old : ScriptState) (core : Core) (end : Session) (its : IsRun role old core end) where
-  abbrev first_session : Session
+module _ (role : Role) (old : ScriptState) (core : Core) (end : State) (its : IsRun role old core end) where
+  abbrev first_session : State
   first_session = state old.moment.device core
 
   on_first : IsOnBetween old.moment.device core

@@ -4,15 +4,15 @@ use Rattle.lvm_disk.specs.Device.{Device}
 use Rattle.lvm_io.specs.Count.{Rose}
 use Rattle.lvm_session.specs.State.{Core}
 use Rattle.lvm_stage.specs.Asking.{IsAsked}
-use Rattle.lvm_stage.specs.Stages.{state_in, IsBetweenStage, IsFitting}
+use Rattle.lvm_stage.specs.Stages.{state_in, IsBetweenStage, IsFittingStage}
 use Rattle.lvm_stage.specs.declared.stage.Stage.{Stage}
 
 -- a stage between two lines, and one whose parts fit
 pub between_as : {S : Type 0} (device : S → Device) (old old' : Stage S) → old ≡ old' → IsBetweenStage device old → IsBetweenStage device old'
 between_as device old old' was between = subst (IsBetweenStage device) was between
 
-pub fits_as : {S : Type 0} (old old' : Stage S) → old ≡ old' → IsFitting old → IsFitting old'
-fits_as old old' was fits = subst IsFitting was fits
+pub fits_as : {S : Type 0} (old old' : Stage S) → old ≡ old' → IsFittingStage old → IsFittingStage old'
+fits_as old old' was fits = subst IsFittingStage was fits
 
 -- a session that is on, of which this holds
 pub on_with : (session : Option Core) (P : Core → Type 0) → IsSome session → IfSome session P → (core : Core) × (session ≡ Some core) × P core

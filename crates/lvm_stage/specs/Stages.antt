@@ -83,7 +83,7 @@ pub record HaveRooms (entries : ℕ) (posts : Vec Post) (bytes : Vec ℕ) : Type
   pub for_bytes : 131072 ≤ vec_capacity bytes
 
 -- Its session is of the kind that it says, its history has room for fewer entries than numbers of four bytes, and there is room for the posts and for a piece.
-pub record IsFitting {S : Type 0} (stage : Stage S) : Type 0 where
+pub record IsFittingStage {S : Type 0} (stage : Stage S) : Type 0 where
   pub kind : IsOfKind stage.holder
   pub few : (history_in stage).room < 2 ^ 32
   pub rooms : HaveRooms (history_in stage).room stage.posts stage.bytes

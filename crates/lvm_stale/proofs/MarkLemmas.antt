@@ -2,7 +2,7 @@
 use Rattle.std.proofs.Common.{◌≡◌, ◌⊎◌, inl, inr, ⊎_elim, ℕ, zero, suc, ◌+◌, ◌*◌, ◌<◌, ◌≤◌, Bool, true, false, ◌||◌, ◌&&◌, ◌==◌, List, [], ◌∷◌, length, get_or, take, drop, map, refl, sym, ap, subst, ◌∙◌, arith}
 use Rattle.std.specs.Prelude.{IsTrue, IsFalse, not, All}
 use Rattle.std.specs.List.{list_any}
-use Rattle.std.proofs.lemmas.Bool.{cases_lt, eqb-true, eq-eqb}
+use Rattle.std.proofs.lemmas.Bool.{cases_lt, or_left, or_right}
 use Rattle.std.proofs.lemmas.List.{take_more, get_or_default}
 use Rattle.std.proofs.lemmas.List.Elements.{All-take, All-drop}
 use Rattle.lvm_num.specs.declared.place.Pp.{Pp}
@@ -12,11 +12,13 @@ use Rattle.lvm_num.specs.declared.status.Status.{Status}
 use Rattle.lvm_num.specs.Disks.{Disks}
 use Rattle.std.proofs.lemmas.List.Concat.{get_or-flat_map}
 use Rattle.std.proofs.lemmas.List.Folds.{length-flat_map-take}
-use Rattle.lvm_num.specs.Descriptor.{copies_of, partitions_in}
+use Rattle.lvm_num.specs.Descriptor.{copies_of, partitions_in, is_pp}
 use Rattle.lvm_num.specs.Status.{IsValidStatus, calls_stale}
 use Rattle.lvm_num.specs.Among.{IsOneOf}
 use Rattle.lvm_num.proofs.ListLemmas.{one_of_left, one_of_right, one_of_either}
-use Rattle.lvm_stale.specs.Table.{has_row, is_pp, SameMembers, SameMissing}
+use Rattle.lvm_num.proofs.Booleans.{clash}
+use Rattle.lvm_num.proofs.Partitions.{one_partition, same_partition}
+use Rattle.lvm_stale.specs.Table.{has_row, SameMembers, SameMissing}
 use Rattle.lvm_stale.specs.Marking.{is_served, IsLeft, IsLeftBelow, IsLeftIn, Marks, IsMarkable}
 
 -- ---- one of a list
@@ -52,14 +54,6 @@ markable_copies s row lp all = All-take (IsMarkable s) row.copies (drop (lp * ro
 
 -- ---- marks
 
-or_left : (a b : Bool) → IsTrue a → IsTrue (a || b)
-or_left true b is = refl
-or_left false b is = absurd cc
-
-or_right : (a b : Bool) → IsTrue b → IsTrue (a || b)
-or_right true b is = refl
-or_right false b is = is
-
 either : (a b : Bool) → IsTrue (a || b) → IsTrue a ⊎ IsTrue b
 either true b is = inl refl
 either false b is = inr is
@@ -71,19 +65,6 @@ both false b is = absurd cc
 or_none : (a b : Bool) → b ≡ false → a || b ≡ a
 or_none true b e = refl
 or_none false b e = e
-
-clash : (b : Bool) → b ≡ true → b ≡ false → ⊥
-clash b e f = cc
-
-pub is_same_pp : (p q : Pp) → IsTrue (is_pp p q) → p ≡ q
-is_same_pp p q is =
-    let two = both (p.disk == q.disk) (p.pp == q.pp) is in
-    let disk : p.disk ≡ q.disk = eqb-true p.disk q.disk two.0 in
-    let pp : p.pp ≡ q.pp = eqb-true p.pp q.pp two.1 in
-    λ i. record { disk = disk i; pp = pp i }
-
-pub same_is_pp : (p q : Pp) → p ≡ q → IsTrue (is_pp p q)
-same_is_pp p q e = subst (λ (x : Pp). IsTrue (is_pp p x)) e (ap (λ (b : Bool). b && (p.pp == p.pp)) (eq-eqb p.disk p.disk refl) ∙ eq-eqb p.pp p.pp refl)
 
 module _ (answering : Disks) where
   pub marks_none : (P : Pp → Type 0) (s : Status) → IsValidStatus s → ((p : Pp) → P p → ⊥) → Marks answering P s s
@@ -129,13 +110,13 @@ module _ (answering : Disks) where
     missing = missing;
     dirty = dirty;
     kept = λ p is. stale p ∙ or_left (calls_stale old p) (is_pp p pp) is;
-    marked = λ p is. stale p ∙ or_right (calls_stale old p) (is_pp p pp) (same_is_pp p pp is);
-    only = λ p is. ⊎_elim (λ was. inl was) (λ here. inr (is_same_pp p pp here)) (either (calls_stale old p) (is_pp p pp) (sym (stale p) ∙ is));
+    marked = λ p is. stale p ∙ or_right (calls_stale old p) (is_pp p pp) (same_partition p pp is);
+    only = λ p is. ⊎_elim (λ was. inl was) (λ here. inr (one_partition p pp here)) (either (calls_stale old p) (is_pp p pp) (sym (stale p) ∙ is));
     answered = λ p is. stale p ∙ or_none (calls_stale old p) (is_pp p pp) (not_it (is_pp p pp) p is refl);
   }
     where
       not_it : (t : Bool) (p : Pp) → IsTrue (answering p.disk) → is_pp p pp ≡ t → t ≡ false
-      not_it true p is e = absurd (clash (answering p.disk) is (ap (λ (x : Pp). answering x.disk) (is_same_pp p pp e) ∙ absent))
+      not_it true p is e = absurd (clash (answering p.disk) is (ap (λ (x : Pp). answering x.disk) (one_partition p pp e) ∙ absent))
       not_it false p is e = refl
 
   -- ---- which serve

@@ -14,7 +14,8 @@ use Rattle.lvm_num.specs.Bits.{has_bit}
 use Rattle.lvm_num.specs.Status.{calls_stale, calls_missing, IsStatusRow, IsValidStatus}
 use Rattle.lvm_num.proofs.Pairs.{AllPairs-right}
 use Rattle.lvm_stale.specs.Rows.{IsRowAt, with_row_at}
-use Rattle.lvm_stale.specs.Table.{is_pp, SameMembers}
+use Rattle.lvm_stale.specs.Table.{SameMembers}
+use Rattle.lvm_num.specs.Descriptor.{is_pp}
 
 -- disks that rise
 abbrev pub Rise : List StatusRow → Type 0

@@ -16,11 +16,11 @@ use Rattle.lvm_num.proofs.Records.{below64, bytes-drop, bytes-take}
 use Rattle.lvm_num.proofs.Newest.{of_two}
 use Rattle.lvm_rec.specs.Slots.{held, newest_on, slot_of}
 use Rattle.lvm_rec.proofs.SlotLaws.{held-record}
-use Rattle.lvm_disk.specs.Device.{Media, Image, AreSectors as AreWhole, image_of}
+use Rattle.lvm_disk.specs.Device.{Media, Image, AreSectors as AreWhole, image_of, IsWholeImage}
 use Rattle.lvm_kept.specs.Changes.{IsBlank}
 use Rattle.lvm_kept.specs.Contents.{has_records, newest_at, descriptor_on, status_on}
 use Rattle.lvm_stamps.specs.Behind.{StampsBefore, beginning_at}
-use Rattle.lvm_stamps.specs.Laws.{StandsBefore, BlankIsBefore, BlankIsBehind, AllIsBehindEnd, IsWhole, ShownIsBefore, LaterMayGo, SessionMayGo}
+use Rattle.lvm_stamps.specs.Laws.{StandsBefore, BlankIsBefore, BlankIsBehind, AllIsBehindEnd, ShownIsBefore, LaterMayGo, SessionMayGo}
 use Rattle.lvm_stamps.proofs.Stamps.{if_told, session_is_before_later, later_is_after_too, later_is_ahead_too, behind_is_before}
 use Rattle.lvm_stamps.proofs.Writes.{slot_below}
 
@@ -62,10 +62,10 @@ all_is_behind_end device = if_told (AreWhole device.sizes) (λ media. StampsBefo
 
 -- ---- what is shown
 
-whole_slot : (image : Image) → IsWhole image → (d : ℕ) → has_records image d ≡ true → (kind : Kind) (slot : ℕ) → slot < 2 → AreSectors kind (slot_start kind slot) (image.sector d)
+whole_slot : (image : Image) → IsWholeImage image → (d : ℕ) → has_records image d ≡ true → (kind : Kind) (slot : ℕ) → slot < 2 → AreSectors kind (slot_start kind slot) (image.sector d)
 whole_slot image whole d there kind slot two k small = whole d (slot_start kind slot + k) (inside image d there kind slot k two small)
 
-module _ {X : Type 0} (content_of : List ℕ → Result X ℕ) (kind : Kind) (stamp : Stamp) (image : Image) (whole : IsWhole image) (before : StampsBefore stamp image) (d : ℕ) (r : Stamped X) where
+module _ {X : Type 0} (content_of : List ℕ → Result X ℕ) (kind : Kind) (stamp : Stamp) (image : Image) (whole : IsWholeImage image) (before : StampsBefore stamp image) (d : ℕ) (r : Stamped X) where
   held_before : has_records image d ≡ true → (slot : ℕ) → slot < 2 → held content_of kind (slot_of kind slot (image.sector d)) ≡ Some r → stamp_lt r.stamp stamp ≡ true
   held_before there slot two is =
       let found = held-record content_of (record_in kind (slot_of kind slot (image.sector d))) r is in

@@ -3,14 +3,13 @@ use Rattle.std.proofs.Common.{◌≡◌, ◌==◌, ◌<◌, ◌≤◌, ◌+◌, 
 use Rattle.std.specs.Prelude.{IfSome, position}
 use Rattle.std.specs.List.{AllByRecursion, list_any, position_or_len}
 use Rattle.std.specs.Option.{option_map, option_map_or}
-use Rattle.std.proofs.lemmas.Bool.{ltb-true}
+use Rattle.std.proofs.lemmas.Bool.{ltb-true, and_parts as both, not-true}
 use Rattle.lvm_num.specs.declared.place.Pp.{Pp}
 use Rattle.lvm_num.specs.declared.descriptor.Policy.{Policy}
 use Rattle.lvm_num.specs.declared.descriptor.Policy.TheVariants as policy
 use Rattle.lvm_num.specs.declared.descriptor.PvRow.{PvRow}
-use Rattle.lvm_num.specs.Descriptor.{IsPartitionOf}
+use Rattle.lvm_num.specs.Descriptor.{IsPartitionOf, is_pp}
 use Rattle.lvm_num.specs.Disks.{has}
-use Rattle.lvm_stale.specs.Table.{is_pp}
 use Rattle.lvm_disk.specs.Device.{Device}
 use Rattle.lvm_disk.specs.Steps.{IsRange}
 use Rattle.lvm_kept.specs.Contents.{note_sector}
@@ -58,14 +57,6 @@ buffered false o it is = absurd (cc is)
 due : (b : Bool) (e it : Event) → (if b then Some e else None) ≡ Some it → (b ≡ true) × (e ≡ it)
 due true e it is = (refl, cc is)
 due false e it is = absurd (cc is)
-
-both : (a b : Bool) → a && b ≡ true → (a ≡ true) × (b ≡ true)
-both true b is = (refl, is)
-both false b is = absurd (cc is)
-
-is_false : (a : Bool) → not a ≡ true → a ≡ false
-is_false true is = absurd (cc is)
-is_false false is = refl
 
 -- of some request it is made
 record IsMade (make : ℕ → Open → Option Event) (from : ℕ) (os : List Open) (it : Event) : Type 0 where
@@ -320,7 +311,7 @@ module _ (device : Device) (core : Core) (may : MayStart device core) where
     range = λ source is.
         let it = sourced (IsPartitionOf core.descriptor) (λ (p : Pp). not (has c.tried p.disk)) (λ (p : Pp). not (is_pp p c.pp) && is_usable core p) (copies_in core.descriptor c.lv c.lp) source is (all_copies core c.lv c.lp device may) in
         let usable = (both (not (is_pp source c.pp)) (is_usable core source) it.0).1 in
-        let there = is_false (is_missing core source.disk) (both (not (is_stale core source)) (not (is_missing core source.disk)) usable).1 in
+        let there = not-true (is_missing core source.disk) (both (not (is_stale core source)) (not (is_missing core source.disk)) usable).1 in
         blocks_within device core may source (block_at core c) 256 it.1 (was_there device core may source.disk there) (omega arith) (in_group core.descriptor.mib c.lp c.cursor);
   }
 

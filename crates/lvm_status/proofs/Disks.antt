@@ -1,5 +1,5 @@
 -- Sets of disks, and the disks of members.
-use Rattle.std.proofs.Common.{◌≡◌, ◌⊎◌, inl, inr, ℕ, ◌+◌, ◌<◌, Bool, true, false, ◌&&◌, ◌||◌, not, List, length, get_or, take, refl, sym, ap, ◌∙◌, arith}
+use Rattle.std.proofs.Common.{◌≡◌, inl, inr, ℕ, ◌+◌, ◌<◌, Bool, true, false, ◌&&◌, ◌||◌, not, List, length, get_or, take, refl, sym, ap, ◌∙◌, arith}
 use Rattle.std.specs.Prelude.{◌==◌}
 use Rattle.std.specs.List.{list_any}
 use Rattle.std.proofs.lemmas.Bool.{eq-eqb, eqb-true}
@@ -9,6 +9,7 @@ use Rattle.lvm_num.specs.declared.descriptor.PvRow.{PvRow}
 use Rattle.lvm_num.specs.declared.descriptor.Descriptor.{Descriptor}
 use Rattle.lvm_num.specs.Descriptor.{IsValid, is_member}
 use Rattle.lvm_num.specs.Disks.{Disks}
+pub use Rattle.std.proofs.lemmas.Bool.{cases_Bool as bool_tells}
 
 -- sets with the same disks
 pub same_disks : (a b : Disks) → ((disk : ℕ) → a disk ≡ b disk) → a ≡ b
@@ -66,10 +67,6 @@ leaves is gone has_gone old now e = e ∙ sym (ap (λ b. old || (is && not b)) h
     without true false = refl
     without false true = refl
     without false false = refl
-
-pub bool_tells : (b : Bool) → (b ≡ true) ⊎ (b ≡ false)
-bool_tells true = inl refl
-bool_tells false = inr refl
 
 pub no_is_false : (b : Bool) → (b ≡ true → ⊥) → b ≡ false
 no_is_false b never = elim (bool_tells b) [ inl is ↦ absurd (never is) | inr isnt ↦ isnt ]

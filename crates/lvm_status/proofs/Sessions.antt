@@ -1,16 +1,15 @@
 -- What stays true from call to call.
-use Rattle.std.proofs.Common.{◌≡◌, ◌⊎◌, inl, inr, ℕ, ◌+◌, ◌<◌, ◌≤◌, Bool, true, false, ◌&&◌, ◌||◌, not, List, [], ◌∷◌, Option, Some, None, refl, sym, ap, subst, ◌∙◌, arith}
+use Rattle.std.proofs.Common.{◌≡◌, ◌⊎◌, inl, inr, ℕ, ◌+◌, ◌<◌, ◌≤◌, Bool, true, false, ◌&&◌, not, List, [], ◌∷◌, Option, Some, None, refl, sym, ap, subst, ◌∙◌, arith}
 use Rattle.std.specs.Prelude.{◌==◌, if◌then◌else◌, nat_lt, unwrap_or}
 use Rattle.std.specs.List.{list_any}
-use Rattle.std.proofs.lemmas.Bool.{eq-eqb, eqb-true, false≢true, cases_lt, cases_eq, lt-ltb}
+use Rattle.std.proofs.lemmas.Bool.{eq-eqb, eqb-true, false≢true, cases_lt, cases_eq, lt-ltb, or_right, or_parts}
 use Rattle.std.proofs.lemmas.Bool.Decides.{nat_tests}
 use Rattle.lvm_num.specs.declared.place.Pp.{Pp}
 use Rattle.lvm_num.specs.declared.record.Stamp.{Stamp}
 use Rattle.lvm_num.specs.declared.status.Status.{Status}
-use Rattle.lvm_num.specs.Descriptor.{is_member}
+use Rattle.lvm_num.specs.Descriptor.{is_member, is_pp}
 use Rattle.lvm_num.specs.Record.{stamp_lt}
 use Rattle.lvm_num.specs.Status.{calls_stale, calls_missing}
-use Rattle.lvm_stale.specs.Table.{is_pp}
 use Rattle.lvm_status.specs.declared.change.Change.{Change}
 use Rattle.lvm_status.specs.declared.change.Change.TheVariants as change
 use Rattle.lvm_status.specs.Update.{Updates, no_disks, is_held, is_owed, is_settled_stale}
@@ -136,10 +135,6 @@ IsNotBefore a b = (a.epoch < b.epoch) ⊎ ((a.epoch ≡ b.epoch) × (a.seq ≤ b
 not_below : (m n : ℕ) → n ≤ m → nat_lt m n ≡ false
 not_below m n le = grind (arith, nat_tests)
 
-or_right : (a b : Bool) → b ≡ true → a || b ≡ true
-or_right true b e = refl
-or_right false b e = e
-
 is_later : (a b : Stamp) → (a.epoch < b.epoch) ⊎ ((a.epoch ≡ b.epoch) × (a.seq < b.seq)) → stamp_lt a b ≡ true
 is_later a b (inl less) = or_left (nat_lt a.epoch b.epoch) (a.epoch == b.epoch && nat_lt a.seq b.seq) (lt-ltb a.epoch b.epoch less)
 is_later a b (inr same) =
@@ -259,14 +254,10 @@ step_stays (SetStamp stamp) old new p step other is = record {
   wanted = ap (λ (u : Updates). calls_stale u.wanted p) step.1 ∙ is.wanted;
 }
 
-none_of : (a b : Bool) → a || b ≡ false → (a ≡ false) × (b ≡ false)
-none_of true b e = absurd (false≢true (sym e))
-none_of false b e = (refl, e)
-
 pub settled_stays : SettledStays
 settled_stays [] old new p run other is = subst (λ (u : Updates). StaysStale u p) (sym run) is
 settled_stays (call ∷ calls) old new p run other is =
-    let apart = none_of (wants_fresh p call) (list_any (wants_fresh p) calls) other in
+    let apart = or_parts (wants_fresh p call) (list_any (wants_fresh p) calls) other in
     settled_stays calls run.0 new p run.2 apart.1 (step_stays call old run.0 p run.1 apart.0 is)
 
 -- ---- missing disks

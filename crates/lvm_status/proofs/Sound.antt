@@ -21,30 +21,14 @@ use Rattle.lvm_status.specs.Update.{Updates, no_disks, with_disk, without_disk, 
 use Rattle.lvm_status.specs.Calls.{Changes, WantsAtEnd, given_up, closed, comes_held, with_wanted, with_update, with_start, with_end, with_commit}
 use Rattle.lvm_status.specs.Runs.{Want, Start, NextWrite, Ended, SetStamp, IsSoundStatus, FirstIsSound, StepsStaySound, RunsStaySound}
 use Rattle.lvm_status.proofs.Disks.{no_is_false}
+pub use Rattle.std.proofs.lemmas.Bool.{and_from as both}
+pub use Rattle.std.proofs.lemmas.Bool.{not-true as not_false}
+pub use Rattle.std.proofs.lemmas.Bool.{or_cases as or_tells}
+pub use Rattle.std.proofs.lemmas.Bool.{or_left}
+pub use Rattle.lvm_num.proofs.Booleans.{first_holds as and_left}
+pub use Rattle.lvm_num.proofs.Booleans.{second_holds as and_right}
 
 -- ---- tests
-
-pub and_left : (a b : Bool) → a && b ≡ true → a ≡ true
-and_left true b e = refl
-and_left false b e = e
-
-pub and_right : (a b : Bool) → a && b ≡ true → b ≡ true
-and_right true b e = e
-and_right false b e = absurd (false≢true e)
-
-pub both : (a b : Bool) → a ≡ true → b ≡ true → a && b ≡ true
-both a b a-is b-is = ap (λ c. c && b) a-is ∙ b-is
-
-pub not_false : (a : Bool) → not a ≡ true → a ≡ false
-not_false true e = absurd (false≢true e)
-not_false false e = refl
-
-pub or_tells : (a b : Bool) → a || b ≡ true → (a ≡ true) ⊎ (b ≡ true)
-or_tells true b e = inl refl
-or_tells false b e = inr e
-
-pub or_left : (a b : Bool) → a ≡ true → a || b ≡ true
-or_left a b is = ap (λ c. c || b) is
 
 pub neither : (a b : Bool) → a ≡ false → b ≡ false → a || b ≡ false
 neither a b a-is b-is = ap (λ c. c || b) a-is ∙ b-is

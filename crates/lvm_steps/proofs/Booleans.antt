@@ -1,31 +1,14 @@
 -- Tests that hold together or not, and stamps that aren't before themselves.
-use Rattle.std.proofs.Common.{◌≡◌, ◌⊎◌, inl, inr, ◌&&◌, Bool, true, false, Some, None, refl, arith}
+use Rattle.std.proofs.Common.{◌≡◌, true, Some, None, arith}
 use Rattle.std.proofs.lemmas.Bool.Decides.{nat_tests}
 use Rattle.lvm_num.specs.declared.record.Stamp.{Stamp}
 use Rattle.lvm_num.specs.Record.{stamp_lt}
-
-pub either : (b : Bool) → (b ≡ true) ⊎ (b ≡ false)
-either true = inl refl
-either false = inr refl
-
-pub clash : (b : Bool) → b ≡ true → b ≡ false → ⊥
-clash true p q = absurd cc
-clash false p q = absurd cc
-
-pub first : (a b : Bool) → a && b ≡ true → a ≡ true
-first true b e = refl
-first false b e = absurd cc
-
-pub second : (a b : Bool) → a && b ≡ true → b ≡ true
-second true b e = e
-second false b e = absurd cc
-
-pub split : (a b : Bool) → a && b ≡ true → (a ≡ true) × (b ≡ true)
-split a b e = (first a b e, second a b e)
-
-pub join : (a b : Bool) → a ≡ true → b ≡ true → a && b ≡ true
-join true b p q = q
-join false b p q = absurd cc
+pub use Rattle.std.proofs.lemmas.Bool.{cases_Bool as either}
+pub use Rattle.std.proofs.lemmas.Bool.{and_parts as split}
+pub use Rattle.std.proofs.lemmas.Bool.{and_from as join}
+pub use Rattle.lvm_num.proofs.Booleans.{clash}
+pub use Rattle.lvm_num.proofs.Booleans.{first_holds as first}
+pub use Rattle.lvm_num.proofs.Booleans.{second_holds as second}
 
 pub no_some : {X : Type 0} (x : X) → None ≡ Some x → ⊥
 no_some x e = absurd cc

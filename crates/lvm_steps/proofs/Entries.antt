@@ -1,6 +1,7 @@
 -- Entries that speak of no volume keep what the disks show.
 use Rattle.std.proofs.Common.{◌≡◌, inl, ◌&&◌, ◌||◌, ℕ, List, [], ◌∷◌, ◌++◌, Bool, true, false, Option, Some, None, refl, sym, ap, subst, ◌∙◌}
 use Rattle.std.specs.Prelude.{IsTrue, IsSomeAnd, nat_le, nat_lt, ◌+◌, if◌then◌else◌}
+use Rattle.std.proofs.lemmas.Bool.{and_right}
 use Rattle.lvm_num.specs.Buffer.{Sector}
 use Rattle.lvm_num.specs.declared.descriptor.Mode.{Mode}
 use Rattle.lvm_num.specs.declared.descriptor.Descriptor.{Descriptor}
@@ -54,12 +55,8 @@ apart (Lv n) lv is = absurd is
 not_over : (r : Request) (lv b : ℕ) → IsDisk r.vol → is_over r (Lv lv) b ≡ false
 not_over r lv b is = ap (λ (t : Bool). t && nat_le r.at b && nat_lt b (r.at + r.count)) (apart r.vol lv is)
 
-and_false : (a b : Bool) → b ≡ false → a && b ≡ false
-and_false true b is = is
-and_false false b is = refl
-
 not_about : (f : Fact) (lv b : ℕ) → IsOfDisks f → is_about f (Lv lv) b ≡ false
-not_about (Begun r) lv b is = and_false r.write (is_over r (Lv lv) b) (not_over r lv b is)
+not_about (Begun r) lv b is = and_right r.write (is_over r (Lv lv) b) (not_over r lv b is)
 not_about (Landed r how started got) lv b is = not_over r lv b is
 not_about (Removing vol) lv b is = refl
 not_about (Removed vol) lv b is = apart vol lv is

@@ -12,6 +12,7 @@ use Rattle.lvm_num.specs.Votes.{all_disks, votes_in, is_enough_to_read, CanRead}
 use Rattle.lvm_num.specs.Record.{Stamped, newest_below}
 use Rattle.lvm_num.proofs.VotesLemmas.{read_meets_read}
 use Rattle.lvm_num.proofs.Newest.{is_one}
+use Rattle.lvm_num.proofs.Booleans.{and_true}
 use Rattle.lvm_vol.specs.declared.entry.Vol.TheVariants.{Disk}
 use Rattle.lvm_vol.specs.Facts.{Fact, Cut}
 use Rattle.lvm_vol.specs.May.{known, May}
@@ -116,10 +117,6 @@ statuses_may_change group targets next old new facts may unused change kept = st
 }) kept
 
 -- ---- descriptors
-
-and_true : (b : Bool) → b && true ≡ b
-and_true true = refl
-and_true false = refl
 
 module _ (old new : Contents) (group : Descriptor) (targets : Disks) (next : Stamped Descriptor) (may : MayMake old group) (is : next.value ≡ group) (change : DescriptorsChange targets next old new) where
   abbrev v : ℕ

@@ -38,6 +38,10 @@ Upholds run first m = (past : List Fact) → Begins run past first → Holds pas
 abbrev pub Keeps : ℕ → Moment → Moment → Type 0
 Keeps run first last = Path Step (Upholds run first) first last
 
+-- A span that leads to the one moment goes on to the other.
+abbrev pub SpanGoesOn : ℕ → Moment → Moment → Moment → Type 0
+SpanGoesOn run first old new = Keeps run first old → Keeps run first new
+
 -- whatever the crash images of the first shelf are kept with, those of the second are
 abbrev pub StaysKept : Device → Device → Type 0
 StaysKept old new = (facts : List Fact) → ImagesKept old facts → ImagesKept new facts

@@ -10,13 +10,13 @@ use Rattle.lvm_num.specs.Record.{Stamped, announced, joined, may_be, payload_of,
 use Rattle.lvm_num.proofs.Newest.{of_two}
 use Rattle.lvm_num.proofs.Records.{both_true, bytes-drop, bytes-take, then_is}
 use Rattle.lvm_rec.specs.Slots.{held, newest_on, read_under, slot_of}
-use Rattle.lvm_disk.specs.Device.{Image}
+use Rattle.lvm_disk.specs.Device.{Image, IsWholeImage}
 use Rattle.lvm_kept.specs.Contents.{has_records, newest_at, descriptor_on, status_on}
 use Rattle.lvm_num.specs.DescriptorBytes.{descriptor_of}
 use Rattle.lvm_num.specs.StatusBytes.{status_of}
 use Rattle.lvm_vgda.proofs.Whole.{read_is_spelled}
 use Rattle.lvm_vgsa.proofs.RoundTrip.{is_read}
-use Rattle.lvm_survey.specs.Laws.{IsWholeImage, DescriptorsAreValid, StatusesAreValid}
+use Rattle.lvm_survey.specs.Laws.{DescriptorsAreValid, StatusesAreValid}
 
 -- ---- bytes
 

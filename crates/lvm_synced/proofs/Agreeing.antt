@@ -26,8 +26,8 @@ use Rattle.lvm_session.specs.declared.open.Open.{Open}
 use Rattle.lvm_session.specs.Judging.{is_missing, is_settled, is_stale, place_of}
 use Rattle.lvm_session.specs.State.{Core, State, is_there}
 use Rattle.lvm_invariant.specs.State.{Going, Live, ModelPhase, Queued, Started, ModelState, covers, is_settled_stale, stale_in, told}
+use Rattle.lvm_invariant.specs.Sound.{Agree, MayDiffer, Quiescent}
 use Rattle.lvm_num.specs.Modes.{is_active, is_passive}
-use Rattle.lvm_invariant.specs.Sound.{Agree, MayDiffer, Settled}
 use Rattle.lvm_crash.specs.Session.{as_marks, members_showing}
 use Rattle.lvm_tie_shelf.proofs.Writing.{and_both}
 use Rattle.lvm_tie.specs.Seen.{IsRequestAt, IsStepAt, SeesRequest, phase_seen}
@@ -131,7 +131,7 @@ module _ (past : List Fact) (s : State) (tied : IsTied past s) where
       differs mode is false notes (inr dirty) = not_both (v.missing c.disk) (dirty.missing c first) (isnt_missing c usable)
       differs Off is false notes (inl loose) = not_both (told v row.number b).loose loose (ap (λ (facts : List Fact). (known facts (Lv row.number) b).loose) tied.sees.facts ∙ at.tight is)
 
-      agrees : Settled v row.number b → stands_at s tied.media p b ≡ stands_at s tied.media c b
+      agrees : Quiescent v row.number b → stands_at s tied.media p b ≡ stands_at s tied.media c b
       agrees settled = ⊎_elim
           (λ (agree : Agree v row.number b). sym (shown_at p second) ∙ agree.1 p second ∙ sym (agree.1 c first) ∙ shown_at c first)
           (λ differ. absurd (differs row.mode refl (v.is_active row.number) (tied.describes.volumes.notes row at.volume) differ))

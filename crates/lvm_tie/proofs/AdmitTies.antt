@@ -5,7 +5,7 @@ use Rattle.std.specs.List.{list_any}
 use Rattle.std.specs.Option.{option_map_or}
 use Rattle.std.proofs.lemmas.Bool.{cases_eq}
 use Rattle.std.proofs.lemmas.Bool.Decides.{nat_tests}
-use Rattle.std.proofs.lemmas.Option.{slice_get-get_or}
+use Rattle.std.proofs.lemmas.Option.{slice_get-get_or, same_Some}
 use Rattle.lvm_num.specs.Buffer.{Buffer}
 use Rattle.lvm_num.specs.Note.{IsNote}
 use Rattle.lvm_num.specs.Status.{calls_dirty, calls_stale}
@@ -53,7 +53,8 @@ use Rattle.lvm_session.specs.Marks.{WantsDirty, WantsDirtyIf}
 use Rattle.lvm_session.specs.Requests.{IsPhase, IsRequest}
 use Rattle.lvm_session.specs.Sound.{IsSound}
 use Rattle.lvm_invariant.specs.State.{Marks, Stage, ModelPhase, Held, WantEntry, Ready, Going, Landed, ModelCopy, Queued, ModelState, covers, is_past, has_landed}
-use Rattle.lvm_invariant.specs.Updates.{is_pp, put}
+use Rattle.lvm_invariant.specs.Updates.{put}
+use Rattle.lvm_num.specs.Descriptor.{is_pp}
 use Rattle.lvm_invariant.specs.Sound.{Conflict}
 use Rattle.lvm_invariant.specs.Admit.{Admits as Admitting, admitted}
 use Rattle.lvm_invariant.specs.Events.{Admit, Want, ModelStep}
@@ -80,9 +81,6 @@ use Rattle.lvm_tie.specs.Tied.{IsOrderly, IsTied}
 use Rattle.lvm_tie.specs.Requests.{AdmitTies}
 use Rattle.lvm_tie.proofs.Landings.{done_begun}
 use Rattle.lvm_tie.proofs.Unpinned.{cache_is, entries_stay}
-
-some_of : {X : Type 0} (a b : X) → Some a ≡ Some b → a ≡ b
-some_of a b e = cc
 
 -- what is chosen: usable copies, and for a write the one that is being brought up where it has passed
 pub record AreChosen (core : Core) (o : Open) (targets : List Target) : Type 0 where
@@ -220,11 +218,11 @@ module _ (past : List Fact) (old new : State) (place : ℕ) (admits : Admits old
       by_request : is_held_back core o.request ≡ false → (r : IsRequestAt core j) → (b : Bool) → is_waiting r.request ≡ b → IsTrue (has_landed e.phase)
       by_request unblocked r false over =
           let s = tied.sees.queue.requests r.place r.request r.there in
-          let same : s.0 ≡ e = some_of s.0 e (sym s.1 ∙ ap v.queue r.its ∙ there) in
+          let same : s.0 ≡ e = same_Some s.0 e (sym s.1 ∙ ap v.queue r.its ∙ there) in
           ap (λ (x : Queued). has_landed x.phase) (sym same) ∙ ap has_landed s.2.phase ∙ ap (λ (p : Phase). has_landed (phase_seen p (is_begun r.request.request.targets.items))) (rows.landed r.place r.request r.there over)
       by_request unblocked r true waiting =
           let s = tied.sees.queue.requests r.place r.request r.there in
-          let same : s.0 ≡ e = some_of s.0 e (sym s.1 ∙ ap v.queue r.its ∙ there) in
+          let same : s.0 ≡ e = same_Some s.0 e (sym s.1 ∙ ap v.queue r.its ∙ there) in
           let row : Row = record { id = place_of r.request.request.id; ask = held_of r.request.request.ask } in
           let block = common e conflict.lv conflict.block conflict.first conflict.second (held_of r.request.request.ask) (sym s.2.lv ∙ ap (λ (x : Queued). x.lv) same) (sym s.2.first ∙ ap (λ (x : Queued). x.first) same) (sym s.2.count ∙ ap (λ (x : Queued). x.count) same) in
           let write : (Rattle.lvm_hold.specs.Conflicts.is_write (held_of r.request.request.ask) || Rattle.lvm_hold.specs.Conflicts.is_write (held_of ask)) ≡ true =
@@ -239,7 +237,7 @@ module _ (past : List Fact) (old new : State) (place : ℕ) (admits : Admits old
       by_step : is_held_back core o.request ≡ false → IsStepAt core j → IsTrue (has_landed e.phase)
       by_step unblocked r =
           let s = tied.sees.queue.a_step r.copy r.is_open r.row in
-          let same : s.0 ≡ e = some_of s.0 e (sym s.1 ∙ ap v.queue r.its ∙ there) in
+          let same : s.0 ≡ e = same_Some s.0 e (sym s.1 ∙ ap v.queue r.its ∙ there) in
           let row : Row = step_row core r.copy in
           let block = common e conflict.lv conflict.block conflict.first conflict.second row.ask (sym s.2.lv ∙ ap (λ (x : Queued). x.lv) same) (sym s.2.first ∙ ap (λ (x : Queued). x.first) same) (sym s.2.count ∙ ap (λ (x : Queued). x.count) same) in
           let write : is_write ask ≡ true =

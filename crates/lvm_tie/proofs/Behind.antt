@@ -3,11 +3,12 @@ use Rattle.std.proofs.Common.{◌≡◌, ◌≢◌, ◌⊎◌, inl, inr, ⊎_eli
 use Rattle.std.specs.Prelude.{IsTrue, IsFalse}
 use Rattle.std.specs.List.{list_any, range_with_len}
 use Rattle.std.proofs.lemmas.Bool.Decides.{nat_tests}
+use Rattle.std.proofs.lemmas.Bool.{cases_Bool}
 use Rattle.lvm_num.specs.declared.place.Pp.{Pp}
 use Rattle.lvm_num.specs.declared.descriptor.LvRow.{LvRow}
 use Rattle.lvm_num.specs.declared.descriptor.Descriptor.{Descriptor}
 use Rattle.lvm_num.specs.Disks.{Disks}
-use Rattle.lvm_num.specs.Descriptor.{IsValid, copies_of, is_member}
+use Rattle.lvm_num.specs.Descriptor.{IsValid, copies_of, is_member, is_pp}
 use Rattle.lvm_num.specs.Geometry.{partition_blocks}
 use Rattle.lvm_num.specs.Status.{calls_stale}
 use Rattle.lvm_vol.specs.Facts.{Fact}
@@ -16,7 +17,6 @@ use Rattle.lvm_map.proofs.Parts.{parts}
 use Rattle.lvm_map.proofs.PlaceLemmas.{mib_positive}
 use Rattle.lvm_map.proofs.OneToOne.{is_data}
 use Rattle.lvm_map.specs.Places.{place_on}
-use Rattle.lvm_stale.specs.Table.{is_pp}
 use Rattle.lvm_status.specs.Update.{Stored}
 use Rattle.lvm_session.specs.declared.bringing.CopyEnd.{CopyEnd}
 use Rattle.lvm_session.specs.State.{Core, is_there}
@@ -60,10 +60,6 @@ of_range : (a n k : ℕ) → IsOneOf (range_with_len a n) k → k < a + n
 of_range a zero k one = absurd one
 of_range a (suc n) k (inl is) = omega arith
 of_range a (suc n) k (inr there) = let r = of_range (a + 1) n k there in omega arith
-
-decided : (b : Bool) → (b ≡ true) ⊎ (b ≡ false)
-decided true = inl refl
-decided false = inr refl
 
 -- the first block of a logical partition of a volume
 pub first_block : (group : Descriptor) → IsValid group → (row : LvRow) (lp : ℕ) → lp < row.lps → (b : ℕ) × IsBlockOf group.mib row lp b
@@ -188,7 +184,7 @@ module _ (core : Core) (v : ModelState) (missing : ℕ → Bool) (how : Option C
       let inside = volumes.inside lv b p copy in
       let own = (volumes.copies inside.row inside.lp b p inside.volume inside.inside).0 (subst (λ n. IsTrue (v.is_copy n b p)) (sym inside.number) copy) in
       clash (members p.disk) own.1 hidden))
-      (decided (members p.disk))
+      (cases_Bool (members p.disk))
 
   replaced_marked : (p : Pp) → marked_by_end core how p ≡ true → Replaced v marks p
   replaced_marked p is =

@@ -3,7 +3,7 @@ use Rattle.std.proofs.Common.{◌≡◌, inl, inr, ⊎_elim, ℕ, zero, suc, ◌
 use Rattle.std.specs.Prelude.{if◌then◌else◌, slice_get, slice_set}
 use Rattle.std.proofs.lemmas.Bool.{cases_eq}
 use Rattle.std.proofs.lemmas.Bool.Decides.{nat_tests}
-use Rattle.std.proofs.lemmas.Option.{slice_get_within}
+use Rattle.std.proofs.lemmas.Option.{slice_get_within, same_Some}
 use Rattle.lvm_num.specs.declared.place.Pp.{Pp}
 use Rattle.lvm_num.specs.Buffer.{Sector}
 use Rattle.lvm_vol.specs.Facts.{Fact}
@@ -20,15 +20,13 @@ use Rattle.lvm_session.specs.State.{Core}
 use Rattle.lvm_session.specs.Judging.{place_of}
 use Rattle.lvm_session.specs.Bringing.{has_row}
 use Rattle.lvm_invariant.specs.State.{Queued, ModelState}
-use Rattle.lvm_invariant.specs.Updates.{put, is_pp, staged, with_block}
+use Rattle.lvm_invariant.specs.Updates.{put, staged, with_block}
+use Rattle.lvm_num.specs.Descriptor.{is_pp}
 use Rattle.lvm_tie_shelf.proofs.Writing.{pp_same}
 use Rattle.lvm_tie.proofs.Orderly.{HaveNumbers}
 use Rattle.lvm_tie.specs.Seen.{stage_seen, stage_at, SeesRequest, IsRequestAt, IsStepAt, Sees}
 
 -- ---- a list of which one changes
-
-some_of : {X : Type 0} (a b : X) → Some a ≡ Some b → a ≡ b
-some_of a b e = cc
 
 pub set_here : {X : Type 0} (xs : List X) (k : ℕ) (x : X) → k < length xs → slice_get (slice_set xs k x) k ≡ Some x
 set_here [] k x lt = absurd (omega arith)
@@ -49,7 +47,7 @@ pub stage_after : (ts : List Target) (number : ℕ) (t : Target) (state : Target
     → (e : Pp) → stage_at (with_state ts number state) e ≡ staged (stage_at ts) t.pp (stage_seen state) e
 stage_after [] number t state differ there e = absurd cc
 stage_after (u ∷ us) zero t state differ there e =
-    let same : u ≡ t = some_of u t there in
+    let same : u ≡ t = same_Some u t there in
     by (is_pp e u.pp) refl same
   where
     by : (b : Bool) → is_pp e u.pp ≡ b → u ≡ t → (if is_pp e u.pp then Some (stage_seen state) else stage_at us e) ≡ (if is_pp e t.pp then Some (stage_seen state) else (if is_pp e u.pp then Some (stage_seen u.state) else stage_at us e))
@@ -70,9 +68,9 @@ stage_after (u ∷ us) (suc number) t state differ there e =
 -- the others, and each partition, stay
 pub target_was : (ts : List Target) (number : ℕ) (state : TargetState) (k : ℕ) (t : Target) → slice_get (with_state ts number state) k ≡ Some t → (u : Target) × (slice_get ts k ≡ Some u) × (u.pp ≡ t.pp)
 target_was [] number state k t there = absurd cc
-target_was (u ∷ us) zero state zero t there = (u, refl, ap (λ (x : Target). x.pp) (some_of (record u { state = state }) t there))
+target_was (u ∷ us) zero state zero t there = (u, refl, ap (λ (x : Target). x.pp) (same_Some (record u { state = state }) t there))
 target_was (u ∷ us) zero state (suc k) t there = (t, there, refl)
-target_was (u ∷ us) (suc number) state zero t there = (u, refl, ap (λ (x : Target). x.pp) (some_of u t there))
+target_was (u ∷ us) (suc number) state zero t there = (u, refl, ap (λ (x : Target). x.pp) (same_Some u t there))
 target_was (u ∷ us) (suc number) state (suc k) t there = target_was us number state k t there
 
 pub same_long : (ts : List Target) (number : ℕ) (state : TargetState) → length (with_state ts number state) ≡ length ts
@@ -112,7 +110,7 @@ module _ (past : List Fact) (core : Core) (v : ModelState) (place : ℕ) (o o2 :
   step_apart c is row e =
       let a = sees.queue.a_step c is row in
       let b = sees.queue.requests place o there in
-      let same : a.0 ≡ b.0 = some_of a.0 b.0 (sym a.1 ∙ ap v.queue e ∙ b.1) in
+      let same : a.0 ≡ b.0 = same_Some a.0 b.0 (sym a.1 ∙ ap v.queue e ∙ b.1) in
       let no : ◌≡◌ {A = Bool} true false = sym a.2.step ∙ ap (λ (x : Queued). x.step) same ∙ b.2.step in
       absurd cc
 
@@ -120,7 +118,7 @@ module _ (past : List Fact) (core : Core) (v : ModelState) (place : ℕ) (o o2 :
   sees_changed = record {
     queue = record {
       requests = λ k p at. elim (cases_eq k place) [
-        | inl e ↦ let own : p ≡ o2 = some_of p o2 (sym at ∙ ap (slice_get (slice_set core.requests place o2)) e ∙ set_here core.requests place o2 within) in
+        | inl e ↦ let own : p ≡ o2 = same_Some p o2 (sym at ∙ ap (slice_get (slice_set core.requests place o2)) e ∙ set_here core.requests place o2 within) in
             (q2, put_here (place_of p.request.id) (ap (λ (x : Open). place_of x.request.id) own ∙ ap place_of same_id), subst (λ (x : Open). SeesRequest x q2) (sym own) sees_new)
         | inr ne ↦ let was = sym (set_there core.requests place k o2 ne) ∙ at in let s = sees.queue.requests k p was in (s.0, put_there (place_of p.request.id) (other_place k p ne was) ∙ s.1, s.2)
       ];
@@ -128,12 +126,12 @@ module _ (past : List Fact) (core : Core) (v : ModelState) (place : ℕ) (o o2 :
       only = λ j q at. elim (cases_eq j i) [
         | inl e ↦ inl (record { place = place; request = o2; there = set_here core.requests place o2 within; its = ap place_of same_id ∙ sym e })
         | inr ne ↦ ⊎_elim
-            (λ (r : IsRequestAt core j). inl (record { place = r.place; request = r.request; there = set_there core.requests place r.place o2 (λ e. ne (sym r.its ∙ ap (λ (x : Open). place_of x.request.id) (some_of r.request o (sym r.there ∙ ap (slice_get core.requests) e ∙ there)))) ∙ r.there; its = r.its }))
+            (λ (r : IsRequestAt core j). inl (record { place = r.place; request = r.request; there = set_there core.requests place r.place o2 (λ e. ne (sym r.its ∙ ap (λ (x : Open). place_of x.request.id) (same_Some r.request o (sym r.there ∙ ap (slice_get core.requests) e ∙ there)))) ∙ r.there; its = r.its }))
             (λ (r : IsStepAt core j). inr r)
             (sees.queue.only j q (sym (put_there j ne) ∙ at))
       ];
       names = λ k p at. elim (cases_eq k place) [
-        | inl e ↦ let own : p ≡ o2 = some_of p o2 (sym at ∙ ap (slice_get (slice_set core.requests place o2)) e ∙ set_here core.requests place o2 within) in
+        | inl e ↦ let own : p ≡ o2 = same_Some p o2 (sym at ∙ ap (slice_get (slice_set core.requests place o2)) e ∙ set_here core.requests place o2 within) in
             let id : p.request.id ≡ o.request.id = ap (λ (x : Open). x.request.id) own ∙ same_id in
             ap (λ n. v.name (place_of n)) id ∙ sees.queue.names place o there ∙ ap (Rattle.lvm_vol.specs.Log.request_of core.history.facts) (sym id)
         | inr ne ↦ sees.queue.names k p (sym (set_there core.requests place k o2 ne) ∙ at)

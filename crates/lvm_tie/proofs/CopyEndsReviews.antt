@@ -4,6 +4,7 @@ use Rattle.std.specs.Prelude.{IsTrue, if◌then◌else◌, slice_get}
 use Rattle.std.specs.Option.{option_map_or}
 use Rattle.std.proofs.lemmas.Bool.{cases_eq}
 use Rattle.std.proofs.lemmas.Bool.Decides.{nat_tests}
+use Rattle.std.proofs.lemmas.Option.{same_Some}
 use Rattle.lvm_num.specs.declared.place.Pp.{Pp}
 use Rattle.lvm_vol.specs.Facts.{Fact, Taken}
 use Rattle.lvm_disk.specs.Device.{Flight, Device, image_of}
@@ -37,9 +38,6 @@ use Rattle.lvm_tie.specs.Out.{CarriesStep}
 use Rattle.lvm_tie.specs.Seen.{IsRequestAt, IsStepAt, Sees, SeesHand, SeesStep, step_write_in, step_write_of, update_of}
 use Rattle.lvm_tie.specs.Tied.{IsOrderly, IsTied}
 use Rattle.lvm_tie.specs.Near.{IsNear, IsRunning, NearTies}
-
-some_of : {X : Type 0} (a b : X) → Some a ≡ Some b → a ≡ b
-some_of a b e = cc
 
 -- a copy that the state as a whole makes end runs
 pub ends_running : (core : Core) (how : CopyEnd) → copy_ends core ≡ Some how → IsRunning core
@@ -97,7 +95,7 @@ module _ (past : List Fact) (device : Device) (core : Core) (how : CopyEnd) (nea
   none = near.ended
 
   own : (d : OpenCopy) → core.copy ≡ Some d → d ≡ c
-  own d is = some_of d c (sym is ∙ its.is_open)
+  own d is = same_Some d c (sym is ∙ its.is_open)
 
   -- ---- where its transfer is out
 
@@ -123,7 +121,7 @@ module _ (past : List Fact) (device : Device) (core : Core) (how : CopyEnd) (nea
     queue = record {
       requests = near.sees.queue.requests;
       a_step = λ d is row.
-          let same : c_out ≡ d = some_of c_out d is in
+          let same : c_out ≡ d = same_Some c_out d is in
           let s = near.sees.queue.a_step c its.is_open (row_out out) in
           subst (λ (x : OpenCopy). (q : Queued) × (v.queue x.place ≡ Some q) × SeesStep core_out x q) same
           (s.0, s.1, record { lv = s.2.lv; first = s.2.first; count = s.2.count; write = s.2.write; step = s.2.step; hand = s.2.hand; failed = s.2.failed });
@@ -145,7 +143,7 @@ module _ (past : List Fact) (device : Device) (core : Core) (how : CopyEnd) (nea
   carries_out g (owner.Status disk) carried = carried
   carries_out g (owner.Note disk) carried = carried
   carries_out g owner.Copy carried = λ d q is writing at.
-      let same : c_out ≡ d = some_of c_out d is in
+      let same : c_out ≡ d = same_Some c_out d is in
       carried c q its.is_open (ap (λ (x : OpenCopy). x.step) same ∙ writing) (ap (λ (x : OpenCopy). v.queue x.place) same ∙ at)
 
   tied_out : is_out c.step ≡ true → IsOrderly (state device core_out) near.write → IsTied past (state device core_out)
@@ -163,7 +161,7 @@ module _ (past : List Fact) (device : Device) (core : Core) (how : CopyEnd) (nea
     recorded = near.recorded;
     notes = near.notes;
     copy_aimed = λ d is row.
-        subst (λ (x : OpenCopy). IsTrue (v.is_copy x.lv (block_at core x) x.pp) × ((source : Pp) → x.step ≡ step.Reading source → IsTrue (v.is_copy x.lv (block_at core x) source))) (some_of c_out d is) (near.copy_aimed c its.is_open (row_out out));
+        subst (λ (x : OpenCopy). IsTrue (v.is_copy x.lv (block_at core x) x.pp) × ((source : Pp) → x.step ≡ step.Reading source → IsTrue (v.is_copy x.lv (block_at core x) source))) (same_Some c_out d is) (near.copy_aimed c its.is_open (row_out out));
     carry = carry_on core core_out v v device.flights core.flying carries_out near.carry;
   }
 
@@ -181,7 +179,7 @@ module _ (past : List Fact) (device : Device) (core : Core) (how : CopyEnd) (nea
       ∙ ap (λ (b : Bool). record core { copy = Some (record c { step = if b then c.step else step.Idle; end = Some how }); queue = if b then core.queue else record core.queue { rows = without c.place core.queue.rows }; pool = with_back core.pool (hand_of c.step) }) out
 
   no_row : (d : OpenCopy) → core_in.copy ≡ Some d → has_row core_in d ≡ true → ⊥
-  no_row d is row = let e : ◌≡◌ {A = Bool} false true = ap (has_row core_in) (some_of c_in d is) ∙ row in cc
+  no_row d is row = let e : ◌≡◌ {A = Bool} false true = ap (has_row core_in) (same_Some c_in d is) ∙ row in cc
 
   write_in : is_out c.step ≡ false → v.step_write ≡ None
   write_in out = near.sees.step_write ∙ ap step_write_in its.is_open ∙ no_write c c.step out
@@ -190,7 +188,7 @@ module _ (past : List Fact) (device : Device) (core : Core) (how : CopyEnd) (nea
   carries_in w g (owner.Data id number) carried = carried
   carries_in w g (owner.Status disk) carried = carried
   carries_in w g (owner.Note disk) carried = carried
-  carries_in w g owner.Copy carried = λ d q is writing at. absurd (let e : step.Idle ≡ step.Writing = ap (λ (x : OpenCopy). x.step) (some_of c_in d is) ∙ writing in cc)
+  carries_in w g owner.Copy carried = λ d q is writing at. absurd (let e : step.Idle ≡ step.Writing = ap (λ (x : OpenCopy). x.step) (same_Some c_in d is) ∙ writing in cc)
 
   -- so it is tied, if the state sees it so
   tied_in : (w : ModelState) → Sees past core_in w → Good near.votes w → Describes w w.facts core.descriptor (update_of core.status) (contents_of (image_of device.sizes near.media)) → IsOrderly (state device core_in) near.write → IsTied past (state device core_in)
@@ -275,7 +273,7 @@ module _ (past : List Fact) (device : Device) (core : Core) (how : CopyEnd) (nea
     apart : (place : ℕ) (o : Open) → slice_get core.requests place ≡ Some o → place_of o.request.id ≡ i → ⊥
     apart place o there e =
         let r = near.sees.queue.requests place o there in
-        let same : r.0 ≡ q = some_of r.0 q (sym r.1 ∙ ap v.queue e ∙ at) in
+        let same : r.0 ≡ q = same_Some r.0 q (sym r.1 ∙ ap v.queue e ∙ at) in
         let no : ◌≡◌ {A = Bool} true false = sym sees_q.step ∙ ap (λ (x : Queued). x.step) (sym same) ∙ r.2.step in
         cc
 

@@ -4,7 +4,7 @@ use Rattle.std.specs.Prelude.{IsTrue, IsFalse, filter, find, nat_lt}
 use Rattle.std.specs.List.{list_any}
 use Rattle.std.proofs.lemmas.Bool.Decides.{nat_tests}
 use Rattle.lvm_num.specs.declared.place.Pp.{Pp}
-use Rattle.lvm_num.specs.Descriptor.{is_member}
+use Rattle.lvm_num.specs.Descriptor.{is_member, is_pp}
 use Rattle.lvm_num.specs.Disks.{has}
 use Rattle.lvm_num.specs.Geometry.{sector_of}
 use Rattle.lvm_vol.specs.Facts.{Fact}
@@ -27,7 +27,7 @@ use Rattle.lvm_session.specs.Enabled.{is_free_step}
 use Rattle.lvm_session.specs.Events.{ReadsCopy, flown}
 use Rattle.lvm_session.specs.Sound.{IsSound}
 use Rattle.lvm_invariant.specs.State.{Badly, Flying, Going, Held, Landed, ModelPhase, Queued, Ready, Stage, ModelState, Todo, WantEntry, has_landed, is_past, is_usable as sees_usable}
-use Rattle.lvm_invariant.specs.Updates.{is_pp, put, with_req}
+use Rattle.lvm_invariant.specs.Updates.{put, with_req}
 use Rattle.lvm_invariant.specs.Sound.{Conflict}
 use Rattle.lvm_invariant.specs.Admit.{admitted}
 use Rattle.lvm_invariant.specs.Read.{reading}

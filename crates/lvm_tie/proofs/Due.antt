@@ -11,7 +11,7 @@ use Rattle.lvm_session.specs.State.{Core}
 use Rattle.lvm_session.specs.Judging.{all_but_sure, is_sure, pps_of}
 use Rattle.lvm_session.specs.Marks.{is_among}
 use Rattle.lvm_invariant.specs.State.{Stage}
-use Rattle.lvm_invariant.specs.Updates.{is_pp}
+use Rattle.lvm_num.specs.Descriptor.{is_pp}
 use Rattle.lvm_tie.proofs.Judged.{among_one}
 use Rattle.lvm_tie.proofs.Orderly.{Differ}
 use Rattle.lvm_tie.proofs.Words.{clash, filter_one, one_there, target_of}

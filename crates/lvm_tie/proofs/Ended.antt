@@ -2,6 +2,7 @@
 use Rattle.std.proofs.Common.{◌≡◌, ℕ, zero, suc, Bool, true, false, List, [], ◌∷◌, ◌++◌, Option, Some, refl, sym, ap, subst, ◌∙◌, arith}
 use Rattle.std.specs.Prelude.{IsTrue, IfSome, slice_get}
 use Rattle.std.specs.List.{remove}
+use Rattle.std.proofs.lemmas.Option.{same_Some}
 use Rattle.lvm_num.specs.Buffer.{Buffer}
 use Rattle.lvm_disk.specs.Device.{Media, Flight, Device}
 use Rattle.lvm_disk.specs.Steps.{Removes, Reads}
@@ -17,9 +18,6 @@ use Rattle.lvm_tie_shelf.specs.Writing.{Lands}
 use Rattle.lvm_tie.proofs.Orderly.{IsOut, AreOut, HaveTickets}
 use Rattle.lvm_tie.specs.Out.{CarriesStep, CarryTheirs}
 use Rattle.lvm_session.specs.Ends.{EndsAs}
-
-some_of : {X : Type 0} (a b : X) → Some a ≡ Some b → a ≡ b
-some_of a b e = cc
 
 -- ---- the transfer that has ended
 
@@ -83,14 +81,14 @@ pub is_row : (core next : Core) (w : Option RecordWrite) (v u : ModelState) (bef
     → AreOut core w (before ++ f ∷ after) rows → HaveTickets rows → slice_get rows index ≡ Some row → f.ticket ≡ row.ticket → IsRow core next w v u before after f rows index row
 is_row core next w v u [] after f [] index row out tickets there same = absurd out
 is_row core next w v u [] after f (r ∷ rs) zero row out tickets there same = record {
-  out = subst (λ (x : Flown). IsOut core w f x.owner) (some_of r row there) out.1;
+  out = subst (λ (x : Flown). IsOut core w f x.owner) (same_Some r row there) out.1;
   carry = λ each carry. carry_all core next w v u after rs out.2 each carry.1;
 }
 is_row core next w v u [] after f (r ∷ rs) (suc k) row out tickets there same = absurd (let e = tickets 0 (suc k) r row refl there (sym out.0 ∙ same) in omega arith)
 is_row core next w v u (g ∷ gs) after f [] index row out tickets there same = absurd out
 is_row core next w v u (g ∷ gs) after f (r ∷ rs) zero row out tickets there same =
     let x = row_of core w gs after f rs out.2 in
-    absurd (let e = tickets 0 (suc x.0) r x.1 refl x.2 (ap (λ (y : Flown). y.ticket) (some_of r row there) ∙ sym same ∙ x.3) in omega arith)
+    absurd (let e = tickets 0 (suc x.0) r x.1 refl x.2 (ap (λ (y : Flown). y.ticket) (same_Some r row there) ∙ sym same ∙ x.3) in omega arith)
 is_row core next w v u (g ∷ gs) after f (r ∷ rs) (suc k) row out tickets there same =
     let rest = is_row core next w v u gs after f rs k row out.2 (λ i j a b at too e. let n = tickets (suc i) (suc j) a b at too e in omega arith) there same in
     record { out = rest.out; carry = λ each carry. (each g r.owner carry.0, rest.carry each carry.1) }

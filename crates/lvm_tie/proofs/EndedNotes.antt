@@ -39,9 +39,7 @@ use Rattle.lvm_tie.proofs.Ended.{HasEnded, IsRow, has_ended, is_row}
 use Rattle.lvm_tie.proofs.Sectors.{note_is_sector}
 use Rattle.lvm_session.specs.declared.flown.Flown.{Flown}
 use Rattle.lvm_session.specs.Ends.{Returns}
-
-pub some_of : {X : Type 0} (a b : X) → Some a ≡ Some b → a ≡ b
-some_of a b e = cc
+pub use Rattle.std.proofs.lemmas.Option.{same_Some as some_of}
 
 pub none_is_some : {A X : Type 0} (x : A) → None ≡ Some x → X
 none_is_some x e = absurd cc

@@ -7,7 +7,7 @@ use Rattle.lvm_num.specs.declared.place.Pp.{Pp}
 use Rattle.lvm_vol.specs.Facts.{Fact}
 use Rattle.lvm_vol.specs.Log.{next_id, no_request}
 use Rattle.lvm_disk.specs.Device.{HasSectors}
-use Rattle.lvm_stale.specs.Table.{is_pp as same_pp}
+use Rattle.lvm_num.specs.Descriptor.{is_pp}
 use Rattle.lvm_status.specs.Update.{Stored}
 use Rattle.lvm_session.specs.declared.open.Open.{Open}
 use Rattle.lvm_session.specs.declared.bringing.OpenCopy.{OpenCopy}
@@ -65,7 +65,7 @@ module _ (past : List Fact) (old new : State) (at : ℕ) (tied : IsTied past old
   -- nothing more is wanted
   unmarked : (how : Option CopyEnd) (p : Pp) → marked_by_end on how p ≡ false
   unmarked None p = refl
-  unmarked (Some how) p = ap (λ b. not (is_done_end how) && (b && same_pp p c.pp)) short ∙ and_false (not (is_done_end how))
+  unmarked (Some how) p = ap (λ b. not (is_done_end how) && (b && is_pp p c.pp)) short ∙ and_false (not (is_done_end how))
 
   same : new.core.status ≡ core.status
   same = reviews.marks.same (λ p due. ⊎_elim

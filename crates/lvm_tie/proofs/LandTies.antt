@@ -56,9 +56,6 @@ use Rattle.lvm_invariant.specs.State.{Stage, ModelPhase, Held, WantEntry, Ready,
 use Rattle.lvm_invariant.specs.LandNoFresh.{FindsNoFresh}
 use Rattle.lvm_invariant.specs.Events.{LandNoFresh}
 
-some_of : {X : Type 0} (a b : X) → Some a ≡ Some b → a ≡ b
-some_of a b e = cc
-
 module _ (past : List Fact) (old new : State) (place : ℕ) (how : Outcome) (lands : Lands old new place how) (tied : IsTied past old) (q : Queued) (event : Event) (numbers : HaveNumbers old.core)
     (at : tied.view.queue (place_of lands.request.request.id) ≡ Some q) (sees : SeesRequest lands.request q) where
   abbrev core : Core

@@ -1,6 +1,7 @@
 -- What the end of a transfer of the copy that is being brought up leaves of the shelf, and of a good state.
 use Rattle.std.proofs.Common.{◌≡◌, ◌⊎◌, ℕ, zero, suc, ◌+◌, ◌<◌, Bool, true, false, ◌&&◌, ◌||◌, not, List, [], ◌∷◌, ◌++◌, Option, Some, None, refl, sym, ap, subst, ◌∙◌, arith}
 use Rattle.std.specs.Prelude.{IsTrue, IfSome, slice_get}
+use Rattle.std.proofs.lemmas.Option.{same_Some}
 use Rattle.lvm_num.specs.declared.descriptor.Descriptor.{Descriptor}
 use Rattle.lvm_num.specs.declared.place.Pp.{Pp}
 use Rattle.lvm_num.specs.declared.record.Kind.{Kind}
@@ -13,11 +14,10 @@ use Rattle.lvm_num.specs.Record.{Stamped, slot_size, slot_start}
 use Rattle.lvm_num.specs.Status.{calls_missing}
 use Rattle.lvm_num.specs.StatusBytes.{status_of}
 use Rattle.lvm_vol.specs.Facts.{Fact}
-use Rattle.lvm_disk.specs.Device.{AreSectors, Flight, HasSectors, Image, Media, image_of}
+use Rattle.lvm_disk.specs.Device.{AreSectors, Flight, HasSectors, Image, Media, image_of, IsWholeImage}
 use Rattle.lvm_kept.specs.Contents.{Contents, contents_of}
 use Rattle.lvm_kept.specs.Places.{SameRecords}
 use Rattle.lvm_kept.specs.Torn.{RecordWrite}
-use Rattle.lvm_stamps.specs.Laws.{IsWhole}
 use Rattle.lvm_stamps.proofs.Writes.{data_keeps_before}
 use Rattle.lvm_commit.specs.Committed.{next_stamp}
 use Rattle.lvm_rec.proofs.NextLemmas.{slot_for_same}
@@ -53,9 +53,6 @@ use Rattle.lvm_tie.proofs.Orderly.{AreOut, HaveTickets, IsCopyOut, IsOut, StepIs
 use Rattle.lvm_tie.proofs.Ended.{HasEnded, IsRow, has_ended, is_row}
 use Rattle.lvm_tie.proofs.Leaving.{Stands}
 
-some_of : {X : Type 0} (a b : X) → Some a ≡ Some b → a ≡ b
-some_of a b e = cc
-
 -- ---- its row
 
 row_of : (core : Core) (w : Option RecordWrite) (gs after : List Flight) (f : Flight) (rs : List Flown) → AreOut core w (gs ++ f ∷ after) rs → (k : ℕ) × (r : Flown) × (slice_get rs k ≡ Some r) × (f.ticket ≡ r.ticket)
@@ -68,12 +65,12 @@ row_of core w (g ∷ gs) after f (r ∷ rs) out = let x = row_of core w gs after
 carried : (core : Core) (w : Option RecordWrite) (v : ModelState) (before after : List Flight) (f : Flight) (rows : List Flown) (index : ℕ) (row : Flown)
     → AreOut core w (before ++ f ∷ after) rows → HaveTickets rows → slice_get rows index ≡ Some row → f.ticket ≡ row.ticket → CarryTheirs core v (before ++ f ∷ after) rows → CarriesStep core v f row.owner
 carried core w v [] after f [] index row out tickets there same carry = absurd out
-carried core w v [] after f (r ∷ rs) zero row out tickets there same carry = subst (λ (x : Flown). CarriesStep core v f x.owner) (some_of r row there) carry.0
+carried core w v [] after f (r ∷ rs) zero row out tickets there same carry = subst (λ (x : Flown). CarriesStep core v f x.owner) (same_Some r row there) carry.0
 carried core w v [] after f (r ∷ rs) (suc k) row out tickets there same carry = absurd (let e = tickets 0 (suc k) r row refl there (sym out.0 ∙ same) in omega arith)
 carried core w v (g ∷ gs) after f [] index row out tickets there same carry = absurd out
 carried core w v (g ∷ gs) after f (r ∷ rs) zero row out tickets there same carry =
     let x = row_of core w gs after f rs out.2 in
-    absurd (let e = tickets 0 (suc x.0) r x.1 refl x.2 (ap (λ (y : Flown). y.ticket) (some_of r row there) ∙ sym same ∙ x.3) in omega arith)
+    absurd (let e = tickets 0 (suc x.0) r x.1 refl x.2 (ap (λ (y : Flown). y.ticket) (same_Some r row there) ∙ sym same ∙ x.3) in omega arith)
 carried core w v (g ∷ gs) after f (r ∷ rs) (suc k) row out tickets there same carry =
     carried core w v gs after f rs k row out.2 (λ i j a b at too e. let n = tickets (suc i) (suc j) a b at too e in omega arith) there same carry.1
 
@@ -84,7 +81,7 @@ slot_low kind.Descriptor slot s two lt = omega (arith, two, lt)
 slot_low kind.Status slot s two lt = omega (arith, two, lt)
 
 -- it may be written where nothing below the data has changed
-pub next_below : (group : Descriptor) (status : Stored) (homes : Homes) (was is : Image) → SameRecords was is → IsWhole is → MayUpdate group status homes was → MayUpdate group status homes is
+pub next_below : (group : Descriptor) (status : Stored) (homes : Homes) (was is : Image) → SameRecords was is → IsWholeImage is → MayUpdate group status homes was → MayUpdate group status homes is
 next_below group status homes was is same whole may = record {
   some_epoch = may.some_epoch;
   epoch = may.epoch;
@@ -128,7 +125,7 @@ module _ (past : List Fact) (old new : State) (at : ℕ) (row : Flown) (ok : Boo
   found = subst (IsOut core tied.write f) own its_row.out
 
   pub out : StepIsOut core c c.step f
-  out = subst (λ (x : OpenCopy). StepIsOut core x x.step f) (some_of found.copy c (sym found.is_open ∙ is_open)) found.out
+  out = subst (λ (x : OpenCopy). StepIsOut core x x.step f) (same_Some found.copy c (sym found.is_open ∙ is_open)) found.out
 
   carries : CarriesStep core v f owner.Copy
   carries = subst (CarriesStep core v f) own

@@ -14,6 +14,7 @@ use Rattle.lvm_num.specs.Record.{Stamped, slot_start, stamp_lt}
 use Rattle.lvm_num.specs.StatusBytes.{status_of}
 use Rattle.lvm_num.specs.Torn.{stamp_of}
 use Rattle.std.proofs.Common.{Option, take}
+use Rattle.std.proofs.lemmas.Option.{same_Some}
 use Rattle.lvm_disk.specs.Device.{Media, Image, Flight, Device, image_of}
 use Rattle.lvm_disk.specs.Steps.{Removes}
 use Rattle.lvm_kept.specs.Contents.{Contents, contents_of, has_records, status_on, note_on, note_sector}
@@ -42,9 +43,6 @@ use Rattle.lvm_tie_shelf.proofs.Flying.{writes_at}
 use Rattle.lvm_tie_shelf.proofs.Notes.{note_ends}
 use Rattle.lvm_tie_shelf.proofs.Records.{may_leave}
 use Rattle.lvm_tie.specs.Out.{MayUpdate}
-
-some_is : {X : Type 0} (a b : X) → Some a ≡ Some b → a ≡ b
-some_is a b e = cc
 
 -- The write of a note has ended on a disk: what is home there is the note, unless the disk is missing, and elsewhere what it was.
 pub record HasLanded (s : ModelState) (group : Descriptor) (in_flight : Option (Stamped Status)) (disk : ℕ) (note : Groups) (well : Bool) (now : Contents) : Type 0 where
@@ -83,7 +81,7 @@ module _ (votes : Votes) (s : ModelState) (group : Descriptor) (in_flight : Opti
       let high : at < f.first + f.count = writes.high in
       let place : at ≡ note_sector = omega (arith, first, count, low, high) in
       let index : at - f.first ≡ 0 = omega (arith, first, place) in
-      inr (writes.disk, place, some_is (n d at) own.sector (sym writes.there ∙ ap (λ j. slice_get f.buf.sectors j) index ∙ own.carries)))
+      inr (writes.disk, place, same_Some (n d at) own.sector (sym writes.there ∙ ap (λ j. slice_get f.buf.sectors j) index ∙ own.carries)))
       (lands.some d at)
 
   same_at : (d at : ℕ) → (at ≡ note_sector → ⊥) → n d at ≡ m d at

@@ -15,7 +15,8 @@ use Rattle.lvm_session.specs.State.{State}
 use Rattle.lvm_session.specs.Judging.{is_waiting as is_open_waiting, place_of}
 use Rattle.lvm_session.specs.Events.{StartsData}
 use Rattle.lvm_invariant.specs.State.{Flying, Well, Going, Queued, ModelState, is_past}
-use Rattle.lvm_invariant.specs.Updates.{is_pp, staged}
+use Rattle.lvm_invariant.specs.Updates.{staged}
+use Rattle.lvm_num.specs.Descriptor.{is_pp}
 use Rattle.lvm_invariant.specs.Transfer.{Restages}
 use Rattle.lvm_invariant.specs.Read.{Reads}
 use Rattle.lvm_invariant.specs.Events.{Transfer, Read, StartWrite}

@@ -3,6 +3,7 @@ use Rattle.std.proofs.Common.{◌≡◌, ◌⊎◌, inl, inr, ℕ, Bool, true, f
 use Rattle.std.specs.Prelude.{if◌then◌else◌, unwrap_or}
 use Rattle.std.specs.List.{list_any}
 use Rattle.std.proofs.lemmas.Bool.Decides.{nat_tests}
+use Rattle.std.proofs.lemmas.Option.{same_Some}
 use Rattle.lvm_num.specs.declared.descriptor.Descriptor.{Descriptor}
 use Rattle.lvm_num.specs.declared.descriptor.PvRow.{PvRow}
 use Rattle.lvm_num.specs.declared.status.Status.{Status}
@@ -10,6 +11,7 @@ use Rattle.lvm_num.specs.Descriptor.{is_member}
 use Rattle.lvm_num.specs.Disks.{Disks, has}
 use Rattle.lvm_num.specs.Status.{calls_missing}
 use Rattle.lvm_num.specs.Votes.{is_enough_to_write, votes_in}
+use Rattle.lvm_num.proofs.Booleans.{and_true}
 use Rattle.lvm_status.specs.Update.{Stored, Updates, is_held, is_owed, no_disks, seen, with_disk, without_disk}
 use Rattle.lvm_status.specs.Calls.{WantsAtEnd, after_end, comes_held, with_commit, with_end}
 use Rattle.lvm_status.specs.Runs.{IsSoundStatus}
@@ -18,9 +20,7 @@ use Rattle.lvm_tie.proofs.Words.{clash, not_true, or_true}
 use Rattle.lvm_tie.proofs.Losing.{not_owed_by}
 use Rattle.lvm_tie.specs.Out.{is_owed_on}
 use Rattle.lvm_tie_shelf.proofs.Writing.{and_both}
-
-some_of : {X : Type 0} (a b : X) → Some a ≡ Some b → a ≡ b
-some_of a b e = cc
+pub use Rattle.std.proofs.lemmas.Bool.{cases_Bool as decided}
 
 -- ---- what the update learns
 
@@ -83,16 +83,6 @@ missing_then disk false old new wants d there = by (d == disk) (sym (wants.missi
 pub marks_then : (disk : ℕ) (ok : Bool) (old new : Status) → WantsAtEnd disk ok old new → marks_of new ≡ marks_of old
 marks_then disk true old new wants = ap marks_of wants
 marks_then disk false old new wants = λ t. record { stale = λ p. wants.stale p t; dirty = λ lv. list_any (λ n. n == lv) (wants.dirty t) }
-
--- ---- which writes are owed
-
-and_true : (a : Bool) → (a && true) ≡ a
-and_true true = refl
-and_true false = refl
-
-pub decided : (b : Bool) → (b ≡ true) ⊎ (b ≡ false)
-decided true = inl refl
-decided false = inr refl
 
 -- ---- all of it
 
@@ -227,7 +217,7 @@ module _ (old status new : Stored) (group : Descriptor) (disk : ℕ) (ok : Bool)
     where
       by : (commits ≡ true) ⊎ (commits ≡ false) → status.committed ≡ value
       by (inl commit) = committed_value commit
-      by (inr none) = committed_status ∙ ap (committed_then (seen old)) none ∙ some_of old.committed value (sym (sound.held (held_mid none (held_over done))) ∙ flies)
+      by (inr none) = committed_status ∙ ap (committed_then (seen old)) none ∙ same_Some old.committed value (sym (sound.held (held_mid none (held_over done))) ∙ flies)
 
   none_left : over ≡ true → (d : ℕ) → is_member group d ≡ true → (has old.writes.unstarted d || (has old.writes.started d && not (d == disk))) ≡ false
   none_left done d member =

@@ -22,7 +22,8 @@ use Rattle.lvm_session.specs.State.{Core, State}
 use Rattle.lvm_session.specs.Judging.{place_of, is_sure, is_settled, is_kept, is_marked, counts_failed, all_but_sure, facts_of}
 use Rattle.lvm_session.specs.Events.{Lands, got_blocks}
 use Rattle.lvm_invariant.specs.State.{Stage, Well, Badly, Queued, ModelState, HasPassed, Started}
-use Rattle.lvm_invariant.specs.Updates.{is_pp, landed}
+use Rattle.lvm_invariant.specs.Updates.{landed}
+use Rattle.lvm_num.specs.Descriptor.{is_pp}
 use Rattle.lvm_invariant.specs.LandDone.{IsDropped, LandsDone}
 use Rattle.lvm_invariant.specs.LandLost.{LandsLost}
 use Rattle.lvm_invariant.specs.Events.{LandDone, LandLost, ModelStep}

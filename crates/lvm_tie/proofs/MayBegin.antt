@@ -4,6 +4,7 @@ use Rattle.std.specs.Prelude.{IsTrue, Ok, nat_lt, sum_by, ◌≢◌}
 use Rattle.std.specs.Option.{option_map}
 use Rattle.std.proofs.lemmas.Bool.Decides.{nat_tests}
 use Rattle.std.proofs.lemmas.List.Sums.{sum_by-cons}
+use Rattle.std.proofs.lemmas.Bool.{and_parts}
 use Rattle.lvm_num.specs.declared.descriptor.Descriptor.{Descriptor}
 use Rattle.lvm_num.specs.declared.descriptor.PvRow.{PvRow}
 use Rattle.lvm_num.specs.declared.record.Kind.TheVariants as kind
@@ -70,10 +71,6 @@ not_enough d = ap (is_enough_to_write d) (no_votes (votes_of d) d.pvs) ∙ by d.
 
 not_itself : (s : Stamp) → stamp_lt s s ≡ false
 not_itself s = grind (arith, nat_tests)
-
-and_parts : (a b : Bool) → a && b ≡ true → (a ≡ true) × (b ≡ true)
-and_parts true b is = (refl, is)
-and_parts false b is = absurd (cc is)
 
 slot_below : (b : Bool) → (if b then 1 else 0) < 2
 slot_below true = omega arith

@@ -5,7 +5,7 @@ use Rattle.std.proofs.lemmas.Bool.{eq-eqb}
 use Rattle.lvm_num.specs.declared.place.Pp.{Pp}
 use Rattle.lvm_num.specs.Disks.{has}
 use Rattle.lvm_vol.specs.Facts.{Fact}
-use Rattle.lvm_stale.specs.Table.{is_pp as same_pp}
+use Rattle.lvm_num.specs.Descriptor.{is_pp}
 use Rattle.lvm_status.specs.Update.{Stored}
 use Rattle.lvm_session.specs.declared.bringing.OpenCopy.{OpenCopy}
 use Rattle.lvm_session.specs.declared.bringing.CopyEnd.{CopyEnd}
@@ -20,7 +20,7 @@ use Rattle.lvm_invariant.specs.State.{Badly, Flying, Queued, ModelState, is_past
 use Rattle.lvm_invariant.specs.CopyWrite.{copied}
 use Rattle.lvm_invariant.specs.Events.{Read}
 use Rattle.lvm_invariant.specs.Read.{reading}
-use Rattle.lvm_invariant.specs.Updates.{is_pp, put}
+use Rattle.lvm_invariant.specs.Updates.{put}
 use Rattle.lvm_tie_shelf.proofs.Writing.{pp_same}
 use Rattle.lvm_tie.specs.Seen.{SeesHand, SeesStep, update_of}
 use Rattle.lvm_tie.specs.Tied.{IsTied}
@@ -53,7 +53,7 @@ module _ (past : List Fact) (old new : State) (at : ℕ) (tied : IsTied past old
   -- nothing more is wanted
   unmarked : (e : Option CopyEnd) (p : Pp) → marked_by_end mid e p ≡ false
   unmarked None p = refl
-  unmarked (Some how) p = ap (λ b. not (is_done_end how) && (b && same_pp p c.pp)) part ∙ and_false (not (is_done_end how))
+  unmarked (Some how) p = ap (λ b. not (is_done_end how) && (b && is_pp p c.pp)) part ∙ and_false (not (is_done_end how))
 
   same : new.core.status ≡ core.status
   same = event.misses.reviews.marks.same (λ p due. ⊎_elim

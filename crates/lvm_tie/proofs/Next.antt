@@ -7,9 +7,8 @@ use Rattle.lvm_num.specs.StatusBytes.{status_of}
 use Rattle.lvm_num.specs.Torn.{Sectors}
 use Rattle.lvm_num.proofs.Records.{joined-same}
 use Rattle.lvm_rec.specs.Slots.{held, slot_for, slot_of, slot_to_write}
-use Rattle.lvm_disk.specs.Device.{Image}
+use Rattle.lvm_disk.specs.Device.{Image, IsWholeImage}
 use Rattle.lvm_kept.specs.Places.{SameRecords}
-use Rattle.lvm_stamps.specs.Laws.{IsWhole}
 use Rattle.lvm_stamps.proofs.Writes.{data_keeps_before}
 use Rattle.lvm_commit.specs.Committed.{next_stamp}
 use Rattle.lvm_status.specs.Update.{Stored}
@@ -22,7 +21,7 @@ slot_for_same old new same =
     let second : slot_of kind.Status 1 new ≡ slot_of kind.Status 1 old = joined-same new old (slot_start kind.Status 1) (slot_size kind.Status) (λ s from to. same s (omega arith) (omega arith)) in
     λ t. slot_to_write (held status_of kind.Status (first t)) (held status_of kind.Status (second t))
 
-pub next_by_data : (group : Descriptor) (status : Stored) (homes : Homes) (old new : Image) → IsWhole new → SameRecords old new → MayUpdate group status homes old → MayUpdate group status homes new
+pub next_by_data : (group : Descriptor) (status : Stored) (homes : Homes) (old new : Image) → IsWholeImage new → SameRecords old new → MayUpdate group status homes old → MayUpdate group status homes new
 next_by_data group status homes old new whole same may = record {
   some_epoch = may.some_epoch;
   epoch = may.epoch;

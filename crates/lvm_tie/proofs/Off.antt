@@ -2,6 +2,7 @@
 use Rattle.std.proofs.Common.{◌≡◌, ℕ, Bool, true, false, not, List, [], ◌++◌, Option, Some, None, is_some, slice_get, refl, sym, ap, subst, ◌∙◌, append_assoc}
 use Rattle.std.specs.Prelude.{IsFalse}
 use Rattle.std.specs.Option.{option_map_or}
+use Rattle.std.proofs.lemmas.Bool.{not-true}
 use Rattle.arrayvec.specs.ArrayVec.{ArrayVec}
 use Rattle.lvm_num.specs.declared.record.NoteEntry.{NoteEntry}
 use Rattle.lvm_num.specs.Disks.{Disks}
@@ -54,10 +55,6 @@ not_not : (b : Bool) → not (not b) ≡ b
 not_not true = refl
 not_not false = refl
 
-not_true : (b : Bool) → not b ≡ true → b ≡ false
-not_true true e = absurd (cc e)
-not_true false e = refl
-
 module _ (past : List Fact) (s : State) (tied : IsTied past s) (lost : is_lost s.core ≡ true) (idle : s.device.flights ≡ []) where
   abbrev v : ModelState
   v = tied.view
@@ -79,7 +76,7 @@ module _ (past : List Fact) (s : State) (tied : IsTied past s) (lost : is_lost s
       let each : (d : ℕ) → not (v.missing d) ≡ is_there core d = λ d. ap not (tied.sees.status.missing d) ∙ not_not (is_there core d) in
       let same : (λ (d : ℕ). not (v.missing d)) ≡ is_there core = λ t d. each d t in
       tied.setting.are_votes.writes (λ d. not (v.missing d)) ∙ ap (λ (set : Disks). is_enough_to_write core.descriptor (votes_in core.descriptor set)) same
-      ∙ not_true (is_enough_to_write core.descriptor (votes_in core.descriptor (is_there core))) lost
+      ∙ not-true (is_enough_to_write core.descriptor (votes_in core.descriptor (is_there core))) lost
 
   no_note : (d : ℕ) → w.flying_note d ≡ None
   no_note d = by (v.flying_note d) (flight_on core.cache d) (flies_none past s tied idle (owner.Note d)) (tied.sees.notes.flying d)

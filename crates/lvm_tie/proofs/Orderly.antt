@@ -1,11 +1,11 @@
 -- What a sound session says of its requests and of what it has out, as the tie needs it.
-use Rattle.std.proofs.Common.{◌≡◌, ◌⊎◌, inl, inr, ⊎_elim, ℕ, zero, suc, ◌<◌, Bool, true, false, ◌&&◌, ◌||◌, ◌==◌, not, if◌then◌else◌, List, [], ◌∷◌, length, cond, Option, Some, None, slice_get, refl, sym, ap, subst, ◌∙◌, arith}
+use Rattle.std.proofs.Common.{◌≡◌, ◌⊎◌, ⊎_elim, ℕ, zero, suc, ◌<◌, Bool, true, false, ◌&&◌, ◌||◌, ◌==◌, not, if◌then◌else◌, List, [], ◌∷◌, length, cond, Option, Some, None, slice_get, refl, sym, ap, subst, ◌∙◌, arith}
 use Rattle.std.specs.Prelude.{count_by, unwrap_or, AllPairs, IsTrue, nat_lt}
 use Rattle.std.specs.List.{list_any, list_all, AllByRecursion}
 use Rattle.std.specs.Option.{option_map_or}
 use Rattle.std.proofs.lemmas.Bool.Decides.{nat_tests}
 use Rattle.std.proofs.lemmas.Option.{get_or_from_slice_get, slice_get_within}
-use Rattle.std.proofs.lemmas.Bool.{eq-eqb, eqb-true}
+use Rattle.std.proofs.lemmas.Bool.{eq-eqb, eqb-true, and_parts, or_cases}
 use Rattle.std.proofs.lemmas.List.Sums.{sum_by-cons}
 use Rattle.arrayvec.specs.ArrayVec.{ArrayVec}
 use Rattle.lvm_num.specs.declared.record.NoteEntry.{NoteEntry}
@@ -62,25 +62,17 @@ all_at P [] k x all there = absurd (cc there)
 all_at P (y ∷ xs) zero x all there = let same : y ≡ x = cc there in subst P same all.0
 all_at P (y ∷ xs) (suc k) x all there = all_at P xs k x all.1 there
 
-and_true : (a b : Bool) → a && b ≡ true → (a ≡ true) × (b ≡ true)
-and_true true b is = (refl, is)
-and_true false b is = absurd (cc is)
-
-either_true : (a b : Bool) → a || b ≡ true → (a ≡ true) ⊎ (b ≡ true)
-either_true true b is = inl refl
-either_true false b is = inr is
-
 false_so : {X : Type 0} → false ≡ true → X
 false_so e = absurd (cc e)
 
 pub any_there : {A : Type 0} (t : A → Bool) (xs : List A) → list_any t xs ≡ true → (k : ℕ) × (x : A) × (slice_get xs k ≡ Some x) × (t x ≡ true)
 any_there t [] is = false_so is
-any_there t (x ∷ xs) is = ⊎_elim (λ here. (0, x, refl, here)) (λ later. let r = any_there t xs later in (suc r.0, r.1, r.2, r.3)) (either_true (t x) (list_any t xs) is)
+any_there t (x ∷ xs) is = ⊎_elim (λ here. (0, x, refl, here)) (λ later. let r = any_there t xs later in (suc r.0, r.1, r.2, r.3)) (or_cases (t x) (list_any t xs) is)
 
 all_there : {A : Type 0} (t : A → Bool) (xs : List A) (k : ℕ) (x : A) → list_all t xs ≡ true → slice_get xs k ≡ Some x → t x ≡ true
 all_there t [] k x all there = absurd (cc there)
-all_there t (y ∷ xs) zero x all there = let same : y ≡ x = cc there in ap t (sym same) ∙ (and_true (t y) (list_all t xs) all).0
-all_there t (y ∷ xs) (suc k) x all there = all_there t xs k x (and_true (t y) (list_all t xs) all).1 there
+all_there t (y ∷ xs) zero x all there = let same : y ≡ x = cc there in ap t (sym same) ∙ (and_parts (t y) (list_all t xs) all).0
+all_there t (y ∷ xs) (suc k) x all there = all_there t xs k x (and_parts (t y) (list_all t xs) all).1 there
 
 none_counted : {A : Type 0} (t : A → Bool) (xs : List A) → count_by t xs ≡ 0 → list_any t xs ≡ false
 none_counted t [] none = refl
@@ -304,7 +296,7 @@ module _ (s : State) (w : Option RecordWrite) (orderly : IsOrderly s w) where
   data_out : (id number : ℕ) (f : Flight) → flies core (owner.Data id number) ≡ true → IsDataOf core id number f → IsDataOut core f id number
   data_out id number f out its =
       let found = any_there (λ (o : Open). o.request.id == id && target_flies number o) core.requests out in
-      let parts = and_true (found.1.request.id == id) (target_flies number found.1) found.3 in
+      let parts = and_parts (found.1.request.id == id) (target_flies number found.1) found.3 in
       let same : found.0 ≡ its.place = numbers_of found.0 its.place found.1 its.request found.2 its.there (eqb-true found.1.request.id id parts.0 ∙ sym its.own) in
       let own : found.1 ≡ its.request = let e : Some found.1 ≡ Some its.request = sym found.2 ∙ ap (slice_get core.requests) same ∙ its.there in cc in
       let flying : is_flying its.aim.state ≡ true = sym (ap (λ (m : Option Target). option_map_or (λ (t : Target). is_flying t.state) m false) its.aim_is) ∙ ap (target_flies number) (sym own) ∙ parts.1 in

@@ -26,7 +26,8 @@ use Rattle.lvm_session.specs.Bringing.{has_row}
 use Rattle.lvm_session.specs.Owners.{AreRows, flies, same_owner, target_flies}
 use Rattle.lvm_session.specs.Sound.{IsOn}
 use Rattle.lvm_invariant.specs.State.{Flying, Queued, ModelState, has_landed}
-use Rattle.lvm_invariant.specs.Updates.{is_pp, put, without, with_req, land}
+use Rattle.lvm_invariant.specs.Updates.{put, without, with_req, land}
+use Rattle.lvm_num.specs.Descriptor.{is_pp}
 use Rattle.lvm_invariant.specs.Take.{taken}
 use Rattle.lvm_invariant.specs.Events.{EndStep, Take}
 use Rattle.lvm_invariant.specs.Good.{Good}

@@ -17,7 +17,8 @@ use Rattle.lvm_invariant.specs.State.{Badly, Flying, Queued, ModelState, Well, c
 use Rattle.lvm_invariant.specs.CopyWrite.{copied}
 use Rattle.lvm_invariant.specs.Events.{Read}
 use Rattle.lvm_invariant.specs.Read.{reading}
-use Rattle.lvm_invariant.specs.Updates.{is_pp, put}
+use Rattle.lvm_invariant.specs.Updates.{put}
+use Rattle.lvm_num.specs.Descriptor.{is_pp}
 use Rattle.lvm_tie_shelf.specs.Bringing.{IsReading, in_buffer}
 use Rattle.lvm_tie_shelf.proofs.Bringing.{read_gets}
 use Rattle.lvm_tie.specs.Seen.{SeesHand, SeesStep, update_of}

@@ -37,7 +37,7 @@ use Rattle.lvm_session.specs.Events.{IsDataTransfer}
 use Rattle.lvm_session.specs.Ends.{keeps_buffer, learned, after_data}
 use Rattle.lvm_sched.specs.Writes.{is_waiting as target_waits}
 use Rattle.lvm_invariant.specs.State.{Stage, Going, Queued}
-use Rattle.lvm_invariant.specs.Updates.{is_pp}
+use Rattle.lvm_num.specs.Descriptor.{is_pp}
 use Rattle.lvm_invariant.specs.Events.{Read}
 use Rattle.lvm_invariant.proofs.Each.{each_keeps}
 use Rattle.lvm_crash.specs.Session.{members_showing, Describes}
@@ -60,6 +60,7 @@ use Rattle.lvm_session.specs.Marks.{WantsStale, Entails, is_among, due_targets, 
 use Rattle.lvm_invariant.specs.State.{Marks, covers}
 use Rattle.lvm_invariant.specs.Updates.{put}
 use Rattle.std.specs.Prelude.{slice_index_or}
+use Rattle.std.proofs.lemmas.Option.{same_Some}
 use Rattle.lvm_invariant.specs.State.{ModelPhase}
 use Rattle.lvm_invariant.specs.Read.{Reads as Reading, reading}
 use Rattle.lvm_session.specs.Ends.{DataLearns, Ends}
@@ -67,13 +68,10 @@ use Rattle.lvm_session.specs.Sound.{IsSound}
 use Rattle.lvm_tie.specs.Ends.{ReadEndTies}
 use Rattle.lvm_tie.proofs.Ended.{HasEnded, IsRow, has_ended, is_row}
 
-some_of : {X : Type 0} (a b : X) → Some a ≡ Some b → a ≡ b
-some_of a b e = cc
-
 -- the target that has changed
 state_there : (ts : List Target) (number : ℕ) (t : Target) (state : TargetState) → slice_get ts number ≡ Some t → slice_get (with_state ts number state) number ≡ Some (record t { state = state })
 state_there [] number t state there = absurd cc
-state_there (u ∷ us) zero t state there = ap (λ (x : Target). Some (record x { state = state })) (some_of u t there)
+state_there (u ∷ us) zero t state there = ap (λ (x : Target). Some (record x { state = state })) (same_Some u t there)
 state_there (u ∷ us) (suc number) t state there = state_there us number t state there
 
 going_by : (w : Bool) (over : Bool) → w ≡ false → (if w && over then phase.WantStatus else phase.Data) ≡ phase.Data
@@ -157,10 +155,10 @@ module _ (past : List Fact) (old new : State) (index : ℕ) (ends : Ends old new
   place_is = numbers found.place learns.place found.request o found.there learns.its.there found.own
 
   request_is : found.request ≡ o
-  request_is = some_of found.request o (sym found.there ∙ ap (slice_get old.core.requests) place_is ∙ learns.its.there)
+  request_is = same_Some found.request o (sym found.there ∙ ap (slice_get old.core.requests) place_is ∙ learns.its.there)
 
   aim_same : found.aim ≡ t
-  aim_same = some_of found.aim t (sym found.aim_is ∙ ap (λ (x : Open). slice_get x.request.targets.items number) request_is ∙ learns.its.aim_is)
+  aim_same = same_Some found.aim t (sym found.aim_is ∙ ap (λ (x : Open). slice_get x.request.targets.items number) request_is ∙ learns.its.aim_is)
 
   waits : is_waiting o ≡ true
   waits = sym (ap is_waiting request_is) ∙ found.waiting
@@ -210,7 +208,7 @@ module _ (past : List Fact) (old new : State) (index : ℕ) (ends : Ends old new
       by : (b : Bool) → ends.ok ≡ b → (x : ℕ → Sector) → got2 b ≡ Some x → (q.got ≡ Some x) ⊎ ((lv b : ℕ) → IsTrue (covers q lv b) → x b ≡ v.media.block lv b t.pp)
       by false is x h = inl h
       by true is x h = inr (λ lv b over.
-          let same : value ≡ x = some_of value x h in
+          let same : value ≡ x = same_Some value x h in
           sym (ap (λ (y : ℕ → Sector). y b) same)
           ∙ read_gets tied.votes v i q t.pp old.core.descriptor (update_of old.core.status) old.device.sizes tied.media f ends.buf (valid_of old tied.write tied.orderly) tied.good tied.describes at is_copy is_reading (ended.reads is (moves.write ∙ reads)) lv b over)
 
@@ -235,7 +233,7 @@ module _ (past : List Fact) (old new : State) (index : ℕ) (ends : Ends old new
   begun = begun_by ts2 number (record t { state = end_state ends.ok }) (state_there ts number t (end_state ends.ok) learns.its.aim_is) (over_not_waiting ends.ok)
 
   got_seen : (b : Bool) (buf : Buffer) → got_after b ≡ Some buf → (x : ℕ → Sector) × (got2 b ≡ Some x) × ((n : ℕ) → x n ≡ slice_index_or buf.sectors (n - q.first) [])
-  got_seen true buf is = let same : ends.buf ≡ buf = some_of ends.buf buf is in (value, refl, λ n. ap (λ (y : Buffer). slice_index_or y.sectors (n - q.first) []) same)
+  got_seen true buf is = let same : ends.buf ≡ buf = same_Some ends.buf buf is in (value, refl, λ n. ap (λ (y : Buffer). slice_index_or y.sectors (n - q.first) []) same)
   got_seen false buf is = sees.got buf is
 
   sees2 : SeesRequest o2 q2

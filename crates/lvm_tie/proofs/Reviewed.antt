@@ -2,18 +2,18 @@
 use Rattle.std.proofs.Common.{◌≡◌, ◌⊎◌, inl, inr, ⊎_elim, ℕ, Bool, true, false, ◌&&◌, ◌||◌, ◌==◌, not, eqb-true, List, Option, Some, None, refl, sym, ap, subst, ◌∙◌}
 use Rattle.std.specs.Prelude.{IsTrue, IsFalse, if◌then◌else◌, unwrap_or}
 use Rattle.std.specs.Option.{option_map_or}
+use Rattle.std.proofs.lemmas.Option.{same_Some}
 use Rattle.lvm_num.specs.declared.place.Pp.{Pp}
 use Rattle.lvm_num.specs.declared.descriptor.Descriptor.{Descriptor}
 use Rattle.lvm_num.specs.declared.status.Status.{Status}
 use Rattle.lvm_num.specs.Buffer.{Buffer}
-use Rattle.lvm_num.specs.Descriptor.{is_member}
+use Rattle.lvm_num.specs.Descriptor.{is_member, is_pp}
 use Rattle.lvm_num.specs.Disks.{Disks, has}
 use Rattle.lvm_num.specs.Record.{Stamped}
 use Rattle.lvm_num.specs.Status.{calls_missing, calls_stale}
 use Rattle.lvm_vol.specs.Facts.{Fact}
 use Rattle.lvm_disk.specs.Device.{image_of}
 use Rattle.lvm_kept.specs.Contents.{Contents, contents_of}
-use Rattle.lvm_stale.specs.Table.{is_pp}
 use Rattle.lvm_status.specs.Update.{Stored, Updates, is_held, members_there, seen, with_disk}
 use Rattle.lvm_status.specs.Calls.{WantsAtEnd, comes_held, with_end as with_write_end}
 use Rattle.lvm_session.specs.declared.bringing.OpenCopy.{OpenCopy}
@@ -49,9 +49,6 @@ use Rattle.lvm_tie.proofs.CopyEndsReviews.{ends_running}
 use Rattle.lvm_tie.proofs.Reviewing.{goes_on, none_opened, opened, part_ends, review_is_wanted, whole_ends}
 use Rattle.lvm_tie.proofs.Learning.{commits_well, committed_status, committed_then, committed_value, enough, flies_status, held_mid, learned, marks_then, missing_then}
 use Rattle.lvm_tie.proofs.Update.{IsWritten, ended, good_moved, kept, moves, stands_here, still_stands, was_update, written}
-
-some_of : {X : Type 0} (a b : X) → Some a ≡ Some b → a ≡ b
-some_of a b e = cc
 
 -- the copy that is open once the update is committed: one that it clears is done
 abbrev done_after : Option CopyEnd → Option ModelCopy → Option ModelCopy
@@ -281,7 +278,7 @@ module _ (past : List Fact) (old new : State) (index disk : ℕ) (ok : Bool) (ro
       where
         of : (c : OpenCopy) → core.copy ≡ Some c → (b : Bool) → is_running c ≡ b → (x : OpenCopy) × (core.copy ≡ Some x) × (is_running x ≡ true)
         of c is true runs = (c, is, runs)
-        of c is false over = absurd (let e : None ≡ Some o = sym (none_opened past old tied (λ d there runs. clash (is_running d) runs (ap is_running (some_of d c (sym there ∙ is)) ∙ over))) ∙ at in cc)
+        of c is false over = absurd (let e : None ≡ Some o = sym (none_opened past old tied (λ d there runs. clash (is_running d) runs (ap is_running (same_Some d c (sym there ∙ is)) ∙ over))) ∙ at in cc)
 
         by : (m : Option OpenCopy) → core.copy ≡ m → (x : OpenCopy) × (core.copy ≡ Some x) × (is_running x ≡ true)
         by None is = absurd (let e : None ≡ Some o = sym (none_opened past old tied (λ d there runs. let e2 : None ≡ Some d = sym is ∙ there in cc)) ∙ at in cc)

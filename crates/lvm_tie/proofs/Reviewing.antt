@@ -2,12 +2,12 @@
 use Rattle.std.proofs.Common.{◌≡◌, ◌⊎◌, inl, inr, ℕ, Bool, true, false, ◌&&◌, ◌||◌, not, List, Option, Some, None, refl, sym, ap, subst, ◌∙◌}
 use Rattle.std.specs.Prelude.{IsTrue, IsFalse, ◌==◌, if◌then◌else◌, is_none, length, unwrap_or}
 use Rattle.std.specs.Option.{option_map_or}
+use Rattle.std.proofs.lemmas.Option.{same_Some}
 use Rattle.lvm_num.specs.declared.place.Pp.{Pp}
 use Rattle.lvm_num.specs.Disks.{Disks}
-use Rattle.lvm_num.specs.Descriptor.{IsValid, is_member}
+use Rattle.lvm_num.specs.Descriptor.{IsValid, is_member, is_pp}
 use Rattle.lvm_num.specs.Status.{calls_stale}
 use Rattle.lvm_vol.specs.Facts.{Fact}
-use Rattle.lvm_stale.specs.Table.{is_pp}
 use Rattle.lvm_kept.proofs.Entries.{volume_is_row}
 use Rattle.lvm_session.specs.declared.bringing.OpenCopy.{OpenCopy}
 use Rattle.lvm_session.specs.declared.bringing.CopyEnd.{CopyEnd}
@@ -30,9 +30,6 @@ use Rattle.lvm_tie.specs.Wanted.{HasOwners, IsBrought, KeepsFresh, ReviewIsWante
 use Rattle.lvm_tie.proofs.Behind.{IsMarked, first_block, review_wants}
 use Rattle.lvm_tie.proofs.CopyEndsReviews.{ends_running}
 
-some_of : {X : Type 0} (a b : X) → Some a ≡ Some b → a ≡ b
-some_of a b e = cc
-
 -- ---- how the copy ends
 
 module _ (core : Core) (c : OpenCopy) (runs : is_running c ≡ true) where
@@ -50,8 +47,8 @@ module _ (core : Core) (c : OpenCopy) (runs : is_running c ≡ true) where
     where
       by : (m d : Bool) → is_missing core c.pp.disk ≡ m → is_cleared core c ≡ d → (if m then Some ending.SyncFailed else ends_if d ending.Done) ≡ Some how
           → ((is_missing core c.pp.disk ≡ true) × (how ≡ ending.SyncFailed)) ⊎ ((is_cleared core c ≡ true) × (how ≡ ending.Done))
-      by true d missing cleared h = inl (missing, sym (some_of ending.SyncFailed how h))
-      by false true missing cleared h = inr (cleared, sym (some_of ending.Done how h))
+      by true d missing cleared h = inl (missing, sym (same_Some ending.SyncFailed how h))
+      by false true missing cleared h = inr (cleared, sym (same_Some ending.Done how h))
       by false false missing cleared h = absurd (cc h)
 
   -- one that isn't whole doesn't end well
@@ -61,9 +58,9 @@ module _ (core : Core) (c : OpenCopy) (runs : is_running c ≡ true) where
       (sym (ap (λ (b : Bool). if is_missing core c.pp.disk then Some ending.SyncFailed else if b then ends_if (is_cleared core c) ending.Done else end_by_sources core c) part) ∙ sym end_is ∙ is)
     where
       by : (m n i : Bool) → (if m then Some ending.SyncFailed else if n then Some ending.NoFresh else ends_if i ending.SyncFailed) ≡ Some how → is_done_end how ≡ false
-      by true n i h = ap is_done_end (sym (some_of ending.SyncFailed how h))
-      by false true i h = ap is_done_end (sym (some_of ending.NoFresh how h))
-      by false false true h = ap is_done_end (sym (some_of ending.SyncFailed how h))
+      by true n i h = ap is_done_end (sym (same_Some ending.SyncFailed how h))
+      by false true i h = ap is_done_end (sym (same_Some ending.NoFresh how h))
+      by false false true h = ap is_done_end (sym (same_Some ending.SyncFailed how h))
       by false false false h = absurd (cc h)
 
   -- one that goes on has its disk, and isn't cleared
@@ -94,7 +91,7 @@ opened past s tied c is runs =
     let b = first_block core.descriptor (valid_of s tied.write tied.orderly) its.row c.lp its.lp in
     let shown = tied.recorded.members c.pp.disk both.0 (there_first past s tied c.pp.disk gone) in (
       record {
-        target = λ o at_o. ap (λ (x : ModelCopy). x.target) (some_of o sees.copy (sym at_o ∙ sees.is_open)) ∙ sees.target;
+        target = λ o at_o. ap (λ (x : ModelCopy). x.target) (same_Some o sees.copy (sym at_o ∙ sees.is_open)) ∙ sees.target;
         member = both.0;
         there = (its.row.number, b.0, (tied.describes.volumes.copies its.row c.lp b.0 c.pp (volume_is_row core.descriptor c.lv its.row its.volume) b.1).1 (its.among, shown));
         part = λ less. (own.stale runs less).1;
@@ -184,7 +181,7 @@ module _ (core new : Core) (v : ModelState) (missing : ℕ → Bool) (facts : Li
 
       of : (c : OpenCopy) → core.copy ≡ Some c → (b : Bool) → is_running c ≡ b → IsFalse (missing o.target.disk)
       of c is true runs = found c is runs
-      of c is false over = absurd (let e : None ≡ Some o = sym (none (λ d there runs. clash (is_running d) runs (ap is_running (some_of d c (sym there ∙ is)) ∙ over))) ∙ at in cc)
+      of c is false over = absurd (let e : None ≡ Some o = sym (none (λ d there runs. clash (is_running d) runs (ap is_running (same_Some d c (sym there ∙ is)) ∙ over))) ∙ at in cc)
 
       by : (m : Option OpenCopy) → core.copy ≡ m → IsFalse (missing o.target.disk)
       by None is = absurd (let e : None ≡ Some o = sym (none (λ d there runs. let e2 : None ≡ Some d = sym is ∙ there in cc)) ∙ at in cc)

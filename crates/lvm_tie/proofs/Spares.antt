@@ -78,8 +78,8 @@ same_media m n same = subst (λ (o : Option Media). BothTold m o SameSlots) (sym
     at_once (Some media) = λ d s from to. refl
 
 -- what the media are is a crash image
-abbrev Leaves : Device → Option Media → Media → Type 0
-Leaves device o n = IsSomeAnd o (λ media. IsCrashImage (image_of device.sizes media) device.flights (image_of device.sizes n))
+abbrev MayLeaveMedia : Device → Option Media → Media → Type 0
+MayLeaveMedia device o n = IsSomeAnd o (λ media. IsCrashImage (image_of device.sizes media) device.flights (image_of device.sizes n))
 
 -- where no crash image is new
 same_slots : (old new : Device) → LeavesDescriptors old → LeavesNoMore old new → is_some new.media ≡ is_some old.media → BothTold old.media new.media SameSlots
@@ -90,7 +90,7 @@ same_slots old new outside no_more told = by old.media refl new.media refl told
     by None old_is (Some n) new_is both = absurd cc
     by (Some m) old_is None new_is both = absurd cc
     by (Some m) old_is (Some n) new_is both = λ d s from to.
-        let may : MayLeave new (image_of new.sizes n) = subst (λ (o : Option Media). Leaves new o n) (sym new_is) (record { same = record { disks = refl; size = λ x. refl }; each = λ x y. inl refl }) in
+        let may : MayLeave new (image_of new.sizes n) = subst (λ (o : Option Media). MayLeaveMedia new o n) (sym new_is) (record { same = record { disks = refl; size = λ x. refl }; each = λ x y. inl refl }) in
         let was : IsCrashImage (image_of old.sizes m) old.flights (image_of new.sizes n) =
         subst (λ (o : Option Media). IsSomeAnd o (λ media. IsCrashImage (image_of old.sizes media) old.flights (image_of new.sizes n))) old_is (no_more (image_of new.sizes n) may) in
         inside d s from to (was.each d s)

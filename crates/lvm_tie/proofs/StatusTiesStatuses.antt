@@ -3,6 +3,7 @@ use Rattle.std.proofs.Common.{◌≡◌, ⊎_elim, ℕ, Bool, true, false, ◌&&
 use Rattle.std.specs.Prelude.{IsTrue}
 use Rattle.std.specs.List.{remove}
 use Rattle.std.specs.Option.{option_map, option_map_or}
+use Rattle.std.proofs.lemmas.Option.{same_Some}
 use Rattle.lvm_num.specs.declared.descriptor.Descriptor.{Descriptor}
 use Rattle.lvm_num.specs.declared.status.Status.{Status}
 use Rattle.lvm_num.specs.Buffer.{Buffer}
@@ -46,9 +47,6 @@ use Rattle.lvm_tie.specs.Statuses.{StatusEndTies}
 use Rattle.lvm_tie.proofs.Learning.{all_written, committed_new, decided, flies_new, held_new, held_over, learned, lost_then, missing_then, none_started, none_written, over_committed, over_new, owed_before, owed_beside, owed_still, stamp_then, written_new, written_then}
 use Rattle.lvm_tie.proofs.Reviewed.{IsReviewed, after, core1, how, reviewed_alone, reviewed_committed, v1, was_there}
 use Rattle.lvm_tie.proofs.Update.{IsWritten, ended, its_row, kept, may_update, moves, slots_beside, stands_here, still_stands, written}
-
-some_of : {X : Type 0} (a b : X) → Some a ≡ Some b → a ≡ b
-some_of a b e = cc
 
 -- the end of the copy leaves power and slots
 same_power : (core : Core) (e : Option CopyEnd) → (with_end core e).power ≡ core.power
@@ -258,7 +256,7 @@ module _ (past : List Fact) (old new : State) (index disk : ℕ) (ok : Bool) (ro
         tied_with (Some (as_marks u)) (Some w)
         (sees (Some (as_marks u)) (ap (option_map as_marks) (sym update_now))
         (λ d has_it. have d (sym (written_new core.status stored status group disk ok t going.fitting.group going.status its.flies its.out.started learns.wants learns.ended learns.reviews.marks.rest still d) ∙ has_it))
-        (λ y is enough. reviewed.held (sym (held_new core.status stored status group disk ok t going.fitting.group going.status its.flies its.out.started learns.wants learns.ended learns.reviews.marks.rest still) ∙ enough) ∙ ap as_marks (some_of u y (sym update_now ∙ is))))
+        (λ y is enough. reviewed.held (sym (held_new core.status stored status group disk ok t going.fitting.group going.status its.flies its.out.started learns.wants learns.ended learns.reviews.marks.rest still) ∙ enough) ∙ ap as_marks (same_Some u y (sym update_now ∙ is))))
         (subst (λ (o : Option (Stamped Marks)). Good tied.votes (with_update_in o)) flies reviewed.good)
         (subst (λ (o : Option (Stamped Status)). Describes (with_update_in (Some (as_marks u))) v.facts group o now) (sym update_now) (subst (λ (o : Option (Stamped Marks)). Describes (with_update_in o) v.facts group (Some u) now) flies reviewed.describes))
         (subst (λ (o : Option (Stamped Status)). OnlyUpdateSince new.device (Some w) o) (sym update_now) (update_goes_on w u old.device new.device back.step (back.planned w) its.since))

@@ -4,6 +4,7 @@ use Rattle.std.specs.Prelude.{IsTrue, MatchOption, Ok, Err, find, count_by, is_s
 use Rattle.std.proofs.lemmas.Bool.{cases_eq}
 use Rattle.std.proofs.lemmas.Bool.Decides.{nat_tests}
 use Rattle.std.proofs.lemmas.List.{append_assoc}
+use Rattle.std.proofs.lemmas.Option.{same_Some}
 use Rattle.lvm_num.specs.declared.place.Pp.{Pp}
 use Rattle.lvm_num.specs.declared.descriptor.LvRow.{LvRow}
 use Rattle.lvm_num.specs.declared.descriptor.Descriptor.{Descriptor}
@@ -64,13 +65,10 @@ pub record MaySubmit (past : List Fact) (core : Core) (ask : Ask) (bytes : Optio
   pub table : (place : ℕ) (o : Open) → slice_get core.requests place ≡ Some o → (o.request.id < next_id core.history) × (is_some (asked core.history.facts o.request.id) ≡ true)
   pub step : (c : OpenCopy) → core.copy ≡ Some c → has_row core c ≡ true → c.place < place_of (next_id core.history)
 
-some_of : {X : Type 0} (a b : X) → Some a ≡ Some b → a ≡ b
-some_of a b e = cc
-
 -- ---- a list with one more
 
 one_more : {X : Type 0} (xs : List X) (y x : X) (k : ℕ) → slice_get (xs ++ y ∷ []) k ≡ Some x → (slice_get xs k ≡ Some x) ⊎ ((k ≡ length xs) × (x ≡ y))
-one_more [] y x zero h = inr (refl, sym (some_of y x h))
+one_more [] y x zero h = inr (refl, sym (same_Some y x h))
 one_more [] y x (suc k) h = absurd cc
 one_more (z ∷ zs) y x zero h = inl h
 one_more (z ∷ zs) y x (suc k) h = ⊎_elim (λ is. inl is) (λ is. inr (let e : k ≡ length zs = is.0 in omega arith, is.1)) (one_more zs y x k h)

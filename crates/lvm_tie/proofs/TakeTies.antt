@@ -4,6 +4,7 @@ use Rattle.std.specs.Prelude.{MatchOption, if◌then◌else◌, is_none, positio
 use Rattle.std.specs.List.{remove}
 use Rattle.std.proofs.lemmas.Bool.{cases_eq}
 use Rattle.std.proofs.lemmas.Bool.Decides.{nat_tests}
+use Rattle.std.proofs.lemmas.Option.{same_Some}
 use Rattle.lvm_vol.specs.Facts.{Request as Asked, Fact, Taken}
 use Rattle.lvm_vol.specs.Log.{request_of, with_fact}
 use Rattle.lvm_vol.specs.declared.entry.Outcome.{Outcome}
@@ -37,9 +38,6 @@ use Rattle.lvm_tie.specs.Out.{CarriesStep}
 use Rattle.lvm_tie.specs.Seen.{update_of, phase_seen, SeesRequest, IsRequestAt, IsStepAt, Sees}
 use Rattle.lvm_tie.specs.Tied.{IsOrderly, IsTied}
 use Rattle.lvm_tie.specs.Lands.{TakeTies}
-
-some_of : {X : Type 0} (a b : X) → Some a ≡ Some b → a ≡ b
-some_of a b e = cc
 
 -- one that is left stood elsewhere
 pub record WasThere {X : Type 0} (xs : List X) (place : ℕ) (x : X) : Type 0 where
@@ -108,7 +106,7 @@ module _ (past : List Fact) (old : State) (place : ℕ) (o : Open) (tied : IsTie
   step_apart : (c : OpenCopy) → core.copy ≡ Some c → has_row core c ≡ true → c.place ≡ i → ⊥
   step_apart c is row e =
       let a = tied.sees.queue.a_step c is row in
-      let same : a.0 ≡ q = some_of a.0 q (sym a.1 ∙ ap v.queue e ∙ at) in
+      let same : a.0 ≡ q = same_Some a.0 q (sym a.1 ∙ ap v.queue e ∙ at) in
       let no : ◌≡◌ {A = Bool} true false = sym a.2.step ∙ ap (λ (x : Queued). x.step) same ∙ sees.step in
       absurd cc
 
@@ -120,7 +118,7 @@ module _ (past : List Fact) (old : State) (place : ℕ) (o : Open) (tied : IsTie
       only = λ j e is. elim (cases_eq j i) [
         | inl same ↦ absurd (let n : None ≡ Some e = sym (gone j same) ∙ is in cc)
         | inr ne ↦ ⊎_elim
-            (λ (r : IsRequestAt core j). inl (let l = is_left core.requests place r.place r.request r.there (λ e2. ne (sym r.its ∙ ap (λ (x : Open). place_of x.request.id) (some_of r.request o (sym r.there ∙ ap (slice_get core.requests) e2 ∙ there)))) in record { place = l.0; request = r.request; there = l.1; its = r.its }))
+            (λ (r : IsRequestAt core j). inl (let l = is_left core.requests place r.place r.request r.there (λ e2. ne (sym r.its ∙ ap (λ (x : Open). place_of x.request.id) (same_Some r.request o (sym r.there ∙ ap (slice_get core.requests) e2 ∙ there)))) in record { place = l.0; request = r.request; there = l.1; its = r.its }))
             (λ (r : IsStepAt core j). inr r)
             (tied.sees.queue.only j e (sym (elsewhere j ne) ∙ is))
       ];

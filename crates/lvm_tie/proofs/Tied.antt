@@ -35,7 +35,7 @@ use Rattle.lvm_session.specs.declared.bringing.OpenCopy.{OpenCopy}
 use Rattle.lvm_session.specs.declared.bringing.Step.{Step}
 use Rattle.lvm_session.specs.declared.bringing.Step.TheVariants as step
 use Rattle.lvm_invariant.specs.State.{Flying, Going, Groups, Queued, ModelState, is_past, Started}
-use Rattle.lvm_invariant.specs.Updates.{is_pp}
+use Rattle.lvm_num.specs.Descriptor.{is_pp}
 use Rattle.lvm_crash.specs.Flights.{Matches}
 use Rattle.lvm_crash.proofs.Images.{images_kept}
 use Rattle.lvm_tie_shelf.proofs.Owned.{owners_have_out, covers_its}

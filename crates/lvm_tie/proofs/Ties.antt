@@ -3,6 +3,7 @@ use Rattle.std.proofs.Common.{◌≡◌, inl, inr, ℕ, zero, suc, ◌+◌, ◌�
 use Rattle.std.specs.Prelude.{IsTrue, if◌then◌else◌, slice_get}
 use Rattle.std.proofs.lemmas.Bool.{cases_eq}
 use Rattle.std.proofs.lemmas.Bool.Decides.{nat_tests}
+use Rattle.std.proofs.lemmas.Option.{same_Some}
 use Rattle.lvm_num.specs.declared.record.Kind.{Kind}
 use Rattle.lvm_num.specs.declared.status.Status.{Status}
 use Rattle.lvm_num.specs.Geometry.{data_start}
@@ -44,13 +45,10 @@ use Rattle.lvm_tie.specs.Out.{CarriesStep, CarryTheirs, MayUpdate}
 use Rattle.lvm_tie.specs.Seen.{SeesRequest, update_of}
 use Rattle.lvm_tie.specs.Tied.{IsOrderly, IsTied, ShowsRecords}
 
-some_of : {X : Type 0} (a b : X) → Some a ≡ Some b → a ≡ b
-some_of a b e = cc
-
 -- the target that has changed
 pub state_there : (ts : List Target) (number : ℕ) (t : Target) (state : TargetState) → slice_get ts number ≡ Some t → slice_get (with_state ts number state) number ≡ Some (record t { state = state })
 state_there [] number t state there = absurd cc
-state_there (u ∷ us) zero t state there = ap (λ (x : Target). Some (record x { state = state })) (some_of u t there)
+state_there (u ∷ us) zero t state there = ap (λ (x : Target). Some (record x { state = state })) (same_Some u t there)
 state_there (u ∷ us) (suc number) t state there = state_there us number t state there
 
 -- a transfer of data goes outside the slots of statuses

@@ -16,12 +16,11 @@ use Rattle.lvm_num.specs.Status.{calls_missing}
 use Rattle.lvm_num.specs.StatusBytes.{status_of}
 use Rattle.lvm_rec.specs.Slots.{slot_for}
 use Rattle.lvm_vol.specs.Facts.{Fact}
-use Rattle.lvm_disk.specs.Device.{Flight, HasSectors, Image, Media, Device, MayLeave, image_of}
+use Rattle.lvm_disk.specs.Device.{Flight, HasSectors, Image, Media, Device, MayLeave, image_of, IsWholeImage}
 use Rattle.lvm_kept.specs.Contents.{Contents, contents_of}
 use Rattle.lvm_kept.specs.Plans.{ChangesBy}
 use Rattle.lvm_kept.specs.Torn.{IsOfRecord, IsOtherOrRecord, RecordWrite, StandsOn}
 use Rattle.lvm_stamps.specs.Behind.{StampsBefore}
-use Rattle.lvm_stamps.specs.Laws.{IsWhole}
 use Rattle.lvm_stamps.proofs.Writes.{record_keeps_before}
 use Rattle.lvm_rec.proofs.NextLemmas.{slot_for_same}
 use Rattle.lvm_begin.proofs.Slots.{other_comes_next}
@@ -233,8 +232,8 @@ module _ (past : List Fact) (old new : State) (index disk : ℕ) (ok : Bool) (ro
   spare_beside homes flips d other there owed =
       slots_beside ok disk core.homes homes flips d other ∙ tied.recorded.next.spare d there owed ∙ sym (slot_for_same status_of kind.Status (was.sector d) (is.sector d) (λ slot s two low high. same_beside d s other))
 
-  whole_now : HasSectors new.device → IsWhole is
-  whole_now sectors = subst (λ (sizes : List ℕ). IsWhole (image_of sizes ended.media)) ended.sizes (subst (λ (o : Option Media). IfSome o (λ m. IsWhole (image_of new.device.sizes m))) ended.told sectors)
+  whole_now : HasSectors new.device → IsWholeImage is
+  whole_now sectors = subst (λ (sizes : List ℕ). IsWholeImage (image_of sizes ended.media)) ended.sizes (subst (λ (o : Option Media). IfSome o (λ m. IsWholeImage (image_of new.device.sizes m))) ended.told sectors)
 
   -- The next update may be written where the disk is missing if its write ended badly, and nothing is missing or owed otherwise that wasn't.
   pub may_update : (s : Stored) (homes : Homes) → HasSectors new.device → FlipsIf ok disk core.homes homes → s.stamp ≡ core.status.stamp

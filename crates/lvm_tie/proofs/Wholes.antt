@@ -7,17 +7,18 @@ use Rattle.std.proofs.lemmas.Bool.Decides.{nat_tests}
 use Rattle.lvm_num.specs.declared.descriptor.LvRow.{LvRow}
 use Rattle.lvm_num.specs.declared.place.Pp.{Pp}
 use Rattle.lvm_num.specs.declared.status.Status.{Status}
-use Rattle.lvm_num.specs.Descriptor.{copies_of}
+use Rattle.lvm_num.specs.Descriptor.{copies_of, is_pp}
 use Rattle.lvm_num.specs.Geometry.{partition_blocks, sector_of, track_group_of}
 use Rattle.lvm_num.specs.Note.{IsNote}
 use Rattle.lvm_num.specs.Record.{Stamped}
 use Rattle.lvm_num.specs.Status.{calls_stale}
+use Rattle.lvm_num.proofs.Booleans.{and_true}
 use Rattle.lvm_vol.specs.Facts.{Fact}
 use Rattle.lvm_disk.specs.Device.{HasSectors, image_of}
 use Rattle.lvm_kept.proofs.Entries.{volume_is_row}
 use Rattle.lvm_map.proofs.Parts.{parts}
 use Rattle.lvm_map.proofs.PlaceLemmas.{mib_positive, volume_at}
-use Rattle.lvm_stale.specs.Table.{SameMissing, is_pp as same_pp}
+use Rattle.lvm_stale.specs.Table.{SameMissing}
 use Rattle.lvm_status.specs.Calls.{BecomesFresh}
 use Rattle.lvm_status.specs.Runs.{IsSoundStatus}
 use Rattle.lvm_status.specs.Update.{Stored, Updates, no_disks, seen}
@@ -59,10 +60,6 @@ use Rattle.lvm_tie.proofs.Passing.{d, goes, its, landed, left, less, mid, o2, so
 fresh_rest : (p : Pp) (old new : Stored) → IsSoundStatus (seen old) → WantsFresh p old new → seen new ≡ record (seen old) { wanted = new.wanted }
 fresh_rest p old new sound wants =
     wants.rest ∙ ap (λ b. if b then record (seen old) { wanted = new.wanted; in_flight = None; unstarted = no_disks; started = no_disks; written = no_disks; failed = no_disks } else record (seen old) { wanted = new.wanted }) (stays_open (seen old) sound)
-
-and_true : (b : Bool) → b && true ≡ b
-and_true true = refl
-and_true false = refl
 
 -- what missing disks leave behind is fresh
 entailed_fresh : (core : Core) (p : Pp) → is_entailed core p ≡ true → is_stale core p ≡ false
@@ -126,9 +123,9 @@ module _ (past : List Fact) (old new : State) (at : ℕ) (tied : IsTied past old
   own_stale = stale past old new at tied sectors event
 
   replace_same : (p : Pp) → can_replace on p ≡ can_replace core p
-  replace_same p = by (same_pp p c.pp) refl
+  replace_same p = by (is_pp p c.pp) refl
     where
-      by : (b : Bool) → same_pp p c.pp ≡ b → can_replace on p ≡ can_replace core p
+      by : (b : Bool) → is_pp p c.pp ≡ b → can_replace on p ≡ can_replace core p
       by false apart_so = λ t. (not (stale_same p t) && not (missing_same p.disk t)) && not (((fresher.stale p) ∙ ap (λ b. is_wanted_stale core p && not b) apart_so ∙ and_true (is_wanted_stale core p)) t)
       by true same_so =
           let p_stale : is_stale core p ≡ true = ap (is_stale core) (pp_same p c.pp same_so) ∙ own_stale in
@@ -142,10 +139,10 @@ module _ (past : List Fact) (old new : State) (at : ℕ) (tied : IsTied past old
       let was : is_entailed core p ≡ true = sym (entailed_same p) ∙ is in
       fresher.stale p ∙ (λ t. (tied.orderly.sound.on tied.orderly.on).going.behind p was t && not (other was t))
     where
-      other : is_entailed core p ≡ true → same_pp p c.pp ≡ false
-      other was = by (same_pp p c.pp) refl
+      other : is_entailed core p ≡ true → is_pp p c.pp ≡ false
+      other was = by (is_pp p c.pp) refl
         where
-          by : (b : Bool) → same_pp p c.pp ≡ b → b ≡ false
+          by : (b : Bool) → is_pp p c.pp ≡ b → b ≡ false
           by false is2 = refl
           by true is2 = clash (is_stale core p) (ap (is_stale core) (pp_same p c.pp is2) ∙ own_stale) (entailed_fresh core p was)
 
@@ -210,13 +207,13 @@ module _ (past : List Fact) (old new : State) (at : ℕ) (tied : IsTied past old
   seen_stale p = wanted_seen past old tied p
 
   -- but for itself, what is wanted stale is what was
-  others_same : (p : Pp) → same_pp p c.pp ≡ false → marks.stale p ≡ v.wanted.stale p
+  others_same : (p : Pp) → is_pp p c.pp ≡ false → marks.stale p ≡ v.wanted.stale p
   others_same p other = fresher.stale p ∙ ap (λ b. calls_stale core.status.wanted p && not b) other ∙ and_true (calls_stale core.status.wanted p) ∙ sym (seen_stale p)
 
-  not_own : (p : Pp) → IsFalse (v.committed.value.stale p) → same_pp p c.pp ≡ false
-  not_own p fresh = by (same_pp p c.pp) refl
+  not_own : (p : Pp) → IsFalse (v.committed.value.stale p) → is_pp p c.pp ≡ false
+  not_own p fresh = by (is_pp p c.pp) refl
     where
-      by : (b : Bool) → same_pp p c.pp ≡ b → b ≡ false
+      by : (b : Bool) → is_pp p c.pp ≡ b → b ≡ false
       by false is = refl
       by true is = clash (v.committed.value.stale p) (stale_seen past old tied p ∙ ap (is_stale core) (pp_same p c.pp is) ∙ own_stale) fresh
 
@@ -225,7 +222,7 @@ module _ (past : List Fact) (old new : State) (at : ℕ) (tied : IsTied past old
     complete = complete;
     stale = stale_seen past old tied c.pp ∙ own_stale;
     still = still;
-    added = λ p is. seen_stale p ∙ (and_both (calls_stale core.status.wanted p) (not (same_pp p c.pp)) (sym (fresher.stale p) ∙ is)).0;
+    added = λ p is. seen_stale p ∙ (and_both (calls_stale core.status.wanted p) (not (is_pp p c.pp)) (sym (fresher.stale p) ∙ is)).0;
     still_dirty = λ lv is. ap (λ (ns : List ℕ). list_any (λ n. n == lv) ns) fresher.dirty ∙ sym (ap (λ (m : Marks). m.dirty lv) tied.sees.status.wanted) ∙ is;
     behind = λ lv b x y copy fresh missing other usable kept.
         let y_fresh : v.committed.value.stale y ≡ false = not_true (v.committed.value.stale y) (and_both (not (v.committed.value.stale y)) (not (v.missing y.disk)) usable).0 in
@@ -233,9 +230,9 @@ module _ (past : List Fact) (old new : State) (at : ℕ) (tied : IsTied past old
   }
     where
       still : (p : Pp) → IsTrue (v.wanted.stale p) → IsTrue (marks.stale p) ⊎ (p ≡ c.pp)
-      still p is = by (same_pp p c.pp) refl
+      still p is = by (is_pp p c.pp) refl
         where
-          by : (b : Bool) → same_pp p c.pp ≡ b → IsTrue (marks.stale p) ⊎ (p ≡ c.pp)
+          by : (b : Bool) → is_pp p c.pp ≡ b → IsTrue (marks.stale p) ⊎ (p ≡ c.pp)
           by true same_so = inr (pp_same p c.pp same_so)
           by false other = inl (others_same p other ∙ is)
 

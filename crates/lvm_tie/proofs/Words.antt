@@ -3,9 +3,10 @@ use Rattle.std.proofs.Common.{◌≡◌, ◌⊎◌, inl, inr, ⊎_elim, ℕ, zer
 use Rattle.std.specs.Prelude.{filter, if◌then◌else◌, slice_get, nat_le}
 use Rattle.std.specs.List.{list_any, list_all}
 use Rattle.std.proofs.lemmas.Bool.Decides.{nat_tests}
+use Rattle.std.proofs.lemmas.Option.{same_Some}
 use Rattle.lvm_num.specs.declared.place.Pp.{Pp}
 use Rattle.lvm_kept.specs.Group.{IsOneOf}
-use Rattle.lvm_stale.specs.Table.{is_pp}
+use Rattle.lvm_num.specs.Descriptor.{is_pp}
 use Rattle.lvm_sched.specs.declared.writes.TargetState.{TargetState}
 use Rattle.lvm_sched.specs.declared.writes.TargetState.TheVariants as target
 use Rattle.lvm_sched.specs.Writes.{is_waiting}
@@ -15,27 +16,15 @@ use Rattle.lvm_session.specs.Judging.{same_pps, pps_of}
 use Rattle.lvm_invariant.specs.State.{Stage, Todo}
 use Rattle.lvm_tie_shelf.proofs.Writing.{and_both, pp_same, same_pp}
 use Rattle.lvm_tie.specs.Seen.{stage_seen, stage_at}
-
-pub and_false : (b : Bool) → b && false ≡ false
-and_false true = refl
-and_false false = refl
-
-pub or_left : (a b : Bool) → (a || b) ≡ false → (a ≡ false) × (b ≡ false)
-or_left true b h = absurd cc
-or_left false b h = (refl, h)
-
-pub or_either : (a b : Bool) → (a || b) ≡ true → (a ≡ true) ⊎ (b ≡ true)
-or_either true b h = inl refl
-or_either false b h = inr h
+pub use Rattle.std.proofs.lemmas.Bool.{or_parts as or_left}
+pub use Rattle.std.proofs.lemmas.Bool.{or_cases as or_either}
+pub use Rattle.std.proofs.lemmas.Bool.{not-true as not_true}
+pub use Rattle.lvm_num.proofs.Booleans.{and_false}
 
 pub or_true : (a b : Bool) → (a ≡ true) ⊎ (b ≡ true) → (a || b) ≡ true
 or_true true b h = refl
 or_true false b (inl h) = absurd cc
 or_true false b (inr h) = h
-
-pub not_true : (a : Bool) → not a ≡ true → a ≡ false
-not_true true h = absurd cc
-not_true false h = refl
 
 pub not_false : (a : Bool) → not a ≡ false → a ≡ true
 not_false true h = refl
@@ -104,16 +93,13 @@ waits_todo target.Flying h = absurd cc
 waits_todo target.Done h = absurd cc
 waits_todo target.Failed h = absurd cc
 
-some_of : {X : Type 0} (a b : X) → Some a ≡ Some b → a ≡ b
-some_of a b e = cc
-
 -- the target at a partition is one of those listed, and where nothing has started it is to be done
 pub stage_of_one : (ts : List Target) (e : Pp) (stage : Stage) → is_begun ts ≡ false → stage_at ts e ≡ Some stage → IsOneOf (pps_of ts) e × (stage ≡ Todo)
 stage_of_one [] e stage none h = absurd cc
 stage_of_one (t ∷ ts) e stage none h = by (Rattle.lvm_invariant.specs.Updates.is_pp e t.pp) refl h (stage_of_one ts e stage (or_left (not (is_waiting t.state)) (is_begun ts) none).1)
   where
     by : (b : Bool) → Rattle.lvm_invariant.specs.Updates.is_pp e t.pp ≡ b → (if b then Some (stage_seen t.state) else stage_at ts e) ≡ Some stage → (stage_at ts e ≡ Some stage → IsOneOf (pps_of ts) e × (stage ≡ Todo)) → IsOneOf (pps_of (t ∷ ts)) e × (stage ≡ Todo)
-    by true is here rest = (inl (pp_same e t.pp is), sym (some_of (stage_seen t.state) stage here) ∙ waits_todo t.state (or_left (not (is_waiting t.state)) (is_begun ts) none).0)
+    by true is here rest = (inl (pp_same e t.pp is), sym (same_Some (stage_seen t.state) stage here) ∙ waits_todo t.state (or_left (not (is_waiting t.state)) (is_begun ts) none).0)
     by false is there rest = let r = rest there in (inr r.0, r.1)
 
 pub one_todo : (ts : List Target) (e : Pp) → is_begun ts ≡ false → IsOneOf (pps_of ts) e → stage_at ts e ≡ Some Todo

@@ -5,6 +5,7 @@ use Rattle.std.specs.List.{list_any, remove}
 use Rattle.std.specs.Option.{option_map_or}
 use Rattle.std.proofs.lemmas.Bool.{cases_eq}
 use Rattle.std.proofs.lemmas.Bool.Decides.{nat_tests}
+use Rattle.std.proofs.lemmas.Option.{same_Some}
 use Rattle.lvm_num.specs.declared.place.Pp.{Pp}
 use Rattle.lvm_num.specs.declared.record.Stamp.{Stamp}
 use Rattle.lvm_num.specs.declared.status.Status.{Status}
@@ -18,7 +19,8 @@ use Rattle.lvm_kept.specs.Contents.{Contents, contents_of}
 use Rattle.lvm_kept.specs.Group.{IsOneOf}
 use Rattle.lvm_kept.specs.Places.{SameRecords}
 use Rattle.lvm_kept.specs.Torn.{RecordWrite}
-use Rattle.lvm_stale.specs.Table.{is_pp as is_its}
+use Rattle.lvm_num.specs.Descriptor.{is_pp}
+use Rattle.lvm_num.proofs.Booleans.{and_false}
 use Rattle.lvm_status.specs.Update.{Stored}
 use Rattle.lvm_sched.specs.Writes.{is_waiting as target_waits}
 use Rattle.lvm_sched.specs.declared.writes.TargetState.{TargetState}
@@ -48,7 +50,7 @@ use Rattle.lvm_invariant.specs.Good.{Good}
 use Rattle.lvm_invariant.specs.Sound.{StaysFresh}
 use Rattle.lvm_invariant.specs.Events.{Event, Transfer, Want}
 use Rattle.lvm_invariant.specs.Transfer.{restaged}
-use Rattle.lvm_invariant.specs.Updates.{is_pp, put, staged}
+use Rattle.lvm_invariant.specs.Updates.{put, staged}
 use Rattle.lvm_invariant.specs.Want.{Replaced, Wants, after_wants}
 use Rattle.lvm_invariant.proofs.Each.{each_keeps}
 use Rattle.lvm_invariant.proofs.Rules.{each_has}
@@ -78,18 +80,11 @@ use Rattle.lvm_tie.specs.Near.{IsNear, IsRunning, open_after}
 use Rattle.lvm_tie.proofs.CopyEndsReviews.{near_ties, with_end_status}
 use Rattle.lvm_tie.proofs.Reviewing.{opened}
 
-some_of : {X : Type 0} (a b : X) → Some a ≡ Some b → a ≡ b
-some_of a b e = cc
-
 -- the target that has changed
 state_there : (ts : List Target) (number : ℕ) (t : Target) (s : TargetState) → slice_get ts number ≡ Some t → slice_get (with_state ts number s) number ≡ Some (record t { state = s })
 state_there [] number t s there = absurd cc
-state_there (u ∷ us) zero t s there = ap (λ (x : Target). Some (record x { state = s })) (some_of u t there)
+state_there (u ∷ us) zero t s there = ap (λ (x : Target). Some (record x { state = s })) (same_Some u t there)
 state_there (u ∷ us) (suc number) t s there = state_there us number t s there
-
-and_false : (b : Bool) → (b && false) ≡ false
-and_false true = refl
-and_false false = refl
 
 among_if : (b : Bool) (ps : List Pp) (p : Pp) → is_among (if b then ps else []) p ≡ true → is_among ps p ≡ true
 among_if true ps p h = h
@@ -198,10 +193,10 @@ module _ (past : List Fact) (old new : State) (index : ℕ) (ends : Ends old new
   place_is = numbers found.place learns.place found.request o found.there learns.its.there found.own
 
   request_is : found.request ≡ o
-  request_is = some_of found.request o (sym found.there ∙ ap (slice_get old.core.requests) place_is ∙ learns.its.there)
+  request_is = same_Some found.request o (sym found.there ∙ ap (slice_get old.core.requests) place_is ∙ learns.its.there)
 
   aim_same : found.aim ≡ t
-  aim_same = some_of found.aim t (sym found.aim_is ∙ ap (λ (x : Open). slice_get x.request.targets.items number) request_is ∙ learns.its.aim_is)
+  aim_same = same_Some found.aim t (sym found.aim_is ∙ ap (λ (x : Open). slice_get x.request.targets.items number) request_is ∙ learns.its.aim_is)
 
   abbrev out : IsDataOut old.core f o.request.id number
   out = record {
@@ -390,25 +385,25 @@ module _ (past : List Fact) (old new : State) (index : ℕ) (ends : Ends old new
   hit : (h : CopyEnd) → how ≡ Some h → IsHit h
   hit h is = by (option_map_or (hits_copy core2 o2 ends.ok t.pp) old.core.copy false) refl is
     where
-      which : (c : OpenCopy) → (not ends.ok && is_its t.pp c.pp || (are_over ts2 && not (is_kept core2 o2.request) && not o.older && is_among (due_of core2 o2.request) c.pp)) ≡ true → IsTargets c.pp
+      which : (c : OpenCopy) → (not ends.ok && is_pp t.pp c.pp || (are_over ts2 && not (is_kept core2 o2.request) && not o.older && is_among (due_of core2 o2.request) c.pp)) ≡ true → IsTargets c.pp
       which c test = ⊎_elim
           (λ bad. record {
             one = record t { state = end_state ends.ok };
             its_one = (its_pp ts2 number (record t { state = end_state ends.ok }) (state_there ts number t (end_state ends.ok) learns.its.aim_is)).1;
-            there = pp_same t.pp c.pp (and_both (not ends.ok) (is_its t.pp c.pp) bad).1;
+            there = pp_same t.pp c.pp (and_both (not ends.ok) (is_pp t.pp c.pp) bad).1;
           })
           (λ lost. due_one c.pp (and_both (are_over ts2 && not (is_kept core2 o2.request) && not o.older) (is_among (due_of core2 o2.request) c.pp) lost).1)
-          (or_either (not ends.ok && is_its t.pp c.pp) (are_over ts2 && not (is_kept core2 o2.request) && not o.older && is_among (due_of core2 o2.request) c.pp) test)
+          (or_either (not ends.ok && is_pp t.pp c.pp) (are_over ts2 && not (is_kept core2 o2.request) && not o.older && is_among (due_of core2 o2.request) c.pp) test)
 
       of : ending.SyncFailed ≡ h → (m : Option OpenCopy) → old.core.copy ≡ m → option_map_or (hits_copy core2 o2 ends.ok t.pp) m false ≡ true → IsHit h
       of so None none test = absurd (cc test)
       of so (Some c) open_is test =
-          let outer = and_both (is_write o.request.ask && is_running c) (not ends.ok && is_its t.pp c.pp || (are_over ts2 && not (is_kept core2 o2.request) && not o.older && is_among (due_of core2 o2.request) c.pp)) test in
+          let outer = and_both (is_write o.request.ask && is_running c) (not ends.ok && is_pp t.pp c.pp || (are_over ts2 && not (is_kept core2 o2.request) && not o.older && is_among (due_of core2 o2.request) c.pp)) test in
           record { copy = c; is_open = open_is; running = (and_both (is_write o.request.ask) (is_running c) outer.0).1; target = which c outer.1; fails = sym so }
 
       by : (b : Bool) → option_map_or (hits_copy core2 o2 ends.ok t.pp) old.core.copy false ≡ b → ends_if b ending.SyncFailed ≡ Some h → IsHit h
       by false test so = absurd (cc so)
-      by true test so = of (some_of ending.SyncFailed h so) old.core.copy refl test
+      by true test so = of (same_Some ending.SyncFailed h so) old.core.copy refl test
 
   -- it is whole, where its partition is marked
   record IsMarked (p : Pp) : Type 0 where
@@ -424,9 +419,9 @@ module _ (past : List Fact) (old new : State) (index : ℕ) (ends : Ends old new
       by None none test = absurd (cc test)
       by (Some h) some test =
           let x : IsHit h = hit h some in
-          let both = and_both (not (is_done_end h)) (option_map_or (λ (c : OpenCopy). is_whole core2 c && is_its p c.pp) old.core.copy false) test in
-          let here : (is_whole old.core x.copy && is_its p x.copy.pp) ≡ true = sym (ap (λ (m : Option OpenCopy). option_map_or (λ (c : OpenCopy). is_whole old.core c && is_its p c.pp) m false) x.is_open) ∙ both.1 in
-          let parts_of = and_both (is_whole old.core x.copy) (is_its p x.copy.pp) here in
+          let both = and_both (not (is_done_end h)) (option_map_or (λ (c : OpenCopy). is_whole core2 c && is_pp p c.pp) old.core.copy false) test in
+          let here : (is_whole old.core x.copy && is_pp p x.copy.pp) ≡ true = sym (ap (λ (m : Option OpenCopy). option_map_or (λ (c : OpenCopy). is_whole old.core c && is_pp p c.pp) m false) x.is_open) ∙ both.1 in
+          let parts_of = and_both (is_whole old.core x.copy) (is_pp p x.copy.pp) here in
           record { kind = h; its_hit = x; all = parts_of.0; same = pp_same p x.copy.pp parts_of.1 }
 
   keeper_not_marked : marked_by_end core2 how stays.keeper.pp ≡ false
@@ -466,11 +461,11 @@ module _ (past : List Fact) (old new : State) (index : ℕ) (ends : Ends old new
         ap (calls_stale status.wanted) (brought.target x open_is) ∙ wants.stale c.pp
         ∙ or_true (calls_stale old.core.status.wanted c.pp) (due c.pp) (by c its_hit.is_open brought.part (ap (λ (e : Option CopyEnd). marked_by_end core2 e c.pp) (is ∙ ap (λ (e : CopyEnd). Some e) its_hit.fails)) (is_whole old.core c) refl)
       where
-        by : (c : OpenCopy) → old.core.copy ≡ Some c → (is_whole old.core c ≡ false → calls_stale old.core.status.wanted c.pp ≡ true) → marked_by_end core2 how c.pp ≡ option_map_or (λ (y : OpenCopy). is_whole old.core y && is_its c.pp y.pp) old.core.copy false
+        by : (c : OpenCopy) → old.core.copy ≡ Some c → (is_whole old.core c ≡ false → calls_stale old.core.status.wanted c.pp ≡ true) → marked_by_end core2 how c.pp ≡ option_map_or (λ (y : OpenCopy). is_whole old.core y && is_pp c.pp y.pp) old.core.copy false
             → (b : Bool) → is_whole old.core c ≡ b → (calls_stale old.core.status.wanted c.pp ≡ true) ⊎ (due c.pp ≡ true)
         by c here stale mark false part = inl (stale part)
         by c here stale mark true all = inr (or_true (is_among (due_of core2 o2.request) c.pp) (marked_by_end core2 how c.pp)
-            (inr (mark ∙ ap (λ (m : Option OpenCopy). option_map_or (λ (y : OpenCopy). is_whole old.core y && is_its c.pp y.pp) m false) here ∙ (λ k. all k && same_pp c.pp c.pp refl k))))
+            (inr (mark ∙ ap (λ (m : Option OpenCopy). option_map_or (λ (y : OpenCopy). is_whole old.core y && is_pp c.pp y.pp) m false) here ∙ (λ k. all k && same_pp c.pp c.pp refl k))))
 
     -- ---- what the state wants
 

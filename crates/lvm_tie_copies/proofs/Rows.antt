@@ -6,9 +6,8 @@ use Rattle.std.proofs.lemmas.List.Folds.{list_any_at}
 use Rattle.lvm_num.specs.declared.descriptor.Descriptor.{Descriptor}
 use Rattle.lvm_num.specs.declared.descriptor.LvRow.{LvRow}
 use Rattle.lvm_num.specs.declared.place.Pp.{Pp}
-use Rattle.lvm_num.specs.Descriptor.{IsValid, copies_of, volume_of}
+use Rattle.lvm_num.specs.Descriptor.{IsValid, copies_of, volume_of, is_pp}
 use Rattle.lvm_kept.specs.Group.{IsOneOf}
-use Rattle.lvm_stale.specs.Table.{is_pp}
 use Rattle.lvm_session.specs.Marks.{is_among}
 use Rattle.lvm_copy_plan.specs.Copies.{with_copies, with_map}
 use Rattle.lvm_copy_plan.proofs.Rows.{one_found, one_other, own_row}

@@ -38,14 +38,14 @@ use Rattle.lvm_keeps.proofs.Begin.{beginning_is_sound}
 use Rattle.lvm_keeps.proofs.Telling.{open_still}
 use Rattle.lvm_session.specs.Placed.{ArePlaced}
 use Rattle.lvm_session.specs.Causes.{faults_at_first}
-use Rattle.lvm_session.specs.Sound.{IsFitting as IsFittingTable, IsSound, is_dark}
+use Rattle.lvm_session.specs.Sound.{IsFitting, IsSound, is_dark}
 use Rattle.lvm_core.specs.declared.parts.Room.{Room}
 use Rattle.lvm_core.specs.Held.{NotesAreHome}
 use Rattle.lvm_core.proofs.Held.{empty_names_none}
 use Rattle.lvm_mwc.specs.Cache.{is_named as is_named_by}
 use Rattle.lvm_kept.proofs.Finding.{images_within}
 use Rattle.lvm_recover.proofs.Equalling.{quiet_is_even}
-use Rattle.lvm_core.specs.Sound.{HaveAllLanded, IsFitting}
+use Rattle.lvm_core.specs.Sound.{HaveAllLanded, IsFittingBetween}
 use Rattle.lvm_core.specs.Starting.{IsRoom, room_of}
 use Rattle.lvm_group.specs.passed.GroupPlan.{given_up, new_group, new_status}
 use Rattle.lvm_rest.specs.Rest.{NoneIsBehind}
@@ -103,8 +103,8 @@ module _ (was log : Log) (moment : ℕ) (room : Room) (old : Device) (s : State)
   wanted : p.updater.wanted ≡ p.table
   wanted = ap (λ (u : Updates). u.wanted) its.status
 
-  fitting : IsFitting first
-  fitting = as_first IsFitting it.sound.fitting
+  fitting : IsFittingBetween first
+  fitting = as_first IsFittingBetween it.sound.fitting
 
   may : MayBegin s.device log (second moment) b.homes p
   may = record {
@@ -135,7 +135,7 @@ module _ (was log : Log) (moment : ℕ) (room : Room) (old : Device) (s : State)
   table : s.core.status.wanted ≡ s.core.origin.table
   table = ap (λ (c : Core). c.status.wanted) b.is ∙ wanted ∙ sym (ap (λ (c : Core). c.origin.table) b.is)
 
-  fits_table : IsFittingTable s.core
+  fits_table : IsFitting s.core
   fits_table = record {
     valid = it.sound.fitting.valid;
     id = it.sound.fitting.id;

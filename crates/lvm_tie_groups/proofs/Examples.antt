@@ -11,7 +11,7 @@ use Rattle.lvm_num.specs.Bits.{has_bit}
 use Rattle.lvm_num.specs.Disks.{has}
 use Rattle.lvm_num.specs.Status.{calls_missing}
 use Rattle.lvm_num.specs.Votes.{all_disks, votes_by}
-use Rattle.lvm_stale.specs.Table.{is_pp}
+use Rattle.lvm_num.specs.Descriptor.{is_pp}
 use Rattle.lvm_kept.specs.Moments.{Calm}
 use Rattle.lvm_steps.proofs.Members.{member_of_parts}
 use Rattle.lvm_commit.proofs.Found.{shows_group}

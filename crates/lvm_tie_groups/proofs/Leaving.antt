@@ -27,7 +27,7 @@ use Rattle.lvm_session.specs.Dark.{hand_of_copy}
 use Rattle.lvm_session.specs.Owners.{AreRows}
 use Rattle.lvm_session.specs.Placed.{ArePlaced}
 use Rattle.lvm_session.specs.Sound.{IsOn, IsSound, count_if, has_number, hands_with, is_dark, is_hand, out_with, waits}
-use Rattle.lvm_core.specs.Sound.{HaveAllLanded, IsFitting, IsQuiet, IsSoundBetween}
+use Rattle.lvm_core.specs.Sound.{HaveAllLanded, IsFittingBetween, IsQuiet, IsSoundBetween}
 use Rattle.lvm_core.specs.Settled.{IsSettled}
 use Rattle.lvm_settled.specs.Settled.{IsKnown}
 use Rattle.lvm_tie.specs.Seen.{update_of}
@@ -138,7 +138,7 @@ module _ (past : List Fact) (s : State) (tied : IsTied past s) (may : MayBeLeft 
           by true missing = absurd (let no : true ≡ false = sym (sound.origin.still_missing disk missing) ∙ present in cc no)
           by false any = refl
 
-  fitting : IsFitting core
+  fitting : IsFittingBetween core
   fitting = record {
     valid = sound.fitting.valid;
     id = sound.fitting.id;

@@ -2,6 +2,7 @@
 use Rattle.std.proofs.Common.{◌≡◌, ◌⊎◌, inl, inr, ⊎_elim, ℕ, ◌-◌, Bool, true, false, ◌&&◌, ◌==◌, List, Option, Some, None, refl, sym, ap, subst, ◌∙◌, arith, eqb-true}
 use Rattle.std.specs.Prelude.{IsTrue, IsFalse, if◌then◌else◌, slice_get}
 use Rattle.std.proofs.lemmas.Bool.Decides.{nat_tests}
+use Rattle.std.proofs.lemmas.Option.{same_Some}
 use Rattle.lvm_num.specs.declared.descriptor.Descriptor.{Descriptor}
 use Rattle.lvm_num.specs.declared.status.Status.{Status}
 use Rattle.lvm_num.specs.declared.record.Kind.TheVariants as kind
@@ -32,9 +33,6 @@ use Rattle.lvm_tie_shelf.specs.Records.{home_after, flying_after, NoteEnded, Not
 use Rattle.lvm_tie_shelf.proofs.Flying.{writes_at, at_writes}
 use Rattle.lvm_tie_shelf.proofs.Owned.{its_note}
 use Rattle.lvm_tie_shelf.proofs.Records.{may_leave}
-
-some_is : {X : Type 0} (a b : X) → Some a ≡ Some b → a ≡ b
-some_is a b e = cc
 
 -- ---- notes
 
@@ -86,7 +84,7 @@ module _ (votes : Votes) (s : ModelState) (group : Descriptor) (in_flight : Opti
     where
       by : (t : Bool) → well ≡ t → Left
       by true ends = New (lands.all ends f.disk note_sector own.sector brings_note)
-      by false ends = ⊎_elim (λ same. Old ends same) (λ brings. New (some_is (n f.disk note_sector) own.sector (sym brings ∙ brings_note))) (lands.some f.disk note_sector)
+      by false ends = ⊎_elim (λ same. Old ends same) (λ brings. New (same_Some (n f.disk note_sector) own.sector (sym brings ∙ brings_note))) (lands.some f.disk note_sector)
 
   abbrev names_by : Bool → ℕ → Groups
   names_by new d = if new && d == f.disk then own.note else s.media.names d

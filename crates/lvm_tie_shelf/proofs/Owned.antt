@@ -187,9 +187,6 @@ module _ (s : ModelState) (group : Descriptor) (w : Option RecordWrite) (in_flig
 
 -- ---- all of it
 
-some_is : {X : Type 0} (a b : X) → Some a ≡ Some b → a ≡ b
-some_is a b e = cc
-
 none_there : (test : Bool) (x y : Bool) → x ≡ false → IsTrue (test && x && y) → ⊥
 none_there true x y is h = let e : IsTrue (false && y) = sym (ap (λ t. t && y) is) ∙ h in absurd cc
 none_there false x y is h = absurd cc

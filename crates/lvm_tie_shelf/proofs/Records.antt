@@ -51,9 +51,6 @@ may_leave device rest m n f told removes some =
 status_is : (id : ℕ) (u : Stamped Status) → u.value.id ≡ id → marks_shown id (Some u) ≡ Some (as_marks u)
 status_is id u own = let test : (u.value.id == id) ≡ true = grind (arith, nat_tests) in ap (λ t. option_map as_marks (if t then Some u else None)) test
 
-some_is : {X : Type 0} (a b : X) → Some a ≡ Some b → a ≡ b
-some_is a b e = cc
-
 module _ (votes : Votes) (s : ModelState) (group : Descriptor) (w : RecordWrite) (u : Stamped Status) (device : Device) (rest : List Flight) (m n : Media) (f : Flight) (well : Bool) (flying : ℕ → Bool)
     (good : Good votes s) (matches : Matches s s.facts group (Some u) device m) (removes : Removes f device.flights rest) (own : IsStatusFlight s w f) (since : UpdateSince device w u) (lands : Lands f well m n) where
   abbrev was : Image

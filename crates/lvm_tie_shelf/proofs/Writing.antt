@@ -1,13 +1,14 @@
 -- The end of a write of a request.
-use Rattle.std.proofs.Common.{◌≡◌, ◌⊎◌, inl, inr, ⊎_elim, ℕ, ◌+◌, ◌-◌, ◌<◌, ◌≤◌, Bool, true, false, ◌&&◌, ◌==◌, List, [], length, Option, Some, None, refl, sym, ap, subst, ◌∙◌, arith, eqb-true}
+use Rattle.std.proofs.Common.{◌≡◌, ◌⊎◌, inl, inr, ⊎_elim, ℕ, ◌+◌, ◌-◌, ◌<◌, ◌≤◌, Bool, true, false, ◌&&◌, List, [], length, Option, Some, None, refl, sym, ap, subst, ◌∙◌, arith}
 use Rattle.std.specs.Prelude.{IsTrue, nat_lt, if◌then◌else◌, slice_get, unwrap_or}
 use Rattle.std.proofs.lemmas.Bool.Decides.{nat_tests}
+use Rattle.std.proofs.lemmas.Bool.{and_from}
 use Rattle.lvm_num.specs.declared.place.Pp.{Pp}
 use Rattle.lvm_num.specs.declared.descriptor.Descriptor.{Descriptor}
 use Rattle.lvm_num.specs.declared.status.Status.{Status}
 use Rattle.lvm_num.specs.Buffer.{Sector}
 use Rattle.lvm_num.specs.Disks.{Disks}
-use Rattle.lvm_num.specs.Descriptor.{IsValid}
+use Rattle.lvm_num.specs.Descriptor.{IsValid, is_pp}
 use Rattle.lvm_num.specs.Geometry.{data_start, sector_of}
 use Rattle.lvm_num.specs.Record.{Stamped}
 use Rattle.lvm_disk.specs.Device.{Media, Image, Flight, image_of, written}
@@ -17,7 +18,6 @@ use Rattle.lvm_kept.specs.Group.{block_at, names_if}
 use Rattle.lvm_kept.specs.Places.{SameRecords}
 use Rattle.lvm_kept.proofs.Contained.{descriptor-same, status-same, note-same, blocks_are_sectors}
 use Rattle.lvm_invariant.specs.State.{Flying, Well, Queued, ModelState, covers}
-use Rattle.lvm_invariant.specs.Updates.{is_pp}
 use Rattle.lvm_invariant.specs.Found.{Votes}
 use Rattle.lvm_invariant.specs.Good.{Good}
 use Rattle.lvm_invariant.specs.Events.{Transfer}
@@ -30,6 +30,8 @@ use Rattle.lvm_tie_shelf.specs.Owned.{IsTransfer}
 use Rattle.lvm_tie_shelf.specs.Writing.{Lands, EndsLand, stage_of, after_write, WriteEnds}
 use Rattle.lvm_tie_shelf.proofs.Flying.{writes_at, at_writes}
 use Rattle.lvm_tie_shelf.proofs.Owned.{covered, copy_of, copy_too, stands_at, hits, not_member}
+pub use Rattle.lvm_num.proofs.Partitions.{one_partition as pp_same}
+pub use Rattle.lvm_num.proofs.Partitions.{same_partition as same_pp}
 
 -- ---- ends
 
@@ -102,23 +104,9 @@ module _ (sizes : List ℕ) (m n : Media) where
 
 -- ---- a write of a request
 
-and_true : (a b : Bool) → IsTrue a → IsTrue b → IsTrue (a && b)
-and_true true b h k = k
-and_true false b h k = absurd cc
-
 pub and_both : (a b : Bool) → IsTrue (a && b) → IsTrue a × IsTrue b
 and_both true b h = (refl, h)
 and_both false b h = absurd cc
-
-pub pp_same : (a b : Pp) → IsTrue (is_pp a b) → a ≡ b
-pp_same a b h =
-    let both = and_both (a.disk == b.disk) (a.pp == b.pp) h in
-    let disk : a.disk ≡ b.disk = eqb-true a.disk b.disk both.0 in
-    let pp : a.pp ≡ b.pp = eqb-true a.pp b.pp both.1 in
-    λ t. record { disk = disk t; pp = pp t }
-
-pub same_pp : (a b : Pp) → a ≡ b → IsTrue (is_pp a b)
-same_pp a b e = let own : IsTrue (is_pp a a) = let d : (a.disk == a.disk) ≡ true = grind (arith, nat_tests) in let p : (a.pp == a.pp) ≡ true = grind (arith, nat_tests) in λ t. d t && p t in subst (λ x. IsTrue (is_pp a x)) e own
 
 module _ (votes : Votes) (s : ModelState) (i : ℕ) (r : Queued) (c : Pp) (value : ℕ → Sector) (group : Descriptor) (in_flight : Option (Stamped Status)) (sizes : List ℕ) (m n : Media) (f : Flight) (well : Bool)
     (valid : IsValid group) (good : Good votes s) (describes : Describes s s.facts group in_flight (contents_of (image_of sizes m)))
@@ -209,7 +197,7 @@ module _ (votes : Votes) (s : ModelState) (i : ℕ) (r : Queued) (c : Pp) (value
   seen lv b e = seen_new lv b e (covers r lv b && is_pp e c) refl
 
   pub seen_whole : IsTrue well → (lv b : ℕ) → IsTrue (covers r lv b) → block lv b c ≡ value b
-  seen_whole ends lv b over = ap (λ t. if t then block_at after group.mib c b else s.media.block lv b c) (and_true (covers r lv b) (is_pp c c) over (same_pp c c refl)) ∙ whole_here ends lv b over
+  seen_whole ends lv b over = ap (λ t. if t then block_at after group.mib c b else s.media.block lv b c) (and_from (covers r lv b) (is_pp c c) over (same_pp c c refl)) ∙ whole_here ends lv b over
 
   pub shown : (lv b : ℕ) (p : Pp) → IsTrue (s.is_copy lv b p) → block lv b p ≡ block_at after group.mib p b
   shown lv b p copy = by (covers r lv b && is_pp p c) refl (becomes lv b p copy)
@@ -217,7 +205,7 @@ module _ (votes : Votes) (s : ModelState) (i : ℕ) (r : Queued) (c : Pp) (value
       by : (t : Bool) → (covers r lv b && is_pp p c) ≡ t → Becomes lv b p → block lv b p ≡ block_at after group.mib p b
       by true test how = ap (λ t. if t then block_at after group.mib p b else s.media.block lv b p) test
       by false test (Same same) = ap (λ t. if t then block_at after group.mib p b else s.media.block lv b p) test ∙ describes.shown.blocks lv b p copy ∙ sym same
-      by false test (New over its new) = absurd (let e : ◌≡◌ {A = Bool} false true = sym test ∙ and_true (covers r lv b) (is_pp p c) over (same_pp p c its) in cc)
+      by false test (New over its new) = absurd (let e : ◌≡◌ {A = Bool} false true = sym test ∙ and_from (covers r lv b) (is_pp p c) over (same_pp p c its) in cc)
 
 pub write_ends : WriteEnds
 write_ends votes s i r c group in_flight sizes m n f well valid good describes started flies aimed transfer lands =

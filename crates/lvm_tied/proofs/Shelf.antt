@@ -19,7 +19,7 @@ use Rattle.lvm_kept.specs.Examples.{either_of, stamped, two}
 use Rattle.lvm_kept.specs.Group.{has_room, is_of, passes}
 use Rattle.lvm_kept.proofs.Standing.{zeros-sector}
 use Rattle.lvm_stamps.specs.Behind.{StampsBefore}
-use Rattle.lvm_stamps.specs.Laws.{IsWhole}
+use Rattle.lvm_disk.specs.Device.{IsWholeImage}
 use Rattle.lvm_commit.specs.Committed.{next_stamp}
 use Rattle.lvm_rec.specs.Homes.{next_slot}
 use Rattle.lvm_crash.specs.Session.{members_showing}
@@ -66,7 +66,7 @@ module _ (mode : Mode) (stale : Bool) where
   abbrev w : Shown
   w = shown mode stale
 
-  whole : IsWhole (image w)
+  whole : IsWholeImage (image w)
   whole d s low = by (s == slot_start kind.Descriptor 0) (s == slot_start kind.Status 0)
     where
       by : (a b : Bool) → IsSector (if a then frame kind.Descriptor (framed_group mode).stamp (framed_group mode).content 0 else if b then frame kind.Status (framed_status w).stamp (framed_status w).content 0 else zero_sector)

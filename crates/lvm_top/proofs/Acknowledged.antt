@@ -19,7 +19,7 @@ use Rattle.lvm_commit.proofs.Still.{still_holds_committed}
 use Rattle.lvm_core.specs.declared.parts.Room.{Room}
 use Rattle.lvm_core.specs.Held.{IsHeld}
 use Rattle.lvm_core.specs.Settled.{IsSettled}
-use Rattle.lvm_session.specs.State.{Core, State as Session, is_there}
+use Rattle.lvm_session.specs.State.{Core, State, is_there}
 use Rattle.lvm_core.specs.Leaves.{MayBeFound}
 use Rattle.lvm_line.specs.passed.Volumes.{IsWith}
 use Rattle.lvm_line.specs.passed.Mirrors.{IsWithFirst, IsWithMore}
@@ -80,14 +80,14 @@ made_is w room patience was old left core (WentQuiet may once) =
     ap (λ (c : Core). c.descriptor) once.goes.core_is ∙ once.goes.parts.descriptor ∙ ap (λ (sizes : List ℕ). new_group sizes w) (ends_only once.quiesces.ends).sizes
 
 -- a descriptor with a volume more is of the group that is on
-with_id : (old : ScriptState) (core : Core) → old.session ≡ Some core → (w : NewVolume) (k : Descriptor) → (c : Core) × (mid : Session) × WasDrained old c mid × IsWith w mid.core k → k.id ≡ core.descriptor.id
+with_id : (old : ScriptState) (core : Core) → old.session ≡ Some core → (w : NewVolume) (k : Descriptor) → (c : Core) × (mid : State) × WasDrained old c mid × IsWith w mid.core k → k.id ≡ core.descriptor.id
 with_id old core some w k (c, mid, drained, is) =
     let same : c ≡ core = let e = sym drained.on ∙ some in cc e in
     ap (λ (d : Descriptor). d.id) is.2.2 ∙ ap (λ (d : Descriptor). d.id) drained.drains.runs.leaves.keeps.descriptor ∙ ap (λ (c : Core). c.descriptor.id) same
 
 -- one in which a volume has more copies too
 with_more_id : (old : ScriptState) (core : Core) → old.session ≡ Some core → (name : List ℕ) (copies : ℕ) (k : Descriptor)
-    → (c : Core) × (mid : Session) × WasDrained old c mid × ((lv : ℕ) × IsNumberOf c.descriptor.lvs name lv × IsWithMore lv copies mid.core k) → k.id ≡ core.descriptor.id
+    → (c : Core) × (mid : State) × WasDrained old c mid × ((lv : ℕ) × IsNumberOf c.descriptor.lvs name lv × IsWithMore lv copies mid.core k) → k.id ≡ core.descriptor.id
 with_more_id old core some name copies k (c, mid, drained, (lv, its, more)) =
     let same : c ≡ core = let e = sym drained.on ∙ some in cc e in
     more_id lv copies mid.core k more ∙ ap (λ (d : Descriptor). d.id) drained.drains.runs.leaves.keeps.descriptor ∙ ap (λ (c : Core). c.descriptor.id) same
@@ -97,7 +97,7 @@ told_and : {X : Type 0} (o : Option X) (P : X → Type 0) (x : X) → o ≡ Some
 told_and {X} o P x some is = subst (λ (p : Option X). IsSomeAnd p P) some is
 
 -- the session once its line has handed it on
-handed_on : (left : Session) (old new : ScriptState) (stays : StaysOn left old new) → IsSettled left.core → IsReady left.device → IsHeld left.device left.core → HasBegunHeld new.moment.device stays.core
+handed_on : (left : State) (old new : ScriptState) (stays : StaysOn left old new) → IsSettled left.core → IsReady left.device → IsHeld left.device left.core → HasBegunHeld new.moment.device stays.core
 handed_on left old new stays settled ready held = record {
   ready = subst IsReady (sym stays.device) ready;
   settled = subst IsSettled (sym stays.is) (record { power = settled.power; quiet = record { requests = settled.quiet.requests; copy = settled.quiet.copy; status = settled.quiet.status; notes = settled.quiet.notes; buffers = settled.quiet.buffers }; committed = settled.committed; epoch = settled.epoch; votes = settled.votes });

@@ -14,7 +14,7 @@ use Rattle.lvm_core.specs.declared.parts.Room.{Room}
 use Rattle.lvm_core.specs.Settled.{IsSettled as IsSettledCore}
 use Rattle.lvm_session.specs.declared.answers.Turned.{Turned}
 use Rattle.lvm_session.specs.declared.open.Power.TheVariants as power
-use Rattle.lvm_session.specs.State.{Core, State as Session, state}
+use Rattle.lvm_session.specs.State.{Core, State, state}
 use Rattle.lvm_session.specs.Sound.{IsSound}
 use Rattle.lvm_keeps_turn.specs.Telling.{power_by}
 use Rattle.lvm_session.specs.declared.answers.Turned.TheVariants as turned
@@ -80,7 +80,7 @@ module _ (end : ScriptState) (exit : Moment) (between : IsBetween end.moment end
   behind = record { moment = exit; session = None; posts = []; last = end.last }
 
   -- it has run on, and is closed
-  closed_goes : (last : Session) → (last.core.power ≡ power.Stuck → ⊥) → RunsOn (state end.moment.device core) last → IsSound last → IsClosed last.core.power last.device exit.device → exit.facts ≡ last.core.history.facts
+  closed_goes : (last : State) → (last.core.power ≡ power.Stuck → ⊥) → RunsOn (state end.moment.device core) last → IsSound last → IsClosed last.core.power last.device exit.device → exit.facts ≡ last.core.history.facts
       → GoesOn core.history.run OfRequests (reply.Refused refusal.Stuck) end behind
   closed_goes last heard runs sound closed entries =
       over_goes OfRequests end core last
@@ -96,7 +96,7 @@ pub record Concluded (run : ℕ) (end : ScriptState) (exit : Moment) : Type 0 wh
 
 -- so where a session with volumes has run on, and is closed
 pub closed_concluded : (run : ℕ) (end : ScriptState) (exit : Moment) → IsBetween end.moment end.session end.posts → (core : Core) → end.session ≡ Some core → core.descriptor.lvs ≢ [] → end.moment.facts ≡ core.history.facts → core.history.run ≡ run
-    → (last : Session) → (last.core.power ≡ power.Stuck → ⊥) → RunsOn (state end.moment.device core) last → IsSound last → IsClosed last.core.power last.device exit.device → exit.facts ≡ last.core.history.facts → Concluded run end exit
+    → (last : State) → (last.core.power ≡ power.Stuck → ⊥) → RunsOn (state end.moment.device core) last → IsSound last → IsClosed last.core.power last.device exit.device → exit.facts ≡ last.core.history.facts → Concluded run end exit
 closed_concluded run end exit between core some vols facts named last heard runs sound closed entries =
     let goes : GoesOn run OfRequests (reply.Refused refusal.Stuck) end (behind end exit between core some vols facts) =
     subst (λ (n : ℕ). GoesOn n OfRequests (reply.Refused refusal.Stuck) end (behind end exit between core some vols facts)) named (closed_goes end exit between core some vols facts last heard runs sound closed entries) in

@@ -6,7 +6,7 @@ use Rattle.lvm_num.specs.declared.place.Pp.{Pp}
 use Rattle.lvm_parse.specs.declared.command.Command.TheVariants as command
 use Rattle.lvm_core.specs.Looking.{IsNumberOf}
 use Rattle.lvm_core.specs.Leaves.{MayBeFound}
-use Rattle.lvm_session.specs.State.{Core, State as Session}
+use Rattle.lvm_session.specs.State.{Core, State}
 use Rattle.lvm_line.specs.passed.Mirrors.{IsWithFirst, IsWithMore}
 use Rattle.lvm_line.specs.passed.Tie.{LeavesDescriptors}
 use Rattle.lvm_line.specs.passed.Stage.{IsBrokenOff, OfGroup}
@@ -37,8 +37,8 @@ module _ (run : ℕ) (old new : ScriptState) (leaves : LeavesDescriptors old.mom
   abbrev FoundByMklvcopy : Type 0
   FoundByMklvcopy = (id : ℕ) (k : Descriptor) → MayBeFound new.moment.device id k → MayBeFound old.moment.device id k ⊎ MayHaveCommitted (Ok (Some (command.Mklvcopy name copies))) answer old new id k
 
-  module _ (core : Core) (left : ℕ) (mid : Session) (on : old.session ≡ Some core) (drains : Drains core old left mid) (lv : ℕ) (its : IsNumberOf mid.core.descriptor.lvs name lv) where
-    with_more : (k : Descriptor) → IsWithMore lv copies mid.core k → (c : Core) × (m : Session) × WasDrained old c m × ((n : ℕ) × IsNumberOf c.descriptor.lvs name n × IsWithMore n copies m.core k)
+  module _ (core : Core) (left : ℕ) (mid : State) (on : old.session ≡ Some core) (drains : Drains core old left mid) (lv : ℕ) (its : IsNumberOf mid.core.descriptor.lvs name lv) where
+    with_more : (k : Descriptor) → IsWithMore lv copies mid.core k → (c : Core) × (m : State) × WasDrained old c m × ((n : ℕ) × IsNumberOf c.descriptor.lvs name n × IsWithMore n copies m.core k)
     with_more k is = (core, mid, record { on = on; left = left; drains = drains }, (lv, subst (λ (d : Descriptor). IsNumberOf d.lvs name lv) drains.runs.leaves.keeps.descriptor its, is))
 
     tried_mklvcopy : (given : Result (List Pp) GroupFault) (over : Bool) → (answer ≡ reply.Ok) ⊎ IsBrokenOff answer → MklvcopyEnds lv copies given over left mid old new → FoundByMklvcopy
@@ -72,7 +72,7 @@ module _ (run : ℕ) (old new : ScriptState) (leaves : LeavesDescriptors old.mom
   abbrev FoundByRmlvcopy : Type 0
   FoundByRmlvcopy = (id : ℕ) (k : Descriptor) → MayBeFound new.moment.device id k → MayBeFound old.moment.device id k ⊎ MayHaveCommitted (Ok (Some (command.Rmlvcopy name copies))) answer old new id k
 
-  module _ (core : Core) (left : ℕ) (mid : Session) (on : old.session ≡ Some core) (drains : Drains core old left mid) (lv : ℕ) (its : IsNumberOf mid.core.descriptor.lvs name lv) where
+  module _ (core : Core) (left : ℕ) (mid : State) (on : old.session ≡ Some core) (drains : Drains core old left mid) (lv : ℕ) (its : IsNumberOf mid.core.descriptor.lvs name lv) where
     with_fewer : (k : Descriptor) → IsWithFirst lv copies mid.core k → IsSomeAnd old.session (λ c. (n : ℕ) × IsNumberOf c.descriptor.lvs name n × IsWithFirst n copies c k)
     with_fewer k is = subst (λ (o : Option Core). IsSomeAnd o (λ c. (n : ℕ) × IsNumberOf c.descriptor.lvs name n × IsWithFirst n copies c k)) (sym on)
         (subst (λ (d : Descriptor). (n : ℕ) × IsNumberOf d.lvs name n × IsWithFirst n copies (record core { descriptor = d }) k) drains.runs.leaves.keeps.descriptor (lv, its, is))

@@ -23,7 +23,7 @@ use Rattle.lvm_posts.specs.declared.asked.Asked.{Asked}
 use Rattle.lvm_posts.specs.declared.posts.Post.{Post}
 use Rattle.lvm_posts.specs.declared.fault.RangeFault.{RangeFault}
 use Rattle.lvm_posts.specs.declared.fault.RangeFault.TheVariants as range_fault
-use Rattle.lvm_line.specs.passed.RangeLines.{EndsBy, GoesOnWith, IsOverWith, LeavesBy, OnVolume, WhileOff, NotThere as VolumeNotThere, There}
+use Rattle.lvm_line.specs.passed.RangeLines.{EndsBy, GoesOnWith, IsOverWith, CarriesBy, OnVolume, WhileOff, NotThere as VolumeNotThere, There}
 use Rattle.lvm_line.specs.passed.RangeLines.{IsNotAsked, Posts, NotPosted, Posted, IsFinished, Finishes, NotBegun, EndsWell, Fails, StepDoes}
 use Rattle.lvm_line.specs.passed.RangeLines.{NoStepWhileOff, NothingMoves, Steps}
 use Rattle.lvm_line.specs.passed.RangeLinesWaiting.{WaitDoes, WhileOff as WaitsWhileOff, AtRest, Awaits, WaitsOff, WaitsOn, WaitEnds, Goes, Over}
@@ -35,7 +35,7 @@ use Rattle.lvm_line.specs.passed.RangeLinesWaiting.{InVain}
 use Rattle.lvm_steps.specs.Requests.{at as moment_of}
 use Rattle.lvm_session.specs.declared.open.Power.{Power}
 use Rattle.lvm_session.specs.declared.open.Power.TheVariants as power
-use Rattle.lvm_session.specs.State.{Core, State as Session, state}
+use Rattle.lvm_session.specs.State.{Core, State, state}
 use Rattle.lvm_line.specs.passed.Tie.{LeavesDescriptors}
 use Rattle.lvm_line.specs.passed.Running.{RunsOn}
 use Rattle.lvm_top.specs.Laws.{LineFindsNoMore}
@@ -91,19 +91,19 @@ module _ (log : Log) (old new : ScriptState) (answer : Reply) where
 
 module _ (old new : ScriptState) (answer : Reply) (leaves : LeavesDescriptors old.moment.device) where
   -- what a session leaves that goes on, or is closed
-  goes_on_nothing : (end : Session) (posts : List Post) (last : ℕ) → GoesOnWith end posts last new → NothingNew end.device new.moment.device
+  goes_on_nothing : (end : State) (posts : List Post) (last : ℕ) → GoesOnWith end posts last new → NothingNew end.device new.moment.device
   goes_on_nothing end posts last goes = same_nothing end.device new.moment.device (ap (λ (s : ScriptState). s.moment.device) goes)
 
-  over_nothing : (end : Session) (posts : List Post) (last : ℕ) (closed : ScriptState) → IsOverWith end posts last closed → NothingNew end.device closed.moment.device
+  over_nothing : (end : State) (posts : List Post) (last : ℕ) (closed : ScriptState) → IsOverWith end posts last closed → NothingNew end.device closed.moment.device
   over_nothing end posts last closed over = closed_nothing end.core.power end.device closed.moment.device over.shelf
 
-  leaves_nothing : (p : Power) (end : Session) (posts : List Post) (last : ℕ) → LeavesBy p end posts last new → NothingNew end.device new.moment.device
+  leaves_nothing : (p : Power) (end : State) (posts : List Post) (last : ℕ) → CarriesBy p end posts last new → NothingNew end.device new.moment.device
   leaves_nothing power.On end posts last left = goes_on_nothing end posts last left
   leaves_nothing power.Off end posts last left = over_nothing end posts last new left
   leaves_nothing power.Dark end posts last left = over_nothing end posts last new left
   leaves_nothing power.Stuck end posts last left = over_nothing end posts last new left
 
-  ends_nothing : (done : Result (Unit {0}) RangeFault) (end : Session) (posts : List Post) (last : ℕ) → EndsBy done end posts last new → NothingNew end.device new.moment.device
+  ends_nothing : (done : Result (Unit {0}) RangeFault) (end : State) (posts : List Post) (last : ℕ) → EndsBy done end posts last new → NothingNew end.device new.moment.device
   ends_nothing (Err range_fault.Stuck) end posts last ended = over_nothing end posts last new ended
   ends_nothing (Err range_fault.Dark) end posts last ended = leaves_nothing end.core.power end posts last ended
   ends_nothing (Err (range_fault.WentOff have total)) end posts last ended = leaves_nothing end.core.power end posts last ended
@@ -113,10 +113,10 @@ module _ (old new : ScriptState) (answer : Reply) (leaves : LeavesDescriptors ol
   ends_nothing (Ok done) end posts last ended = leaves_nothing end.core.power end posts last ended
 
   -- and the turns before that
-  turns_nothing : (core : Core) (end : Session) → RunsOn (state old.moment.device core) end → NothingNew end.device new.moment.device → NothingNew old.moment.device new.moment.device
+  turns_nothing : (core : Core) (end : State) → RunsOn (state old.moment.device core) end → NothingNew end.device new.moment.device → NothingNew old.moment.device new.moment.device
   turns_nothing core end runs then = then_nothing old.moment.device end.device new.moment.device (runs_nothing (state old.moment.device core) end leaves runs) then
 
-  finished_nothing : {write : Option ℕ} {done : Result (Unit {0}) RangeFault} (lv at count : ℕ) (core : Core) (end : Session) (asked : Asked) → IsFinished write lv at count core old new end asked done → NothingNew old.moment.device new.moment.device
+  finished_nothing : {write : Option ℕ} {done : Result (Unit {0}) RangeFault} (lv at count : ℕ) (core : Core) (end : State) (asked : Asked) → IsFinished write lv at count core old new end asked done → NothingNew old.moment.device new.moment.device
   finished_nothing {done = done} lv at count core end asked its = turns_nothing core end its.runs (ends_nothing done end old.posts old.last its.ends)
 
   volume_nothing : (name : List ℕ) (Happens : Core → ℕ → Type 0) → ((core : Core) (lv : ℕ) → Happens core lv → NothingNew old.moment.device new.moment.device) → OnVolume name Happens old new answer → NothingNew old.moment.device new.moment.device
@@ -127,7 +127,7 @@ module _ (old new : ScriptState) (answer : Reply) (leaves : LeavesDescriptors ol
   not_asked_nothing : (write : Option ℕ) (lv at count : ℕ) (core : Core) → IsNotAsked write lv at count core old new answer → NothingNew old.moment.device new.moment.device
   not_asked_nothing write lv at count core none = same_nothing old.moment.device new.moment.device (ap (λ (s : ScriptState). s.moment.device) none.refused.1)
 
-  finishes_nothing : (write : Option ℕ) (Tells : Session → Asked → Reply → Type 0) (at count : ℕ) (core : Core) (lv : ℕ) → Finishes write Tells lv at count core old new answer → NothingNew old.moment.device new.moment.device
+  finishes_nothing : (write : Option ℕ) (Tells : State → Asked → Reply → Type 0) (at count : ℕ) (core : Core) (lv : ℕ) → Finishes write Tells lv at count core old new answer → NothingNew old.moment.device new.moment.device
   finishes_nothing write Tells at count core lv (NotBegun none) = not_asked_nothing write lv at count core none
   finishes_nothing write Tells at count core lv (EndsWell end asked its says) = finished_nothing lv at count core end asked its
   finishes_nothing write Tells at count core lv (Fails end asked why its says) = finished_nothing lv at count core end asked its
@@ -161,10 +161,10 @@ module _ (old new : ScriptState) (answer : Reply) (leaves : LeavesDescriptors ol
   off_nothing : (closed : ScriptState) → WaitsOff closed new answer → NothingNew closed.moment.device new.moment.device
   off_nothing closed waits = same_nothing closed.moment.device new.moment.device (ap (λ (s : ScriptState). s.moment.device) waits.new_is)
 
-  on_nothing : (first : Session) → LeavesDescriptors first.device → WaitsOn first old new answer → NothingNew first.device new.moment.device
+  on_nothing : (first : State) → LeavesDescriptors first.device → WaitsOn first old new answer → NothingNew first.device new.moment.device
   on_nothing first at waits = then_nothing first.device waits.end.device new.moment.device (runs_nothing first waits.end at waits.runs) (goes_on_nothing waits.end [] old.last waits.goes)
 
-  waited_nothing : (mid : Session) (left : ℕ) → LeavesDescriptors mid.device → WaitEnds mid left old new answer → NothingNew mid.device new.moment.device
+  waited_nothing : (mid : State) (left : ℕ) → LeavesDescriptors mid.device → WaitEnds mid left old new answer → NothingNew mid.device new.moment.device
   waited_nothing mid left at (Goes on landed waits) = on_nothing mid at waits
   waited_nothing mid left at (Over landed waits) =
       then_nothing mid.device waits.closed.moment.device new.moment.device (over_nothing mid old.posts old.last waits.closed waits.ends) (off_nothing waits.closed waits.waits)

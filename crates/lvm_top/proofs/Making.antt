@@ -1,8 +1,9 @@
 -- What is found after the making of a group, whatever became of it: what was found before, or the new group.
-use Rattle.std.proofs.Common.{◌≡◌, ◌≢◌, ◌⊎◌, inl, inr, ⊎_elim, ℕ, ◌-◌, ◌/◌, ◌^◌, ◌<◌, ◌≤◌, Bool, true, false, ◌&&◌, List, [], ◌∷◌, ◌++◌, length, Option, Some, None, refl, arith}
+use Rattle.std.proofs.Common.{◌≡◌, ◌≢◌, ◌⊎◌, inl, inr, ⊎_elim, ℕ, ◌-◌, ◌/◌, ◌^◌, ◌<◌, ◌≤◌, Bool, true, false, List, [], ◌∷◌, ◌++◌, length, Option, Some, None, refl, arith}
 use Rattle.std.specs.Prelude.{IsTrue, AllPairs, find, unwrap_or, nat_le, if◌then◌else◌}
 use Rattle.std.specs.List.{list_all}
 use Rattle.std.specs.Option.{ForSome}
+use Rattle.std.proofs.lemmas.Bool.{and_parts}
 use Rattle.lvm_num.specs.declared.descriptor.Descriptor.{Descriptor}
 use Rattle.lvm_num.specs.Descriptor.{is_size}
 use Rattle.lvm_num.specs.Geometry.{data_start, partition_blocks}
@@ -29,14 +30,9 @@ none_out flights f none one = cc
 
 -- ---- the size of its partitions
 
-both : (a b : Bool) → a && b ≡ true → (a ≡ true) × (b ≡ true)
-both true true e = (refl, refl)
-both true false e = absurd cc
-both false b e = absurd cc
-
 found_is : (p : ℕ → Bool) (xs : List ℕ) → list_all is_size xs ≡ true → is_size (unwrap_or (find p xs) 1024) ≡ true
 found_is p [] all = refl
-found_is p (x ∷ xs) all = let parts = both (is_size x) (list_all is_size xs) all in go (p x) parts.0 (found_is p xs parts.1)
+found_is p (x ∷ xs) all = let parts = and_parts (is_size x) (list_all is_size xs) all in go (p x) parts.0 (found_is p xs parts.1)
   where
     go : (t : Bool) → is_size x ≡ true → is_size (unwrap_or (find p xs) 1024) ≡ true → is_size (unwrap_or (if t then Some x else find p xs) 1024) ≡ true
     go true here rest = here

@@ -22,7 +22,7 @@ use Rattle.lvm_core.specs.Leaves.{MayBeFound, Scope}
 use Rattle.lvm_core.specs.Looking.{IsNumberOf}
 use Rattle.lvm_session.specs.declared.open.Power.{Power}
 use Rattle.lvm_session.specs.declared.open.Power.TheVariants as power
-use Rattle.lvm_session.specs.State.{Core, State as Session, is_there, state}
+use Rattle.lvm_session.specs.State.{Core, State, is_there, state}
 use Rattle.lvm_line.specs.passed.Running.{RunsOn}
 use Rattle.lvm_line.specs.passed.Tie.{LeavesDescriptors}
 use Rattle.lvm_line.specs.passed.Recover.{HasNoPassive}
@@ -44,7 +44,7 @@ use Rattle.lvm_line.specs.passed.GroupLines.{Varies, NoVaryoff, BusyVaryoff, Var
 use Rattle.lvm_line.specs.passed.DiskLines.{ReadDoes, WriteDoes, NoWriteWhileOn, WriteGoes, NoReadWhileOn, ReadGoes, ArrangeDoes, CutDoes, NotThere}
 use Rattle.lvm_line.specs.passed.DiskLines.{NotPlanned, IsArranged, CutNotPlanned, PowerIsCut}
 use Rattle.lvm_disk.specs.declared.shelf.Arrange.{Arrange}
-use Rattle.lvm_line.specs.passed.RangeLines.{EndsBy, GoesOnWith, LeavesBy, OnVolume, WhileOff, NotThere as VolumeNotThere, There, Posts, NotPosted}
+use Rattle.lvm_line.specs.passed.RangeLines.{EndsBy, GoesOnWith, CarriesBy, OnVolume, WhileOff, NotThere as VolumeNotThere, There, Posts, NotPosted}
 use Rattle.lvm_line.specs.passed.RangeLines.{Posted, Finishes, NotBegun, EndsWell, Fails, StepDoes, NoStepWhileOff, NothingMoves, Steps}
 use Rattle.lvm_line.specs.passed.RangeLinesWaiting.{WaitDoes, WhileOff as WaitsWhileOff, AtRest, Awaits, WaitsOff, WaitsOn, WaitEnds, Goes, Over}
 use Rattle.lvm_line.specs.passed.CopyLines.{IsSynced, NoGroupForSync, NoVolumeForSync, NothingSyncs, OtherGroupForSync, SyncGroupDoes, SyncVolumeDoes}
@@ -71,7 +71,7 @@ HasNoPassiveOn s = IfSome s.session (λ core. HasNoPassive core.descriptor)
 -- ---- what a line commits
 
 with_off : (line : List ℕ) (name : List ℕ) (copies : ℕ) (mode : _) (policy : _) (group : List ℕ) (lps : ℕ) → line_of line ≡ Ok (Some (command.Mklv name copies mode policy group lps)) → (old : ScriptState) → HasNoPassiveOn old → (k : Descriptor)
-    → (core : Core) × (mid : Session) × WasDrained old core mid × IsWith (wanted name copies mode policy lps) mid.core k → HasNoPassive k
+    → (core : Core) × (mid : State) × WasDrained old core mid × IsWith (wanted name copies mode policy lps) mid.core k → HasNoPassive k
 with_off line name copies mode policy group lps is old off k (core, mid, drained, with) row volume =
     ⊎_elim
     (λ same passive. (line_is_within line (command.Mklv name copies mode policy group lps) is).1 (sym (ap (λ (r : LvRow). r.mode) same) ∙ passive))
@@ -102,7 +102,7 @@ rows_off lv copies pps (x ∷ xs) off row one = by_test (x.number == lv) (rows_o
 copies_off : (d k : Descriptor) (lv copies : ℕ) (pps : List Pp) → k ≡ with_copies d lv copies pps → HasNoPassive d → HasNoPassive k
 copies_off d k lv copies pps same off = λ row volume. rows_off lv copies pps d.lvs off row (subst (λ (g : Descriptor). IsOneOf g.lvs row) same volume)
 
-with_more_off : (name : List ℕ) (copies : ℕ) (old : ScriptState) → HasNoPassiveOn old → (k : Descriptor) → (core : Core) × (mid : Session) × WasDrained old core mid × ((lv : ℕ) × IsNumberOf core.descriptor.lvs name lv × IsWithMore lv copies mid.core k) → HasNoPassive k
+with_more_off : (name : List ℕ) (copies : ℕ) (old : ScriptState) → HasNoPassiveOn old → (k : Descriptor) → (core : Core) × (mid : State) × WasDrained old core mid × ((lv : ℕ) × IsNumberOf core.descriptor.lvs name lv × IsWithMore lv copies mid.core k) → HasNoPassive k
 with_more_off name copies old off k (core, mid, drained, (lv, its, (row, (pps, places, same)))) =
     copies_off mid.core.descriptor k lv copies pps same (subst HasNoPassive (sym drained.drains.runs.leaves.keeps.descriptor) (subst (λ (o : Option Core). IfSome o (λ c. HasNoPassive c.descriptor)) drained.on off))
 
@@ -160,16 +160,16 @@ module _ (old new : ScriptState) (off : HasNoPassiveOn old) where
 
   -- ---- turns and calls
 
-  goes_off : (end : Session) (posts : List Post) (last : ℕ) → HasNoPassive end.core.descriptor → GoesOnWith end posts last new → HasNoPassiveOn new
+  goes_off : (end : State) (posts : List Post) (last : ℕ) → HasNoPassive end.core.descriptor → GoesOnWith end posts last new → HasNoPassiveOn new
   goes_off end posts last its goes = some_off end.core (ap (λ (s : ScriptState). s.session) goes) its
 
-  leaves_off : (p : Power) (end : Session) (posts : List Post) (last : ℕ) → HasNoPassive end.core.descriptor → LeavesBy p end posts last new → HasNoPassiveOn new
+  leaves_off : (p : Power) (end : State) (posts : List Post) (last : ℕ) → HasNoPassive end.core.descriptor → CarriesBy p end posts last new → HasNoPassiveOn new
   leaves_off power.On end posts last its left = goes_off end posts last its left
   leaves_off power.Off end posts last its left = none_off left.session
   leaves_off power.Dark end posts last its left = none_off left.session
   leaves_off power.Stuck end posts last its left = none_off left.session
 
-  ends_off : (done : Result (Unit {0}) RangeFault) (end : Session) (posts : List Post) (last : ℕ) → HasNoPassive end.core.descriptor → EndsBy done end posts last new → HasNoPassiveOn new
+  ends_off : (done : Result (Unit {0}) RangeFault) (end : State) (posts : List Post) (last : ℕ) → HasNoPassive end.core.descriptor → EndsBy done end posts last new → HasNoPassiveOn new
   ends_off (Err range_fault.Stuck) end posts last its ended = none_off ended.session
   ends_off (Err range_fault.Dark) end posts last its ended = leaves_off end.core.power end posts last its ended
   ends_off (Err (range_fault.WentOff have total)) end posts last its ended = leaves_off end.core.power end posts last its ended
@@ -179,7 +179,7 @@ module _ (old new : ScriptState) (off : HasNoPassiveOn old) where
   ends_off (Ok done) end posts last its ended = leaves_off end.core.power end posts last its ended
 
   -- turns leave the group
-  runs_off : (a b : Session) → RunsOn a b → HasNoPassive a.core.descriptor → HasNoPassive b.core.descriptor
+  runs_off : (a b : State) → RunsOn a b → HasNoPassive a.core.descriptor → HasNoPassive b.core.descriptor
   runs_off a b runs its = subst HasNoPassive (sym runs.leaves.keeps.descriptor) its
 
   of_core : (core : Core) → old.session ≡ Some core → HasNoPassive core.descriptor
@@ -190,7 +190,7 @@ module _ (old new : ScriptState) (off : HasNoPassiveOn old) where
   volume_off name Happens each (VolumeNotThere core some none is) = same_off is.1
   volume_off name Happens each (There core lv some its happens) = each core lv (of_core core some) happens
 
-  finishes_off : {answer : Reply} (write : Option ℕ) (Tells : Session → Asked → Reply → Type 0) (at count : ℕ) (core : Core) (lv : ℕ) → HasNoPassive core.descriptor → Finishes write Tells lv at count core old new answer → HasNoPassiveOn new
+  finishes_off : {answer : Reply} (write : Option ℕ) (Tells : State → Asked → Reply → Type 0) (at count : ℕ) (core : Core) (lv : ℕ) → HasNoPassive core.descriptor → Finishes write Tells lv at count core old new answer → HasNoPassiveOn new
   finishes_off write Tells at count core lv its (NotBegun none) = same_off none.refused.1
   finishes_off write Tells at count core lv its (EndsWell end asked done says) = ends_off (Ok tt) end old.posts old.last (runs_off (state old.moment.device core) end done.runs its) done.ends
   finishes_off write Tells at count core lv its (Fails end asked why done says) = ends_off (Err why) end old.posts old.last (runs_off (state old.moment.device core) end done.runs its) done.ends
@@ -224,7 +224,7 @@ module _ (old new : ScriptState) (off : HasNoPassiveOn old) where
   step_off turns (NothingMoves core some empty says same) = same_off same
   step_off turns (Steps core some vols its) = leaves_off its.end.core.power its.end old.posts old.last (runs_off (state old.moment.device core) its.end its.runs (of_core core some)) its.leaves
 
-  on_off : {answer : Reply} (first : Session) → HasNoPassive first.core.descriptor → WaitsOn first old new answer → HasNoPassiveOn new
+  on_off : {answer : Reply} (first : State) → HasNoPassive first.core.descriptor → WaitsOn first old new answer → HasNoPassiveOn new
   on_off first its waits = goes_off waits.end [] old.last (runs_off first waits.end waits.runs its) waits.goes
 
   closed_off : {answer : Reply} (closed : ScriptState) → WaitsOff closed new answer → HasNoPassiveOn new
@@ -287,14 +287,14 @@ module _ (old new : ScriptState) (off : HasNoPassiveOn old) where
         by_given (Err why) left = none_off left.after
 
     -- one that goes on behind a command is found
-    stays_off : (left : Session) → StaysOn left old new → IsHeld left.device left.core → HasNoPassiveOn new
+    stays_off : (left : State) → StaysOn left old new → IsHeld left.device left.core → HasNoPassiveOn new
     stays_off left stays held =
         let told_left : IsSome left.device.media = subst (λ (d : Device). IsSome d.media) stays.device told in
         let found : MayBeFound new.moment.device left.core.descriptor.id left.core.descriptor = subst (λ (d : Device). MayBeFound d left.core.descriptor.id left.core.descriptor) (sym stays.device) (held_found left.device left.core held told_left) in
         some_off stays.core stays.session (subst (λ (c : Core). HasNoPassive c.descriptor) (sym stays.is) (finds left.core.descriptor.id left.core.descriptor found))
 
     module _ (run : ℕ) (leaves : LeavesDescriptors old.moment.device) (named : IfSome old.session (λ core. core.history.run ≡ run)) (stood : StoodBefore run OfGroup old new) where
-      done_off : {Gives : Session → Session → Type 0} {scope : Core → Scope} (over : Bool) (core : Core) (left : ℕ) (mid : Session) → old.session ≡ Some core → Drains core old left mid
+      done_off : {Gives : State → State → Type 0} {scope : Core → Scope} (over : Bool) (core : Core) (left : ℕ) (mid : State) → old.session ≡ Some core → Drains core old left mid
           → IsDone Gives scope over mid old new → HasNoPassiveOn new
       done_off true core left mid some drains done = none_off done.leaves.session
       done_off false core left mid some drains done = stays_off done.left done.leaves (done.held refl (held_mid run old new leaves named stood core left mid some drains))

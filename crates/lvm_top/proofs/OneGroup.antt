@@ -26,7 +26,7 @@ use Rattle.lvm_core.specs.declared.parts.Room.{Room}
 use Rattle.lvm_core.specs.declared.refused.Cause.{Cause}
 use Rattle.lvm_core.specs.declared.refused.Cause.TheVariants as cause
 use Rattle.lvm_core.specs.declared.refused.Refused.{Refused}
-use Rattle.lvm_session.specs.State.{Core, State as Session}
+use Rattle.lvm_session.specs.State.{Core, State}
 use Rattle.lvm_line.specs.passed.Quiesce.{MkvgOnceQuiet, RefusedAtOnce, StayedOut, WentQuiet}
 use Rattle.lvm_line.specs.passed.Tie.{LeavesDescriptors}
 use Rattle.lvm_kept.specs.Moments.{Moment}
@@ -181,7 +181,7 @@ module _ (log : Log) (old new : ScriptState) (answer : Reply) (shelf : IsShelf o
   -- ---- `mklv` and `rmlv`
 
   module _ (stood : StoodBefore log.run OfGroup old new) where
-    commanded_one : {Gives : Session → Session → Type 0} {scope : Core → Scope} {over : Bool} (core : Core) (left : ℕ) (mid : Session) → old.session ≡ Some core → Drains core old left mid
+    commanded_one : {Gives : State → State → Type 0} {scope : Core → Scope} {over : Bool} (core : Core) (left : ℕ) (mid : State) → old.session ≡ Some core → Drains core old left mid
         → ((k : Descriptor) → (scope mid.core).next k → k.id ≡ mid.core.descriptor.id) → IsDone Gives scope over mid old new → FindsOneGroup now
     commanded_one core left mid some drains own done = no_new_one was now (λ id k it. ⊎_elim
         (λ (before : MayBeFound was id k). (k, before))

@@ -8,7 +8,7 @@ use Rattle.lvm_core.specs.declared.refused.Cause.{Cause}
 use Rattle.lvm_core.specs.declared.refused.Cause.TheVariants as cause
 use Rattle.lvm_session.specs.declared.open.Power.{Power}
 use Rattle.lvm_session.specs.declared.open.Power.TheVariants as power
-use Rattle.lvm_session.specs.State.{State as Session}
+use Rattle.lvm_session.specs.State.{State}
 use Rattle.lvm_line.specs.passed.QuiescedVariants as quiesced
 use Rattle.lvm_line.specs.passed.Quiesce.{Quiesces, StaysOut, RangeStaysOut}
 use Rattle.lvm_line.proofs.passed.Quiesce.{ends_leave, ends_leave_no_more}
@@ -51,8 +51,8 @@ closed_nothing power.Stuck old new is = freed_nothing old new is
 
 -- ---- turns
 
-pub session_nothing : (old new : Session) → LeavesDescriptors old.device → LeavesSession old new → NothingNew old.device new.device
+pub session_nothing : (old new : State) → LeavesDescriptors old.device → LeavesSession old new → NothingNew old.device new.device
 session_nothing old new leaves left id k (image, may, found) = (left.descriptors leaves).finds id k image may found
 
-pub runs_nothing : (old new : Session) → LeavesDescriptors old.device → RunsOn old new → NothingNew old.device new.device
+pub runs_nothing : (old new : State) → LeavesDescriptors old.device → RunsOn old new → NothingNew old.device new.device
 runs_nothing old new leaves runs = session_nothing old new leaves runs.leaves

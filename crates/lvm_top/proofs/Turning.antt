@@ -14,7 +14,7 @@ use Rattle.lvm_line.specs.passed.HolderVariants as holder
 use Rattle.lvm_session.specs.declared.answers.Turned.{Turned}
 use Rattle.lvm_session.specs.declared.answers.Turned.TheVariants as turned
 use Rattle.lvm_session.specs.declared.open.Power.TheVariants as power
-use Rattle.lvm_session.specs.State.{Core, State as Session, state}
+use Rattle.lvm_session.specs.State.{Core, State, state}
 use Rattle.lvm_session.specs.Turns.{TurnMakes}
 use Rattle.lvm_line.specs.passed.Running.{RunsOn}
 use Rattle.lvm_line.proofs.passed.Running.{runs_both, runs_none}
@@ -23,16 +23,16 @@ use Rattle.lvm_line.specs.passed.Ranges.{Moves, NoMove, OneMove}
 use Rattle.lvm_top.specs.Ending.{Concludes, IsQuietNow, IsServed, MakesTurns, NoneIsServed, NothingIsLeft, RestsNow, RunsOut, TurnsAreMade}
 
 -- so far each turn has moved
-pub record MovesSoFar (first now : Session) : Type 0 where
+pub record MovesSoFar (first now : State) : Type 0 where
   pub moved : ℕ
   pub moves : Moves first moved now
   pub runs : RunsOn first now
   pub unstuck : now.core.power ≡ power.Stuck → ⊥
 
-pub no_turn : (first : Session) → (first.core.power ≡ power.Stuck → ⊥) → MovesSoFar first first
+pub no_turn : (first : State) → (first.core.power ≡ power.Stuck → ⊥) → MovesSoFar first first
 no_turn first unstuck = record { moved = 0; moves = NoMove; runs = runs_none first; unstuck = unstuck }
 
-module _ (first old new : Session) (so_far : MovesSoFar first old) where
+module _ (first old new : State) (so_far : MovesSoFar first old) where
   pub one_turn : TurnMakes old new turned.Moved → TurnTells old new turned.Moved → RunsOn old new → MovesSoFar first new
   one_turn made tells runs = record {
     moved = so_far.moved + 1;
@@ -48,12 +48,12 @@ module _ (first old new : Session) (so_far : MovesSoFar first old) where
   turns_run runs = runs_both first old new so_far.runs runs
 
 -- what holds of none, of a turn, and of one behind the other holds of all
-module _ (R : Session → Session → Type 0) (none : (s : Session) → R s s) (both : (a b c : Session) → R a b → R b c → R a c) (turn : (a b : Session) (answer : Turned) → TurnMakes a b answer → R a b) where
-  each_move : (old : Session) (n : ℕ) (new : Session) → Moves old n new → R old new
+module _ (R : State → State → Type 0) (none : (s : State) → R s s) (both : (a b c : State) → R a b → R b c → R a c) (turn : (a b : State) (answer : Turned) → TurnMakes a b answer → R a b) where
+  each_move : (old : State) (n : ℕ) (new : State) → Moves old n new → R old new
   each_move old n new NoMove = none old
   each_move old n new (OneMove {n = m} {old = mid} so_far made) = both old mid new (each_move old m mid so_far) (turn mid new turned.Moved made)
 
-  pub each_turn : (old new : Session) → MakesTurns old new → R old new
+  pub each_turn : (old new : State) → MakesTurns old new → R old new
   each_turn old new made = both old made.mid new (each_move old made.moved made.mid made.moves) (turn made.mid new made.answer made.last)
 
 -- ---- whether nothing is under way
@@ -84,11 +84,11 @@ pub closed_by : {S : Type 0} (device : S → Device) (p : Power) (old : Device) 
 closed_by device p old h closed is none same = subst (λ (d : Device). IsClosed p old d) (sym (same none)) is
 
 -- it rests
-pub out_still : (s : Session) (exit : Device) (facts : List Fact) → RestsNow s → s.core.power ≡ power.On → IsClosed s.core.power s.device exit → facts ≡ s.core.history.facts → RunsOut s (record { device = exit; facts = facts })
+pub out_still : (s : State) (exit : Device) (facts : List Fact) → RestsNow s → s.core.power ≡ power.On → IsClosed s.core.power s.device exit → facts ≡ s.core.history.facts → RunsOut s (record { device = exit; facts = facts })
 out_still s exit facts rest on closed entries = NothingIsLeft rest (subst (λ (p : Power). IsClosed p s.device exit) on closed) entries
 
 -- or turns were made
-pub out_turned : (s last : Session) (exit : Device) (facts : List Fact) → (RestsNow s → ⊥) → MakesTurns s last → RunsOn s last → IsSound last → IsClosed last.core.power last.device exit → facts ≡ last.core.history.facts
+pub out_turned : (s last : State) (exit : Device) (facts : List Fact) → (RestsNow s → ⊥) → MakesTurns s last → RunsOn s last → IsSound last → IsClosed last.core.power last.device exit → facts ≡ last.core.history.facts
     → RunsOut s (record { device = exit; facts = facts })
 out_turned s last exit facts moving turns runs sound closed entries = TurnsAreMade last moving turns runs sound closed entries
 

@@ -15,7 +15,7 @@ use Rattle.lvm_num.specs.StatusBytes.{status_of, status_bytes}
 use Rattle.lvm_num.proofs.Newest.{is_one}
 use Rattle.lvm_vgda.proofs.Whole.{spelled_is_read}
 use Rattle.lvm_vgsa.proofs.RoundTrip.{is_read_again}
-use Rattle.lvm_disk.specs.Device.{Media, Device, image_of, AreSectors, MayLeave, IsCrashImage, Image}
+use Rattle.lvm_disk.specs.Device.{Media, Device, image_of, AreSectors, MayLeave, IsCrashImage, Image, IsWholeImage}
 use Rattle.lvm_disk.specs.Steps.{BothTold}
 use Rattle.lvm_kept.specs.Contents.{Contents, contents_of, has_records}
 use Rattle.lvm_kept.specs.Group.{is_of, descriptor_among, Finds}
@@ -24,7 +24,7 @@ use Rattle.lvm_kept.specs.Torn.{MayWriteAll}
 use Rattle.lvm_kept.proofs.Finding.{offered, is_offered}
 use Rattle.lvm_steps.proofs.Making.{media_may}
 use Rattle.lvm_stamps.specs.Behind.{StampsBefore, IsBehind}
-use Rattle.lvm_stamps.specs.Laws.{IsWhole, ShowsBefore}
+use Rattle.lvm_stamps.specs.Laws.{ShowsBefore}
 use Rattle.lvm_stamps.proofs.Records.{session_may_go, shown_is_before}
 use Rattle.lvm_stamps.proofs.Stamps.{behind_is_before}
 use Rattle.lvm_survey.proofs.ShownValid.{descriptors_valid}
@@ -81,7 +81,7 @@ module _ (old new : Device) (name : List ℕ) (moment : ℕ) (How : Beginning �
     low = let early = written.chosen.early in omega (arith, early)
 
     module _ (media : Media) (told : old.media ≡ Some media) where
-      whole : IsWhole (image_of old.sizes media)
+      whole : IsWholeImage (image_of old.sizes media)
       whole = told_at old.media (λ m. AreSectors old.sizes m) media told shelf.whole
 
       -- what a disk shows is valid

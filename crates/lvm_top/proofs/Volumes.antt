@@ -22,7 +22,7 @@ use Rattle.lvm_core.specs.declared.parts.Room.{Room}
 use Rattle.lvm_core.specs.Held.{IsHeld}
 use Rattle.lvm_core.specs.Looking.{IsNumberOf}
 use Rattle.lvm_core.specs.Leaves.{MayBeFound, Scope}
-use Rattle.lvm_session.specs.State.{Core, State as Session, is_there, state}
+use Rattle.lvm_session.specs.State.{Core, State, is_there, state}
 use Rattle.lvm_line.specs.passed.Tie.{LeavesDescriptors, IsGood, IsTied}
 use Rattle.lvm_line.proofs.passed.TieGroups.{tied_holds}
 use Rattle.lvm_line.specs.passed.TieCommands.{StandsAfter}
@@ -47,7 +47,7 @@ some_of (Some x) some = (x, refl)
 some_of None some = absurd (cc (some))
 
 -- what stands before a line that asks for more stands before a command on the group
-pub as_group : (run : ℕ) (Holds : Session → Type 0) (old new : ScriptState) → StoodBefore run (OfGroupWhere Holds) old new → StoodBefore run OfGroup old new
+pub as_group : (run : ℕ) (Holds : State → Type 0) (old new : ScriptState) → StoodBefore run (OfGroupWhere Holds) old new → StoodBefore run OfGroup old new
 as_group run Holds old new (HeldAtRest rest held) = HeldAtRest rest held
 as_group run Holds old new (StandsSince past first stands begins alone) = StandsSince past first stands begins (record { enters = alone.enters; acts = alone.acts; allowed = tt })
 
@@ -55,21 +55,21 @@ module _ (run : ℕ) (old new : ScriptState) (leaves : LeavesDescriptors old.mom
   -- ---- before the command
 
   -- turns make nothing found
-  drained_nothing : (core : Core) (left : ℕ) (mid : Session) → Drains core old left mid → NothingNew old.moment.device mid.device
+  drained_nothing : (core : Core) (left : ℕ) (mid : State) → Drains core old left mid → NothingNew old.moment.device mid.device
   drained_nothing core left mid drains = runs_nothing (state old.moment.device core) mid leaves drains.runs
 
   of_session : (P : Core → Type 0) (core : Core) → old.session ≡ Some core → IfSome old.session P → P core
   of_session P core some holds = subst (λ (o : Option Core). IfSome o P) some holds
 
   -- after them the disks hold what the session says, and are told where they were
-  pub held_so : (core : Core) (left : ℕ) (mid : Session) → old.session ≡ Some core → Drains core old left mid → IsHeld mid.device mid.core × (IsSome old.moment.device.media → IsSome mid.device.media)
+  pub held_so : (core : Core) (left : ℕ) (mid : State) → old.session ≡ Some core → Drains core old left mid → IsHeld mid.device mid.core × (IsSome old.moment.device.media → IsSome mid.device.media)
   held_so core left mid some drains = by_stood stood
     where
       same_told : mid ≡ state old.moment.device core → IsSome old.moment.device.media → IsSome mid.device.media
-      same_told same told = subst (λ (s : Session). IsSome s.device.media) (sym same) told
+      same_told same told = subst (λ (s : State). IsSome s.device.media) (sym same) told
 
       by_stood : StoodBefore run OfGroup old new → IsHeld mid.device mid.core × (IsSome old.moment.device.media → IsSome mid.device.media)
-      by_stood (HeldAtRest rest held) = (subst (λ (s : Session). IsHeld s.device s.core) (sym (drains.still rest)) (of_session (IsHeld old.moment.device) core some held), same_told (drains.still rest))
+      by_stood (HeldAtRest rest held) = (subst (λ (s : State). IsHeld s.device s.core) (sym (drains.still rest)) (of_session (IsHeld old.moment.device) core some held), same_told (drains.still rest))
       by_stood (StandsSince past first stands begins alone) = by_volumes core.descriptor.lvs refl
         where
           after : (before : List Fact) → Begins run before first → StandsAfter before old.moment.device core
@@ -79,7 +79,7 @@ module _ (run : ℕ) (old new : ScriptState) (leaves : LeavesDescriptors old.mom
           good tied = (drains.runs.leaves.good first tied).0 drains.settled.power past (subst (λ (n : ℕ). Begins n past first) (sym (of_session (λ (c : Core). c.history.run ≡ run) core some named)) begins)
 
           by_volumes : (lvs : List LvRow) → core.descriptor.lvs ≡ lvs → IsHeld mid.device mid.core × (IsSome old.moment.device.media → IsSome mid.device.media)
-          by_volumes [] none = (subst (λ (s : Session). IsHeld s.device s.core) (sym (drains.empty none)) ((after past begins).empty none).held, same_told (drains.empty none))
+          by_volumes [] none = (subst (λ (s : State). IsHeld s.device s.core) (sym (drains.empty none)) ((after past begins).empty none).held, same_told (drains.empty none))
           by_volumes (row ∷ rows) has =
               let some_volume : core.descriptor.lvs ≡ [] → ⊥ = λ none. let e = sym has ∙ none in cc e in
               let tied : IsTied past mid = good (λ on before begun. (after before (subst (λ (n : ℕ). Begins n before first) (of_session (λ (c : Core). c.history.run ≡ run) core some named) begun)).tied some_volume) in (
@@ -87,11 +87,11 @@ module _ (run : ℕ) (old new : ScriptState) (leaves : LeavesDescriptors old.mom
                 λ told. subst IsSome (sym tied.setting.told) refl,
               )
 
-  pub held_mid : (core : Core) (left : ℕ) (mid : Session) → old.session ≡ Some core → Drains core old left mid → IsHeld mid.device mid.core
+  pub held_mid : (core : Core) (left : ℕ) (mid : State) → old.session ≡ Some core → Drains core old left mid → IsHeld mid.device mid.core
   held_mid core left mid some drains = (held_so core left mid some drains).0
 
   -- so the group of the session was found before
-  pub found_before : IsSome old.moment.device.media → (core : Core) (left : ℕ) (mid : Session) → old.session ≡ Some core → Drains core old left mid → MayBeFound old.moment.device core.descriptor.id core.descriptor
+  pub found_before : IsSome old.moment.device.media → (core : Core) (left : ℕ) (mid : State) → old.session ≡ Some core → Drains core old left mid → MayBeFound old.moment.device core.descriptor.id core.descriptor
   found_before told core left mid some drains =
       let so = held_so core left mid some drains in
       let m = some_of mid.device.media (so.1 told) in
@@ -107,7 +107,7 @@ module _ (run : ℕ) (old new : ScriptState) (leaves : LeavesDescriptors old.mom
   -- ---- the command
 
   -- what it finds, whatever became of it
-  pub done_finds : {Gives : Session → Session → Type 0} {scope : Core → Scope} {over : Bool} (core : Core) (left : ℕ) (mid : Session) → old.session ≡ Some core → Drains core old left mid → IsDone Gives scope over mid old new
+  pub done_finds : {Gives : State → State → Type 0} {scope : Core → Scope} {over : Bool} (core : Core) (left : ℕ) (mid : State) → old.session ≡ Some core → Drains core old left mid → IsDone Gives scope over mid old new
       → (id : ℕ) (k : Descriptor) → MayBeFound new.moment.device id k → MayBeFound old.moment.device id k ⊎ ((id ≡ k.id) × (scope mid.core).next k)
   done_finds core left mid some drains done id k it = ⊎_elim
       (λ before. inl (drained_nothing core left mid drains id k before))
@@ -115,9 +115,9 @@ module _ (run : ℕ) (old new : ScriptState) (leaves : LeavesDescriptors old.mom
       (done.finds (held_mid core left mid some drains) id k it)
 
   -- where a session goes on at which nothing has happened
-  pub idle_nothing : (core : Core) (left : ℕ) (mid end : Session) → Drains core old left mid → end ≡ mid → StaysOn end old new → NothingNew old.moment.device new.moment.device
+  pub idle_nothing : (core : Core) (left : ℕ) (mid end : State) → Drains core old left mid → end ≡ mid → StaysOn end old new → NothingNew old.moment.device new.moment.device
   idle_nothing core left mid end drains same stays =
-      then_nothing old.moment.device mid.device new.moment.device (drained_nothing core left mid drains) (same_nothing mid.device new.moment.device (stays.device ∙ ap (λ (s : Session). s.device) same))
+      then_nothing old.moment.device mid.device new.moment.device (drained_nothing core left mid drains) (same_nothing mid.device new.moment.device (stays.device ∙ ap (λ (s : State). s.device) same))
 
   module _ (answer : Reply) where
     -- ---- `mklv`
@@ -126,7 +126,7 @@ module _ (run : ℕ) (old new : ScriptState) (leaves : LeavesDescriptors old.mom
       abbrev FoundByMklv : Type 0
       FoundByMklv = (id : ℕ) (k : Descriptor) → MayBeFound new.moment.device id k → MayBeFound old.moment.device id k ⊎ MayHaveCommitted (Ok (Some (command.Mklv name copies mode policy group lps))) answer old new id k
 
-      module _ (core : Core) (left : ℕ) (mid : Session) (on : old.session ≡ Some core) (drains : Drains core old left mid) where
+      module _ (core : Core) (left : ℕ) (mid : State) (on : old.session ≡ Some core) (drains : Drains core old left mid) where
         tried_mklv : (given : Result ℕ GroupFault) (over : Bool) → (answer ≡ reply.Ok) ⊎ IsBrokenOff answer → MklvEnds (wanted name copies mode policy lps) given over left mid old new → FoundByMklv
         tried_mklv given over tried done id k it = ⊎_elim
             (λ before. inl before)
@@ -155,7 +155,7 @@ module _ (run : ℕ) (old new : ScriptState) (leaves : LeavesDescriptors old.mom
       abbrev FoundByRmlv : Type 0
       FoundByRmlv = (id : ℕ) (k : Descriptor) → MayBeFound new.moment.device id k → MayBeFound old.moment.device id k ⊎ MayHaveCommitted (Ok (Some (command.Rmlv name))) answer old new id k
 
-      module _ (core : Core) (left : ℕ) (mid : Session) (on : old.session ≡ Some core) (drains : Drains core old left mid) (lv : ℕ) (its : IsNumberOf mid.core.descriptor.lvs name lv) where
+      module _ (core : Core) (left : ℕ) (mid : State) (on : old.session ≡ Some core) (drains : Drains core old left mid) (lv : ℕ) (its : IsNumberOf mid.core.descriptor.lvs name lv) where
         -- the volume's number is that of the name
         without : (k : Descriptor) → k ≡ without_volume mid.core.descriptor lv → IsSomeAnd old.session (λ c. (n : ℕ) × IsNumberOf c.descriptor.lvs name n × (k ≡ without_volume c.descriptor n))
         without k is = subst (λ (o : Option Core). IsSomeAnd o (λ c. (n : ℕ) × IsNumberOf c.descriptor.lvs name n × (k ≡ without_volume c.descriptor n))) (sym on)

@@ -1,4 +1,3 @@
-pub mod Driver
 pub mod HolderVariants
 pub mod Lines
 pub mod Recover

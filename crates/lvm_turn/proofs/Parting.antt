@@ -1,6 +1,7 @@
 -- Passes are cut in two and made one.
 use Rattle.std.proofs.Common.{◌≡◌, ◌≢◌, ℕ, zero, suc, ◌⊎◌, eqb, Bool, true, false, true≢false, cond, not, Option, List, [], ◌∷◌, ◌++◌, length, set, ◌<◌, ◌≤◌, refl, sym, ap, ◌∙◌, subst, ⊎_elim, inl, inr, arith, eq-eqb, ne_eqb, length-set}
 use Rattle.std.specs.Prelude.{filter, ◌==◌}
+use Rattle.std.proofs.lemmas.Bool.{not-true}
 use mathlib.Core.Option.{some, some-ne-none, some-injective}
 use mathlib.Core.Logic.{dite}
 use native.Mathlib.Decide.{ℕ_discrete}
@@ -55,14 +56,10 @@ module _ (p : Client → Bool) where
   stays_owns [] c l passes h = h
   stays_owns (x ∷ xs) c l passes h = stays_by x xs (filter p xs) c l (p x) refl (passes x) (stays_owns xs c l passes) h
 
-not_true : (b : Bool) → not b ≡ true → b ≡ false
-not_true true e = absurd (true≢false (sym e))
-not_true false e = refl
-
 without_fewer : (xs : List Client) (k c : ℕ) (l : List Fact) → Owns (without k xs) c l → Owns xs c l × (c ≢ k)
 without_fewer xs k c l h =
     let t = kept_owns (λ x. not (x.number == k)) xs c l h in
-    (t.0, λ (e : c ≡ k). off (t.1.0.number == k) (not_true _ t.1.1) (eq-eqb t.1.0.number k (t.1.2 ∙ e)))
+    (t.0, λ (e : c ≡ k). off (t.1.0.number == k) (not-true _ t.1.1) (eq-eqb t.1.0.number k (t.1.2 ∙ e)))
 
 without_keeps : (xs : List Client) (k c : ℕ) → Holds xs c → c ≢ k → Holds (without k xs) c
 without_keeps xs k c h ne = (h.0, stays_owns (λ x. not (x.number == k)) xs c h.0 (λ x e. ap not (ne_eqb x.number k (λ same. ne (sym e ∙ same)))) h.1)

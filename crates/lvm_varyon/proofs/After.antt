@@ -2,6 +2,7 @@
 use Rattle.std.proofs.Common.{◌≡◌, ◌⊎◌, inl, inr, ⊎_elim, ℕ, ◌<◌, Bool, true, false, ◌&&◌, ◌==◌, ◌||◌, List, [], ◌∷◌, Option, Some, refl, sym, ap, subst, ◌∙◌, arith}
 use Rattle.std.specs.Prelude.{IsTrue, IsFalse, option_map, IfSome}
 use Rattle.std.specs.List.{list_any}
+use Rattle.std.proofs.lemmas.Bool.{cases_Bool}
 use Rattle.lvm_num.specs.declared.descriptor.PvRow.{PvRow}
 use Rattle.lvm_num.specs.declared.descriptor.Descriptor.{Descriptor}
 use Rattle.lvm_num.specs.Disks.{Disks}
@@ -63,10 +64,6 @@ voter_room c disks group f d e =
     third true true e is = is
     third true false e is = absurd cc
     third false b e is = absurd cc
-
-tested : (t : Bool) → (t ≡ true) ⊎ (t ≡ false)
-tested true = inl refl
-tested false = inr refl
 
 -- the group that the name chooses has its records, on its members that answer
 abbrev pub HasRecords : Device → Device → List ℕ → ℕ → Homes → Type 0
@@ -196,13 +193,13 @@ module _ (old new : Device) (name : List ℕ) (moment : ℕ) (homes : Homes) (w 
 
   describe_change : DescriptorsChange targets newest before described
   describe_change = record {
-    own = λ d. ⊎_elim (λ (target : IsTrue (targets d)). inr (target, begun.described d target)) (λ (other : IsFalse (targets d)). inl (begun.others d other).0) (tested (targets d));
+    own = λ d. ⊎_elim (λ (target : IsTrue (targets d)). inr (target, begun.described d target)) (λ (other : IsFalse (targets d)). inl (begun.others d other).0) (cases_Bool (targets d));
     rest = refl;
   }
 
   state_change : StatusesChange targets (as_read (states b) w.next) described after
   state_change = record {
-    own = λ d. ⊎_elim (λ (target : IsTrue (targets d)). inr (target, begun.stated d target)) (λ (other : IsFalse (targets d)). inl (begun.others d other).1) (tested (targets d));
+    own = λ d. ⊎_elim (λ (target : IsTrue (targets d)). inr (target, begun.stated d target)) (λ (other : IsFalse (targets d)). inl (begun.others d other).1) (cases_Bool (targets d));
     rest = begun.rest ∙ (λ t. record before { descriptor = after.descriptor; status = after.status; note = λ d. begun.noted refl d t });
   }
 

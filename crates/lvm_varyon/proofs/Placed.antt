@@ -2,7 +2,7 @@
 use Rattle.std.proofs.Common.{◌≡◌, ◌≢◌, inl, inr, ℕ, ◌≤◌, Bool, true, false, ◌&&◌, ◌==◌, suc, List, [], ◌∷◌, get_or, Option, Some, refl, sym, ap, subst, ◌∙◌, arith}
 use Rattle.std.specs.Prelude.{IsTrue, not, nat_le, unwrap_or, option_map, find, slice_get, if◌then◌else◌, Contains, AllPairs}
 use Rattle.std.specs.List.{list_any}
-use Rattle.std.proofs.lemmas.Bool.{cases_lt, eqb-true, eq-eqb}
+use Rattle.std.proofs.lemmas.Bool.{cases_lt, eqb-true, eq-eqb, and_parts}
 use Rattle.std.proofs.lemmas.Bool.Decides.{nat_tests}
 use Rattle.std.proofs.lemmas.List.{get_or_default}
 use Rattle.std.proofs.lemmas.List.Folds.{list_any_at, Any-from_list_any}
@@ -27,16 +27,11 @@ use Rattle.lvm_varyon_plan.specs.Planned.{IsPlan}
 use Rattle.lvm_varyon.specs.Parts.{IsSurveyOf}
 use Rattle.lvm_varyon.proofs.Beginning.{target_row, target_room}
 
-both : (a b : Bool) → a && b ≡ true → (a ≡ true) × (b ≡ true)
-both true true e = (refl, refl)
-both true false e = absurd cc
-both false b e = absurd cc
-
 -- the one row of a disk passes, where some row of it does
 row_passes : (rows : List PvRow) (row : PvRow) (test : PvRow → Bool) → AllPairs (λ (a b : PvRow). a.disk ≢ b.disk) rows → Contains rows row → list_any (λ (r : PvRow). r.disk == row.disk && test r) rows ≡ true → IsTrue (test row)
 row_passes rows row test differ there some =
     let found = Any-from_list_any (λ (r : PvRow). r.disk == row.disk && test r) rows some in
-    let two = both (found.1.disk == row.disk) (test found.1) found.4 in
+    let two = and_parts (found.1.disk == row.disk) (test found.1) found.4 in
     let same : found.1.disk ≡ row.disk = eqb-true found.1.disk row.disk two.0 in
     let here : get_or rows found.0 row ≡ found.1 = get_or_default rows found.0 row found.1 found.2 ∙ found.3 in
     let its : (get_or rows found.0 row).disk ≡ row.disk = ap (λ (r : PvRow). r.disk) here ∙ same in

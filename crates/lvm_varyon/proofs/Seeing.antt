@@ -1,9 +1,9 @@
 -- What a survey finds on the disks that answered.
 use Rattle.std.proofs.Common.{◌≡◌, ◌⊎◌, inl, inr, List, ◌∷◌, zero, suc, ℕ, ◌<◌, ◌≤◌, Bool, true, false, ◌&&◌, [], length, Option, Some, None, refl, sym, ap, subst, ◌∙◌, arith}
 use Rattle.std.specs.Prelude.{IsTrue, IsFalse, not, nat_lt, nat_le, if◌then◌else◌, option_and_then, option_map, unwrap_or, slice_get, slice_index_or, IfSome}
-use Rattle.std.proofs.lemmas.Bool.{cases_lt}
+use Rattle.std.proofs.lemmas.Bool.{cases_lt, and_parts, not-true}
 use Rattle.std.proofs.lemmas.Bool.Decides.{nat_tests}
-use Rattle.std.proofs.lemmas.Option.{slice_get_past, get_or_from_slice_get}
+use Rattle.std.proofs.lemmas.Option.{slice_get_past, get_or_from_slice_get, same_Some}
 use Rattle.lvm_num.specs.Disks.{Disks}
 use Rattle.lvm_num.specs.Geometry.{data_start}
 use Rattle.lvm_rec.specs.Note.{noted_of}
@@ -61,15 +61,6 @@ enough_is n le = grind (arith, nat_tests)
 within : (d n : ℕ) → d < n → nat_lt d n ≡ true
 within d n lt = grind (arith, nat_tests)
 
-both : (a b : Bool) → a && b ≡ true → (a ≡ true) × (b ≡ true)
-both true true e = (refl, refl)
-both true false e = absurd cc
-both false b e = absurd cc
-
-not_true : (b : Bool) → not b ≡ true → b ≡ false
-not_true true e = absurd cc
-not_true false e = refl
-
 none_some : {X : Type 0} (x : X) → None ≡ Some x → ⊥
 none_some x e = cc
 
@@ -77,9 +68,6 @@ none_at : {X : Type 0} (xs : List X) (d : ℕ) → d < length xs → slice_get x
 none_at [] d lt e = absurd (omega (arith, lt))
 none_at (x ∷ xs) zero lt e = cc
 none_at (x ∷ xs) (suc d) lt e = none_at xs d (omega (arith, lt)) e
-
-some_is : {X : Type 0} (x y : X) → Some x ≡ Some y → x ≡ y
-some_is x y e = cc
 
 module _ (old new : Device) (survey : Survey) (is : IsSurveyOf old new survey) where
   size_of : (d : ℕ) (row : SurveyRow) → slice_get survey.rows d ≡ Some row → slice_index_or old.sizes d 0 ≡ row.sectors
@@ -99,7 +87,7 @@ module _ (old new : Device) (survey : Survey) (is : IsSurveyOf old new survey) w
     where
       by_row : (o : Option SurveyRow) → slice_get survey.rows d ≡ o → IsTrue (answers o) → (row : SurveyRow) × (slice_get survey.rows d ≡ Some row) × (row.failed ≡ false) × (data_start ≤ row.sectors)
       by_row None at it = absurd cc
-      by_row (Some row) at it = let two = both (not row.failed) (nat_le data_start row.sectors) it in (row, at, not_true row.failed two.0, enough row.sectors two.1)
+      by_row (Some row) at it = let two = and_parts (not row.failed) (nat_le data_start row.sectors) it in (row, at, not-true row.failed two.0, enough row.sectors two.1)
 
   pub have_answered : (later : Device) → later.counts.misses ≡ new.counts.misses → HaveAnswered old later (answered_by survey)
   unfolding answered_by answers
@@ -114,7 +102,7 @@ module _ (old new : Device) (survey : Survey) (is : IsSurveyOf old new survey) w
       by_row d room (Some row) at off = subst (λ (m : ℕ → ℕ). Rose (old.counts.misses d) (m d)) (sym same) ((is.each d row at).failed (by_test row.failed off))
         where
           large : nat_le data_start row.sectors ≡ true
-          large = enough_is row.sectors (subst (λ (n : ℕ). data_start ≤ n) (some_is room.0 row.sectors (sym room.1 ∙ (is.each d row at).sectors)) room.2)
+          large = enough_is row.sectors (subst (λ (n : ℕ). data_start ≤ n) (same_Some room.0 row.sectors (sym room.1 ∙ (is.each d row at).sectors)) room.2)
 
           by_test : (t : Bool) → not t && nat_le data_start row.sectors ≡ false → t ≡ true
           by_test true e = refl

@@ -14,6 +14,7 @@ use Rattle.lvm_num.specs.DescriptorBytes.{flag, is_flag, member_bytes, member_at
 use Rattle.lvm_num.specs.Reading.{◌>>=◌, Rest, number_at, zeros_at}
 use Rattle.lvm_num.proofs.Pairs.{All-left, All-right, AllPairs-left, AllPairs-append, AllPairs-across}
 use Rattle.lvm_fields.proofs.FieldLaws.{IsBytes, bind_ok, ok_is, both, from_both, Takes, Takes-then, byte_takes, byte_again, wide16, number_takes, number_again, zeros_take, zeros_again}
+pub use Rattle.std.proofs.lemmas.Bool.{not-true as not_true}
 
 -- ---- lists that grow at their end
 
@@ -52,10 +53,6 @@ all_from p (x ∷ xs) each = from_both (p x) (list_all p xs) (each 0 x (omega ar
 -- a step that is known, and what follows
 pub then_is : {A B : Type 0} (r : Result A ℕ) (f : A → Result B ℕ) (x : A) → r ≡ Ok x → (r >>= f) ≡ f x
 then_is {A} {B} r f x e = ap (λ (read : Result A ℕ). read >>= f) e
-
-pub not_true : (b : Bool) → not b ≡ true → b ≡ false
-not_true true e = absurd cc
-not_true false e = refl
 
 pub not_false : (b : Bool) → b ≡ false → not b ≡ true
 not_false b e = rw e refl

@@ -1,5 +1,5 @@
 -- Partitions that are used, one after the other.
-use Rattle.std.proofs.Common.{◌≡◌, ℕ, ◌<◌, Bool, true, false, ◌&&◌, ◌||◌, List, [], ◌∷◌, ◌++◌, append_assoc, get_or, refl, sym, ap, subst, ◌∙◌, arith}
+use Rattle.std.proofs.Common.{◌≡◌, ℕ, ◌<◌, Bool, true, ◌&&◌, ◌||◌, List, [], ◌∷◌, ◌++◌, append_assoc, get_or, refl, sym, ap, subst, ◌∙◌, arith}
 use Rattle.std.specs.Prelude.{◌==◌, not, nat_lt, All}
 use Rattle.std.specs.List.{list_any}
 use Rattle.std.proofs.lemmas.Bool.{eqb-true}
@@ -9,18 +9,15 @@ use Rattle.lvm_num.specs.declared.place.Pp.{Pp}
 use Rattle.lvm_num.specs.declared.descriptor.PvRow.{PvRow}
 use Rattle.lvm_num.specs.Descriptor.{IsMember}
 use Rattle.lvm_num.specs.DescriptorBytes.{is_at}
+use Rattle.lvm_num.proofs.Booleans.{or_false}
 use Rattle.lvm_vgda.specs.declared.used.UsedPps.{UsedPps}
 use Rattle.lvm_vgda.specs.Used.{has, Uses}
 use Rattle.lvm_fields.proofs.FieldLaws.{both}
 
-or_nothing : (b : Bool) → b || false ≡ b
-or_nothing true = refl
-or_nothing false = refl
-
 pub uses-more : (old new : UsedPps) (pps own : List Pp) (pp : Pp) → Uses old (pps ++ own)
     → ((disk other : ℕ) → other < 1016 → has new disk other ≡ has old disk other || is_at pp disk other) → Uses new (pps ++ (own ++ pp ∷ []))
 uses-more old new pps own pp before step disk other lt =
-    let one : list_any (λ (p : Pp). is_at p disk other) (pp ∷ []) ≡ is_at pp disk other = or_nothing (is_at pp disk other) in
+    let one : list_any (λ (p : Pp). is_at p disk other) (pp ∷ []) ≡ is_at pp disk other = or_false (is_at pp disk other) in
     step disk other lt
     ∙ ap (λ b. b || is_at pp disk other) (before disk other lt)
     ∙ ap (λ b. list_any (λ (p : Pp). is_at p disk other) (pps ++ own) || b) (sym one)

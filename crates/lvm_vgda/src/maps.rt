@@ -13,7 +13,7 @@ ghost use Rattle.lvm_vgda.specs.Used.{Uses, is_free, free_at};
 
 use crate::used::UsedPps;
 use lvm_fields::{Fault, Unread, u16_at};
-use lvm_num::{LvRow, Pp, PvRow, Rows, has_member, is_on};
+use lvm_num::{LvRow, Pp, PvRow, Rows, has_member, has_partition_on};
 use std::alloc::Global;
 
 /// The rows with the partitions of each.
@@ -131,7 +131,7 @@ fn copy_disk_at<'a>(
 {
     let read = u16_at(unread);
     if let Ok((disk, _)) = &read
-        && (!has_member(members, *disk) || is_on(begun, *disk))
+        && (!has_member(members, *disk) || has_partition_on(begun, *disk))
     {
         return Err(Fault::At(unread.place));
     }

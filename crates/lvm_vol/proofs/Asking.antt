@@ -1,10 +1,12 @@
 -- The requests of a history by their numbers.
 use Rattle.std.proofs.Common.{◌≡◌, inl, inr, ℕ, ◌&&◌, ◌==◌, not, Bool, true, false, cond, List, [], ◌∷◌, Option, Some, None, is_some, unwrap_or, refl, sym, ◌∙◌, ap, subst}
 use Rattle.std.specs.List.{list_any, find}
-use Rattle.std.proofs.lemmas.Bool.{eqb-true}
+use Rattle.std.proofs.lemmas.Bool.{eqb-true, not-true}
 use Rattle.lvm_vol.specs.Facts.{Request, Fact, Begun, Taken, Stands, begun}
 use Rattle.lvm_vol.specs.Log.{has_id, asked, no_request, request_of, lands_id, takes_id, is_open, is_answered}
 use Rattle.lvm_vol.specs.Order.{Follows}
+pub use Rattle.lvm_num.proofs.Booleans.{first_holds as and_left}
+pub use Rattle.lvm_num.proofs.Booleans.{second_holds as and_right}
 
 -- a request that was found
 
@@ -51,18 +53,6 @@ found_of facts id is = by_option (asked facts id) refl
           found = some ∙ ap (λ (x : Request). Some x) (sym e);
         }
 
-pub and_left : (a b : Bool) → (a && b) ≡ true → a ≡ true
-and_left true b is = refl
-and_left false b is = is
-
-pub and_right : (a b : Bool) → (a && b) ≡ true → b ≡ true
-and_right true b is = is
-and_right false b is = absurd (let e : ◌≡◌ {A = Bool} false true = is in cc)
-
-pub not_true : (a : Bool) → not a ≡ true → a ≡ false
-not_true false is = refl
-not_true true is = absurd (let e : ◌≡◌ {A = Bool} false true = is in cc)
-
 pub record IsOpen (facts : List Fact) (id : ℕ) : Type 0 where
   pub its : IsFound facts id
   pub unlanded : list_any (lands_id id) facts ≡ false
@@ -70,7 +60,7 @@ pub record IsOpen (facts : List Fact) (id : ℕ) : Type 0 where
 pub open_of : (facts : List Fact) (id : ℕ) → is_open facts id ≡ true → IsOpen facts id
 open_of facts id is = record {
   its = found_of facts id (and_left (is_some (asked facts id)) (not (list_any (lands_id id) facts)) is);
-  unlanded = not_true (list_any (lands_id id) facts) (and_right (is_some (asked facts id)) (not (list_any (lands_id id) facts)) is);
+  unlanded = not-true (list_any (lands_id id) facts) (and_right (is_some (asked facts id)) (not (list_any (lands_id id) facts)) is);
 }
 
 pub follows_taken : (facts : List Fact) (run client id : ℕ) → is_answered facts client id ≡ true → Follows run facts (Taken (request_of facts id)) × ((request_of facts id).client ≡ client) × ((request_of facts id).id ≡ id)
@@ -82,7 +72,7 @@ follows_taken facts run client id answered =
     let front2 : (is_some (asked facts id) && (request_of facts id).client == client) ≡ true = and_left _ (list_any (lands_id id) facts) front in
     let its = found_of facts id (and_left _ ((request_of facts id).client == client) front2) in
     let lands_it : list_any (lands_id id) facts ≡ true = and_right (is_some (asked facts id) && (request_of facts id).client == client) _ front in
-    let untaken : list_any (takes_id id) facts ≡ false = not_true _ (and_right (is_some (asked facts id) && (request_of facts id).client == client && list_any (lands_id id) facts) _ answered) in (
+    let untaken : list_any (takes_id id) facts ≡ false = not-true _ (and_right (is_some (asked facts id) && (request_of facts id).client == client && list_any (lands_id id) facts) _ answered) in (
       (its.began, ap (λ (n : ℕ). list_any (lands_id n) facts) its.own ∙ lands_it, ap (λ (n : ℕ). list_any (takes_id n) facts) its.own ∙ untaken),
       eqb-true (request_of facts id).client client (and_right (is_some (asked facts id)) _ front2),
       its.own,

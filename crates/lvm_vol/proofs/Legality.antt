@@ -5,7 +5,7 @@ use Rattle.std.proofs.lemmas.List.{append-nil}
 use Rattle.std.proofs.lemmas.List.Sums.{sum_by-append, sum_by-cons, sum_by_push}
 use Rattle.std.proofs.lemmas.List.Folds.{list_any-append}
 use Rattle.std.proofs.lemmas.Bool.Decides.{nat_tests}
-use Rattle.std.proofs.lemmas.Bool.{eqb-true, or_parts}
+use Rattle.std.proofs.lemmas.Bool.{eqb-true, or_parts, or_cases, and_parts, or_left}
 use Rattle.lvm_vol.specs.declared.entry.Outcome.{Outcome}
 use Rattle.lvm_vol.specs.declared.entry.Vol.{Vol}
 use Rattle.lvm_vol.specs.Facts.{Request, Fact, Making, Made, Split, Removing, Removed, Begun, Landed, Taken, Cut, On, Stands, same_request, joined}
@@ -51,14 +51,6 @@ pub record IsCountedWell (past : List Fact) : Type 0 where
 count-push : (run : ℕ) (past : List Fact) (f : Fact) → count_by (begins_in run) (past ++ f ∷ []) ≡ count_by (begins_in run) past + cond (begins_in run f) 1 0
 count-push run past f = sum_by_push (λ (g : Fact). cond (begins_in run g) 1 0) past f
 
-or-split : (a b : Bool) → (a || b) ≡ true → (a ≡ true) ⊎ (b ≡ true)
-or-split true b is = inl refl
-or-split false b is = inr is
-
-and_parts : (a b : Bool) → (a && b) ≡ true → (a ≡ true) × (b ≡ true)
-and_parts true b is = (refl, is)
-and_parts false b is = absurd (let e : ◌≡◌ {A = Bool} false true = is in cc)
-
 -- requests of one name have one run and one number
 same_name : (r s : Request) → same_request r s ≡ true → (r.run ≡ s.run) × (r.id ≡ s.id)
 same_name r s same = let both = and_parts (r.run == s.run) (r.id == s.id) same in (eqb-true r.run s.run both.0, eqb-true r.id s.id both.1)
@@ -90,9 +82,6 @@ taking_landed past (Taken s) r fits is = by_name (same_name r s is)
         alike l = ap (λ (n : ℕ). list_any (lands (record r { run = n })) l) names.0 ∙ ap (λ (n : ℕ). list_any (lands (record r { run = s.run; id = n })) l) names.1
 taking_landed past _ r fits is = absurd (let e : ◌≡◌ {A = Bool} false true = is in cc)
 
-or_left : (a b : Bool) → a ≡ true → (a || b) ≡ true
-or_left a b is = ap (λ (t : Bool). t || b) is
-
 counted_step : (past : List Fact) (f : Fact) → IsCountedWell past → Fits past f → IsCountedWell (past ++ f ∷ [])
 counted_step past f q fits = record {
   begun_low = λ r there. ⊎_elim
@@ -102,11 +91,11 @@ counted_step past f q fits = record {
   landed_low = λ r is. ⊎_elim
       (λ old. let its = q.landed_low r old in let low = its.0 in let high = its.1 in (low, omega (arith, high, count-push r.run past f)))
       (λ new. let its = landing_counted past f r q fits new in let low = its.0 in let high = its.1 in (low, omega (arith, high, count-push r.run past f)))
-      (or-split (list_any (lands r) past) (lands r f) (sym (any-push (lands r) past f) ∙ is));
+      (or_cases (list_any (lands r) past) (lands r f) (sym (any-push (lands r) past f) ∙ is));
   taken_landed = λ r is. any-push (lands r) past f ∙ or_left (list_any (lands r) past) (lands r f) (⊎_elim
       (λ old. q.taken_landed r old)
       (λ new. taking_landed past f r fits new)
-      (or-split (list_any (takes r) past) (takes r f) (sym (any-push (takes r) past f) ∙ is)));
+      (or_cases (list_any (takes r) past) (takes r f) (sym (any-push (takes r) past f) ∙ is)));
 }
   where
     newest : (r : Request) → f ≡ Begun r → (1 ≤ r.id) × (r.id ≤ count_by (begins_in r.run) (past ++ f ∷ []))
@@ -224,7 +213,7 @@ any_more t u [] implies some = some
 any_more t u (f ∷ facts) implies some = ⊎_elim
     (λ here. ap (λ (c : Bool). c || list_any t facts) (implies f (inl refl) here))
     (λ later. or_true (t f) (list_any t facts) (any_more t u facts (λ g there is. implies g (inr there) is) later))
-    (or-split (u f) (list_any u facts) some)
+    (or_cases (u f) (list_any u facts) some)
   where
     or_true : (a b : Bool) → b ≡ true → (a || b) ≡ true
     or_true true b is = refl

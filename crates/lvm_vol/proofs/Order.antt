@@ -5,7 +5,7 @@ use Rattle.std.proofs.lemmas.List.{append-nil}
 use Rattle.std.proofs.lemmas.List.Folds.{list_any-append}
 use Rattle.std.proofs.lemmas.List.Elements.{filter_map-append}
 use Rattle.std.proofs.lemmas.Bool.Decides.{nat_tests}
-use Rattle.std.proofs.lemmas.Bool.{eqb-true}
+use Rattle.std.proofs.lemmas.Bool.{eqb-true, or_cases}
 use Rattle.lvm_vol.specs.declared.entry.Outcome.{Outcome}
 use Rattle.lvm_vol.specs.Facts.{Request, Fact, Making, Made, Split, Removing, Removed, Begun, Landed, Taken, Cut, On, Stands, begun, begun_by}
 use Rattle.lvm_vol.specs.Log.{lands_id, takes_id, is_got, got_by}
@@ -84,10 +84,6 @@ pub stands_begun : (facts : List Fact) (r : Request) → Stands (Begun r) facts 
 stands_begun [] r none = absurd none
 stands_begun (f ∷ facts) r (inl is) = subst (λ (g : Fact). Stands r (cons_option (begun_by g) (begun facts))) (sym is) (inl refl)
 stands_begun (f ∷ facts) r (inr there) = stands-cons_option (begun_by f) (begun facts) r (stands_begun facts r there)
-
-or-split : (a b : Bool) → (a || b) ≡ true → (a ≡ true) ⊎ (b ≡ true)
-or-split true b is = inl refl
-or-split false b is = inr is
 
 or_left : (a b : Bool) → (a || b) ≡ false → a ≡ false
 or_left true b is = is
@@ -270,7 +266,7 @@ module _ (run : ℕ) where
       let same : r.id ≡ id = eqb-true r.id id new in
       let low = at.low in let high = at.high in
       (omega (arith, same, low), omega (arith, same, high)))
-      (or-split (list_any (lands_id id) past) (lands_id id f) (sym (any-push (lands_id id) past f) ∙ is)))
+      (or_cases (list_any (lands_id id) past) (lands_id id f) (sym (any-push (lands_id id) past f) ∙ is)))
       (λ id is. any-push (lands_id id) past f ∙ ap (λ (t : Bool). t || lands_id id f) (q.takes id (sym (any_same (takes_id id) past f refl) ∙ is)))
     where
       own : Stands r (begun past) → begun (past ++ Landed r how started got ∷ []) ≡ begun past → IsAnswer (past ++ Landed r how started got ∷ []) r how got
@@ -296,7 +292,7 @@ module _ (run : ℕ) where
       (λ id is. any_same (lands_id id) past f refl ∙ ⊎_elim
       (λ old. q.takes id old)
       (λ new. ap (λ (n : ℕ). list_any (lands_id n) past) (sym (eqb-true r.id id new)) ∙ follows.1)
-      (or-split (list_any (takes_id id) past) (takes_id id f) (sym (any-push (takes_id id) past f) ∙ is)))
+      (or_cases (list_any (takes_id id) past) (takes_id id f) (sym (any-push (takes_id id) past f) ∙ is)))
     where
       own_request : {s : Request} → Taken r ≡ Taken s → r ≡ s
       own_request is = cc is

@@ -24,7 +24,7 @@ use Rattle.lvm_session.specs.Calls.{is_asked}
 use Rattle.lvm_session.specs.declared.open.Open.{Open}
 use Rattle.lvm_session.specs.declared.open.Power.TheVariants as power
 use Rattle.lvm_session.specs.Sound.{IsSound, is_dark}
-use Rattle.lvm_session.specs.State.{Core, State as Session, state, votes_there}
+use Rattle.lvm_session.specs.State.{Core, State, state, votes_there}
 use Rattle.lvm_core.specs.Committing.{moment_of, StaysBehind}
 use Rattle.lvm_core.specs.Leaves.{EntersVolumes, KeepsHistory, Leaves, Scope}
 use Rattle.lvm_core.specs.Settled.{IsSettled as IsSettledCore}
@@ -43,14 +43,14 @@ use Rattle.lvm_range_lines.proofs.passed.Stage.{on_posts}
 
 -- ---- what a command promises, whatever its answer
 
-pub record Promised (old new : Session) : Type 0 where
+pub record Promised (old new : State) : Type 0 where
   pub orders : new.device.orders ≡ old.device.orders
   pub epoch : new.core.status.stamp.epoch ≡ old.core.status.stamp.epoch
   pub history : KeepsHistory old.core.history new.core.history
   pub behind : StaysBehind old new
   pub waits : old.device.counts.waits ≤ new.device.counts.waits
 
-pub promised_by : (scope : Scope) (before after : ℕ) (old new : Session) → Leaves scope before after old new → Promised old new
+pub promised_by : (scope : Scope) (before after : ℕ) (old new : State) → Leaves scope before after old new → Promised old new
 promised_by scope before after old new leaves = record {
   orders = leaves.writes.orders;
   epoch = leaves.numbers.epoch;
@@ -70,7 +70,7 @@ empty_or [] = inl refl
 empty_or (x ∷ xs) = inr (λ e. cc (e))
 
 -- The session of the state has come to rest so.
-pub record AtMid (old : ScriptState) (core : Core) (mid : Session) : Type 0 where
+pub record AtMid (old : ScriptState) (core : Core) (mid : State) : Type 0 where
   pub session : old.session ≡ Some core
   pub facts : old.moment.facts ≡ core.history.facts
   pub none : core.requests ≡ []
@@ -82,11 +82,11 @@ pub record AtMid (old : ScriptState) (core : Core) (mid : Session) : Type 0 wher
   pub rest : IsSoundBetween mid
   pub answers : LeavesAnswers core.history.facts mid.core.history.facts
 
-module _ (old : ScriptState) (core : Core) (mid : Session) (its : AtMid old core mid) where
+module _ (old : ScriptState) (core : Core) (mid : State) (its : AtMid old core mid) where
   abbrev run : ℕ
   run = core.history.run
 
-  abbrev first_session : Session
+  abbrev first_session : State
   first_session = state old.moment.device core
 
   pub on_first : IsOnBetween old.moment.device core
@@ -140,7 +140,7 @@ module _ (old : ScriptState) (core : Core) (mid : Session) (its : AtMid old core
     keeps_mid = by (empty_or core.descriptor.lvs)
       where
         by : (core.descriptor.lvs ≡ []) ⊎ (core.descriptor.lvs ≢ []) → Keeps run first (moment_of mid)
-        by (inl none) = subst (λ (s : Session). Keeps run first (moment_of s)) (sym (its.empty none)) (subst (Keeps run first) moment_is span)
+        by (inl none) = subst (λ (s : State). Keeps run first (moment_of s)) (sym (its.empty none)) (subst (Keeps run first) moment_is span)
         by (inr some) = keeps_then some
 
     stands_mid : StandsSince run first mid
@@ -154,12 +154,12 @@ module _ (old : ScriptState) (core : Core) (mid : Session) (its : AtMid old core
     may_mid = record { sound = its.sound; run_is = run_is; stamped = stamped_mid; keeps = keeps_mid; stands = stands_mid }
 
     -- where the first volume is made, at most one group has a quorum among all disks
-    pub alone_mid : (left : Session) → new.moment.facts ≡ left.core.history.facts → IsAloneAtFirst mid left
+    pub alone_mid : (left : State) → new.moment.facts ≡ left.core.history.facts → IsAloneAtFirst mid left
     alone_mid left facts none enters =
         let same = its.empty (sym (ap (λ (d : Descriptor). d.lvs) its.leaves.keeps.descriptor) ∙ none) in
-        subst (λ (s : Session). IsOneByAllOn s.device) (sym same)
+        subst (λ (s : State). IsOneByAllOn s.device) (sym same)
         (alone.enters (subst (λ (fs : List Fact). EntersVolumes old.moment.facts fs) (sym facts)
-        (subst (λ (fs : List Fact). EntersVolumes fs left.core.history.facts) (ap (λ (s : Session). s.core.history.facts) same ∙ sym its.facts) enters)))
+        (subst (λ (fs : List Fact). EntersVolumes fs left.core.history.facts) (ap (λ (s : State). s.core.history.facts) same ∙ sym its.facts) enters)))
 
   -- ---- its moment
 
@@ -173,7 +173,7 @@ module _ (old : ScriptState) (core : Core) (mid : Session) (its : AtMid old core
     later_mid : IsLater mid.core.history.facts (old.last + 1)
     later_mid = its.leaves.later (old.last + 1) (subst (λ (fs : List Fact). IsLater fs (old.last + 1)) its.facts timely.ahead.later)
 
-    module _ (left : Session) (promised : Promised mid left) where
+    module _ (left : State) (promised : Promised mid left) where
       pub later_left : IsLater left.core.history.facts (old.last + 1)
       later_left = promised.history.later (old.last + 1) later_mid
 
@@ -245,7 +245,7 @@ closes_lit answer left new power freed ready lit = subst (ClosesWell answer left
 
 -- ---- after it
 
-module _ (role : Role) (acts : Acts role) (old : ScriptState) (core : Core) (mid left : Session) (its : AtMid old core mid) (promised : Promised mid left) (answers : LeavesAnswers mid.core.history.facts left.core.history.facts) (answer : Reply) (new : ScriptState)
+module _ (role : Role) (acts : Acts role) (old : ScriptState) (core : Core) (mid left : State) (its : AtMid old core mid) (promised : Promised mid left) (answers : LeavesAnswers mid.core.history.facts left.core.history.facts) (answer : Reply) (new : ScriptState)
     (facts : new.moment.facts ≡ left.core.history.facts) (clock : new.last ≡ old.last) (few : most_refusals answer ≤ 1)
     (spans : IsAllowed role old → (first : Moment) → MayBeCommanded core.history.run first mid → IsAloneAtFirst mid left → Keeps core.history.run first (moment_of left)) where
   answers_left : LeavesAnswers old.moment.facts left.core.history.facts

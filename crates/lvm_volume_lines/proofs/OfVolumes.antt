@@ -9,7 +9,7 @@ use Rattle.lvm_vol.specs.Log.{Log}
 use Rattle.lvm_kept.specs.Moments.{Moment}
 use Rattle.lvm_steps.specs.Moments.{Keeps}
 use Rattle.lvm_status.specs.Members.{HasItsRows}
-use Rattle.lvm_session.specs.State.{Core, State as Session, state}
+use Rattle.lvm_session.specs.State.{Core, State, state}
 use Rattle.lvm_core.specs.Committing.{moment_of}
 use Rattle.lvm_core.specs.Held.{IsHeld}
 use Rattle.lvm_core.specs.Leaves.{FindsOnly, Scope}
@@ -21,8 +21,8 @@ use Rattle.lvm_range_lines.specs.passed.Running.{LeavesSession}
 use Rattle.lvm_range_lines.specs.passed.TieCommands.{IsAloneAtFirst, IsLeftStanding, IsLeftStandingSince, MayBeCommanded, HoldsEmpty, StandsAfter}
 use Rattle.lvm_range_lines.specs.passed.Volumes.{StillHeld}
 use Rattle.lvm_volume_plan.specs.declared.fault.GroupFault.{GroupFault}
+use Rattle.lvm_range_lines.specs.passed.Stage.{CommandEnds, EndsUnasked, patience_of_line, GoesOn, IsAllowed, Role, HaveRooms, IsBetweenStage, IsFittingStage}
 use Rattle.lvm_volume_plan.specs.Faults.{IfOn, is_over}
-use Rattle.lvm_range_lines.specs.passed.Stage.{CommandEnds, EndsUnasked, patience_of_line, GoesOn, IsAllowed, Role, HaveRooms, IsBetweenStage, IsFitting}
 use Rattle.lvm_range_lines.specs.passed.Stage.{IsOfKind, history_of, open_in, session_in, session_of, shelf_in, history_in, state_in, IsAtRest}
 use Rattle.lvm_range_lines.specs.passed.Stage.{IsOnBetween, ScriptState, without_facts, Holder, Reply, Stage}
 use Rattle.lvm_range_lines.specs.passed.HolderVariants as holder
@@ -69,7 +69,7 @@ module _ {S : Type 0} (device : S → Device) (added : List Pp) (driver : S × C
       }
 
 -- what is known of the command by what it gives, where it is allowed
-pub record IsKnown {X : Type 0} (Allowed : Type 0) (run patience : ℕ) (mid left : Session) (given : Result X GroupFault) : Type 0 where
+pub record IsKnown {X : Type 0} (Allowed : Type 0) (run patience : ℕ) (mid left : State) (given : Result X GroupFault) : Type 0 where
   pub facts : Facts given patience mid left
   pub landed : HaveAllLanded left.core.history.facts
   pub answers : LeavesAnswers mid.core.history.facts left.core.history.facts
@@ -85,10 +85,10 @@ history_is (holder.Empty driver) core its = let same : driver.1 ≡ core = cc (i
 history_is (holder.Serving driver) core its = let same : driver.1 ≡ core = cc (its) in ap (λ (c : Core). c.history) same
 
 -- the session of a stage, before any turn
-abbrev pub first_at : {S : Type 0} → (S → Device) → Stage S → Core → Session
+abbrev pub first_at : {S : Type 0} → (S → Device) → Stage S → Core → State
 first_at device stage core = state (device (shelf_in stage)) core
 
-module _ {S : Type 0} (device : S → Device) (stage : Stage S) (fits : IsFitting stage) (between : IsBetweenStage device stage) (none : open_in (session_in stage) ≡ 0) where
+module _ {S : Type 0} (device : S → Device) (stage : Stage S) (fits : IsFittingStage stage) (between : IsBetweenStage device stage) (none : open_in (session_in stage) ≡ 0) where
   -- the session that is on
   module _ (core : Core) (its : session_in stage ≡ Some core) where
     pub no_requests : core.requests ≡ []
@@ -121,7 +121,7 @@ module _ {S : Type 0} (device : S → Device) (stage : Stage S) (fits : IsFittin
     abbrev core : Core
     core = rested.turned.core
 
-    abbrev mid : Session
+    abbrev mid : State
     mid = state_of device driver
 
     its : session_in stage ≡ Some core
@@ -163,9 +163,9 @@ module _ {S : Type 0} (device : S → Device) (stage : Stage S) (fits : IsFittin
 
     -- ---- and a command has been carried out
 
-    module _ {X : Type 0} (role : Role) (acts : Acts role) (Gives : Session → Session → Result X GroupFault → Type 0) (added : Result X GroupFault → List Pp) (scope : Core → Scope) (it : Stage S) (answer : Reply)
+    module _ {X : Type 0} (role : Role) (acts : Acts role) (Gives : State → State → Result X GroupFault → Type 0) (added : Result X GroupFault → List Pp) (scope : Core → Scope) (it : Stage S) (answer : Reply)
         (done : IsCarriedOut device Gives added (scope driver.1) patience driver stage.posts stage.bytes it answer) (sectors : (shelf : S) → HasSectors (device shelf)) where
-      abbrev left : Session
+      abbrev left : State
       left = state_of device done.left
 
       abbrev run : ℕ
@@ -206,7 +206,7 @@ module _ {S : Type 0} (device : S → Device) (stage : Stage S) (fits : IsFittin
         orders true over = (closed over).orders ∙ promised.orders ∙ rested.turned.runs.orders
         orders false goes = ap (λ (s : Stage S). (device (shelf_in s)).orders) (left_on goes).is ∙ ap (λ (s : S). (device s).orders) (left_on goes).held.shelf ∙ promised.orders ∙ rested.turned.runs.orders
 
-        fits_then : (b : Bool) → is_over given ≡ b → IsFitting it
+        fits_then : (b : Bool) → is_over given ≡ b → IsFittingStage it
         fits_then true over = record {
           kind = (left_off over).kind;
           few = subst (λ (l : Log). l.room < 2 ^ 32) (sym rooms) fits.few;

@@ -10,7 +10,7 @@ use Rattle.lvm_session.specs.Causes.{is_over}
 use Rattle.lvm_session.specs.Sound.{is_dark}
 use Rattle.lvm_session.specs.declared.open.Power.{Power}
 use Rattle.lvm_session.specs.declared.open.Power.TheVariants as power
-use Rattle.lvm_session.specs.State.{Core, State as Session, votes_there}
+use Rattle.lvm_session.specs.State.{Core, State, votes_there}
 use Rattle.lvm_turn_losses.proofs.Votes.{votes_go}
 use Rattle.lvm_core.specs.declared.fault.CommitFault.{CommitFault}
 use Rattle.lvm_core.specs.declared.fault.CommitFault.TheVariants as commit
@@ -22,7 +22,7 @@ use Rattle.lvm_posts.specs.Posts.{AreAnswered, ended_with}
 use Rattle.lvm_range_lines.specs.passed.Running.{LeavesSession}
 use Rattle.lvm_range_lines.proofs.passed.Running.{stays_unstuck}
 use Rattle.lvm_range_lines.specs.passed.Stage.{EndsUnasked, patience_of_line, GoesOn, Role, IsStuck, most_refusals, HaveRooms, IsBetweenStage}
-use Rattle.lvm_range_lines.specs.passed.Stage.{IsClosed, IsEnded, IsFitting, IsOfKind, history_in, open_in, posts_ended, session_in, session_of}
+use Rattle.lvm_range_lines.specs.passed.Stage.{IsClosed, IsEnded, IsFittingStage, IsOfKind, history_in, open_in, posts_ended, session_in, session_of}
 use Rattle.lvm_range_lines.specs.passed.Stage.{shelf_in, state_in, ArePosted, IsAtRest, ScriptState, without_facts, Holder, Reply, Stage}
 use Rattle.lvm_range_lines.specs.passed.HolderVariants as holder
 use Rattle.lvm_range_lines.specs.passed.ReplyVariants as reply
@@ -38,13 +38,13 @@ none_of_kind (holder.Off shelf history) none = tt
 none_of_kind (holder.Empty driver) none = absurd (cc (none))
 none_of_kind (holder.Serving driver) none = absurd (cc (none))
 
-module _ {S : Type 0} (role : Role) (acts : Acts role) (device : S → Device) (stage : Stage S) (fits : IsFitting stage) (between : IsBetweenStage device stage) (none : open_in (session_in stage) ≡ 0) (patience : ℕ) (driver : S × Core) (why : CommitFault)
+module _ {S : Type 0} (role : Role) (acts : Acts role) (device : S → Device) (stage : Stage S) (fits : IsFittingStage stage) (between : IsBetweenStage device stage) (none : open_in (session_in stage) ≡ 0) (patience : ℕ) (driver : S × Core) (why : CommitFault)
     (broken : HasBrokenOff device stage.holder patience_of_line patience driver why) (it : Stage S) (answer : Reply) (ended : IsEnded device driver stage.posts.items it)
     (rooms : (entries : ℕ) → HaveRooms entries stage.posts stage.bytes → HaveRooms entries it.posts it.bytes) (says : answer ≡ reply.Refused (drain_refusal why)) where
   abbrev core : Core
   core = broken.turned.core
 
-  abbrev end : Session
+  abbrev end : State
   end = state_of device driver
 
   abbrev leaves : LeavesSession (first_at device stage core) end
@@ -129,8 +129,8 @@ module _ {S : Type 0} (role : Role) (acts : Acts role) (device : S → Device) (
       }
 
       by : (end ≡ (first_at device stage core)) ⊎ (end.core.power ≡ power.Dark) → IsAtRest (state_in device it last)
-      by (inl same) = closed_rests (ap (λ (s : Session). s.device.flights) same ∙ rest.ready.flights)
-          (subst (λ (s : Session). HaveAllLanded s.core.history.facts) (sym same) (subst (λ (l : Log). HaveAllLanded l.facts) (its_history device stage fits between none core its) rest.landed))
+      by (inl same) = closed_rests (ap (λ (s : State). s.device.flights) same ∙ rest.ready.flights)
+          (subst (λ (s : State). HaveAllLanded s.core.history.facts) (sym same) (subst (λ (l : Log). HaveAllLanded l.facts) (its_history device stage fits between none core its) rest.landed))
       by (inr dark) = closed_rests (broken.turned.sound.dark (ap is_dark dark)).flights (over_landed end broken.turned.sound (ap is_over dark))
 
   -- ---- so the line ends

@@ -4,7 +4,7 @@ use Rattle.lvm_num.specs.declared.descriptor.Mode.TheVariants.{Off}
 use Rattle.lvm_num.specs.declared.descriptor.Policy.TheVariants as policy
 use Rattle.lvm_disk.specs.Device.{Device, HasSectors}
 use Rattle.lvm_vol.specs.Log.{Log}
-use Rattle.lvm_session.specs.State.{Core, State as Session}
+use Rattle.lvm_session.specs.State.{Core, State}
 use Rattle.lvm_core.specs.Looking.{HasNoVolumeNamed}
 use Rattle.lvm_core.specs.State.{state_of}
 use Rattle.lvm_range_lines.specs.passed.Handover.{IsCommanded}
@@ -16,7 +16,7 @@ use Rattle.lvm_volume_plan.specs.declared.fault.GroupFault.TheVariants as fault
 use Rattle.lvm_volume_plan.specs.declared.new_volume.NewVolume.{NewVolume}
 use Rattle.lvm_range_lines.specs.passed.Volumes.{MklvGives, to_make}
 use Rattle.lvm_range_lines.proofs.passed.Volumes.{keeps_none, leaves_none}
-use Rattle.lvm_range_lines.specs.passed.Stage.{EndsUnasked, patience_of_line, GoesOn, Role, HaveRooms, IsBetweenStage, IsFitting, IsOfKind}
+use Rattle.lvm_range_lines.specs.passed.Stage.{EndsUnasked, patience_of_line, GoesOn, Role, HaveRooms, IsBetweenStage, IsFittingStage, IsOfKind}
 use Rattle.lvm_range_lines.specs.passed.Stage.{history_in, open_in, session_in, shelf_in, state_in, ScriptState, without_facts, Holder, Reply, Stage}
 use Rattle.lvm_range_lines.specs.passed.RefusalVariants as refusal
 use Rattle.lvm_range_lines.specs.passed.ReplyVariants as reply
@@ -25,12 +25,12 @@ use Rattle.lvm_volume_lines.specs.Volumes.{Drains, StaysOn}
 use Rattle.lvm_volume_lines.proofs.Commanding.{Acts, Promised, goes_on, promised_by, ready_mid, rows_mid}
 use Rattle.lvm_volume_lines.proofs.OfVolumes.{at_mid, drains, its_history, rows_again, stands_again}
 
-module _ {S : Type 0} (device : S → Device) (stage : Stage S) (fits : IsFitting stage) (between : IsBetweenStage device stage) (none : open_in (session_in stage) ≡ 0) (patience : ℕ) (driver : S × Core)
+module _ {S : Type 0} (device : S → Device) (stage : Stage S) (fits : IsFittingStage stage) (between : IsBetweenStage device stage) (none : open_in (session_in stage) ≡ 0) (patience : ℕ) (driver : S × Core)
     (rested : HasRested device stage.holder patience_of_line patience driver) (name : List ℕ) (unnamed : HasNoVolumeNamed driver.1.descriptor.lvs name) where
   abbrev core : Core
   core = rested.turned.core
 
-  abbrev mid : Session
+  abbrev mid : State
   mid = state_of device driver
 
   -- it is as a making that is refused, which changes nothing

@@ -9,7 +9,7 @@ use Rattle.lvm_transfer.specs.Transfer.{Relights}
 use Rattle.lvm_write.specs.Written.{KeepsShelf}
 use Rattle.lvm_session.specs.Judging.{is_missing}
 use Rattle.lvm_session.specs.Sound.{IsSound}
-use Rattle.lvm_session.specs.State.{Core, State as Session, state, is_there}
+use Rattle.lvm_session.specs.State.{Core, State, state, is_there}
 use Rattle.lvm_turn_losses.specs.Losing.{LosesVotesByFaults}
 use Rattle.lvm_core.specs.declared.fault.CommitFault.{CommitFault}
 use Rattle.lvm_core.specs.Held.{IsHeld}
@@ -55,7 +55,7 @@ volume_reply (Err why) = reply.Refused (refusal_for why)
 -- ---- what is left of a session
 
 -- The session goes on, and counts the members that are missing by now as missing since it began.
-pub record StaysOn (left : Session) (old new : ScriptState) : Type 0 where
+pub record StaysOn (left : State) (old new : ScriptState) : Type 0 where
   pub core : Core
   pub is : core ≡ record left.core { origin = core.origin }
   pub session : new.session ≡ Some core
@@ -64,14 +64,14 @@ pub record StaysOn (left : Session) (old new : ScriptState) : Type 0 where
   pub posts : new.posts ≡ old.posts
 
 -- The session is over: it is closed without a write, its posts have ended, and the power is on.
-pub record IsOver (left : Session) (old new : ScriptState) : Type 0 where
+pub record IsOver (left : State) (old new : ScriptState) : Type 0 where
   pub lit : Relights left.device new.moment.device
   pub facts : new.moment.facts ≡ left.core.history.facts
   pub session : new.session ≡ None
   pub posts : new.posts ≡ posts_ended (Some left.core) old.posts
 
 -- one or the other
-abbrev pub IsLeft : Bool → Session → ScriptState → ScriptState → Type 0
+abbrev pub IsLeft : Bool → State → ScriptState → ScriptState → Type 0
 IsLeft true left old new = IsOver left old new
 IsLeft false left old new = StaysOn left old new
 
@@ -79,7 +79,7 @@ IsLeft false left old new = StaysOn left old new
 
 -- No request is open. Where the group has a volume turns were made until nothing was left, and so much patience is; else, and at rest, nothing has changed. A
 -- missing disk stays missing.
-pub record Drains (core : Core) (old : ScriptState) (left : ℕ) (mid : Session) : Type 0 where
+pub record Drains (core : Core) (old : ScriptState) (left : ℕ) (mid : State) : Type 0 where
   pub none : core.requests ≡ []
   pub turns : Path IsTurn IsAny (state old.moment.device core) mid
   pub runs : RunsOn (state old.moment.device core) mid
@@ -94,7 +94,7 @@ pub record Drains (core : Core) (old : ScriptState) (left : ℕ) (mid : Session)
 -- No request is open, and the turns ended before nothing was left, for this. They lose the votes by faults alone.
 pub record IsUndrained (core : Core) (old new : ScriptState) (why : CommitFault) (answer : Reply) : Type 0 where
   pub none : core.requests ≡ []
-  pub end : Session
+  pub end : State
   pub turns : Path IsTurn IsAny (state old.moment.device core) end
   pub runs : RunsOn (state old.moment.device core) end
   pub votes : LosesVotesByFaults (state old.moment.device core) end
@@ -117,8 +117,8 @@ wanted name copies mode policy lps = record { name = name; copies = copies; mode
 -- be before, but the one that was to be committed. Only statuses of the session, that descriptor, and zeros in partitions that it may fill were written to
 -- members; a member became missing only after a transfer to it had failed, and only partitions that it may mark were made stale or fresh. Where the session goes
 -- on it is at rest, and its disks hold what it says, where they did.
-pub record IsDone (Gives : Session → Session → Type 0) (scope : Core → Scope) (over : Bool) (mid : Session) (old new : ScriptState) : Type 0 where
-  pub left : Session
+pub record IsDone (Gives : State → State → Type 0) (scope : Core → Scope) (over : Bool) (mid : State) (old new : ScriptState) : Type 0 where
+  pub left : State
   pub gives : Gives mid left
   pub leaves : IsLeft over left old new
   pub finds : FindsOnly (scope mid.core).next mid (state new.moment.device left.core)
@@ -129,11 +129,11 @@ pub record IsDone (Gives : Session → Session → Type 0) (scope : Core → Sco
   pub clock : new.last ≡ old.last
 
 -- so was `mklv`, with so much patience
-abbrev pub MklvEnds : NewVolume → Result ℕ GroupFault → Bool → ℕ → Session → ScriptState → ScriptState → Type 0
+abbrev pub MklvEnds : NewVolume → Result ℕ GroupFault → Bool → ℕ → State → ScriptState → ScriptState → Type 0
 MklvEnds w given over patience mid old new = IsDone (λ was is. MklvGives w patience was is given) (to_make w) over mid old new
 
 -- so was `rmlv`
-abbrev pub RmlvEnds : ℕ → Result (Unit {0}) GroupFault → Bool → ℕ → Session → ScriptState → ScriptState → Type 0
+abbrev pub RmlvEnds : ℕ → Result (Unit {0}) GroupFault → Bool → ℕ → State → ScriptState → ScriptState → Type 0
 RmlvEnds lv given over patience mid old new = IsDone (λ was is. RmlvGives lv patience was is given) (to_remove lv) over mid old new
 
 -- ---- the lines
@@ -143,9 +143,9 @@ pub data MklvDoes (w : NewVolume) (group : List ℕ) (old new : ScriptState) (an
   NoGroupForMklv : IsNotOn group old.session → IsRefused refusal.NoGroup answer old new → MklvDoes w group old new answer
   BusyMklv : IfSome old.session (IsOn group) → 1 ≤ open_in old.session → IsRefused refusal.Busy answer old new → MklvDoes w group old new answer
   UndrainedMklv : (core : Core) (why : CommitFault) → old.session ≡ Some core → IsOn group core → IsUndrained core old new why answer → MklvDoes w group old new answer
-  MakesVolume : (core : Core) (left : ℕ) (mid : Session) (number : ℕ) → old.session ≡ Some core → IsOn group core → Drains core old left mid → MklvEnds w (Ok number) false left mid old new → answer ≡ reply.Ok
+  MakesVolume : (core : Core) (left : ℕ) (mid : State) (number : ℕ) → old.session ≡ Some core → IsOn group core → Drains core old left mid → MklvEnds w (Ok number) false left mid old new → answer ≡ reply.Ok
       → MklvDoes w group old new answer
-  MklvFails : (core : Core) (left : ℕ) (mid : Session) (why : GroupFault) → old.session ≡ Some core → IsOn group core → Drains core old left mid → MklvEnds w (Err why) (ends_session why) left mid old new
+  MklvFails : (core : Core) (left : ℕ) (mid : State) (why : GroupFault) → old.session ≡ Some core → IsOn group core → Drains core old left mid → MklvEnds w (Err why) (ends_session why) left mid old new
       → answer ≡ reply.Refused (refusal_for why) → MklvDoes w group old new answer
 
 -- `rmlv`, of the volume that has the name
@@ -153,9 +153,9 @@ pub data RmlvDoes (name : List ℕ) (old new : ScriptState) (answer : Reply) : T
   NoGroupForRmlv : old.session ≡ None → IsRefused refusal.NoGroup answer old new → RmlvDoes name old new answer
   BusyRmlv : 1 ≤ open_in old.session → IsRefused refusal.Busy answer old new → RmlvDoes name old new answer
   UndrainedRmlv : (core : Core) (why : CommitFault) → old.session ≡ Some core → IsUndrained core old new why answer → RmlvDoes name old new answer
-  NoVolumeForRmlv : (core : Core) (left : ℕ) (mid : Session) → old.session ≡ Some core → Drains core old left mid → HasNoVolumeNamed mid.core.descriptor.lvs name → StaysOn mid old new → new.last ≡ old.last
+  NoVolumeForRmlv : (core : Core) (left : ℕ) (mid : State) → old.session ≡ Some core → Drains core old left mid → HasNoVolumeNamed mid.core.descriptor.lvs name → StaysOn mid old new → new.last ≡ old.last
       → answer ≡ reply.Refused refusal.NoVolume → RmlvDoes name old new answer
-  RemovesVolume : (core : Core) (left : ℕ) (mid : Session) (lv : ℕ) → old.session ≡ Some core → Drains core old left mid → IsNumberOf mid.core.descriptor.lvs name lv → RmlvEnds lv (Ok tt) false left mid old new
+  RemovesVolume : (core : Core) (left : ℕ) (mid : State) (lv : ℕ) → old.session ≡ Some core → Drains core old left mid → IsNumberOf mid.core.descriptor.lvs name lv → RmlvEnds lv (Ok tt) false left mid old new
       → answer ≡ reply.Ok → RmlvDoes name old new answer
-  RmlvFails : (core : Core) (left : ℕ) (mid : Session) (lv : ℕ) (why : GroupFault) → old.session ≡ Some core → Drains core old left mid → IsNumberOf mid.core.descriptor.lvs name lv
+  RmlvFails : (core : Core) (left : ℕ) (mid : State) (lv : ℕ) (why : GroupFault) → old.session ≡ Some core → Drains core old left mid → IsNumberOf mid.core.descriptor.lvs name lv
       → RmlvEnds lv (Err why) (ends_session why) left mid old new → answer ≡ reply.Refused (refusal_for why) → RmlvDoes name old new answer

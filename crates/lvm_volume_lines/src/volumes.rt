@@ -10,7 +10,7 @@ ghost use Rattle.lvm_core.specs.State.{state_of};
 ghost use Rattle.lvm_range_lines.specs.passed.Handover.{MayServe, StaysSound};
 ghost use Rattle.lvm_range_lines.specs.passed.TieCopies.{MayServeWith};
 ghost use Rattle.lvm_range_lines.specs.passed.Volumes.{MklvGives, RmlvGives, to_make, to_remove};
-ghost use Rattle.lvm_range_lines.specs.passed.Stage.{EndsUnasked, OfGroup, IsBetweenStage, IsFitting, IsOfKind, open_in, session_of, shelf_of};
+ghost use Rattle.lvm_range_lines.specs.passed.Stage.{EndsUnasked, OfGroup, IsBetweenStage, IsFittingStage, IsOfKind, open_in, session_of, shelf_of};
 ghost use Rattle.lvm_range_lines.specs.passed.Stage.{IsOnBetween};
 ghost use Rattle.lvm_volume_lines.specs.Commands.{HasBrokenOff, HasRested, IsCarriedOut, IsHeldAgain, IsLeftAs, IsLeftOff, IsLeftOn, none_added};
 ghost use Rattle.lvm_volume_lines.specs.Volumes.{MklvDoes, RmlvDoes, drain_refusal, refusal_for, volume_reply, wanted};
@@ -77,7 +77,7 @@ fn ends_session(why: GroupFault) -> bool
 }
 
 // Puts the power on again where it was cut.
-fn relight_after<S: Shelf>(shelf: &mut S, why: GroupFault)
+fn relight_after_fault<S: Shelf>(shelf: &mut S, why: GroupFault)
     requires { why ≡ GroupFault.Dark → (S.device shelf.old).flights ≡ [] }
     ensures dark { why ≡ GroupFault.Dark → Relights (S.device shelf.old) (S.device shelf.new) }
     ensures other { (why ≡ GroupFault.Dark → ⊥) → S.device shelf.new ≡ S.device shelf.old }
@@ -107,7 +107,7 @@ fn close_after<S: Shelf>(
     }
     .close();
     let Closed { mut shelf, history } = closed;
-    relight_after(&mut shelf, why);
+    relight_after_fault(&mut shelf, why);
     Stage {
         holder: Holder::Off { shelf, history },
         posts,
@@ -292,7 +292,7 @@ pub fn do_mklv<S: Shelf>(
     group: Name,
     lps: u32,
 ) -> Answered<S>
-    requires fits { IsFitting stage }
+    requires fits { IsFittingStage stage }
     requires between { IsBetweenStage S.device stage }
     requires some { 1 ≤ lps }
     requires built { mode ≡ Passive → ⊥ }
@@ -330,7 +330,7 @@ pub fn do_mklv<S: Shelf>(
 /// Removes the volume of the name from the group that is on, if none of its requests is open. Turns are made first until
 /// nothing is under way, and the name is looked up then.
 pub fn do_rmlv<S: Shelf>(alloc: Global, stage: Stage<S>, name: Name) -> Answered<S>
-    requires fits { IsFitting stage }
+    requires fits { IsFittingStage stage }
     requires between { IsBetweenStage S.device stage }
     ensures { EndsUnasked S.device (λ _. RmlvDoes name) ⊥ OfGroup stage result.stage result.reply }
 {

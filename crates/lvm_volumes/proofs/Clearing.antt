@@ -6,13 +6,12 @@ use Rattle.std.proofs.lemmas.List.Folds.{list_any_at}
 use Rattle.lvm_num.specs.declared.place.Pp.{Pp}
 use Rattle.lvm_num.specs.declared.descriptor.Descriptor.{Descriptor}
 use Rattle.lvm_num.specs.declared.status.Status.{Status}
-use Rattle.lvm_num.specs.Descriptor.{IsPartitionOf, is_member}
+use Rattle.lvm_num.specs.Descriptor.{IsPartitionOf, is_member, is_pp}
 use Rattle.lvm_num.specs.Status.{calls_stale, calls_missing}
 use Rattle.lvm_disk.specs.Counts.{Rose}
 use Rattle.lvm_vol.specs.Log.{Log}
-use Rattle.lvm_map.specs.FirstFit.{is_on}
+use Rattle.lvm_map.specs.FirstFit.{has_partition_on}
 use Rattle.lvm_steps.proofs.Booleans.{either}
-use Rattle.lvm_stale.specs.Table.{is_pp}
 use Rattle.lvm_status.specs.Update.{members_there}
 use Rattle.lvm_commit.specs.LawsOfData.{IsFree}
 use Rattle.lvm_commit.proofs.Copies.{one_place}
@@ -83,11 +82,11 @@ module _ (map : List Pp) (p q : ℕ) (a b : State) (settled : IsSettled a.core) 
 
 -- ---- and then zeros
 
-on_all : (P : ℕ → Type 0) (map : List Pp) (d : ℕ) → All (λ (pp : Pp). P pp.disk) map → IsTrue (is_on map d) → P d
+on_all : (P : ℕ → Type 0) (map : List Pp) (d : ℕ) → All (λ (pp : Pp). P pp.disk) map → IsTrue (has_partition_on map d) → P d
 on_all P [] d all on = absurd (false≢true on)
 on_all P (x ∷ xs) d all on = by_test (x.disk == d) refl (on_all P xs d (λ k e lt. all (suc k) e (omega (arith, lt)))) on
   where
-    by_test : (t : Bool) → (x.disk == d) ≡ t → (IsTrue (is_on xs d) → P d) → IsTrue (t || is_on xs d) → P d
+    by_test : (t : Bool) → (x.disk == d) ≡ t → (IsTrue (has_partition_on xs d) → P d) → IsTrue (t || has_partition_on xs d) → P d
     by_test true is rest on = subst P (eqb-true x.disk d is) (all 0 x (omega arith))
     by_test false is rest on = rest on
 
@@ -108,11 +107,11 @@ module _ (map : List Pp) (p q : ℕ) (a b : State) (settled : IsSettled a.core) 
   same : b.core.descriptor ≡ a.core.descriptor
   same = ap (λ (c : Core). c.descriptor) done.is
 
-  member : (d : ℕ) → IsTrue (is_on map d) → IsTrue (is_there a.core d)
+  member : (d : ℕ) → IsTrue (has_partition_on map d) → IsTrue (is_there a.core d)
   member d on = on_all (λ n. IsTrue (is_there a.core n)) map d unused.there on
 
   -- a disk that isn't missing had no fault
-  unhurt : (d : ℕ) → IsTrue (is_on map d) → IsFalse (gone d) → b.device.counts.faults d ≡ a.device.counts.faults d
+  unhurt : (d : ℕ) → IsTrue (has_partition_on map d) → IsFalse (gone d) → b.device.counts.faults d ≡ a.device.counts.faults d
   unhurt d on isnt = done.well d (subst (λ (g : Descriptor). IsTrue (members_there g b.core.status.wanted d)) (sym (leaves.status.group ∙ group.status))
       (is_present (is_member a.core.descriptor d) (gone d) (present (is_member a.core.descriptor d) (calls_missing a.core.status.wanted d) (member d on)).0 isnt))
 
@@ -144,7 +143,7 @@ module _ (map : List Pp) (p q : ℕ) (a b : State) (settled : IsSettled a.core) 
       once = unused.once;
     }
 
-    unhurt_here : (d : ℕ) → IsTrue (is_on map d) → b.device.counts.faults d ≡ a.device.counts.faults d
+    unhurt_here : (d : ℕ) → IsTrue (has_partition_on map d) → b.device.counts.faults d ≡ a.device.counts.faults d
     unhurt_here d on = unhurt d on (present (is_member b.core.descriptor d) (gone d) (on_all (λ n. IsTrue (is_there b.core n)) map d here on)).1
 
     module _ (c : State) where

@@ -25,8 +25,9 @@ use Rattle.lvm_commit.proofs.Still.{still_holds_committed}
 use Rattle.lvm_session.specs.State.{Core, State, is_there}
 use Rattle.lvm_core.specs.Held.{IsHeld}
 use Rattle.lvm_core.specs.Settled.{IsSettled, HasSpareNumbers}
+use Rattle.lvm_core.specs.Committing.{moment_of, LetsCommit, HasStated, CommitEnds}
+use Rattle.lvm_steps.specs.Moments.{SpanGoesOn}
 use Rattle.lvm_core.specs.declared.fault.CommitFault.{CommitFault}
-use Rattle.lvm_core.specs.Committing.{moment_of, SpanGoesOn, LetsCommit, HasStated, CommitEnds}
 use Rattle.lvm_core.specs.Leaves.{NoPartition, IsHeldSince, IsOfCommand, Leaves, committing}
 use Rattle.lvm_core.specs.Entering.{IsOfVolume}
 use Rattle.lvm_core.proofs.LeavesLemmas.{keeps_fact, same_status}
@@ -60,7 +61,7 @@ settled_entered s f settled = record {
 module _ (N : Descriptor → Type 0) (Z : Pp → Type 0) where
   -- an entry that is no varyon and opens no write
   pub entry_leaves : (p : ℕ) (s : State) (f : Fact) → ((moment : ℕ) → IsLater (f ∷ []) moment) → OpensNone f
-      → ((run : ℕ) (first : Moment) → IsHeldSince run first s → IfAlone s (with_entry s f) run first → SpanGoesOn run first s (with_entry s f)) → Leaves (commanding N Z 0) p p s (with_entry s f)
+      → ((run : ℕ) (first : Moment) → IsHeldSince run first s → IfAlone s (with_entry s f) run first → SpanGoesOn run first (moment_of s) (moment_of (with_entry s f))) → Leaves (commanding N Z 0) p p s (with_entry s f)
   entry_leaves p s f later opens spans = record {
     writes = keeps_here (is_there s.core) (IsOfCommand N Z s (with_entry s f)) s.device;
     status = same_status N NoPartition Z s (with_entry s f) refl;

@@ -25,6 +25,7 @@ use Rattle.lvm_volumes.proofs.Places.{one_partition}
 use Rattle.lvm_volume_plan.specs.declared.new_volume.NewVolume.{NewVolume}
 use Rattle.lvm_volume_plan.specs.NewVolume.{row_for, with_volume}
 use Rattle.lvm_volume_plan.proofs.Sublists.{one_insert}
+pub use Rattle.std.proofs.lemmas.Bool.{not-true as not_stale}
 
 -- ---- copies
 
@@ -36,10 +37,6 @@ one_any test (x ∷ xs) p (inr there) is = by_test (test x) (one_any test xs p t
     by_test : (b : Bool) → IsTrue (list_any test xs) → IsTrue (b || list_any test xs)
     by_test true rest = refl
     by_test false rest = rest
-
-pub not_stale : (b : Bool) → IsTrue (not b) → IsFalse b
-not_stale true is = absurd (false≢true is)
-not_stale false is = refl
 
 -- a copy of a logical partition is one of a volume
 record IsCopyOf (d : Descriptor) (lv lp : ℕ) (p : Pp) : Type 0 where

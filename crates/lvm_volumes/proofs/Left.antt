@@ -5,10 +5,9 @@ use Rattle.std.proofs.lemmas.List.Elements.{All-contains}
 use Rattle.lvm_num.specs.declared.place.Pp.{Pp}
 use Rattle.lvm_num.specs.declared.descriptor.LvRow.{LvRow}
 use Rattle.lvm_num.specs.declared.descriptor.Descriptor.{Descriptor}
-use Rattle.lvm_num.specs.Descriptor.{copies_of, partitions_used}
+use Rattle.lvm_num.specs.Descriptor.{copies_of, partitions_used, is_pp}
 use Rattle.lvm_num.specs.Status.{calls_stale}
 use Rattle.lvm_kept.specs.Group.{IsOneOf}
-use Rattle.lvm_stale.specs.Table.{is_pp}
 use Rattle.lvm_status.specs.Update.{Stored}
 use Rattle.lvm_steps.proofs.Booleans.{either, clash}
 use Rattle.lvm_commit.specs.Settling.{there, NoneIsLeft, MarksLeft}

@@ -13,7 +13,7 @@ use Rattle.lvm_disk.specs.Counts.{Rose}
 use Rattle.lvm_disk.specs.Device.{Media, Device, IsReady, image_of}
 use Rattle.lvm_disk.specs.Steps.{BothTold}
 use Rattle.lvm_kept.specs.Plans.{Plan, ChangesBy}
-use Rattle.lvm_map.specs.FirstFit.{is_on}
+use Rattle.lvm_map.specs.FirstFit.{has_partition_on}
 use Rattle.lvm_write.specs.Written.{KeepsShelf}
 use Rattle.lvm_write.proofs.Transfers.{darkened_then, given_up_then}
 use Rattle.lvm_commit.specs.LawsOfData.{IsSectorOf}
@@ -59,7 +59,7 @@ zeroing_none map p old ready = record {
   well = λ d. refl;
 }
 
-on_disk : (map : List Pp) (k : ℕ) (e : Pp) → k < length map → is_on map (get_or map k e).disk ≡ true
+on_disk : (map : List Pp) (k : ℕ) (e : Pp) → k < length map → has_partition_on map (get_or map k e).disk ≡ true
 on_disk map k e lt = list_any_at (λ (pp : Pp). pp.disk == (get_or map k e).disk) map k e lt (eq-eqb (get_or map k e).disk (get_or map k e).disk refl)
 
 module _ (map : List Pp) (p k q r : ℕ) (e : Pp) (old mid new : State) (lt : k < length map) (so_far : IsZeroing map p k q old mid) (leaves : Leaves (commanding NoDescriptor (Contains map) 0) q r mid new)
@@ -96,7 +96,7 @@ module _ (map : List Pp) (p k q r : ℕ) (e : Pp) (old mid new : State) (lt : k 
   pub zeros_break : (why : CommitFault) → ZeroEnds its q mid new (Err why) → ZerosEnd map p old new (Err why)
   zeros_break (commit.DiskFailed disk) ends = record {
     same = record { core = ends.same.core ∙ so_far.same.core; ready = ends.same.ready; cuts = ends.same.cuts ∙ so_far.same.cuts };
-    its = subst (λ (n : ℕ). IsTrue (is_on map n)) (sym ends.disk_is) (on_disk map k e lt);
+    its = subst (λ (n : ℕ). IsTrue (has_partition_on map n)) (sym ends.disk_is) (on_disk map k e lt);
     others = λ d other. others d (λ is. other (is ∙ sym ends.disk_is));
     fault = subst (λ (n : ℕ). Rose n (new.device.counts.faults disk)) (so_far.well disk) ends.fault;
   }

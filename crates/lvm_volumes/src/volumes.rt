@@ -4,7 +4,7 @@ ghost use Rattle.lvm_num.specs.declared.place.Pp.{Pp};
 ghost use Rattle.lvm_num.specs.Status.{calls_missing};
 ghost use Rattle.lvm_disk.specs.Device.{IsReady};
 ghost use Rattle.lvm_vol.specs.Log.{spare_entries, plain_fact};
-ghost use Rattle.lvm_map.specs.FirstFit.{is_on};
+ghost use Rattle.lvm_map.specs.FirstFit.{has_partition_on};
 ghost use Rattle.lvm_commit.specs.Committed.{IsAlike};
 ghost use Rattle.lvm_core.specs.State.{state_of};
 ghost use Rattle.lvm_core.specs.Leaves.{Leaves, NoDescriptor, NoPartition};
@@ -18,7 +18,7 @@ ghost use Rattle.lvm_volumes.specs.Volumes.{MklvGives, RmlvGives, to_make, to_re
 
 use lvm_core::{CommitFault, Driver, Prepared};
 use lvm_disk::Shelf;
-use lvm_num::{DISKS, Mode, Name, Policy, Pp, is_on};
+use lvm_num::{DISKS, Mode, Name, Policy, Pp, has_partition_on};
 use lvm_stale::StaleTable;
 use lvm_transfer::Patience;
 use lvm_vol::{Entry, Vol};
@@ -192,7 +192,7 @@ fn lowest_missing(table: &StaleTable, map: &[Pp]) -> Option<u16>
     ensures none { IfNone result (All (λ (pp : Pp). calls_missing table.now pp.disk ≡ false) map.now) }
 {
     for disk in 0..DISKS {
-        if is_on(map, disk) && table.is_missing(disk) {
+        if has_partition_on(map, disk) && table.is_missing(disk) {
             return Some(disk);
         }
     }

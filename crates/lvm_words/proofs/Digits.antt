@@ -13,6 +13,7 @@ use Rattle.clap.proofs.ValueTestLemmas.{accepts-Accepts, Accepts-accepts}
 use Rattle.lvm_literals.specs.Words.{number_in, decimal_from, is_digit}
 use Rattle.lvm_language.specs.CommandLine.{is_plain, is_signed}
 use Rattle.lvm_words.specs.Matched.{unsigned_in}
+pub use Rattle.std.proofs.lemmas.Bool.{and_parts as both_true}
 
 -- what std reads is the number in the text
 module _ (E : Type 0) (G : Text → Result ℕ E → Type 0) (bits : ℕ) (some : 1 ≤ 2 ^ bits) (fits : 2 ^ bits ≤ 2 ^ 64) (only : (u : Text) (x : Result ℕ E) → G u x → ParsesUnsigned bits 10 u x) where
@@ -38,10 +39,6 @@ module _ (E : Type 0) (G : Text → Result ℕ E → Type 0) (bits : ℕ) (some 
 
 abbrev IsTold : Text → Type 0
 IsTold word = list_all is_digit word ≡ true
-
-pub both_true : (a b : Bool) → (a && b) ≡ true → (a ≡ true) × (b ≡ true)
-both_true true b is = (refl, is)
-both_true false b is = absurd (cc)
 
 tells : IsDigitsTest IsTold
 tells = record {

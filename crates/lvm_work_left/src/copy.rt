@@ -10,9 +10,9 @@ ghost use Rattle.lvm_session.specs.Judging.{copies_in};
 ghost use Rattle.lvm_session.specs.Left.{copy_left, step_left, tried_of, update_work};
 ghost use Rattle.lvm_session.specs.Sound.{IsCopy};
 
-use lvm_copies::{is_running, partition_blocks, volume_of};
+use lvm_copies::{is_running, partition_blocks};
 use lvm_copy_end::is_whole;
-use lvm_num::{Pp, copies_of};
+use lvm_num::{Pp, copies_of, volume_of};
 use lvm_session::{OpenCopy, Session, Step};
 
 // The copies of its logical partition.

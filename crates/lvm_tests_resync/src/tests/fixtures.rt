@@ -1,6 +1,6 @@
 //! What the tests share: a driver over three disks in memory, on the first of which a volume has its copies, and what
 //! they ask of it.
-ghost use Rattle.std.specs.Prelude.{◌≡◌, ◌≤◌, ◌<◌, ◌+◌, ◌*◌, ◌^◌, true, false, [], ◌∷◌, length};
+ghost use Rattle.std.specs.Prelude.{◌≡◌, ◌<◌, ◌+◌, ◌^◌, true, false, [], ◌∷◌};
 ghost use Rattle.lvm_num.specs.Descriptor.{IsValid};
 ghost use Rattle.lvm_num.specs.Status.{IsValidStatus};
 ghost use Rattle.lvm_num.specs.Votes.{is_enough_to_write, total_votes};
@@ -11,7 +11,7 @@ ghost use Rattle.lvm_session.specs.declared.open.Power.TheVariants as power;
 ghost use Rattle.lvm_session_start.specs.Parts.{IsSessionRoom};
 ghost use Rattle.lvm_session.specs.Sound.{IsLit};
 ghost use Rattle.lvm_session.specs.Worked.{status_of};
-ghost use Rattle.lvm_vol.specs.Log.{empty_log, spare_entries};
+ghost use Rattle.lvm_vol.specs.Log.{empty_log};
 
 use lvm_core::CommitFault;
 use lvm_disk::{Arrange, Shelf};

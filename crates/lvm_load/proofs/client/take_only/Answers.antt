@@ -1,5 +1,5 @@
 use Rattle.std.proofs.Common.{◌≡◌, ◌+◌, ℕ, length, subst, arith}
-use Rattle.lvm_driver.specs.Answers.{state_of}
+use Rattle.lvm_session.specs.State.{state_of}
 use Rattle.lvm_running.proofs.Running.{runs_both, runs_none}
 use Rattle.lvm_load.specs.Weaving.{NextClient, NoClient, TakesEach}
 use Rattle.lvm_load.proofs.Others.{all_wait, others_left}

@@ -1,5 +1,5 @@
 use Rattle.std.proofs.Common.{◌≤◌, ◌-◌, length}
-use Rattle.lvm_driver.specs.Answers.{state_of}
+use Rattle.lvm_session.specs.State.{state_of}
 use Rattle.lvm_running.specs.Running.{RunsOn}
 use Rattle.lvm_load.specs.Waiting.{AreWaitingBut}
 use Rattle.lvm_load.specs.Weaving.{TakesEach}

@@ -1,5 +1,5 @@
 use Rattle.std.proofs.Common.{◌≡◌, ◌+◌, Bool, true, false, ℕ, Option, refl, sym, ◌∙◌, subst, arith}
-use Rattle.lvm_driver.specs.Answers.{state_of}
+use Rattle.lvm_session.specs.State.{state_of}
 use Rattle.lvm_running.proofs.Running.{runs_both}
 use Rattle.lvm_load.specs.Weaving.{Draws, NamesNext, NoneDrawn, OneDrawn, Unheard, weaving}
 use Rattle.lvm_load.proofs.Going.{and_then, at_first}

@@ -1,5 +1,5 @@
 use Rattle.std.proofs.Common.{◌≤◌}
-use Rattle.lvm_driver.specs.Answers.{state_of}
+use Rattle.lvm_session.specs.State.{state_of}
 use Rattle.lvm_load.specs.Waiting.{AreWaiting}
 use Rattle.lvm_load.specs.Weaving.{FinishesBy, turns_left}
 use Rattle.lvm_load.proofs.Going.{Runs}

@@ -2,7 +2,7 @@ use Rattle.std.proofs.Common.{◌≡◌, ◌%◌, ℕ, Some, None, length, ap, s
 use Rattle.std.proofs.lemmas.Bool.{lt-leb}
 use Rattle.std.proofs.lemmas.Nat.{mod_below}
 use Rattle.rand_pcg.specs.Lcg.{Lcg}
-use Rattle.lvm_driver.specs.Answers.{state_of}
+use Rattle.lvm_session.specs.State.{state_of}
 use Rattle.lvm_load.specs.Weaving.{NoWord, OneWord, open_of, weaving}
 use Rattle.lvm_load.proofs.Going.{and_then, at_first, turn_bound}
 use Rattle.lvm_load.proofs.Waiting.{turn_waits}

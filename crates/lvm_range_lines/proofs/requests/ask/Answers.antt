@@ -5,7 +5,7 @@ use Rattle.lvm_core.specs.Looking.{HasNoVolumeNamed, IsNumberOf}
 use Rattle.lvm_posts.specs.declared.asked.Asked.{Asked}
 use Rattle.lvm_group_lines.specs.passed.Ranges.{AskRangeFault, AskRangeGives}
 use Rattle.lvm_group_lines.proofs.passed.Running.{runs_none}
-use Rattle.lvm_group_lines.specs.passed.Driver.{state_of}
+use Rattle.lvm_session.specs.State.{state_of}
 use Rattle.lvm_range_lines.specs.Requests.{HasNone, Refuses, Takes}
 use Rattle.lvm_range_lines.proofs.Naming.{fault_same}
 use Rattle.lvm_range_lines.proofs.Posting.{earlier_posts}

@@ -2,7 +2,7 @@ use Rattle.std.proofs.Common.{◌≡◌, None, refl, sym, ◌∙◌, subst}
 use Rattle.std.specs.Prelude.{Result}
 use Rattle.lvm_session.specs.declared.open.Power.TheVariants as power
 use Rattle.lvm_posts.specs.declared.asked.Asked.{Asked}
-use Rattle.lvm_group_lines.specs.passed.Driver.{state_of}
+use Rattle.lvm_session.specs.State.{state_of}
 use Rattle.lvm_group_lines.specs.passed.Stage.{Refusal, HaveRooms}
 use Rattle.lvm_group_lines.specs.passed.ReplyVariants as reply
 use Rattle.lvm_range_lines.specs.Requests.{AsksByName, Finishes, NotBegun, ShowsBlocks}

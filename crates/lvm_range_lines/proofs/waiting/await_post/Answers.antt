@@ -1,5 +1,5 @@
 use Rattle.std.proofs.Common.{refl, arith}
-use Rattle.lvm_group_lines.specs.passed.Driver.{state_of}
+use Rattle.lvm_session.specs.State.{state_of}
 use Rattle.lvm_group_lines.proofs.passed.Running.{runs_none}
 use Rattle.lvm_group_lines.proofs.passed.Ranges.{table_same}
 use Rattle.lvm_range_lines.specs.Taking.{IsGone}

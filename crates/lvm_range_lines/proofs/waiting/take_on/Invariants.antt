@@ -1,4 +1,4 @@
-use Rattle.lvm_group_lines.specs.passed.Driver.{state_of}
+use Rattle.lvm_session.specs.State.{state_of}
 use Rattle.lvm_range_lines.proofs.Takings.{TakenOn}
 use Rattle.lvm_range_lines.proofs.waiting.take_on.Given as goal
 

@@ -1,6 +1,5 @@
 use Rattle.std.proofs.Common.{◌≡◌, ℕ, sym, ◌∙◌, ap, subst, Some}
-use Rattle.lvm_session.specs.State.{Core, state}
-use Rattle.lvm_group_lines.specs.passed.Driver.{state_of}
+use Rattle.lvm_session.specs.State.{Core, state, state_of}
 use Rattle.lvm_group_lines.specs.passed.Running.{RunsOn}
 use Rattle.lvm_group_lines.specs.passed.Earlier.{with_taken}
 use Rattle.lvm_group_lines.proofs.passed.Earlier.{stays_beside}

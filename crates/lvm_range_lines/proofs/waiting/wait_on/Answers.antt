@@ -3,7 +3,8 @@ use Rattle.std.specs.Prelude.{All}
 use Rattle.lvm_disk.specs.Counts.{RoseBy}
 use Rattle.lvm_disk.specs.Paths.{Path}
 use Rattle.lvm_session.specs.declared.open.Power.TheVariants as power
-use Rattle.lvm_group_lines.specs.passed.Driver.{state_of, IsAny}
+use Rattle.lvm_group_lines.specs.passed.Driver.{IsAny}
+use Rattle.lvm_session.specs.State.{state_of}
 use Rattle.lvm_group_lines.proofs.passed.Running.{stays_unstuck}
 use Rattle.lvm_posts.specs.declared.posts.Post.{Post}
 use Rattle.lvm_posts.specs.Pieces.{IsLaidOut}

@@ -1,6 +1,6 @@
 use Rattle.std.proofs.Common.{refl, sym}
 use Rattle.lvm_running.proofs.Running.{runs_none}
-use Rattle.lvm_driver.specs.Answers.{state_of}
+use Rattle.lvm_session.specs.State.{state_of}
 use Rattle.lvm_ranges.proofs.Asking.{gives_asked, gives_fault}
 use Rattle.lvm_ranges.proofs.ask.ask_range.Goals as goal
 

@@ -1,7 +1,7 @@
 use Rattle.std.proofs.Common.{refl, sym, subst}
 use Rattle.lvm_disk.specs.Device.{Device}
 use Rattle.lvm_write.specs.Parts.{Spends}
-use Rattle.lvm_driver.specs.Answers.{state_of}
+use Rattle.lvm_session.specs.State.{state_of}
 use Rattle.lvm_running.proofs.Running.{runs_both}
 use Rattle.lvm_ranges.specs.Finishing.{Finished, TakesBehind, TakesNone, WasStuck}
 use Rattle.lvm_ranges.proofs.Finishing.{others_stay, others_then, still_held}

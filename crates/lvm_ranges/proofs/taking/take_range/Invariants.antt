@@ -1,5 +1,5 @@
 use Rattle.std.proofs.Common.{◌≡◌}
-use Rattle.lvm_driver.specs.Answers.{state_of}
+use Rattle.lvm_session.specs.State.{state_of}
 use Rattle.lvm_ranges.proofs.Answering.{TakingSoFar}
 use Rattle.lvm_ranges.proofs.taking.take_range.Given as goal
 

@@ -1,5 +1,5 @@
 use Rattle.std.proofs.Common.{◌≡◌, refl, subst, arith}
-use Rattle.lvm_driver.specs.Answers.{state_of}
+use Rattle.lvm_session.specs.State.{state_of}
 use Rattle.lvm_ranges.specs.Stepping.{AllMoved, Moves}
 use Rattle.lvm_ranges.proofs.Turning.{votes_with, with_turn}
 use Rattle.lvm_ranges.proofs.Stepping.{last_step, no_step, one_step}

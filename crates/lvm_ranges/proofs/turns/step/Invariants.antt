@@ -1,4 +1,4 @@
-use Rattle.lvm_driver.specs.Answers.{state_of}
+use Rattle.lvm_session.specs.State.{state_of}
 use Rattle.lvm_ranges.proofs.Stepping.{StepsSoFar}
 use Rattle.lvm_ranges.proofs.turns.step.Given as goal
 

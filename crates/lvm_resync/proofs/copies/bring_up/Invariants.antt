@@ -1,6 +1,6 @@
 use Rattle.std.proofs.Common.{◌+◌}
 use Rattle.lvm_session.specs.Left.{left_of}
-use Rattle.lvm_driver.specs.Answers.{state_of}
+use Rattle.lvm_session.specs.State.{state_of}
 use Rattle.lvm_resync.proofs.Bringing.{BroughtSoFar}
 use Rattle.lvm_resync.proofs.copies.bring_up.Given as goal
 

@@ -1,4 +1,4 @@
-use Rattle.lvm_driver.specs.Answers.{state_of}
+use Rattle.lvm_session.specs.State.{state_of}
 use Rattle.lvm_resync.specs.Syncing.{copies_at}
 use Rattle.lvm_resync.proofs.Passing.{PassedSoFar}
 use Rattle.lvm_resync.proofs.passes.pass_group.Given as goal

@@ -4,7 +4,7 @@ use Rattle.std.proofs.lemmas.Result.{err_from_is_err_and}
 use Rattle.lvm_num.specs.declared.descriptor.Descriptor.{Descriptor}
 use Rattle.lvm_num.specs.declared.descriptor.LvRow.{LvRow}
 use Rattle.lvm_num.specs.Descriptor.{volume_of}
-use Rattle.lvm_driver.specs.Answers.{state_of}
+use Rattle.lvm_session.specs.State.{state_of}
 use Rattle.lvm_resync.specs.Syncing.{partition_copies}
 use Rattle.lvm_resync.proofs.Passing.{all_of, more_of, none_yet, stops, stops_of}
 use Rattle.lvm_resync.proofs.passes.pass_volume.Goals as goal

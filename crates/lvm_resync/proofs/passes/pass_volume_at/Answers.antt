@@ -1,5 +1,5 @@
 use Rattle.std.proofs.Common.{List, sym, ◌∙◌, subst}
-use Rattle.lvm_driver.specs.Answers.{state_of}
+use Rattle.lvm_session.specs.State.{state_of}
 use Rattle.lvm_resync.specs.Passing.{Copy, EndsOr}
 use Rattle.lvm_resync.specs.Syncing.{ArePassed, NonePassed, StopsAmong}
 use Rattle.lvm_resync.proofs.Passed.{no_volume_there, volume_there}

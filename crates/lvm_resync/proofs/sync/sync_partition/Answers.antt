@@ -1,6 +1,6 @@
 use Rattle.std.proofs.Common.{refl, sym, subst, ◌∙◌}
 use Rattle.std.proofs.lemmas.Result.{err_from_is_err_and}
-use Rattle.lvm_driver.specs.Answers.{state_of}
+use Rattle.lvm_session.specs.State.{state_of}
 use Rattle.lvm_resync.specs.declared.tally.Tally.{Tally}
 use Rattle.lvm_resync.specs.Syncing.{ArePassed, StopsAmong, partition_copies, partition_fault}
 use Rattle.lvm_resync.proofs.Asking.{not_begun, ready_by, stopped, synced, within_by}

@@ -1,4 +1,4 @@
-use Rattle.lvm_line.specs.passed.Driver.{state_of}
+use Rattle.lvm_session.specs.State.{state_of}
 use Rattle.lvm_top.proofs.Turning.{last_turn, no_turn, one_turn, turns_run}
 use Rattle.lvm_top.proofs.run.run_on.Goals as goal
 

@@ -1,7 +1,6 @@
 use Rattle.std.proofs.Common.{◌≡◌, ◌∙◌, sym, ap, subst, true, false}
 use Rattle.lvm_vol.specs.Log.{Log}
-use Rattle.lvm_session.specs.State.{Core}
-use Rattle.lvm_line.specs.passed.Driver.{state_of}
+use Rattle.lvm_session.specs.State.{Core, state_of}
 use Rattle.lvm_line.specs.passed.Running.{RunsOn}
 use Rattle.lvm_line.specs.passed.Stage.{IsClosed}
 use Rattle.lvm_top.specs.Ending.{MakesTurns}

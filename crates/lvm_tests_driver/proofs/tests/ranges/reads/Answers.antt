@@ -1,7 +1,7 @@
 use Rattle.std.proofs.Common.{IfOk, refl, sym, subst}
 use Rattle.std.specs.Prelude.{Result}
 use Rattle.lvm_vol.specs.Log.{Log}
-use Rattle.lvm_ranges.specs.passed.Driver.{state_of}
+use Rattle.lvm_session.specs.State.{state_of}
 use Rattle.lvm_posts.specs.declared.asked.Asked.{Asked}
 use Rattle.lvm_ranges.specs.declared.refusal.AskRangeFault.{AskRangeFault}
 use Rattle.lvm_ranges.specs.Reading.{HasEndedWell, IsRead}
