@@ -16,7 +16,7 @@ use lvm_num::{Pbuf, Pp};
 use lvm_session::{OpenCopy, Session, Step};
 
 /// What a transfer of the copy was for.
-#[derive(Clone, Copy, Debug, PartialEq, Eq)]
+#[derive(Clone, Copy, PartialEq, Eq)]
 pub enum Carry {
     /// The copy had ended before.
     Nothing,

@@ -21,7 +21,7 @@ use lvm_session::Session;
 use lvm_status::Updater;
 
 /// Which targets of a write are to be stale by the end of a transfer.
-#[derive(Clone, Copy, Debug, PartialEq, Eq)]
+#[derive(Clone, Copy, PartialEq, Eq)]
 pub enum Due {
     /// None: it is a read, or some transfer hasn't ended.
     Nothing,

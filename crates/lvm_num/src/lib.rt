@@ -36,7 +36,7 @@ pub use text::Text;
 pub use word::{fill, word_of};
 
 /// Want of memory: a growth was refused.
-#[derive(Clone, Copy, Debug, PartialEq, Eq)]
+#[derive(Clone, Copy, PartialEq, Eq)]
 pub struct Memory;
 
 impl From<AllocError> for Memory {

@@ -14,7 +14,7 @@ use lvm_num::{Mode, Policy};
 use lvm_sched::TargetState;
 
 /// How far a request is.
-#[derive(Clone, Copy, Debug, PartialEq, Eq)]
+#[derive(Clone, Copy, PartialEq, Eq)]
 pub enum Phase {
     /// It waits to be admitted.
     Held,
@@ -32,7 +32,7 @@ pub enum Phase {
 }
 
 /// A request from its submission to its landing.
-#[derive(Debug, Drop)]
+#[derive(Drop)]
 pub struct Request {
     /// Its number in the history of the run, from 1.
     pub id: u64,

@@ -10,7 +10,7 @@ use lvm_num::Pp;
 use lvm_sched::TargetState;
 
 /// A copy to which a write goes, or which a read may try.
-#[derive(Clone, Copy, Debug, PartialEq, Eq)]
+#[derive(Clone, Copy, PartialEq, Eq)]
 pub struct Target {
     /// The sector of its disk at which the request's first block stands.
     pub sector: u64,

@@ -21,7 +21,7 @@ use lvm_vol::{Entry, Outcome};
 const CLIENT: u32 = 1;
 
 /// A write that was asked for and is answered later.
-#[derive(Clone, Copy, Debug, PartialEq, Eq)]
+#[derive(Clone, Copy, PartialEq, Eq)]
 pub struct Post {
     pub asked: Asked,
     /// The votes of the members that weren't missing, and those of all, as its session ended, where it has.

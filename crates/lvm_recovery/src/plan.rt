@@ -16,7 +16,7 @@ use lvm_survey::Survey;
 use std::alloc::Global;
 
 /// A track group of a volume.
-#[derive(Clone, Copy, Debug, PartialEq, Eq, PartialOrd, Ord)]
+#[derive(Clone, Copy, PartialEq, Eq, PartialOrd, Ord)]
 pub struct TrackGroup {
     /// The number of the volume.
     pub volume: u16,

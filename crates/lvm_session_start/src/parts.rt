@@ -20,7 +20,7 @@ use std::alloc::Global;
 const BLOCK_BYTES: usize = 131_072;
 
 /// How much a session has room for.
-#[derive(Clone, Copy, Debug, PartialEq, Eq)]
+#[derive(Clone, Copy, PartialEq, Eq)]
 pub struct Room {
     /// Open requests, 1 to 1,024.
     pub table: u32,

@@ -18,7 +18,7 @@ pub enum Change {
 }
 
 /// What the end of a write of a status update brings.
-#[derive(Clone, Copy, Debug, PartialEq, Eq)]
+#[derive(Clone, Copy, PartialEq, Eq)]
 pub enum Progress {
     /// The update isn't committed yet, or was already.
     Waiting,

@@ -4,7 +4,7 @@ ghost use Rattle.std.specs.Prelude.{◌≡◌};
 use lvm_num::DiskSet;
 
 /// For each state that the write of an update to a disk may be in, the disks whose writes are in it.
-#[derive(Clone, Copy, Debug, PartialEq, Eq)]
+#[derive(Clone, Copy, PartialEq, Eq)]
 pub struct Writes {
     /// Its write isn't started.
     pub unstarted: DiskSet,
