@@ -1,2 +1,2 @@
-mod Copies
-mod Admitting
+mod ChoosingLemmas
+mod EventsLemmas

@@ -1,2 +1,2 @@
-pub mod Areas
-pub mod Shown
+pub mod SlotsLemmas
+pub mod ReadingLemmas

@@ -1,2 +1,2 @@
-pub mod Looking
-pub mod Judging
+pub mod SeenLemmas
+pub mod RowsLemmas

@@ -1,3 +1,2 @@
-mod Aiming
-pub mod Laid
-pub mod Members
+mod JudgingLemmas
+pub mod DescriptorLemmas

@@ -1,5 +1,5 @@
-mod Leaving
-pub mod Marks
-mod Entailing
-pub mod Left
-pub mod Reviewing
+mod WaitingLemmas
+pub mod EndingLemmas
+mod LosingLemmas
+pub mod LeftLemmas
+pub mod BringingLemmas

@@ -1,5 +1,3 @@
 pub mod Parts
-pub mod Rows
-pub mod More
-pub mod Fewer
-pub mod Finding
+pub mod CopiesLemmas
+pub mod DescriptorLemmas

@@ -1,2 +1,2 @@
-pub mod Repeats
-pub mod PartLaws
+pub mod DescriptorBytesLemmas
+pub mod PartsLemmas

@@ -1,5 +1,5 @@
-pub mod Paths
-pub mod CrashImages
-pub mod Rising
-pub mod Stepping
-mod WholeImages
+pub mod PathsLemmas
+pub mod DeviceLemmas
+pub mod CountingLemmas
+pub mod StepsLemmas
+mod ImagesLemmas

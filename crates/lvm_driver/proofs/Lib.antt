@@ -1,7 +1,7 @@
-mod Rooms
-mod Driven
-mod Draining
-mod Causes
-pub mod Beginnings
-mod Closing
-mod Due
+mod RoomsLemmas
+mod FieldsLemmas
+mod DrainsLemmas
+mod AnswersLemmas
+pub mod BeginningsLemmas
+mod LogLemmas
+mod CallsLemmas

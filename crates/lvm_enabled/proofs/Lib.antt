@@ -1,2 +1,2 @@
-mod Statuses
+mod EnabledLemmas
 mod Steps

@@ -1,3 +1,3 @@
-mod Requested
+mod EndedLemmas
 pub mod Ended
 mod Owning

@@ -1,2 +1,2 @@
 mod Parting
-mod Reading
+mod NextLemmas

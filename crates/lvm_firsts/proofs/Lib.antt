@@ -1,7 +1,7 @@
 pub mod Nexts
 pub mod Places
-pub mod Queue
-mod Rest
-pub mod Might
-pub mod Spans
-mod Usable
+pub mod OrderLemmas
+mod VotesLemmas
+pub mod EnabledLemmas
+pub mod SpansLemmas
+mod JudgingLemmas

@@ -14,7 +14,7 @@ use Rattle.lvm_facts.specs.Queued.{IsQueued}
 use Rattle.lvm_session.specs.Requests.{IsOpenOne}
 use Rattle.lvm_session.specs.Sound.{IsCopy, IsGoing}
 use Rattle.lvm_firsts.proofs.Places.{at_place}
-use Rattle.lvm_firsts.proofs.Queue.{queue_ascends, queue_has}
+use Rattle.lvm_firsts.proofs.OrderLemmas.{queue_ascends, queue_has}
 
 module _ (core : Core) (going : IsGoing core) (k : ℕ) (o : Open) (there : slice_get core.requests k ≡ Some o) where
   pub one : IsOpenOne core o

@@ -39,17 +39,17 @@ use Rattle.lvm_session.specs.Causes.{AreCaused, AreCounted, FailedSince, FailedS
 use Rattle.lvm_session.specs.Left.{clean_volumes, if_so, updates_left}
 use Rattle.lvm_session.specs.Owners.{AreOwned, AreRows, HaveTickets}
 use Rattle.lvm_session.specs.Sound.{IsCopy, IsFitting, IsGoing, IsOn, IsSound, IsTold, count_if, has_number, is_dark, out_with}
-use Rattle.lvm_keeps.proofs.Causes.{answered_when_on, counted_when_on}
+use Rattle.lvm_keeps.proofs.CausesLemmas.{answered_when_on, counted_when_on}
 use Rattle.lvm_keeps.proofs.Lists.{all_on}
 use Rattle.lvm_keeps.proofs.Small.{both, is_false, not_so}
-use Rattle.lvm_keeps.proofs.Whole.{sound_when_on}
-use Rattle.lvm_keeps_events.proofs.CopyReadFail.{all_tried, by_place, by_sources, none_found, of_place, usable_of}
-use Rattle.lvm_keeps_events.proofs.Counts.{counts_keep, rose_since}
-use Rattle.lvm_keeps_events.proofs.Copies.{Brings, Fewer, runs_of}
+use Rattle.lvm_keeps.proofs.SoundLemmas.Whole.{sound_when_on}
+use Rattle.lvm_keeps_events.proofs.EndsLemmas.CopyReadFail.{all_tried, by_place, by_sources, none_found, of_place, usable_of}
+use Rattle.lvm_keeps_events.proofs.EndsLemmas.Counts.{counts_keep, rose_since}
+use Rattle.lvm_keeps_events.proofs.SoundLemmas.Copies.{Brings, Fewer, runs_of}
 use Rattle.lvm_keeps_events.proofs.Finding.{all_two, count_alike, count_less, found, some_kept}
-use Rattle.lvm_keeps_events.proofs.Follows.{Follows, Loses, in_flight_of}
-use Rattle.lvm_keeps_events.proofs.Requests.{NamesStay, requests_on}
-use Rattle.lvm_keeps_events.proofs.Review.{Clears, WriteEnd, Reviewed, and_of, behind_now, flies_is, fresh_now, held_by, here, its_copy, left_behind, mid, missing_is, missing_on, nothing_new, now, or_right, undone, sure_by, usable_is, wanted_by, was_there}
+use Rattle.lvm_keeps_events.proofs.CallsLemmas.{Follows, Loses, in_flight_of}
+use Rattle.lvm_keeps_events.proofs.JudgingLemmas.Requests.{NamesStay, requests_on}
+use Rattle.lvm_keeps_events.proofs.JudgingLemmas.Review.{Clears, WriteEnd, Reviewed, and_of, behind_now, flies_is, fresh_now, held_by, here, its_copy, left_behind, mid, missing_is, missing_on, nothing_new, now, or_right, undone, sure_by, usable_is, wanted_by, was_there}
 
 four : (a b c d : Bool) → a || b || c || d ≡ true → (a ≡ true) ⊎ ((b ≡ true) ⊎ ((c ≡ true) ⊎ (d ≡ true)))
 four true b c d i = inl refl

@@ -27,7 +27,7 @@ use Rattle.lvm_status.specs.declared.writes.Writes.{Writes}
 use Rattle.lvm_status.specs.Update.{Stored, Updates, is_held, is_owed, seen}
 use Rattle.lvm_status.specs.Calls.{BecomesDirty, closed}
 use Rattle.lvm_status.specs.Runs.{Want, IsSoundStatus}
-use Rattle.lvm_status.proofs.Sound.{steps_stay_sound}
+use Rattle.lvm_status.proofs.RunsLemmas.Sound.{steps_stay_sound}
 use Rattle.lvm_session.specs.declared.bringing.CopyEnd.TheVariants as ending
 use Rattle.lvm_session.specs.declared.bringing.OpenCopy.{OpenCopy}
 use Rattle.lvm_session.specs.declared.flown.Owner.TheVariants as owner
@@ -44,12 +44,12 @@ use Rattle.lvm_session.specs.Owners.{AreOwned}
 use Rattle.lvm_session.specs.Requests.{IsOpenOne, is_failed_and_sure, is_left_out, is_wanted_dirty, is_wanted_due, mode_for, will_be_kept}
 use Rattle.lvm_session.specs.Causes.{AreCaused, AreCounted, HaveSourcesFailed, IsAnswered, IsCaused, IsCausedAmong, IsTrueToOrigin, fails_on, is_blamed, is_held_stale, was_fresh}
 use Rattle.lvm_session.specs.Sound.{IsCopy, IsFitting, IsGoing, IsOn, IsSound, IsTold, count_if, is_dark, may_be_fresh, stays_fresh}
-use Rattle.lvm_keeps.proofs.Causes.{answered_when_on, counted_when_on}
+use Rattle.lvm_keeps.proofs.CausesLemmas.{answered_when_on, counted_when_on}
 use Rattle.lvm_keeps.proofs.Lists.{all_on, count_cons}
-use Rattle.lvm_keeps.proofs.Rows.{rows_still}
+use Rattle.lvm_keeps.proofs.OwnersLemmas.Rows.{rows_still}
 use Rattle.lvm_keeps.proofs.Small.{not_so}
-use Rattle.lvm_keeps.proofs.Still.{if_on, shape_still, copy_marked, same_next}
-use Rattle.lvm_keeps.proofs.Whole.{sound_when_on}
+use Rattle.lvm_keeps.proofs.RequestsLemmas.{if_on, shape_still, copy_marked, same_next}
+use Rattle.lvm_keeps.proofs.SoundLemmas.Whole.{sound_when_on}
 
 -- ---- tests that say the same of each
 

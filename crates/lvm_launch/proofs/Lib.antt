@@ -1,3 +1,3 @@
-mod Blocks
-pub mod Hands
+mod SoundLemmas
+pub mod OutLemmas
 mod Starting

@@ -1,3 +1,3 @@
-pub mod Marking
+pub mod MarksLemmas
 mod Places
-mod Sures
+mod DueLemmas

@@ -40,7 +40,7 @@ fn fit<T>(meaning: Option<T>, column: u32, rest: Rest<'_>) -> Result<(T, Rest<'_
 }
 
 /// DISK: the number of a disk.
-#[tactic(auto, using(crate::proofs::NextWord::operand_lacks))]
+#[tactic(auto, using(crate::proofs::ReadingLemmas::NextWord::operand_lacks))]
 pub fn disk(rest: Rest<'_>) -> Result<(u16, Rest<'_>), Misfit>
     ensures { Reads (operand disk_in (left rest.entry)) result }
 {
@@ -49,7 +49,7 @@ pub fn disk(rest: Rest<'_>) -> Result<(u16, Rest<'_>), Misfit>
 }
 
 /// BLOCK: a number.
-#[tactic(auto, using(crate::proofs::NextWord::operand_lacks))]
+#[tactic(auto, using(crate::proofs::ReadingLemmas::NextWord::operand_lacks))]
 pub fn number(rest: Rest<'_>) -> Result<(u64, Rest<'_>), Misfit>
     ensures { Reads (operand number_in (left rest.entry)) result }
 {
@@ -58,7 +58,7 @@ pub fn number(rest: Rest<'_>) -> Result<(u64, Rest<'_>), Misfit>
 }
 
 /// COUNT: how many blocks.
-#[tactic(auto, using(crate::proofs::NextWord::operand_lacks))]
+#[tactic(auto, using(crate::proofs::ReadingLemmas::NextWord::operand_lacks))]
 pub fn count(rest: Rest<'_>) -> Result<(u32, Rest<'_>), Misfit>
     ensures { Reads (operand count_in (left rest.entry)) result }
 {
@@ -67,7 +67,7 @@ pub fn count(rest: Rest<'_>) -> Result<(u32, Rest<'_>), Misfit>
 }
 
 /// WORD: what blocks are filled with, or which sectors a cut keeps.
-#[tactic(auto, using(crate::proofs::NextWord::operand_lacks))]
+#[tactic(auto, using(crate::proofs::ReadingLemmas::NextWord::operand_lacks))]
 pub fn pattern(rest: Rest<'_>) -> Result<(u64, Rest<'_>), Misfit>
     ensures { Reads (operand word_in (left rest.entry)) result }
 {
@@ -76,7 +76,7 @@ pub fn pattern(rest: Rest<'_>) -> Result<(u64, Rest<'_>), Misfit>
 }
 
 /// NAME: the name of a group or of a volume.
-#[tactic(auto, using(crate::proofs::NextWord::operand_lacks))]
+#[tactic(auto, using(crate::proofs::ReadingLemmas::NextWord::operand_lacks))]
 pub fn name(rest: Rest<'_>) -> Result<(Name, Rest<'_>), Misfit>
     ensures { Reads (operand name_in (left rest.entry)) result }
 {
@@ -85,7 +85,7 @@ pub fn name(rest: Rest<'_>) -> Result<(Name, Rest<'_>), Misfit>
 }
 
 /// LPS: how many logical partitions.
-#[tactic(auto, using(crate::proofs::NextWord::operand_lacks))]
+#[tactic(auto, using(crate::proofs::ReadingLemmas::NextWord::operand_lacks))]
 pub fn partitions(rest: Rest<'_>) -> Result<(u32, Rest<'_>), Misfit>
     ensures { Reads (operand partition_count_in (left rest.entry)) result }
 {
@@ -94,7 +94,7 @@ pub fn partitions(rest: Rest<'_>) -> Result<(u32, Rest<'_>), Misfit>
 }
 
 /// TURNS: how many turns.
-#[tactic(auto, using(crate::proofs::NextWord::operand_lacks))]
+#[tactic(auto, using(crate::proofs::ReadingLemmas::NextWord::operand_lacks))]
 pub fn turns(rest: Rest<'_>) -> Result<(u32, Rest<'_>), Misfit>
     ensures { Reads (operand turns_in (left rest.entry)) result }
 {
@@ -103,7 +103,7 @@ pub fn turns(rest: Rest<'_>) -> Result<(u32, Rest<'_>), Misfit>
 }
 
 /// MIB: the size of a partition.
-#[tactic(auto, using(crate::proofs::NextWord::operand_lacks))]
+#[tactic(auto, using(crate::proofs::ReadingLemmas::NextWord::operand_lacks))]
 pub fn size(rest: Rest<'_>) -> Result<(u16, Rest<'_>), Misfit>
     ensures { Reads (operand size_in (left rest.entry)) result }
 {
@@ -112,7 +112,7 @@ pub fn size(rest: Rest<'_>) -> Result<(u16, Rest<'_>), Misfit>
 }
 
 /// N: how many copies.
-#[tactic(auto, using(crate::proofs::NextWord::operand_lacks))]
+#[tactic(auto, using(crate::proofs::ReadingLemmas::NextWord::operand_lacks))]
 pub fn copies(rest: Rest<'_>) -> Result<(u8, Rest<'_>), Misfit>
     ensures { Reads (operand copy_count_in (left rest.entry)) result }
 {
@@ -121,7 +121,7 @@ pub fn copies(rest: Rest<'_>) -> Result<(u8, Rest<'_>), Misfit>
 }
 
 /// The mode of a volume.
-#[tactic(auto, using(crate::proofs::NextWord::operand_lacks))]
+#[tactic(auto, using(crate::proofs::ReadingLemmas::NextWord::operand_lacks))]
 pub fn mode(rest: Rest<'_>) -> Result<(Mode, Rest<'_>), Misfit>
     ensures { Reads (operand mode_in (left rest.entry)) result }
 {
@@ -130,7 +130,7 @@ pub fn mode(rest: Rest<'_>) -> Result<(Mode, Rest<'_>), Misfit>
 }
 
 /// The policy of a volume.
-#[tactic(auto, using(crate::proofs::NextWord::operand_lacks))]
+#[tactic(auto, using(crate::proofs::ReadingLemmas::NextWord::operand_lacks))]
 pub fn policy(rest: Rest<'_>) -> Result<(Policy, Rest<'_>), Misfit>
     ensures { Reads (operand policy_in (left rest.entry)) result }
 {
@@ -139,7 +139,7 @@ pub fn policy(rest: Rest<'_>) -> Result<(Policy, Rest<'_>), Misfit>
 }
 
 /// Whether this option is the next word, and what follows it.
-#[tactic(auto, using(crate::proofs::NextWord::option_lacks))]
+#[tactic(auto, using(crate::proofs::ReadingLemmas::NextWord::option_lacks))]
 pub fn option<'a>(rest: Rest<'a>, name: &[u8]) -> (bool, Rest<'a>)
     ensures { (result.0, left result.1) ≡ option name.now (left rest.entry) }
 {
@@ -156,7 +156,7 @@ pub fn option<'a>(rest: Rest<'a>, name: &[u8]) -> (bool, Rest<'a>)
 }
 
 /// The line ends here, so that it is this.
-#[tactic(auto, using(crate::proofs::NextWord::ends_here))]
+#[tactic(auto, using(crate::proofs::ReadingLemmas::NextWord::ends_here))]
 pub fn ends<T: Drop>(rest: Rest<'_>, value: T) -> Result<T, Misfit>
     ensures { result ≡ ends (left rest.entry) value }
 {

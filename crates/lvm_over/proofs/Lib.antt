@@ -1,3 +1,3 @@
-mod Hands
-mod Landing
-mod Telling
+mod HandsLemmas
+mod DarkLemmas
+mod LogLemmas

@@ -1,4 +1,4 @@
 pub mod Fronts
-pub mod Logs
-pub mod Moving
-pub mod Spanning
+pub mod LogLemmas
+pub mod KeepingLemmas
+pub mod RequestsLemmas

@@ -1,2 +1,2 @@
-pub mod Deciding
-pub mod Closed
+pub mod DecidingLemmas
+pub mod PostsLemmas

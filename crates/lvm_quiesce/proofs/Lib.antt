@@ -1,4 +1,3 @@
-pub mod Ending
-pub mod Behind
-pub mod Coming
-pub mod Ranging
+pub mod LawsLemmas
+pub mod GroupsLemmas
+pub mod RangesLemmas

@@ -1,5 +1,2 @@
-pub mod Shapes
-pub mod Shelves
-pub mod Running
-pub mod Turning
-pub mod Calls
+pub mod RunningLemmas
+pub mod LawsLemmas

@@ -1,3 +1,2 @@
-pub mod Settled
-pub mod Examples
-pub mod Notes
+pub mod SettledLemmas
+pub mod ExamplesLemmas

@@ -1,5 +1,3 @@
-pub mod Firsts
-mod Within
+pub mod StartsLemmas
 mod Writes
-mod Buffers
-pub mod Ready
+pub mod ReadyLemmas

@@ -26,7 +26,7 @@ use Rattle.lvm_session.specs.Dark.{all_dark}
 use Rattle.lvm_session.specs.Turns.{Darkens, SaysTheSame}
 use Rattle.lvm_over.specs.Hands.{MayEnd}
 use Rattle.lvm_session.specs.Sound.{IsGoing}
-use Rattle.lvm_launch.proofs.Hands.{pool_same}
+use Rattle.lvm_launch.proofs.OutLemmas.{pool_same}
 use Rattle.lvm_starts.specs.Updating.{MayStartStatus, NextOn}
 
 -- ---- a status says the same as itself

@@ -1,7 +1,5 @@
 pub mod Disks
-pub mod Fit
+pub mod MembersLemmas
 pub mod Same
-pub mod Sound
-pub mod Sessions
-pub mod Rows
+pub mod RunsLemmas
 pub mod Differing

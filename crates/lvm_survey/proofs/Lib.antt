@@ -1,5 +1,4 @@
-pub mod DiskRows
-pub mod DiskByDisk
-pub mod ShownValid
-pub mod SurveyRows
+pub mod SurveyedLemmas
+pub mod ReadingLemmas
+pub mod LawsLemmas
 pub mod Passing

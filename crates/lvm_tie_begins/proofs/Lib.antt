@@ -1,4 +1,2 @@
-pub mod Resting
-pub mod Beginning
-pub mod Rested
-pub mod Entailing
+pub mod BeginsLemmas
+pub mod MarksLemmas

@@ -1,8 +1,4 @@
-pub mod Waiting
-pub mod Ending
-pub mod Effects
-pub mod Joining
-pub mod Transferring
-pub mod Following
-pub mod Pieces
-pub mod Fronts
+pub mod TransferLemmas
+pub mod StepsLemmas
+pub mod RecordLemmas
+pub mod ReadingLemmas

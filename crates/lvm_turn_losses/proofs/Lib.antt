@@ -1,6 +1,3 @@
-pub mod Losing
-pub mod Votes
-pub mod Statuses
-pub mod Reviewing
-pub mod Requests
-pub mod Turning
+pub mod LosingLemmas
+pub mod StatusLemmas
+pub mod MarksLemmas

@@ -18,31 +18,31 @@ use Rattle.lvm_kept.specs.Kept.{Kept}
 use Rattle.lvm_kept.specs.Plans.{ChangesBy}
 use Rattle.lvm_kept.specs.Recovered.{IsRecordRange}
 use Rattle.lvm_kept.specs.Torn.{written as as_read, DescriptorsChange, StatusesChange}
-use Rattle.lvm_kept.proofs.Finding.{images_within}
+use Rattle.lvm_kept.proofs.CommittedLemmas.Finding.{images_within}
 use Rattle.lvm_stamps.specs.Behind.{StampsBefore, beginning_at, IsBehind}
 use Rattle.lvm_rec.specs.declared.homes.Homes.{Homes}
 use Rattle.lvm_write.specs.Homes.{SparesNewest}
 use Rattle.lvm_commit.specs.Committed.{ShowsCommitted}
-use Rattle.lvm_commit.proofs.Found.{newest_is_beginning}
+use Rattle.lvm_commit.proofs.LawsLemmas.Found.{newest_is_beginning}
 use Rattle.lvm_steps.specs.VaryingOn.{HasNewest}
-use Rattle.lvm_steps.proofs.Following.{restamp_is_newest}
-use Rattle.lvm_steps.proofs.VaryingOn.{restamp_keeps, restate_keeps}
+use Rattle.lvm_steps.proofs.VaryingOnLemmas.Following.{restamp_is_newest}
+use Rattle.lvm_steps.proofs.VaryingOnLemmas.VaryingOn.{restamp_keeps, restate_keeps}
 use Rattle.lvm_begin.specs.Beginning.{Beginning, again_order, describes, states, MayBeginAgain, IsOfParts}
 use Rattle.lvm_begin.specs.Newest.{FindsBeginning}
 use Rattle.lvm_begin.specs.Shown.{HasBegun}
-use Rattle.lvm_begin.proofs.Following.{targets_spare_newest, ranges_are_of_records, stamps_are_of_beginning}
-use Rattle.lvm_begin.proofs.Found.{may_restate}
-use Rattle.lvm_begin.proofs.Newest.{all_find_newest, again_is_found, status_is_last}
-use Rattle.lvm_begin.proofs.Shown.{again_is_shown, media_by}
+use Rattle.lvm_begin.proofs.ShownLemmas.Following.{targets_spare_newest, ranges_are_of_records, stamps_are_of_beginning}
+use Rattle.lvm_begin.proofs.VaryingOnLemmas.{may_restate}
+use Rattle.lvm_begin.proofs.NewestLemmas.{all_find_newest, again_is_found, status_is_last}
+use Rattle.lvm_begin.proofs.ShownLemmas.Shown.{again_is_shown, media_by}
 use Rattle.lvm_next.specs.Next.{IsNextStatus}
 use Rattle.lvm_next.specs.Restated.{Restated}
 use Rattle.lvm_recovery.specs.Copying.{LogsOnly}
-use Rattle.lvm_recovery.proofs.Logged.{only_planned}
+use Rattle.lvm_recovery.proofs.CopyingLemmas.Logged.{only_planned}
 use Rattle.lvm_varyon.specs.Found.{records_on}
 use Rattle.lvm_varyon_plan.specs.Chosen.{answering}
 use Rattle.lvm_varyon.specs.Varied.{HasWritten}
 use Rattle.lvm_varyon.specs.Writing.{beginning, AllWritten}
-use Rattle.lvm_varyon.proofs.Grouping.{same_voters}
+use Rattle.lvm_varyon.proofs.GroupLemmas.{same_voters}
 
 -- a disk with room for its partitions is a member
 pub room_member : (rows : List PvRow) (d : ℕ) (test : PvRow → Bool) → list_any (λ (row : PvRow). row.disk == d && test row) rows ≡ true → list_any (λ (row : PvRow). row.disk == d) rows ≡ true

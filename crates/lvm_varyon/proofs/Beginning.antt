@@ -28,13 +28,13 @@ use Rattle.lvm_kept.specs.Torn.{MayWriteAll}
 use Rattle.lvm_steps.specs.VaryingOn.{Carries}
 use Rattle.lvm_stamps.specs.Behind.{StampsBefore, IsBehind}
 use Rattle.lvm_stamps.specs.Laws.{ShowsBefore}
-use Rattle.lvm_stamps.proofs.Stamps.{behind_is_before}
-use Rattle.lvm_stamps.proofs.Records.{shown_is_before, session_may_go}
-use Rattle.lvm_vgda.proofs.Whole.{spelled_is_read}
-use Rattle.lvm_vgsa.proofs.RoundTrip.{is_read_again}
+use Rattle.lvm_stamps.proofs.LawsLemmas.Stamps.{behind_is_before}
+use Rattle.lvm_stamps.proofs.LawsLemmas.Records.{shown_is_before, session_may_go}
+use Rattle.lvm_vgda.proofs.DescriptorBytesLemmas.Whole.{spelled_is_read}
+use Rattle.lvm_vgsa.proofs.StatusBytesLemmas.RoundTrip.{is_read_again}
 use Rattle.lvm_write.specs.Homes.{SparesNewest}
 use Rattle.lvm_write.specs.Written.{write_of, HaveRoom}
-use Rattle.lvm_write.proofs.Shows.{descriptor_may_be_written, status_may_be_written}
+use Rattle.lvm_write.proofs.ShowsLemmas.{descriptor_may_be_written, status_may_be_written}
 use Rattle.lvm_survey.specs.declared.row.SurveyRow.{SurveyRow}
 use Rattle.lvm_survey.specs.declared.row.Survey.{Survey}
 use Rattle.lvm_survey.specs.Surveyed.{surveyed}
@@ -43,18 +43,18 @@ use Rattle.lvm_core.specs.declared.parts.Room.{Room}
 use Rattle.lvm_begin.specs.Beginning.{Beginning, describes, states, MayBeginAgain}
 use Rattle.lvm_next.specs.Next.{IsNextStatus, has_passive}
 use Rattle.lvm_num.specs.Modes.{is_passive}
-use Rattle.lvm_next.proofs.Building.{copy_is_placed, is_member_of}
+use Rattle.lvm_next.proofs.NextLemmas.{copy_is_placed, is_member_of}
 use Rattle.lvm_varyon_plan.specs.declared.plan.Plan.{Plan}
 use Rattle.lvm_varyon.specs.Found.{records_on}
 use Rattle.lvm_varyon_plan.specs.Chosen.{MayComeOn}
 use Rattle.lvm_varyon_plan.specs.Planned.{IsPlan}
 use Rattle.lvm_varyon.specs.Parts.{IsSurveyOf}
 use Rattle.lvm_varyon.specs.Writing.{beginning}
-use Rattle.lvm_varyon.proofs.Seeing.{answered_by, read_row, shows_records, row_answers}
-use Rattle.lvm_varyon.proofs.Grouping.{same_voters, same_status, holds_finds}
-use Rattle.lvm_varyon.proofs.Placing.{one_place}
-use Rattle.lvm_core.proofs.Sizes.{descriptor_fits}
-use Rattle.lvm_varyon.proofs.Sizes.{status_fits}
+use Rattle.lvm_varyon.proofs.FoundLemmas.Seeing.{answered_by, read_row, shows_records, row_answers}
+use Rattle.lvm_varyon.proofs.GroupLemmas.{same_voters, same_status, holds_finds}
+use Rattle.lvm_varyon.proofs.DescriptorLemmas.{one_place}
+use Rattle.lvm_core.proofs.RecordLemmas.{descriptor_fits}
+use Rattle.lvm_varyon.proofs.RecordLemmas.{status_fits}
 
 within : (d n : ℕ) → d < n → nat_lt d n ≡ true
 within d n lt = grind (arith, nat_tests)

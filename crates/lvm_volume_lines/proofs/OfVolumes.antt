@@ -16,7 +16,7 @@ use Rattle.lvm_core.specs.Leaves.{FindsOnly, Scope}
 use Rattle.lvm_core.specs.Settled.{IsSettled as IsSettledCore}
 use Rattle.lvm_core.specs.Sound.{HaveAllLanded}
 use Rattle.lvm_core.specs.State.{state_of}
-use Rattle.lvm_disk.proofs.Paths.{last-path}
+use Rattle.lvm_disk.proofs.PathsLemmas.{last-path}
 use Rattle.lvm_range_lines.specs.passed.Running.{LeavesSession}
 use Rattle.lvm_range_lines.specs.passed.TieCommands.{IsAloneAtFirst, IsLeftStanding, IsLeftStandingSince, MayBeCommanded, HoldsEmpty, StandsAfter}
 use Rattle.lvm_range_lines.specs.passed.Volumes.{StillHeld}

@@ -1,5 +1,2 @@
-pub mod Numbers
+pub mod NewVolumeLemmas
 pub mod Sublists
-pub mod NewDescriptor
-pub mod OldDescriptor
-pub mod Refusals

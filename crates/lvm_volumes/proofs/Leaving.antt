@@ -16,9 +16,9 @@ use Rattle.lvm_kept.specs.Torn.{RecordWrite}
 use Rattle.lvm_kept.specs.Plans.{Plan}
 use Rattle.lvm_status.specs.Update.{members_there}
 use Rattle.lvm_write.specs.Written.{KeepsShelf}
-use Rattle.lvm_write.proofs.Transfers.{keeps_here, keeps_then, spends_none, spends_then}
+use Rattle.lvm_write.proofs.PartsLemmas.Transfers.{keeps_here, keeps_then, spends_none, spends_then}
 use Rattle.lvm_commit.specs.Settling.{there, IsOfSession, StatesGroup, IsOfStatus, IsOfCommit}
-use Rattle.lvm_commit.proofs.Chaining.{keeps_wider}
+use Rattle.lvm_commit.proofs.SettlingLemmas.Chaining.{keeps_wider}
 use Rattle.lvm_session.specs.State.{State, is_there, moment_of}
 use Rattle.lvm_core.specs.Zeros.{IsZeroOf}
 use Rattle.lvm_core.specs.Held.{IsHeld}

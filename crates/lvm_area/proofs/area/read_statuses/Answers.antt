@@ -5,9 +5,9 @@ use Rattle.lvm_num.specs.StatusBytes.{status_of}
 use Rattle.lvm_num.specs.Record.{joined}
 use Rattle.lvm_rec.specs.Slots.{held}
 use Rattle.lvm_disk.specs.Device.{Media}
-use Rattle.lvm_transfer.proofs.Following.{reads_then, told_before}
+use Rattle.lvm_transfer.proofs.ReadingLemmas.Following.{reads_then, told_before}
 use Rattle.lvm_area.specs.Reading.{stamped_found}
-use Rattle.lvm_area.proofs.Areas.{latest_is}
+use Rattle.lvm_area.proofs.SlotsLemmas.{latest_is}
 use Rattle.lvm_area.proofs.area.read_statuses.Goals as goal
 
 pub read_status_slot-requires-clause-inside : goal.read_status_slot-requires-clause-inside

@@ -5,7 +5,7 @@ use Rattle.lvm_checker.specs.declared.row.Row.{Row}
 use Rattle.lvm_checker.specs.declared.row.Row.TheVariants.{Making}
 use Rattle.lvm_vol.specs.Legal.{LegalFrom}
 use Rattle.lvm_checker.specs.Rows.{facts_of}
-use Rattle.lvm_checker.proofs.Judging.{legal_row}
+use Rattle.lvm_checker.proofs.RowsLemmas.{legal_row}
 use Rattle.lvm_checker.proofs.fits.is_legal.Goals as goal
 
 pub returns-then-not-may_follow : goal.returns-then-not-may_follow

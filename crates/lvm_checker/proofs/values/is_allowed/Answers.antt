@@ -6,7 +6,7 @@ use Rattle.lvm_checker.specs.declared.row.Row.TheVariants.{Making}
 use Rattle.lvm_vol.specs.May.{known}
 use Rattle.lvm_checker.specs.Rows.{facts_of}
 use Rattle.lvm_checker.specs.Seen.{origin_of}
-use Rattle.lvm_checker.proofs.Looking.{seen_more, followed_from, looked_through, tells}
+use Rattle.lvm_checker.proofs.SeenLemmas.{seen_more, followed_from, looked_through, tells}
 use Rattle.lvm_checker.proofs.values.is_allowed.Goals as goal
 
 pub loop-k-preserved : goal.loop-k-preserved

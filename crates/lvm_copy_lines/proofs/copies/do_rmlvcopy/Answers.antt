@@ -23,13 +23,13 @@ use Rattle.lvm_volume_lines.proofs.passed.Stage.{answered_bears}
 use Rattle.lvm_volume_lines.specs.Commands.{HasBrokenOff, HasRested, none_added}
 use Rattle.lvm_volume_lines.specs.Volumes.{drain_refusal}
 use Rattle.lvm_volume_lines.proofs.Commanding.{rows_mid}
-use Rattle.lvm_volume_lines.proofs.Lines.{on_some}
+use Rattle.lvm_volume_lines.proofs.VolumesLemmas.{on_some}
 use Rattle.lvm_volume_lines.proofs.OfVolumes.{at_mid, drains, ends_so}
-use Rattle.lvm_volume_lines.proofs.Undrained.{undrained_ends}
-use Rattle.lvm_volume_lines.proofs.Unnamed.{may_again, unnamed_ends}
+use Rattle.lvm_volume_lines.proofs.EndsLemmas.{undrained_ends}
+use Rattle.lvm_volume_lines.proofs.ServingLemmas.{may_again, unnamed_ends}
 use Rattle.lvm_copy_lines.specs.Copies.{BusyRmlvcopy, RmlvcopyDoes, NoGroupForRmlvcopy, NoVolumeForRmlvcopy, UndrainedRmlvcopy}
 use Rattle.lvm_copy_lines.proofs.Giving.{rmlvcopy_bears, rmlvcopy_facts, rmlvcopy_shape}
-use Rattle.lvm_copy_lines.proofs.Lines.{rmlvcopy_does}
+use Rattle.lvm_copy_lines.proofs.CopiesLemmas.{rmlvcopy_does}
 use Rattle.lvm_copy_lines.proofs.copies.do_rmlvcopy.Goals as goal
 
 pub returns-then-is_off : goal.returns-then-is_off

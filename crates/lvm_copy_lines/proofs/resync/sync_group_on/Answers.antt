@@ -6,7 +6,7 @@ use Rattle.lvm_session.specs.State.{state_of}
 use Rattle.lvm_volume_lines.specs.passed.HolderVariants as holder
 use Rattle.lvm_volume_lines.specs.passed.Stage.{ComesTo, HaveRooms, Reply, is_unheard, most_refusals, patience_of_line}
 use Rattle.lvm_copy_lines.specs.Resyncing.{SyncsGroup, SyncGroupDoes}
-use Rattle.lvm_copy_lines.proofs.Synced.{fails_if, may_come, sync_few, synced_ends, synced_shut, group_may}
+use Rattle.lvm_copy_lines.proofs.ResyncingLemmas.{fails_if, may_come, sync_few, synced_ends, synced_shut, group_may}
 use Rattle.lvm_copy_lines.proofs.resync.sync_group_on.Goals as goal
 
 pub sync_group-synced-requires : goal.sync_group-synced-requires

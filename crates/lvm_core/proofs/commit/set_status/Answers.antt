@@ -5,8 +5,8 @@ use Rattle.lvm_session.specs.declared.session.Session.{Session}
 use Rattle.lvm_session.specs.State.{state}
 use Rattle.lvm_session.specs.Fields.{core_of}
 use Rattle.lvm_core.specs.Steps.{IsMarked}
-use Rattle.lvm_core.proofs.Ends.{status_numbered, is_out, core_ends, status_ends, commits_marks, at_once}
-use Rattle.lvm_core.proofs.Marking.{may_commit}
+use Rattle.lvm_core.proofs.StepsLemmas.Ends.{status_numbered, is_out, core_ends, status_ends, commits_marks, at_once}
+use Rattle.lvm_core.proofs.StepsLemmas.Marking.{may_commit}
 use Rattle.lvm_core.proofs.commit.set_status.Goals as goal
 
 pub commit_status-settled-requires-clause-may : goal.commit_status-settled-requires-clause-may

@@ -5,7 +5,7 @@ use Rattle.lvm_write.specs.Parts.{DoesPart}
 use Rattle.lvm_session.specs.declared.session.Session.{Session}
 use Rattle.lvm_session.specs.Fields.{core_of}
 use Rattle.lvm_core.specs.Zeros.{IsZeroOf, IsZeroed}
-use Rattle.lvm_core.proofs.Buffers.{back_again}
+use Rattle.lvm_core.proofs.CommittingLemmas.Buffers.{back_again}
 use Rattle.lvm_core.proofs.commit.zero.Goals as goal
 use Rattle.lvm_num.specs.declared.place.Pp.{Pp}
 use Rattle.lvm_disk.specs.Device.{Device}

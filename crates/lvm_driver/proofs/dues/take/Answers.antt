@@ -3,7 +3,7 @@ use Rattle.lvm_session.specs.declared.answers.Taken.TheVariants as answer
 use Rattle.lvm_session.specs.Fields.{core_of}
 use Rattle.lvm_session.specs.State.{Core}
 use Rattle.lvm_due.specs.Due.{IsDue}
-use Rattle.lvm_driver.proofs.Due.{left, other_taken, stayed}
+use Rattle.lvm_driver.proofs.CallsLemmas.{left, other_taken, stayed}
 use Rattle.lvm_driver.proofs.dues.take.Goals as goal
 
 pub returns-in-NotYet-clause-due : goal.returns-in-NotYet-clause-due

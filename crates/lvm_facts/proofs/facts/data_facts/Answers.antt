@@ -4,7 +4,7 @@ use Rattle.lvm_path.specs.declared.request.Phase.TheVariants as phase
 use Rattle.lvm_path.specs.Next.{next_in}
 use Rattle.lvm_session.specs.Fields.{core_of}
 use Rattle.lvm_session.specs.Judging.{facts_of}
-use Rattle.lvm_facts.proofs.Reading.{data_same}
+use Rattle.lvm_facts.proofs.NextLemmas.{data_same}
 use Rattle.lvm_facts.proofs.facts.data_facts.Goals as goal
 
 pub returns-then-is_unbegun : goal.returns-then-is_unbegun

@@ -5,7 +5,7 @@ use Rattle.lvm_path.specs.declared.request.Phase.TheVariants as phase
 use Rattle.lvm_path.specs.Next.{next_in}
 use Rattle.lvm_session.specs.Fields.{core_of}
 use Rattle.lvm_session.specs.Judging.{copies_for, facts_of, is_held_back, is_pending, is_usable}
-use Rattle.lvm_facts.proofs.Reading.{by_phase, held_same}
+use Rattle.lvm_facts.proofs.NextLemmas.{by_phase, held_same}
 use Rattle.lvm_facts.proofs.facts.read_facts.Goals as goal
 
 pub returns-in-Held : goal.returns-in-Held

@@ -1,5 +1,5 @@
 use Rattle.std.proofs.Common.{◌∙◌, refl}
-use Rattle.lvm_hold.proofs.Rows.{blocked_tells}
+use Rattle.lvm_hold.proofs.OrderLemmas.{blocked_tells}
 use Rattle.lvm_session.specs.Fields.{core_of}
 use Rattle.lvm_session.specs.Judging.{held_of, place_of}
 use Rattle.lvm_facts.proofs.held.is_held_back.Goals as goal

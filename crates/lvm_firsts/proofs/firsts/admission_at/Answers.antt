@@ -4,7 +4,7 @@ use Rattle.lvm_session.specs.declared.open.Open.{Open}
 use Rattle.lvm_session.specs.Enabled.{is_admit}
 use Rattle.lvm_session.specs.Fields.{core_of}
 use Rattle.lvm_session.specs.Judging.{facts_of, next_for}
-use Rattle.lvm_firsts.proofs.Might.{admits_not}
+use Rattle.lvm_firsts.proofs.EnabledLemmas.{admits_not}
 use Rattle.lvm_firsts.proofs.Places.{read_same}
 use Rattle.lvm_firsts.proofs.firsts.admission_at.Goals as goal
 

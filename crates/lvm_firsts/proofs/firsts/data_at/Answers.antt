@@ -5,7 +5,7 @@ use Rattle.lvm_session.specs.declared.open.Open.{Open}
 use Rattle.lvm_session.specs.Enabled.{target_next}
 use Rattle.lvm_session.specs.Fields.{core_of}
 use Rattle.lvm_session.specs.Judging.{facts_of, next_for}
-use Rattle.lvm_firsts.proofs.Might.{starts_not}
+use Rattle.lvm_firsts.proofs.EnabledLemmas.{starts_not}
 use Rattle.lvm_firsts.proofs.Places.{read_same}
 use Rattle.lvm_firsts.proofs.firsts.data_at.Goals as goal
 

@@ -1,7 +1,7 @@
 use Rattle.std.proofs.Common.{sym}
 use Rattle.lvm_session.specs.Fields.{core_of}
 use Rattle.lvm_session.specs.Enabled.{landing_at}
-use Rattle.lvm_firsts.proofs.Spans.{ends_here, goes_past, none_due}
+use Rattle.lvm_firsts.proofs.SpansLemmas.{ends_here, goes_past, none_due}
 use Rattle.lvm_firsts.proofs.firsts.first_landing.Goals as goal
 
 pub returns-then-is_some-clause-first : goal.returns-then-is_some-clause-first

@@ -8,10 +8,10 @@ use Rattle.lvm_session.specs.Sound.{IsGoing}
 use Rattle.lvm_session.specs.Fields.{core_of}
 use Rattle.lvm_session.specs.Judging.{facts_of, is_waiting, next_for}
 use Rattle.lvm_firsts.specs.Might.{might_land, shows_usable}
-use Rattle.lvm_firsts.proofs.Might.{lands_not}
+use Rattle.lvm_firsts.proofs.EnabledLemmas.{lands_not}
 use Rattle.lvm_firsts.proofs.Nexts.{landed_waits, one}
 use Rattle.lvm_firsts.proofs.Places.{read_same, stands}
-use Rattle.lvm_firsts.proofs.Usable.{shown_usable}
+use Rattle.lvm_firsts.proofs.JudgingLemmas.{shown_usable}
 use Rattle.lvm_firsts.proofs.firsts.landing_at.Goals as goal
 
 pub returns-then-not-might_land : goal.returns-then-not-might_land

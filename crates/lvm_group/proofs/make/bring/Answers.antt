@@ -11,8 +11,8 @@ use Rattle.lvm_group_plan.specs.NewGroup.{NewGroup}
 use Rattle.lvm_group_plan.specs.Planned.{IsPlannedFor}
 use Rattle.lvm_group.specs.Made.{MkvgRefuses}
 use Rattle.lvm_group.specs.Steps.{asked_group, cut_at, Stands}
-use Rattle.lvm_group.proofs.Composing.{refuses_reading}
-use Rattle.lvm_group.proofs.Midst.{read_leaves, descriptor_long, status_long, have_room, refuses_written, stands_written, written_leaves, written_held}
+use Rattle.lvm_group.proofs.MadeLemmas.Composing.{refuses_reading}
+use Rattle.lvm_group.proofs.StepsLemmas.{read_leaves, descriptor_long, status_long, have_room, refuses_written, stands_written, written_leaves, written_held}
 use Rattle.lvm_group.proofs.make.bring.Goals as goal
 
 -- ---- where what was found refuses

@@ -4,8 +4,8 @@ use Rattle.std.proofs.lemmas.Bool.{eq-eqb}
 use Rattle.std.proofs.lemmas.Bool.Decides.{nat_tests}
 use Rattle.lvm_num.specs.Geometry.{partition_count}
 use Rattle.lvm_group_plan.specs.NewGroup.{sectors_on}
-use Rattle.lvm_group_plan.proofs.Groups.{is_there, size_at}
-use Rattle.lvm_group_plan.proofs.Searches.{found_at, found_none}
+use Rattle.lvm_group_plan.proofs.NewGroupLemmas.Groups.{is_there, size_at}
+use Rattle.lvm_group_plan.proofs.NewGroupLemmas.Searches.{found_at, found_none}
 use Rattle.lvm_group_plan.proofs.checks.first_too_small.Goals as goal
 
 not_zero : (n m : ℕ) → n ≡ m → (n ≡ 0 → ⊥) → m == 0 ≡ false

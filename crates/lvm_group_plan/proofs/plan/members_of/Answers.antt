@@ -3,7 +3,7 @@ use Rattle.std.proofs.lemmas.List.{map_more}
 use Rattle.lvm_num.specs.declared.descriptor.PvRow.{PvRow}
 use Rattle.lvm_num.specs.Geometry.{partition_count}
 use Rattle.lvm_group_plan.specs.NewGroup.{sectors_on, member_for}
-use Rattle.lvm_group_plan.proofs.Groups.{is_there, size_at}
+use Rattle.lvm_group_plan.proofs.NewGroupLemmas.Groups.{is_there, size_at}
 use Rattle.lvm_group_plan.proofs.plan.members_of.Goals as goal
 
 pub sectors-requires : goal.sectors-requires

@@ -8,13 +8,13 @@ use Rattle.lvm_core.specs.State.{state_of}
 use Rattle.lvm_core.specs.Settled.{IsSettled}
 use Rattle.lvm_volume_plan.specs.declared.fault.GroupFault.{GroupFault}
 use Rattle.lvm_volumes.specs.Endings.{StillHeld, KeepsFresh}
-use Rattle.lvm_volumes.proofs.Answering.{always_on}
-use Rattle.lvm_volumes.proofs.Fresh.{keeps_none}
-use Rattle.lvm_volumes.proofs.Holding.{still_none}
+use Rattle.lvm_volumes.proofs.VolumesLemmas.{always_on}
+use Rattle.lvm_volumes.proofs.EndingsLemmas.Fresh.{keeps_none}
+use Rattle.lvm_volumes.proofs.EndingsLemmas.Holding.{still_none}
 use Rattle.lvm_volumes.proofs.Leaving.{leaves_none}
 use Rattle.lvm_copy_plan.specs.PlannedCopies.{ArePlanned}
 use Rattle.lvm_mirrors.specs.Mirrors.{to_add, AreAdded}
-use Rattle.lvm_mirrors.proofs.Answering.{refused_more, broke_so, added_leaves, adding_fails, added_given}
+use Rattle.lvm_mirrors.proofs.MirrorsLemmas.Answering.{refused_more, broke_so, added_leaves, adding_fails, added_given}
 use Rattle.lvm_mirrors.proofs.copies.mklvcopy.Goals as goal
 
 pub returns-in_err-more : goal.returns-in_err-more

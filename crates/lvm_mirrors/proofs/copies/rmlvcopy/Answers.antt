@@ -8,16 +8,16 @@ use Rattle.lvm_core.specs.Settled.{IsSettled}
 use Rattle.lvm_core.specs.Committing.{HasCommitted}
 use Rattle.lvm_volume_plan.specs.declared.fault.GroupFault.{GroupFault}
 use Rattle.lvm_volumes.specs.Endings.{StillHeld, KeepsFresh}
-use Rattle.lvm_volumes.proofs.Answering.{always_on}
-use Rattle.lvm_volumes.proofs.Breaking.{broken, stopped}
-use Rattle.lvm_volumes.proofs.Entering.{has_numbers}
-use Rattle.lvm_volumes.proofs.Fresh.{keeps_none}
-use Rattle.lvm_volumes.proofs.Holding.{still_none}
+use Rattle.lvm_volumes.proofs.VolumesLemmas.{always_on}
+use Rattle.lvm_volumes.proofs.StagesLemmas.Breaking.{broken, stopped}
+use Rattle.lvm_volumes.proofs.StagesLemmas.Entering.{has_numbers}
+use Rattle.lvm_volumes.proofs.EndingsLemmas.Fresh.{keeps_none}
+use Rattle.lvm_volumes.proofs.EndingsLemmas.Holding.{still_none}
 use Rattle.lvm_volumes.proofs.Leaving.{leaves_none}
 use Rattle.lvm_copy_plan.specs.PlannedCopies.{IsWithFewer}
 use Rattle.lvm_mirrors.specs.Mirrors.{to_take}
-use Rattle.lvm_mirrors.proofs.Answering.{refused_fewer, taking_fails}
-use Rattle.lvm_mirrors.proofs.Taking.{take_alike, take_leaves, take_still, take_keeps, taken}
+use Rattle.lvm_mirrors.proofs.MirrorsLemmas.Answering.{refused_fewer, taking_fails}
+use Rattle.lvm_mirrors.proofs.MirrorsLemmas.Taking.{take_alike, take_leaves, take_still, take_keeps, taken}
 use Rattle.lvm_mirrors.proofs.copies.rmlvcopy.Goals as goal
 
 pub returns-in_err-fewer : goal.returns-in_err-fewer

@@ -8,7 +8,7 @@ use Rattle.lvm_num.specs.Disks.{has}
 use Rattle.lvm_stale.specs.Marking.{IsLeftIn, Marks, IsMarkable}
 use Rattle.lvm_next.specs.Next.{IsNextStatus}
 use Rattle.lvm_next.specs.Rows.{AreMemberRows}
-use Rattle.lvm_next.proofs.Building.{first_valid, all_markable, next_is, passive_as, ok_more}
+use Rattle.lvm_next.proofs.NextLemmas.{first_valid, all_markable, next_is, passive_as, ok_more}
 use Rattle.lvm_next.proofs.next.next_status.Goals as goal
 
 pub from_status-requires : goal.from_status-requires

@@ -4,8 +4,8 @@ use Rattle.lvm_literals.specs.Words.{name_in, copy_count_in, mode_in, policy_in}
 use Rattle.lvm_operands.specs.Reading.{is_new}
 use Rattle.lvm_options.specs.Options.{mklv_choice}
 use Rattle.lvm_operands.specs.Rests.{left, word_at}
-use Rattle.lvm_operands.proofs.ManyWords.{options_lack, options_end, value_is_read, value_misfits}
-use Rattle.lvm_options.proofs.Choices.{mklv_name, mklv_copies, mklv_mode, mklv_policy, mklv_none}
+use Rattle.lvm_operands.proofs.ReadingLemmas.ManyWords.{options_lack, options_end, value_is_read, value_misfits}
+use Rattle.lvm_options.proofs.OptionsLemmas.{mklv_name, mklv_copies, mklv_mode, mklv_policy, mklv_none}
 use Rattle.lvm_options.proofs.options.mklv_option.Goals as goal
 
 pub returns-in_default : goal.returns-in_default

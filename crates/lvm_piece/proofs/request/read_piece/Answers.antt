@@ -3,9 +3,9 @@ use Rattle.lvm_vol.specs.Log.{Log, is_uncut}
 use Rattle.lvm_vol.specs.Facts.{Fact}
 use Rattle.lvm_steps.specs.Requests.{next_read, at as moment_of}
 use Rattle.lvm_piece.specs.Keeping.{PieceKeeps}
-use Rattle.lvm_piece.proofs.Logs.{uncut_begun, read_ended, read_takes, read_lands, read_later}
-use Rattle.lvm_piece.proofs.Moving.{piece_keeps}
-use Rattle.lvm_piece.proofs.Spanning.{read_keeps, read_closes}
+use Rattle.lvm_piece.proofs.LogLemmas.{uncut_begun, read_ended, read_takes, read_lands, read_later}
+use Rattle.lvm_piece.proofs.KeepingLemmas.{piece_keeps}
+use Rattle.lvm_piece.proofs.RequestsLemmas.{read_keeps, read_closes}
 use Rattle.lvm_piece.proofs.request.read_piece.Goals as goal
 
 pub end_read-requires-clause-uncut : goal.end_read-requires-clause-uncut

@@ -1,5 +1,5 @@
 use Rattle.lvm_disk.specs.Paths.{Here}
-use Rattle.lvm_piece.proofs.Moving.{left_alone}
+use Rattle.lvm_piece.proofs.KeepingLemmas.{left_alone}
 use Rattle.lvm_piece.proofs.request.relight_after_transfer.Goals as goal
 
 pub returns-in_default : goal.returns-in_default

@@ -5,9 +5,9 @@ use Rattle.lvm_vol.specs.Facts.{Fact}
 use Rattle.lvm_kept.specs.Raw.{next_write}
 use Rattle.lvm_steps.specs.Requests.{at as moment_of}
 use Rattle.lvm_piece.specs.Keeping.{PieceKeeps}
-use Rattle.lvm_piece.proofs.Logs.{uncut_begun, write_ended, write_takes, write_lands, write_later}
-use Rattle.lvm_piece.proofs.Moving.{piece_keeps}
-use Rattle.lvm_piece.proofs.Spanning.{write_keeps, write_closes}
+use Rattle.lvm_piece.proofs.LogLemmas.{uncut_begun, write_ended, write_takes, write_lands, write_later}
+use Rattle.lvm_piece.proofs.KeepingLemmas.{piece_keeps}
+use Rattle.lvm_piece.proofs.RequestsLemmas.{write_keeps, write_closes}
 use Rattle.lvm_piece.proofs.request.write_piece.Goals as goal
 
 pub end_write-requires-clause-uncut : goal.end_write-requires-clause-uncut

@@ -1,5 +1,5 @@
 use Rattle.std.proofs.Common.{◌+◌, length}
-use Rattle.lvm_quiesce.proofs.Ending.{EndedSoFar}
+use Rattle.lvm_quiesce.proofs.LawsLemmas.Ending.{EndedSoFar}
 use Rattle.lvm_quiesce.proofs.ends.quiesce.Given as goal
 
 abbrev pub invariant-loop-shelf : goal.invariant-loop-shelf

@@ -4,8 +4,8 @@ use Rattle.lvm_num.specs.Votes.{all_disks}
 use Rattle.lvm_kept.specs.Group.{descriptor_among, is_voter}
 use Rattle.lvm_survey.specs.Surveyed.{surveyed}
 use Rattle.lvm_quorum.specs.Groups.{shown_record}
-use Rattle.lvm_quorum.proofs.Chosen.{status_is}
-use Rattle.lvm_quorum.proofs.Voting.{voters_are}
+use Rattle.lvm_quorum.proofs.KeptGroupLemmas.Chosen.{status_is}
+use Rattle.lvm_quorum.proofs.KeptGroupLemmas.Voting.{voters_are}
 use Rattle.lvm_quorum.proofs.groups.group_of.Goals as goal
 
 pub returns : goal.returns

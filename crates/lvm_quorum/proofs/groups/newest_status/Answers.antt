@@ -6,8 +6,8 @@ use Rattle.lvm_kept.specs.Group.{if_passes, is_status_of}
 use Rattle.lvm_survey.specs.declared.row.SurveyRow.{SurveyRow}
 use Rattle.lvm_survey.specs.Surveyed.{surveyed}
 use Rattle.lvm_quorum.specs.Groups.{shown_record_if}
-use Rattle.lvm_quorum.proofs.Folds.{newest_more, newer_none, picked, left_out}
-use Rattle.lvm_survey.proofs.SurveyRows.{row_read, status_shown}
+use Rattle.lvm_quorum.proofs.RecordLemmas.{newest_more, newer_none, picked, left_out}
+use Rattle.lvm_survey.proofs.SurveyedLemmas.SurveyRows.{row_read, status_shown}
 use Rattle.lvm_quorum.proofs.groups.newest_status.Goals as goal
 use Rattle.lvm_quorum.proofs.groups.newest_status.Goals.{then-has, else-has}
 

@@ -5,9 +5,9 @@ use Rattle.lvm_num.specs.Votes.{all_disks}
 use Rattle.lvm_kept.specs.Group.{members_in}
 use Rattle.lvm_survey.specs.declared.row.SurveyRow.{SurveyRow}
 use Rattle.lvm_survey.specs.Surveyed.{surveyed}
-use Rattle.lvm_survey.proofs.SurveyRows.{row_read}
+use Rattle.lvm_survey.proofs.SurveyedLemmas.SurveyRows.{row_read}
 use Rattle.lvm_survey.proofs.Passing.{one_taken, one_left}
-use Rattle.lvm_quorum.proofs.Voting.{all_taken, member_told}
+use Rattle.lvm_quorum.proofs.KeptGroupLemmas.Voting.{all_taken, member_told}
 use Rattle.lvm_quorum.proofs.groups.voters.Goals as goal
 use Rattle.lvm_quorum.proofs.groups.voters.Goals.{then-is_voter, else-is_voter}
 

@@ -4,9 +4,9 @@ use Rattle.lvm_kept.specs.Group.{status_among}
 use Rattle.lvm_survey.specs.declared.row.SurveyRow.{SurveyRow}
 use Rattle.lvm_survey.specs.Surveyed.{surveyed}
 use Rattle.lvm_area.specs.Reading.{under}
-use Rattle.lvm_survey.proofs.SurveyRows.{row_read}
-use Rattle.lvm_quorum.proofs.Chosen.{is_none}
-use Rattle.lvm_quorum.proofs.Naming.{one_id, named_more, named_all}
+use Rattle.lvm_survey.proofs.SurveyedLemmas.SurveyRows.{row_read}
+use Rattle.lvm_quorum.proofs.KeptGroupLemmas.Chosen.{is_none}
+use Rattle.lvm_quorum.proofs.GroupsLemmas.Naming.{one_id, named_more, named_all}
 use Rattle.lvm_quorum.proofs.names.has_record.Goals as goal
 use Rattle.lvm_quorum.proofs.names.has_record.Goals.{in-Some+else-has_status, in_default}
 

@@ -7,8 +7,8 @@ use Rattle.lvm_group_lines.specs.passed.Ranges.{AskRangeFault, AskRangeGives}
 use Rattle.lvm_group_lines.proofs.passed.Running.{runs_none}
 use Rattle.lvm_session.specs.State.{state_of}
 use Rattle.lvm_range_lines.specs.Requests.{HasNone, Refuses, Takes}
-use Rattle.lvm_range_lines.proofs.Naming.{fault_same}
-use Rattle.lvm_range_lines.proofs.Posting.{earlier_posts}
+use Rattle.lvm_range_lines.proofs.LookingLemmas.{fault_same}
+use Rattle.lvm_range_lines.proofs.LeavingLemmas.Posting.{earlier_posts}
 use Rattle.lvm_range_lines.proofs.requests.ask.Goals as goal
 
 pub returns-in-None : goal.returns-in-None

@@ -5,7 +5,7 @@ use Rattle.lvm_group_lines.specs.passed.Earlier.{with_taken}
 use Rattle.lvm_group_lines.proofs.passed.Earlier.{stays_beside}
 use Rattle.lvm_range_lines.specs.Taking.{LeavesOthers}
 use Rattle.lvm_range_lines.specs.Waiting.{OfEarlier, OfThis}
-use Rattle.lvm_range_lines.proofs.Takings.{answered_of, earlier_leaves, gone_of, others_leave}
+use Rattle.lvm_range_lines.proofs.TakingLemmas.Takings.{answered_of, earlier_leaves, gone_of, others_leave}
 use Rattle.lvm_range_lines.proofs.waiting.take_one.Goals as goal
 
 pub take_earlier-requires-clause-answered : goal.take_earlier-requires-clause-answered

@@ -14,7 +14,7 @@ use Rattle.lvm_posts.specs.Posts.{AreAnswered}
 use Rattle.lvm_group_lines.proofs.passed.Earlier.{resting_with, stays_beside}
 use Rattle.lvm_range_lines.specs.Taking.{LeavesOthers, StaysKept}
 use Rattle.lvm_range_lines.specs.Waiting.{OfEarlier}
-use Rattle.lvm_range_lines.proofs.Takings.{earlier_leaves, enters_taken, gone_rest}
+use Rattle.lvm_range_lines.proofs.TakingLemmas.Takings.{earlier_leaves, enters_taken, gone_rest}
 use Rattle.lvm_range_lines.proofs.waiting.take_one_at_rest.Goals as goal
 
 pub take_in-session-requires-clause-answered : goal.take_in-session-requires-clause-answered

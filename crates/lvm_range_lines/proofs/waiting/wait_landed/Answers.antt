@@ -4,7 +4,7 @@ use Rattle.lvm_posts.specs.declared.posts.Post.{Post}
 use Rattle.lvm_group_lines.specs.passed.Stage.{HaveRooms, IsFittingStage, ArePosted}
 use Rattle.lvm_range_lines.specs.Answers.{Tells}
 use Rattle.lvm_range_lines.specs.Waiting.{AllHaveLanded, TakesPosts}
-use Rattle.lvm_range_lines.proofs.Landed.{closed_landed, few_ended, fits_ended, fits_on, goes_landed, not_on, over_by, posted_ended}
+use Rattle.lvm_range_lines.proofs.TakingLemmas.Landed.{closed_landed, few_ended, fits_ended, fits_on, goes_landed, not_on, over_by, posted_ended}
 use Rattle.lvm_range_lines.proofs.waiting.wait_landed.Goals as goal
 
 pub take_on-driver-requires-clause-on : goal.take_on-driver-requires-clause-on

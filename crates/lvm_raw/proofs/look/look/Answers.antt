@@ -1,10 +1,10 @@
 use Rattle.std.proofs.Common.{Ok, Err, refl, sym, subst}
 use Rattle.lvm_vol.specs.Log.{Log}
 use Rattle.lvm_steps.specs.Requests.{at as moment_of}
-use Rattle.lvm_transfer.proofs.Following.{only_none, rested_none, untouched_none}
+use Rattle.lvm_transfer.proofs.ReadingLemmas.Following.{only_none, rested_none, untouched_none}
 use Rattle.lvm_raw.specs.declared.fault.RawFault.TheVariants as fault
 use Rattle.lvm_raw.specs.Keeping.{RangeKeeps}
-use Rattle.lvm_raw.proofs.Looking.{looked, looked_dark, none_here, shown_none, shown_some}
+use Rattle.lvm_raw.proofs.LookingLemmas.{looked, looked_dark, none_here, shown_none, shown_some}
 use Rattle.lvm_raw.proofs.look.look.Goals as goal
 
 pub returns-in_default-clause-fails : goal.returns-in_default-clause-fails

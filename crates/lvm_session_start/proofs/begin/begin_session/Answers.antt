@@ -1,7 +1,7 @@
 use Rattle.std.proofs.Common.{sym, subst}
 use Rattle.lvm_session.specs.State.{Core, state}
 use Rattle.lvm_session.specs.Sound.{IsSound}
-use Rattle.lvm_session_start.proofs.Beginning.{is_sound}
+use Rattle.lvm_session_start.proofs.EntriesLemmas.{is_sound}
 use Rattle.lvm_session_start.proofs.begin.begin_session.Goals as goal
 
 pub returns-clause-sound : goal.returns-clause-sound

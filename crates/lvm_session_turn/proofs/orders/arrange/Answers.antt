@@ -1,6 +1,6 @@
 use Rattle.lvm_session.specs.Fields.{core_of}
 use Rattle.lvm_session.specs.State.{state}
-use Rattle.lvm_session_turn.proofs.Cutting.{can_end}
+use Rattle.lvm_session_turn.proofs.HandsLemmas.{can_end}
 use Rattle.lvm_session_turn.proofs.orders.arrange.Goals as goal
 
 pub follow-requires : goal.follow-requires

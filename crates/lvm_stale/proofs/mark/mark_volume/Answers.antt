@@ -4,7 +4,7 @@ use Rattle.lvm_num.specs.declared.place.Pp.{Pp}
 use Rattle.lvm_num.specs.Descriptor.{copies_of}
 use Rattle.lvm_num.specs.Disks.{has}
 use Rattle.lvm_stale.specs.Marking.{IsLeft, Marks, IsMarkable}
-use Rattle.lvm_stale.proofs.MarkLemmas.{markable_same, markable_copies, below_more}
+use Rattle.lvm_stale.proofs.MarkingLemmas.{markable_same, markable_copies, below_more}
 use Rattle.lvm_stale.proofs.mark.mark_volume.Goals as goal
 
 pub mark_copies-requires-clause-markable : goal.mark_copies-requires-clause-markable

@@ -3,7 +3,7 @@ use Rattle.std.specs.Prelude.{All}
 use Rattle.lvm_num.specs.declared.descriptor.LvRow.{LvRow}
 use Rattle.lvm_num.specs.Disks.{has}
 use Rattle.lvm_stale.specs.Marking.{IsMarkable}
-use Rattle.lvm_stale.proofs.MarkLemmas.{markable_same, markable_row, volumes_more}
+use Rattle.lvm_stale.proofs.MarkingLemmas.{markable_same, markable_row, volumes_more}
 use Rattle.lvm_stale.proofs.mark.mark_volumes.Goals as goal
 
 pub mark_volume-requires-clause-markable : goal.mark_volume-requires-clause-markable

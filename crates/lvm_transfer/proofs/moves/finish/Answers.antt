@@ -1,8 +1,8 @@
 use Rattle.std.proofs.Common.{◌≡◌, ◌+◌, ◌-◌, arith}
 use Rattle.lvm_disk.specs.Paths.{Waited}
 use Rattle.lvm_transfer.specs.Transfer.{NoStep, OneStep}
-use Rattle.lvm_transfer.proofs.Waiting.{no_waits, one_wait, borne_costs}
-use Rattle.lvm_transfer.proofs.Ending.{done_moments, failed_moments, cut_moments, done_gives, failed_gives, cut_gives, done_rests, failed_rests, dark_cuts, done_costs, failed_costs, cut_costs}
+use Rattle.lvm_transfer.proofs.TransferLemmas.Waiting.{no_waits, one_wait, borne_costs}
+use Rattle.lvm_transfer.proofs.TransferLemmas.Ending.{done_moments, failed_moments, cut_moments, done_gives, failed_gives, cut_gives, done_rests, failed_rests, dark_cuts, done_costs, failed_costs, cut_costs}
 use Rattle.lvm_transfer.proofs.moves.finish.Goals as goal
 
 pub loop-init : goal.loop-init

@@ -4,7 +4,7 @@ use Rattle.lvm_disk.specs.Paths.{DeviceStep, Path}
 use Rattle.lvm_kept.specs.Raw.{OnlyAdds}
 use Rattle.lvm_transfer.specs.declared.moves.Patience.{Patience}
 use Rattle.lvm_transfer.specs.Transfer.{StepsWhile, flight_of}
-use Rattle.lvm_transfer.proofs.Ending.{started_moments, dark_moments, any_ticket, was_cut, started_costs, dark_costs}
+use Rattle.lvm_transfer.proofs.TransferLemmas.Ending.{started_moments, dark_moments, any_ticket, was_cut, started_costs, dark_costs}
 use Rattle.lvm_transfer.proofs.moves.transfer.Goals as goal
 use Rattle.lvm_transfer.proofs.moves.transfer.Goals.{in-Ticket, in-Dark}
 

@@ -1,12 +1,12 @@
 use Rattle.std.proofs.Common.{◌≡◌, ◌+◌, ◌++◌, ℕ, IfSome, Ok, Err, append-nil, min, sym, ◌∙◌, ap, subst, arith}
 use Rattle.std.proofs.lemmas.Result.{err_from_is_err_and}
 use Rattle.lvm_num.specs.Record.{joined}
-use Rattle.lvm_rec.proofs.SlotLemmas.{joined-none}
+use Rattle.lvm_rec.proofs.RecordLemmas.Slot.{joined-none}
 use Rattle.lvm_disk.specs.Device.{Media}
-use Rattle.lvm_transfer.proofs.Joining.{kept-so-far, told-both, told-always}
+use Rattle.lvm_transfer.proofs.RecordLemmas.{kept-so-far, told-both, told-always}
 use Rattle.lvm_transfer.specs.Reading.{NoneYet, OneMore}
-use Rattle.lvm_transfer.proofs.Following.{in_range, reads_none, reads_then}
-use Rattle.lvm_transfer.proofs.Pieces.{read_at}
+use Rattle.lvm_transfer.proofs.ReadingLemmas.Following.{in_range, reads_none, reads_then}
+use Rattle.lvm_transfer.proofs.ReadingLemmas.Pieces.{read_at}
 use Rattle.lvm_transfer.proofs.reading.append_sectors.Goals as goal
 
 pub loop-done-init : goal.loop-done-init

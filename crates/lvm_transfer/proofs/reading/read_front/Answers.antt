@@ -5,10 +5,10 @@ use Rattle.lvm_num.specs.Record.{joined, record_in, record_sectors}
 use Rattle.lvm_disk.specs.Device.{Media}
 use Rattle.lvm_transfer.specs.declared.reading.Extent.{Extent}
 use Rattle.lvm_transfer.specs.Reading.{announced_length, ReadsEnd, SectorsRead}
-use Rattle.lvm_transfer.proofs.Following.{reads_then, told_before}
-use Rattle.lvm_transfer.proofs.Fronts.{record-kept}
-use Rattle.lvm_transfer.proofs.Joining.{told-both}
-use Rattle.lvm_transfer.proofs.Pieces.{slot_read}
+use Rattle.lvm_transfer.proofs.ReadingLemmas.Following.{reads_then, told_before}
+use Rattle.lvm_transfer.proofs.ReadingLemmas.Fronts.{record-kept}
+use Rattle.lvm_transfer.proofs.RecordLemmas.{told-both}
+use Rattle.lvm_transfer.proofs.ReadingLemmas.Pieces.{slot_read}
 use Rattle.lvm_transfer.proofs.reading.read_front.Goals as goal
 
 pub returns-in_err-back-clause-reads : goal.returns-in_err-back-clause-reads

@@ -1,5 +1,5 @@
 use Rattle.lvm_transfer.specs.declared.moves.Moved.TheVariants as moved
-use Rattle.lvm_transfer.proofs.Transferring.{read_ends, done_bytes, was_read}
+use Rattle.lvm_transfer.proofs.ReadingLemmas.Transferring.{read_ends, done_bytes, was_read}
 use Rattle.lvm_transfer.proofs.reading.read_piece.Goals as goal
 
 pub returns-in-Done-clause-reads : goal.returns-in-Done-clause-reads

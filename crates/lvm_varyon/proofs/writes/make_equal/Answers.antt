@@ -6,7 +6,7 @@ use Rattle.lvm_begin.specs.declared.begin.Begun.TheVariants as begun
 use Rattle.lvm_recovery.specs.declared.copying.Recopy.{Recopy}
 use Rattle.lvm_recovery.specs.Copying.{AreApart, MayCopy}
 use Rattle.lvm_recovery.specs.Equalising.{EqualiseGives, EqualisedStaysKept}
-use Rattle.lvm_varyon.proofs.Equalising.{got_stuck, made_equal, one_failed, spends_all, went_dark}
+use Rattle.lvm_varyon.proofs.EqualLemmas.Equalising.{got_stuck, made_equal, one_failed, spends_all, went_dark}
 use Rattle.lvm_varyon.proofs.writes.make_equal.Goals as goal
 
 pub equalise-requires-clause-ranges : goal.equalise-requires-clause-ranges

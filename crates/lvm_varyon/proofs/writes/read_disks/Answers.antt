@@ -1,4 +1,4 @@
-use Rattle.lvm_transfer.proofs.Following.{only_none}
+use Rattle.lvm_transfer.proofs.ReadingLemmas.Following.{only_none}
 use Rattle.lvm_varyon.proofs.writes.read_disks.Goals as goal
 
 pub returns-in_default-clause-only : goal.returns-in_default-clause-only

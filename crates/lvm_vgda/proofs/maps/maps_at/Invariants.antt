@@ -3,7 +3,7 @@ use Rattle.lvm_num.specs.Descriptor.{partitions_in}
 use Rattle.lvm_num.specs.DescriptorBytes.{maps_at}
 use Rattle.lvm_fields.specs.Reading.{rest_of}
 use Rattle.lvm_vgda.specs.Used.{Uses}
-use Rattle.lvm_vgda.proofs.MapLoops.{with_front}
+use Rattle.lvm_vgda.proofs.DescriptorBytesLemmas.MapLoops.{with_front}
 use Rattle.lvm_vgda.proofs.maps.maps_at.Given as goal
 
 abbrev pub invariant-loop-k : goal.invariant-loop-k

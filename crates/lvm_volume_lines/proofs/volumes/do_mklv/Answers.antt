@@ -12,10 +12,10 @@ use Rattle.lvm_volume_lines.specs.Commands.{HasBrokenOff, HasRested, none_added}
 use Rattle.lvm_volume_lines.specs.Volumes.{MklvDoes, BusyMklv, NoGroupForMklv, UndrainedMklv, drain_refusal, wanted}
 use Rattle.lvm_volume_lines.proofs.Commanding.{rows_mid}
 use Rattle.lvm_volume_lines.proofs.Ending.{mklv_facts, mklv_shape}
-use Rattle.lvm_volume_lines.proofs.Landing.{answers_stay, landed_stays, mklv_bears}
+use Rattle.lvm_volume_lines.proofs.FactsLemmas.{answers_stay, landed_stays, mklv_bears}
 use Rattle.lvm_volume_lines.proofs.OfVolumes.{at_mid, drains, ends_so}
-use Rattle.lvm_volume_lines.proofs.Lines.{mklv_does, on_some}
-use Rattle.lvm_volume_lines.proofs.Undrained.{undrained_ends}
+use Rattle.lvm_volume_lines.proofs.VolumesLemmas.{mklv_does, on_some}
+use Rattle.lvm_volume_lines.proofs.EndsLemmas.{undrained_ends}
 use Rattle.lvm_volume_lines.proofs.volumes.do_mklv.Goals as goal
 
 pub returns-then-not-is_on : goal.returns-then-not-is_on

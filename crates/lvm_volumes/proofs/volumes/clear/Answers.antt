@@ -10,8 +10,8 @@ use Rattle.lvm_core.specs.State.{state_of}
 use Rattle.lvm_core.specs.Committing.{HasStated}
 use Rattle.lvm_volumes.specs.Endings.{StillHeld, KeepsFresh}
 use Rattle.lvm_volumes.specs.Stages.{IsLowestMissing}
-use Rattle.lvm_volumes.proofs.Breaking.{stopped}
-use Rattle.lvm_volumes.proofs.Clearing.{fresh_among, fresh_still, fresh_keeps, fresh_break, missing_fails, still_unused, clear_end, clear_leaves, clear_still, clear_keeps}
+use Rattle.lvm_volumes.proofs.StagesLemmas.Breaking.{stopped}
+use Rattle.lvm_volumes.proofs.StagesLemmas.Clearing.{fresh_among, fresh_still, fresh_keeps, fresh_break, missing_fails, still_unused, clear_end, clear_leaves, clear_still, clear_keeps}
 use Rattle.lvm_volumes.proofs.volumes.clear.Goals as goal
 
 pub set_status-requires-clause-unused : goal.set_status-requires-clause-unused

@@ -4,7 +4,7 @@ use Rattle.lvm_vol.specs.Log.{Log, plain_fact, spare_entries}
 use Rattle.lvm_session.specs.State.{Core, State}
 use Rattle.lvm_core.specs.State.{state_of}
 use Rattle.lvm_core.specs.Settled.{IsSettled, HasSpareNumbers}
-use Rattle.lvm_volumes.proofs.Entering.{settled_entered, spare_more, needs_one, commits_between}
+use Rattle.lvm_volumes.proofs.StagesLemmas.Entering.{settled_entered, spare_more, needs_one, commits_between}
 use Rattle.lvm_volumes.proofs.volumes.commit_between.Goals as goal
 
 pub commit-requires-clause-settled : goal.commit-requires-clause-settled

@@ -11,8 +11,8 @@ use Rattle.lvm_core.specs.State.{state_of}
 use Rattle.lvm_core.specs.Leaves.{NoDescriptor, Leaves}
 use Rattle.lvm_volumes.specs.Endings.{commanding}
 use Rattle.lvm_volumes.specs.Stages.{AreUnusedOn, AreCleared, ClearEnds}
-use Rattle.lvm_volumes.proofs.Entering.{many_bound, has_numbers}
-use Rattle.lvm_volumes.proofs.Naming.{plan_unused, clear_break_leaves, clear_break, make_ends, make_leaves, make_still, make_keeps}
+use Rattle.lvm_volumes.proofs.StagesLemmas.Entering.{many_bound, has_numbers}
+use Rattle.lvm_volumes.proofs.StagesLemmas.Naming.{plan_unused, clear_break_leaves, clear_break, make_ends, make_leaves, make_still, make_keeps}
 use Rattle.lvm_volumes.proofs.volumes.make.Goals as goal
 use Rattle.lvm_volume_plan.specs.declared.new_volume.NewVolume.{NewVolume}
 use Rattle.lvm_volume_plan.specs.declared.new_volume.VolumePlan.{VolumePlan}

@@ -6,9 +6,9 @@ use Rattle.lvm_core.specs.State.{state_of}
 use Rattle.lvm_core.specs.Settled.{IsSettled}
 use Rattle.lvm_volumes.specs.Endings.{StillHeld, KeepsFresh}
 use Rattle.lvm_volumes.specs.Volumes.{to_remove}
-use Rattle.lvm_volumes.proofs.Answering.{refused_rmlv, always_on, removed_leaves, remove_settled, remove_given, remove_fails}
-use Rattle.lvm_volumes.proofs.Fresh.{keeps_none}
-use Rattle.lvm_volumes.proofs.Holding.{still_none}
+use Rattle.lvm_volumes.proofs.VolumesLemmas.{refused_rmlv, always_on, removed_leaves, remove_settled, remove_given, remove_fails}
+use Rattle.lvm_volumes.proofs.EndingsLemmas.Fresh.{keeps_none}
+use Rattle.lvm_volumes.proofs.EndingsLemmas.Holding.{still_none}
 use Rattle.lvm_volumes.proofs.Leaving.{leaves_none}
 use Rattle.lvm_volumes.proofs.volumes.rmlv.Goals as goal
 use Rattle.lvm_volume_plan.specs.declared.fault.GroupFault.{GroupFault}

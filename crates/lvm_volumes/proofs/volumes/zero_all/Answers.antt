@@ -10,8 +10,8 @@ use Rattle.lvm_session.specs.State.{Core, State}
 use Rattle.lvm_core.specs.State.{state_of}
 use Rattle.lvm_core.specs.Leaves.{NoDescriptor, Leaves}
 use Rattle.lvm_volumes.specs.Endings.{commanding}
-use Rattle.lvm_volumes.proofs.Zeroing.{zero_among, zero_still}
-use Rattle.lvm_volumes.proofs.Zeros.{IsZeroing, zeroing_more, zeros_break, zeros_end, then, zeros_fail_still}
+use Rattle.lvm_volumes.proofs.EndingsLemmas.Zeroing.{zero_among, zero_still}
+use Rattle.lvm_volumes.proofs.StagesLemmas.Zeros.{IsZeroing, zeroing_more, zeros_break, zeros_end, then, zeros_fail_still}
 use Rattle.lvm_volumes.proofs.volumes.zero_all.Goals as goal
 
 abbrev none : Pp

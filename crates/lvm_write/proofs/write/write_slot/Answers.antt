@@ -4,7 +4,7 @@ use Rattle.lvm_write.specs.Parts.{write_to, PartsStand}
 use Rattle.lvm_num.specs.Buffer.{Buffer}
 use Rattle.lvm_num.specs.Record.{record_sectors}
 use Rattle.std.proofs.Common.{length}
-use Rattle.lvm_write.proofs.Transfers.{none_written, piece_written, part_then, not_done}
+use Rattle.lvm_write.proofs.PartsLemmas.Transfers.{none_written, piece_written, part_then, not_done}
 use Rattle.lvm_write.proofs.write.write_slot.Goals as goal
 
 pub loop-first-init : goal.loop-first-init

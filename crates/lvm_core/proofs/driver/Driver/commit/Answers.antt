@@ -3,9 +3,9 @@ use Rattle.lvm_commit.specs.Committed.{IsAlike}
 use Rattle.lvm_session.specs.State.{Core, state}
 use Rattle.lvm_session.specs.Fields.{core_of}
 use Rattle.lvm_core.specs.Settled.{IsSettled, HasSpareNumbers}
-use Rattle.lvm_core.proofs.Commits.{may_commit_now}
-use Rattle.lvm_core.proofs.Committing.{descriptor_sound, descriptor_sizes, descriptor_ends, descriptor_fails, descriptor_leaves}
-use Rattle.lvm_core.proofs.Own.{rooms_stay}
+use Rattle.lvm_core.proofs.SettlingLemmas.{may_commit_now}
+use Rattle.lvm_core.proofs.CommittingLemmas.Committing.{descriptor_sound, descriptor_sizes, descriptor_ends, descriptor_fails, descriptor_leaves}
+use Rattle.lvm_core.proofs.SoundLemmas.Own.{rooms_stay}
 use Rattle.lvm_core.proofs.driver.Driver.commit.Goals as goal
 
 pub commit-requires-clause-may : goal.commit-requires-clause-may

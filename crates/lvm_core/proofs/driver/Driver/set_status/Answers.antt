@@ -3,9 +3,9 @@ use Rattle.lvm_session.specs.State.{Core, state}
 use Rattle.lvm_session.specs.Fields.{core_of}
 use Rattle.lvm_core.specs.Settled.{IsSettled, HasSpareNumbers}
 use Rattle.lvm_core.specs.Committing.{AreUnused}
-use Rattle.lvm_core.proofs.Commits.{may_commit_now, unused_markable}
-use Rattle.lvm_core.proofs.Stating.{status_sound, status_sizes, status_ends_so, status_fails, nothing_done, restates, status_leaves}
-use Rattle.lvm_core.proofs.Own.{rooms_stay}
+use Rattle.lvm_core.proofs.SettlingLemmas.{may_commit_now, unused_markable}
+use Rattle.lvm_core.proofs.CommittingLemmas.Stating.{status_sound, status_sizes, status_ends_so, status_fails, nothing_done, restates, status_leaves}
+use Rattle.lvm_core.proofs.SoundLemmas.Own.{rooms_stay}
 use Rattle.lvm_core.proofs.driver.Driver.set_status.Goals as goal
 
 pub set_status-requires-clause-may : goal.set_status-requires-clause-may

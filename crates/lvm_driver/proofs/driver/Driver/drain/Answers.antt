@@ -4,7 +4,7 @@ use Rattle.lvm_session.specs.declared.answers.Turned.TheVariants as turned
 use Rattle.lvm_session.specs.State.{state_of}
 use Rattle.lvm_core.specs.declared.fault.CommitFault.{CommitFault}
 use Rattle.lvm_driver.specs.Drains.{DrainCosts}
-use Rattle.lvm_driver.proofs.Draining.{begins, drained, last_turn, moved, path, runs_then, waits}
+use Rattle.lvm_driver.proofs.DrainsLemmas.{begins, drained, last_turn, moved, path, runs_then, waits}
 use Rattle.lvm_driver.proofs.driver.Driver.drain.Goals as goal
 
 pub loop-patience-init : goal.loop-patience-init

@@ -6,7 +6,7 @@ use Rattle.lvm_checker.specs.declared.row.Ask.{Ask}
 use Rattle.lvm_checker.specs.declared.row.Row.{Row}
 use Rattle.lvm_history.specs.Opened.{kept_of}
 use Rattle.lvm_history.specs.Keeping.{entry_kept, IsOneOfAsks}
-use Rattle.lvm_history.proofs.Entering.{length_rows, row_names, entries_kept}
+use Rattle.lvm_history.proofs.KeepingLemmas.{length_rows, row_names, entries_kept}
 use Rattle.lvm_history.proofs.history.History.entry.Goals as goal
 
 pub entry_of-requires : goal.entry_of-requires

@@ -7,7 +7,7 @@ use Rattle.lvm_vol.specs.Legal.{Legal}
 use Rattle.lvm_vol.specs.Log.{Log}
 use Rattle.lvm_history.specs.Opened.{kept_of}
 use Rattle.lvm_checker.specs.Rows.{facts_of}
-use Rattle.lvm_history.proofs.Entering.{all_bounded, facts_alike}
+use Rattle.lvm_history.proofs.KeepingLemmas.{all_bounded, facts_alike}
 use Rattle.lvm_history.proofs.history.History.is_legal.Goals as goal
 
 pub is_legal-requires : goal.is_legal-requires

@@ -8,7 +8,7 @@ use Rattle.lvm_checker.specs.Rows.{no_ask, ask_of}
 use Rattle.lvm_history.specs.Keeping.{Kept}
 use Rattle.lvm_vol.specs.Facts.{Landed}
 use Rattle.lvm_vol.specs.Log.{request_of}
-use Rattle.lvm_history.proofs.Entering.{Adds, read_adds, landed_answered, landed_room, awaited_of, chunks_count, length-first_chunks_of, log_ask, open_some}
+use Rattle.lvm_history.proofs.KeepingLemmas.{Adds, read_adds, landed_answered, landed_room, awaited_of, chunks_count, length-first_chunks_of, log_ask, open_some}
 use Rattle.lvm_history.proofs.history.History.land_read.Goals as goal
 
 pub overflow_sub-id : goal.overflow_sub-id

@@ -2,7 +2,7 @@ use Rattle.std.proofs.Common.{refl, arith}
 use Rattle.lvm_history.specs.Opened.{kept_of}
 use Rattle.lvm_vol.specs.Facts.{Taken}
 use Rattle.lvm_vol.specs.Log.{request_of}
-use Rattle.lvm_history.proofs.Entering.{Adds, taken_adds, taken_room}
+use Rattle.lvm_history.proofs.KeepingLemmas.{Adds, taken_adds, taken_room}
 use Rattle.lvm_history.proofs.history.History.taken.Goals as goal
 
 adds : (c : goal.After-append) → Adds c.args.self.now (kept_of (record c.self.inside { rows = c.append.new.items })) (Taken (request_of c.args.self.now.facts c.args.id))

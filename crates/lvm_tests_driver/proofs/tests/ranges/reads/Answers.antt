@@ -5,8 +5,8 @@ use Rattle.lvm_session.specs.State.{state_of}
 use Rattle.lvm_posts.specs.declared.asked.Asked.{Asked}
 use Rattle.lvm_ranges.specs.declared.refusal.AskRangeFault.{AskRangeFault}
 use Rattle.lvm_ranges.specs.Reading.{HasEndedWell, IsRead}
-use Rattle.lvm_ranges.proofs.Finishing.{ended_well}
-use Rattle.lvm_ranges.proofs.Growing.{reads_on}
+use Rattle.lvm_ranges.proofs.KeepingLemmas.Finishing.{ended_well}
+use Rattle.lvm_ranges.proofs.KeepingLemmas.Growing.{reads_on}
 use Rattle.lvm_tests_driver.proofs.tests.ranges.reads.Goals as goal
 
 pub read_blocks-requires-clause-read : goal.read_blocks-requires-clause-read
