@@ -1,2 +1,3 @@
+pub mod passed
 mod ChoosingLemmas
 mod EventsLemmas

@@ -4,10 +4,7 @@ use Rattle.std.specs.Prelude.{option_and_then}
 use Rattle.lvm_num.specs.declared.record.Framed.{Framed}
 use Rattle.lvm_num.specs.declared.record.Kind.{Kind}
 use Rattle.lvm_num.specs.Record.{Stamped, record_in, newer}
-use Rattle.lvm_rec.specs.Slots.{held, read_under, slot_of}
-use Rattle.lvm_disk.specs.Device.{Media}
-use Rattle.lvm_rec.specs.declared.latest.Found.{Found}
-use Rattle.lvm_rec.specs.declared.latest.Latest.{Latest}
+use Rattle.lvm_transfer.specs.passed.Names.{held, read_under, slot_of, Media, Found, Latest}
 use Rattle.lvm_area.specs.Reading.{home_of, under, stamped_found, IsLatestOn}
 
 -- what slots of the same record hold is the same

@@ -8,13 +8,10 @@ use Rattle.lvm_num.specs.Record.{slot_size, slot_start}
 use Rattle.lvm_num.specs.Status.{IsValidStatus}
 use Rattle.lvm_num.specs.StatusBytes.{status_of}
 use Rattle.lvm_num.specs.Torn.{Sectors}
-use Rattle.lvm_rec.specs.Slots.{held, newest_on, slot_of}
-use Rattle.lvm_disk.specs.Device.{Image, Device}
-use Rattle.lvm_kept.specs.Contents.{note_sector, contents_of}
+use Rattle.lvm_transfer.specs.passed.Names.{held, newest_on, slot_of, Image, Device, note_sector, contents_of, Latest}
 use Rattle.lvm_transfer.specs.Reading.{SectorsRead}
 use Rattle.lvm_area.specs.declared.area.RecordArea.{RecordArea}
-use Rattle.lvm_rec.specs.declared.latest.Latest.{Latest}
-pub use Rattle.lvm_rec.specs.Latest.{under, home_of, stamped_found, IsHome}
+pub use Rattle.lvm_transfer.specs.passed.Names.{under, home_of, stamped_found, IsHome}
 use Rattle.lvm_num.specs.declared.descriptor.Descriptor.{Descriptor}
 
 -- ---- records that are found

@@ -6,16 +6,13 @@ ghost use Rattle.lvm_num.specs.DescriptorBytes.{descriptor_of};
 ghost use Rattle.lvm_num.specs.Record.{joined};
 ghost use Rattle.lvm_num.specs.Status.{IsValidStatus};
 ghost use Rattle.lvm_num.specs.StatusBytes.{status_of};
-ghost use Rattle.lvm_rec.specs.Latest.{stamped_found};
-ghost use Rattle.lvm_rec.specs.Slots.{held};
-ghost use Rattle.lvm_disk.specs.Device.{IsReady, image_of};
+ghost use Rattle.lvm_transfer.specs.passed.Names.{stamped_found, held, IsReady, image_of};
 ghost use Rattle.lvm_transfer.specs.Reading.{only_buffer, IsInRecords, ReadsEnd, SectorsRead};
 ghost use Rattle.lvm_area.specs.Reading.{descriptor_shown, AreaRead, IsArea, IsAreaValid, IsLatestOn, IsValidLatest, SlotsRead};
 
 use crate::found::{descriptor_in, status_in};
-use lvm_disk::Shelf;
 use lvm_num::{Descriptor, Memory, Pbuf, Status};
-use lvm_rec::{Found, Latest, newest};
+use lvm_transfer::below::{Found, Latest, Shelf, newest};
 use lvm_transfer::{Extent, Patience, Stop, Unread, read_front, read_sectors};
 use std::alloc::Global;
 

@@ -2,6 +2,7 @@
 #![tactic(auto)]
 
 mod area;
+pub mod below;
 mod found;
 
 pub use area::{RecordArea, read_area, read_descriptor};

@@ -1,3 +1,4 @@
+pub mod passed
 mod Places
 pub mod LogLemmas
 pub mod WaitingLemmas

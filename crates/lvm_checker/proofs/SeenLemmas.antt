@@ -8,8 +8,8 @@ use Rattle.std.proofs.lemmas.List.Folds.{list_any-append}
 use Rattle.std.proofs.lemmas.Slice.Eq.{bytes_eq-Decides}
 use Rattle.std.proofs.lemmas.Bool.Decides.{nat_tests}
 use Rattle.std.proofs.lemmas.Bool.{eqb-true, or_parts}
-use Rattle.lvm_num.specs.Buffer.{Sector, zero_sector}
-use Rattle.lvm_num.proofs.Booleans.{and_true, and_false, or_false}
+use Rattle.lvm_vol.specs.passed.Names.{Sector, zero_sector}
+use Rattle.lvm_vol.proofs.passed.Names.{and_true, and_false, or_false}
 use Rattle.lvm_vol.specs.declared.entry.Vol.{Vol}
 use Rattle.lvm_vol.specs.declared.entry.Vol.TheVariants.{Lv}
 use Rattle.lvm_vol.specs.declared.entry.Outcome.{Outcome}

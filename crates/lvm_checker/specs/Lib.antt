@@ -1,3 +1,4 @@
+pub mod passed
 pub mod Rows
 pub mod Seen
 pub mod Fitting

@@ -2,6 +2,7 @@
 //! whether they are legal.
 #![tactic(auto)]
 
+pub mod below;
 mod fits;
 mod row;
 mod values;

@@ -1,3 +1,4 @@
+pub mod passed
 pub mod Committed
 pub mod Laws
 pub mod LawsOfWrites

@@ -1,6 +1,7 @@
 //! The commits of a session: what its disks show between two of them, and how a status or a descriptor becomes committed.
 #![tactic(auto)]
 
+pub mod below;
 mod commit;
 mod laws;
 mod write;

@@ -1,2 +1,3 @@
+pub mod passed
 mod JudgingLemmas
 pub mod DescriptorLemmas

@@ -1,6 +1,7 @@
 //! How the copies of a logical partition stand in a session: which are fresh, usable, sure or caught up with.
 #![tactic(auto)]
 
+pub mod below;
 mod pinned;
 mod places;
 mod standing;

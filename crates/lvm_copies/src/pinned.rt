@@ -1,13 +1,10 @@
 //! A request gives up its pin.
 ghost use Rattle.std.specs.Prelude.{◌≡◌, ◌≤◌, ◌<◌, ◌^◌, true, if◌then◌else◌};
-ghost use Rattle.lvm_mwc.specs.Cache.{after_unpin};
-ghost use Rattle.lvm_mwc.specs.Entries.{pins_of};
-ghost use Rattle.lvm_path.specs.Asks.{at_of, lv_of};
+ghost use Rattle.lvm_session.specs.passed.Names.{after_unpin, pins_of, at_of, lv_of};
 ghost use Rattle.lvm_session.specs.Judging.{group_of};
 
 use crate::standing::group_of;
-use lvm_mwc::Cache;
-use lvm_path::Ask;
+use lvm_session::below::{Ask, Cache};
 
 /// Gives up a pin of the track group of a request, where it holds one.
 pub fn unpin(cache: &mut Cache, pinned: bool, ask: &Ask)

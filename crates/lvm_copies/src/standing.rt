@@ -2,13 +2,13 @@
 ghost use Rattle.std.specs.Prelude.{◌≡◌, ◌||◌, ◌<◌, ◌^◌, IsTrue, filter};
 ghost use Rattle.lvm_num.specs.declared.place.Pp.{Pp};
 ghost use Rattle.lvm_num.specs.Descriptor.{IsValid, is_size};
-ghost use Rattle.lvm_path.specs.Asks.{at_of};
+ghost use Rattle.lvm_session.specs.passed.Names.{at_of};
 ghost use Rattle.lvm_session.specs.Fields.{core_of};
 ghost use Rattle.lvm_session.specs.Judging.{IsWithin, copies_for, group_in, group_of, is_caught, is_missing, is_running, is_settled, is_stale, is_sure, is_usable, is_wanted_stale, lp_of, mode_of, policy_of, pps_of, same_pps};
 
 use crate::places::{is_pp, partition_blocks};
 use lvm_num::{Mode, Policy, Pp, copies_of, volume_of};
-use lvm_path::{Ask, Target};
+use lvm_session::below::{Ask, Target};
 use lvm_session::{OpenCopy, Session};
 
 /// Whether the disk didn't answer when the session began, or a write of a record on it has failed since.

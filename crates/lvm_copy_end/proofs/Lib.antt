@@ -1,3 +1,4 @@
+pub mod passed
 mod WaitingLemmas
 pub mod EndingLemmas
 mod LosingLemmas

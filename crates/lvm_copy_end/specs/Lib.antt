@@ -1,3 +1,4 @@
+pub mod passed
 pub mod Ending
 pub mod Losing
 pub mod Left

@@ -6,7 +6,7 @@ ghost use Rattle.lvm_session.specs.Rooms.{SameRooms};
 ghost use Rattle.lvm_session.specs.Marks.{WantsStale};
 ghost use Rattle.lvm_copy_end.specs.Ending.{MayEndCopy, Unclears};
 
-use lvm_copies::partition_blocks;
+use lvm_marks::below::partition_blocks;
 use lvm_marks::want_stale;
 use lvm_num::Pp;
 use lvm_session::{CopyEnd, OpenCopy, Session};

@@ -29,13 +29,9 @@ use Rattle.lvm_session.specs.Judging.{copies_in, is_running}
 use Rattle.lvm_session.specs.Bringing.{hand_of, is_out, is_whole, marked_by_end, step_place, with_end}
 use Rattle.lvm_session.specs.Ends.{CopyLearns, FailsCopy, GoesOn, PassesGroup, StepLearns, StepLeaves, after_quit, with_copy, with_return, without_step}
 use Rattle.lvm_session.specs.Marks.{Reviews, WantsStale}
-use Rattle.lvm_marks.proofs.MarksLemmas.{same_due}
-use Rattle.lvm_over.specs.Hands.{IsOutIf}
-use Rattle.lvm_copies.proofs.DescriptorLemmas.Members.{copies_in_are, place_of}
-use Rattle.lvm_copy_end.specs.Ending.{CanEnd, MayEndCopy}
+use Rattle.lvm_ends.proofs.passed.Names.{same_due, copies_in_are, place_of, markable}
+use Rattle.lvm_ends.specs.passed.Names.{IsOutIf, CanEnd, MayEndCopy, IsLocated, MayReview}
 use Rattle.lvm_session.specs.Sound.{IsCopy, IsReadFrom}
-use Rattle.lvm_copy_end.specs.Reviewing.{IsLocated, MayReview}
-use Rattle.lvm_copy_end.proofs.BringingLemmas.{markable}
 use Rattle.lvm_ends.specs.Ended.{HasEnded}
 use Rattle.lvm_ends.proofs.Ended.{among_all, its_copy, its_place, was_out}
 use Rattle.lvm_copy_learn.specs.Carried.{MayPass, Passes}

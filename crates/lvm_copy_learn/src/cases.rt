@@ -11,9 +11,8 @@ ghost use Rattle.lvm_copy_learn.specs.Carried.{IsCarrying};
 
 use crate::next::pass;
 use crate::step::{hold, leave_step, miss, settle};
-use lvm_copy_end::{end_copy, review};
+use lvm_ends::below::{end_copy, end_flight, return_flight, review};
 use lvm_num::{Pbuf, Pp};
-use lvm_reap::{end_flight, return_flight};
 use lvm_session::{CopyEnd, Session};
 
 /// The copy had ended before, and nothing comes of it.

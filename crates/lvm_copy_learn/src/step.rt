@@ -10,8 +10,7 @@ ghost use Rattle.lvm_session.specs.Ends.{with_copy, without_step};
 ghost use Rattle.lvm_session.specs.Owners.{flies};
 ghost use Rattle.lvm_copy_learn.specs.Carried.{Carried, IsCarrying, Tries};
 
-use lvm_copies::is_running;
-use lvm_copy_end::leave_if_inside;
+use lvm_ends::below::{is_running, leave_if_inside};
 use lvm_num::{Pbuf, Pp};
 use lvm_session::{OpenCopy, Session, Step};
 

@@ -5,6 +5,7 @@ pub mod Group
 pub mod GroupLines
 pub mod HolderVariants
 pub mod Mirrors
+pub mod Names
 pub mod Quiesce
 pub mod QuiescedVariants
 pub mod RangeLines
@@ -22,4 +23,5 @@ pub mod TieCommands
 pub mod TieCopies
 pub mod Varyon
 pub mod VolumeLines
+pub mod VolumePlanFaultGroupFault
 pub mod Volumes

@@ -10,9 +10,9 @@ ghost use Rattle.lvm_copy_lines.specs.Resyncing.{MayCome, SyncGroupDoes, SyncVol
 use lvm_core::number_of;
 use lvm_disk::Shelf;
 use lvm_num::Name;
-use lvm_posts::Post;
 use lvm_resync::{SyncFault, sync_group, sync_volume};
 use lvm_transfer::Patience;
+use lvm_volume_lines::below::Post;
 use lvm_volume_lines::below::driver::Driver;
 use lvm_volume_lines::below::stage::{Answered, Holder, Refusal, Reply, Stage};
 

@@ -1,3 +1,4 @@
+pub mod passed
 pub mod Parts
 pub mod CopiesLemmas
 pub mod DescriptorLemmas

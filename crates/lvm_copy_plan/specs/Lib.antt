@@ -1,3 +1,4 @@
+pub mod passed
 pub mod Copies
 pub mod Faults
 pub mod PlannedCopies

@@ -1,19 +1,19 @@
 //! What stands against copies that are to be added or removed, and the descriptor with them.
 ghost use Rattle.std.specs.Prelude.{◌≡◌, ◌≤◌, ◌<◌, ◌*◌, ℕ, length, IsTrue, IfOk, IfErr, IfSome, IfNone};
 ghost use Rattle.lvm_num.specs.declared.descriptor.LvRow.{LvRow};
-ghost use Rattle.lvm_core.specs.Settled.{IsSettled};
+ghost use Rattle.lvm_volume_plan.specs.passed.Names.{IsSettled};
 ghost use Rattle.lvm_volume_plan.specs.Faults.{TakesCommands};
 ghost use Rattle.lvm_volume_plan.specs.PlannedVolume.{AreOfOneGroup};
 ghost use Rattle.lvm_copy_plan.specs.Faults.{MayGrow, HasFurtherPlaces, MayBeAdded, RefusesMklvcopy, MayShrink, has_fresh, keeps_fresh, IsFirstLoss, KeepsFresh, MayBeTaken, RefusesRmlvcopy};
 ghost use Rattle.lvm_copy_plan.specs.PlannedCopies.{ArePlanned, IsWithFewer};
 
 use crate::next::{copies_at, first_copies, further_copies, with_copies};
-use lvm_core::{Driver, Prepared};
 use lvm_disk::Shelf;
 use lvm_map::{MapFault, allocate_more};
 use lvm_num::{LvRow, Memory, Pp, Rows, volume_among};
 use lvm_stale::StaleTable;
 use lvm_status::members_there;
+use lvm_volume_plan::below::{Driver, Prepared};
 use lvm_volume_plan::{GroupFault, has_room, takes_commands};
 use std::alloc::Global;
 

@@ -1,6 +1,7 @@
 //! What stands against copies that are to be added or removed, and the descriptor with them.
 #![tactic(auto)]
 
+pub mod below;
 mod copies;
 mod next;
 

@@ -1,3 +1,4 @@
+pub mod passed
 pub mod SoundLemmas
 pub mod SettlingLemmas
 pub mod CommittingLemmas

@@ -31,8 +31,7 @@ use Rattle.lvm_kept.specs.Contents.{Contents}
 use Rattle.lvm_stale.specs.Marking.{is_served}
 use Rattle.lvm_commit.specs.LawsOfData.{IsFree}
 use Rattle.lvm_commit.specs.Settling.{NoneIsLeft, there, IsOf, MayCommit, MaySettle, SessionIsHeld}
-use Rattle.lvm_session.specs.Sound.{is_dark}
-use Rattle.lvm_session.specs.State.{Core, State, is_there}
+use Rattle.lvm_over.specs.passed.Names.{is_dark, Core, State, is_there}
 use Rattle.lvm_core.specs.Sound.{IsSoundBetween}
 use Rattle.lvm_core.specs.Held.{IsHeld}
 use Rattle.lvm_core.specs.Settled.{HasSpareNumbers, IsSettled}

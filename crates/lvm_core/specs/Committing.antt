@@ -12,18 +12,16 @@ use Rattle.lvm_disk.specs.Device.{IsReady, image_of}
 use Rattle.lvm_vol.specs.Facts.{Fact}
 use Rattle.lvm_kept.specs.Contents.{contents_of}
 use Rattle.lvm_kept.specs.Moments.{Moment}
-use Rattle.lvm_steps.specs.Moments.{Begins, Holds}
-use Rattle.lvm_stamps.specs.Behind.{IsBehind}
+use Rattle.lvm_commit.specs.passed.Names.{Begins, Holds, IsBehind}
 use Rattle.lvm_write.specs.Written.{IsDarkened, IsGivenUp}
 use Rattle.lvm_commit.specs.LawsOfData.{IsFree}
 use Rattle.lvm_commit.specs.LawsOfVolumes.{VolumeServes}
 use Rattle.lvm_commit.specs.Settling.{NoneIsLeft, IsPassedOver, HasLostQuorum, AreWell, SpendsNumbers, StaysCommitted, IsPlain}
 use Rattle.lvm_core.specs.declared.fault.CommitFault.{CommitFault}
 use Rattle.lvm_core.specs.declared.fault.CommitFault.TheVariants as fault
-use Rattle.lvm_session.specs.declared.open.Power.TheVariants as power
-use Rattle.lvm_session.specs.State.{State}
-pub use Rattle.lvm_session.specs.State.{moment_of}
-use Rattle.lvm_session.specs.Dark.{all_dark}
+use Rattle.lvm_over.specs.passed.SessionOpenPower as power
+use Rattle.lvm_over.specs.passed.Names.{State, all_dark}
+pub use Rattle.lvm_over.specs.passed.Names.{moment_of}
 use Rattle.lvm_core.specs.Held.{IsHeld}
 use Rattle.lvm_core.specs.Settled.{IsSettled}
 

@@ -1,13 +1,11 @@
 //! What a session writes by itself: zeros, its statuses and its descriptors.
 ghost use Rattle.std.specs.Prelude.{◌≡◌, ◌≤◌, ◌<◌, ◌++◌, false, length, replicate, All};
 ghost use Rattle.lvm_disk.specs.Device.{IsReady};
-ghost use Rattle.lvm_pbuf.specs.Out.{IsOut};
+ghost use Rattle.lvm_session_start.specs.passed.Names.{IsOut};
 ghost use Rattle.lvm_status.specs.Calls.{IsMarkable};
 ghost use Rattle.lvm_commit.specs.Committed.{IsAlike};
 ghost use Rattle.lvm_commit.specs.Settling.{IfBack, MayCommit};
-ghost use Rattle.lvm_session.specs.Fields.{core_of};
-ghost use Rattle.lvm_session.specs.Rooms.{HasRooms, SameRooms};
-ghost use Rattle.lvm_session.specs.State.{state};
+ghost use Rattle.lvm_over.specs.passed.Names.{core_of, HasRooms, SameRooms, state};
 ghost use Rattle.lvm_core.specs.Sound.{IsFittingBetween, HasNoneOpen};
 ghost use Rattle.lvm_core.specs.Committing.{with_one_out};
 ghost use Rattle.lvm_core.specs.Steps.{EndsAs, EndsWith, CommitsDescriptor, CommitsMarks};
@@ -17,12 +15,12 @@ use crate::fault::CommitFault;
 use crate::marks::mark;
 use crate::prepared::Prepared;
 use crate::zero::write_zeros;
+use lvm_commit::below::{Moved, Patience};
 use lvm_commit::{CommitEnd, commit_descriptor, commit_status};
 use lvm_disk::Shelf;
 use lvm_num::{Descriptor, Pbuf, Pp};
+use lvm_over::below::{Power, Session};
 use lvm_over::darken;
-use lvm_session::{Power, Session};
-use lvm_transfer::{Moved, Patience};
 
 // The first buffer, where all are in.
 fn take_buffer(session: &mut Session) -> Pbuf

@@ -1,6 +1,7 @@
 //! The driver of a session: a group that is varied on, over its shelf.
 #![tactic(auto)]
 
+pub mod below;
 mod commit;
 mod driver;
 mod fault;

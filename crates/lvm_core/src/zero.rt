@@ -6,9 +6,9 @@ ghost use Rattle.lvm_disk.specs.Device.{IsReady};
 ghost use Rattle.lvm_write.specs.Parts.{DoesPart, IfMoved};
 ghost use Rattle.lvm_core.specs.Zeros.{IsZeroOf, IsZeroed, AreZeroed, HasSectorsOf, IsClear};
 
+use lvm_commit::below::{Moved, Patience, transfer};
 use lvm_disk::Shelf;
 use lvm_num::{Pbuf, Pp};
-use lvm_transfer::{Moved, Patience, transfer};
 
 // The sectors of a transfer, and how many transfers a MiB has.
 const PIECE: u32 = 256;

@@ -1,6 +1,7 @@
 //! The head of a descriptor, and the rows of its members and volumes, read from their bytes.
 #![tactic(auto)]
 
+pub mod below;
 mod head;
 mod rows;
 

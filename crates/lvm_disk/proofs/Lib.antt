@@ -1,3 +1,4 @@
+pub mod passed
 pub mod PathsLemmas
 pub mod DeviceLemmas
 pub mod CountingLemmas

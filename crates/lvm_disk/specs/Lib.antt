@@ -1,3 +1,4 @@
+pub mod passed
 pub mod Counts
 pub mod Device
 pub mod Steps

@@ -2,6 +2,7 @@
 //! call.
 #![tactic(auto)]
 
+pub mod below;
 pub mod laws;
 mod shelf;
 

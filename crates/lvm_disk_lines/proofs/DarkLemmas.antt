@@ -13,8 +13,7 @@ use Rattle.lvm_session.specs.Calls.{is_asked}
 use Rattle.lvm_session.specs.Dark.{all_dark, ended_as, landings}
 use Rattle.lvm_session.specs.Judging.{is_waiting}
 use Rattle.lvm_session.specs.State.{Core}
-use Rattle.lvm_posts.specs.declared.asked.Asked.{Asked}
-use Rattle.lvm_posts.specs.Posts.{AreAnswered, AreHeld}
+use Rattle.lvm_stage.specs.passed.Names.{Asked, AreAnswered, AreHeld}
 use Rattle.lvm_stage.specs.State.{log_with}
 use Rattle.lvm_stage.proofs.FactsLemmas.{bears_cut}
 use Rattle.lvm_stage.proofs.StateLemmas.{answered_bears, answered_on}

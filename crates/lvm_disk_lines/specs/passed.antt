@@ -5,6 +5,7 @@ pub mod Group
 pub mod Handover
 pub mod HolderVariants
 pub mod Mirrors
+pub mod Names
 pub mod Quiesce
 pub mod QuiescedVariants
 pub mod Ranges
@@ -17,4 +18,5 @@ pub mod Tie
 pub mod TieCommands
 pub mod TieCopies
 pub mod Varyon
+pub mod VolumePlanFaultGroupFault
 pub mod Volumes

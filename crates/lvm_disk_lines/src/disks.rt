@@ -6,11 +6,11 @@ ghost use Rattle.lvm_stage.specs.Moments.{Aside};
 ghost use Rattle.lvm_stage.specs.Replies.{Shows};
 ghost use Rattle.lvm_stage.specs.Stages.{IsBetweenStage, IsFittingStage};
 
-use lvm_core::Closed;
 use lvm_disk::Shelf;
 use lvm_num::{Memory, Rows, Text};
 use lvm_raw::RawFault;
 use lvm_replies::show_block;
+use lvm_stage::below::Closed;
 use lvm_stage::below::quiesce::{read_disk, write_disk};
 use lvm_stage::{Answered, Refusal, Reply, Stage};
 use lvm_transfer::Patience;

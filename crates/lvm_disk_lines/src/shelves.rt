@@ -6,8 +6,8 @@ ghost use Rattle.lvm_stage.specs.Moments.{Aside};
 ghost use Rattle.lvm_disk_lines.specs.Shelves.{ArrangeDoes, CutDoes};
 ghost use Rattle.lvm_stage.specs.Stages.{IsBetweenStage, IsFittingStage};
 
-use lvm_core::Closed;
 use lvm_disk::{Arrange, Shelf};
+use lvm_stage::below::Closed;
 use lvm_stage::{Answered, Refusal, Reply, Stage};
 use lvm_transfer::relight;
 

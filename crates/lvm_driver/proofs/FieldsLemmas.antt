@@ -21,10 +21,10 @@ use Rattle.lvm_keeps.proofs.KeepsLemmas.Close.{close_keeps}
 use Rattle.lvm_keeps.proofs.KeepsLemmas.Orders.{order_keeps}
 use Rattle.lvm_keeps.proofs.KeepsLemmas.Take.{take_keeps}
 use Rattle.lvm_keeps_calls.proofs.KeepsLemmas.{submit_keeps}
-use Rattle.lvm_keeps_turn.proofs.TurningLemmas.{turn_keeps}
+use Rattle.lvm_running.proofs.passed.Names.{turn_keeps}
 use Rattle.lvm_keeps_calls.proofs.OpeningLemmas.Opening.{seen_open_keeps}
-use Rattle.lvm_calls.specs.Opening.{counts_seen}
-use Rattle.lvm_tie.specs.Stamps.{AreValid}
+use Rattle.lvm_keeps_calls.specs.passed.Names.{counts_seen}
+use Rattle.lvm_running.specs.passed.Names.{AreValid}
 use Rattle.lvm_running.specs.Running.{LeavesSession, RunsOn}
 use Rattle.lvm_running.proofs.LawsLemmas.Calls.{calls_run_on}
 use Rattle.lvm_running.proofs.LawsLemmas.Turning.{turn_runs_on}

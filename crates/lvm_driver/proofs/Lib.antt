@@ -1,3 +1,4 @@
+pub mod passed
 mod RoomsLemmas
 mod FieldsLemmas
 mod DrainsLemmas

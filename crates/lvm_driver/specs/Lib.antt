@@ -1,3 +1,4 @@
+pub mod passed
 pub mod Answers
 pub mod Beginnings
 pub mod Drains

@@ -1,6 +1,7 @@
 //! A group that is varied on, over its shelf: what clients ask of it, and the turns that do it.
 #![tactic(auto)]
 
+pub mod below;
 mod closed;
 mod drain;
 mod driver;

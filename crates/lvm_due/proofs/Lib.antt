@@ -1,3 +1,4 @@
+pub mod passed
 mod EnabledLemmas
 mod DueLemmas
 mod WorkedLemmas

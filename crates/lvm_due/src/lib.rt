@@ -1,6 +1,7 @@
 //! At which places of the table events are due, kept from event to event.
 #![tactic(auto)]
 
+pub mod below;
 mod due;
 mod laws;
 mod making;

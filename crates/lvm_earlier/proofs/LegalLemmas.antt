@@ -22,11 +22,8 @@ use Rattle.lvm_invariant.specs.State.{Queued, ModelState}
 use Rattle.lvm_invariant.specs.TakeEarlier.{TakesEarlier}
 use Rattle.lvm_invariant.proofs.EventsLemmas.Each.{each_keeps}
 use Rattle.lvm_keeps.proofs.Lists.{all_at}
-use Rattle.lvm_tie_shelf.proofs.RecordsLemmas.Quiet.{quiet_lasts}
-use Rattle.lvm_tie.specs.Out.{CarriesStep, CarryTheirs}
-use Rattle.lvm_tie.specs.Seen.{update_of, IsRequestAt, IsStepAt, Sees}
-use Rattle.lvm_tie.specs.Tied.{IsTied}
-use Rattle.lvm_tie.proofs.SeenLemmas.Entered.{sees_entered}
+use Rattle.lvm_ranges.proofs.passed.Names.{quiet_lasts, sees_entered}
+use Rattle.lvm_ranges.specs.passed.Names.{CarriesStep, CarryTheirs, update_of, IsRequestAt, IsStepAt, Sees, IsTied}
 use Rattle.lvm_earlier.proofs.SoundLemmas.{apart_at, one_keeps}
 
 -- ---- without the cut between an earlier history and this one

@@ -1,5 +1,6 @@
 pub mod AskRangeFaultVariants
 pub mod Driver
+pub mod Names
 pub mod Ranges
 pub mod Running
 pub mod Tie

@@ -1,2 +1,3 @@
+pub mod passed
 mod EnabledLemmas
 mod Steps

@@ -9,7 +9,7 @@ ghost use Rattle.lvm_session.specs.Enabled.{is_free_step, may_read};
 ghost use Rattle.lvm_session.specs.Sound.{IsCopy, IsGoing};
 ghost use Rattle.lvm_enabled.specs.Plain.{is_source, plain_read};
 
-use lvm_copies::{is_pp, is_running, is_usable, partition_blocks};
+use lvm_due::below::{is_pp, is_running, is_usable, partition_blocks};
 use lvm_num::{Pp, copies_of, volume_of};
 use lvm_session::{Event, OpenCopy, Session, Step};
 

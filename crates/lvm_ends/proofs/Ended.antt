@@ -24,18 +24,17 @@ use Rattle.lvm_session.specs.Bringing.{hand_of}
 use Rattle.lvm_session.specs.Calls.{copy_at}
 use Rattle.lvm_session.specs.Dark.{hand_of_copy}
 use Rattle.lvm_session.specs.Marks.{is_among}
-use Rattle.lvm_over.specs.Hands.{IsOutIf}
+use Rattle.lvm_launch.specs.passed.Names.{IsOutIf}
 use Rattle.lvm_session.specs.Owners.{flies, same_owner}
 use Rattle.lvm_session.specs.Sound.{IsCopy, count_if, is_hand}
-use Rattle.lvm_copies.proofs.DescriptorLemmas.Members.{copies_in_are}
+use Rattle.lvm_launch.proofs.passed.Names.{copies_in_are}
 use Rattle.lvm_launch.proofs.OutLemmas.{at_most_one, get_other, is_out as out_of}
 use Rattle.lvm_reap.specs.Learning.{MayReturn}
 use Rattle.lvm_copy_end.specs.Ending.{CanEnd}
 use Rattle.lvm_copy_end.specs.Reviewing.{IsLocated, MayReview}
 use Rattle.lvm_copy_end.proofs.BringingLemmas.{markable}
 use Rattle.lvm_ends.specs.Ended.{HasEnded}
-pub use Rattle.lvm_num.proofs.Booleans.{first_holds as left}
-pub use Rattle.lvm_num.proofs.Booleans.{second_holds as right}
+pub use Rattle.lvm_num.proofs.Booleans.{first_holds as left, second_holds as right}
 
 -- ---- counting
 

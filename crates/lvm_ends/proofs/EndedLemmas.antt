@@ -24,13 +24,12 @@ use Rattle.lvm_session.specs.Judging.{copies_for, is_waiting, lp_of}
 use Rattle.lvm_session.specs.Bringing.{hand_of, with_back}
 use Rattle.lvm_session.specs.Dark.{IsAscending}
 use Rattle.lvm_session.specs.Ends.{after_data, given_back, keeps_buffer, learned}
-use Rattle.lvm_over.specs.Hands.{IsOutIf}
-use Rattle.lvm_marks.specs.Due.{MayMark}
-use Rattle.lvm_copies.proofs.DescriptorLemmas.Members.{copies_in_are}
+use Rattle.lvm_launch.specs.passed.Names.{IsOutIf}
+use Rattle.lvm_copy_end.specs.passed.Names.{MayMark}
+use Rattle.lvm_launch.proofs.passed.Names.{copies_in_are, at_place}
 use Rattle.lvm_copy_end.specs.Ending.{CanEnd, MayEndCopy}
 use Rattle.lvm_session.specs.Owners.{target_flies}
 use Rattle.lvm_session.specs.Requests.{IsOpenOne, IsTarget}
-use Rattle.lvm_firsts.proofs.Places.{at_place}
 use Rattle.lvm_reap.proofs.Listing.{any_within, finds, some_there}
 use Rattle.lvm_copy_end.proofs.BringingLemmas.{markable}
 use Rattle.lvm_ends.specs.Ended.{HasEnded, HasId}

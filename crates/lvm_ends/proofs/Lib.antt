@@ -1,3 +1,4 @@
+pub mod passed
 mod EndedLemmas
 pub mod Ended
 mod Owning

@@ -1,6 +1,7 @@
 //! The ends of transfers of requests, of the status and of notes.
 #![tactic(auto)]
 
+pub mod below;
 mod data;
 mod records;
 

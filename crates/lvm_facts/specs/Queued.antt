@@ -1,9 +1,7 @@
 -- A request that stands in the hold queue.
 use Rattle.std.specs.Prelude.{Contains}
-use Rattle.lvm_hold.specs.Order.{IsAscending}
+use Rattle.lvm_copies.specs.passed.Names.{IsAscending, Core, place_of, held_of}
 use Rattle.lvm_path.specs.declared.request.Request.{Request}
-use Rattle.lvm_session.specs.State.{Core}
-use Rattle.lvm_session.specs.Judging.{place_of, held_of}
 
 -- The request has its place in the queue, the rows of which are in the order of their places.
 pub record IsQueued (core : Core) (r : Request) : Type 0 where

@@ -1,12 +1,10 @@
 //! Who waits for whom.
 ghost use Rattle.std.specs.Prelude.{◌≡◌, ◌<◌, ◌^◌};
-ghost use Rattle.lvm_session.specs.Fields.{core_of};
-ghost use Rattle.lvm_session.specs.Judging.{held_of, is_held_back};
+ghost use Rattle.lvm_copies.specs.passed.Names.{core_of, held_of, is_held_back};
 ghost use Rattle.lvm_facts.specs.Queued.{IsQueued};
 
-use lvm_hold::Held;
+use lvm_copies::below::{Held, Session};
 use lvm_path::{Ask, Request};
-use lvm_session::Session;
 
 /// What a request asks of the hold queue.
 pub fn held_of(ask: &Ask) -> Held

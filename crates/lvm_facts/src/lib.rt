@@ -1,6 +1,7 @@
 //! What a request is told of its session, and what it does next.
 #![tactic(auto)]
 
+pub mod below;
 mod facts;
 mod held;
 mod judged;

@@ -4,7 +4,7 @@ use Rattle.std.specs.Prelude.{position}
 use Rattle.std.specs.List.{list_any, position_or_len}
 use Rattle.std.specs.Option.{option_map_or}
 use Rattle.std.proofs.lemmas.Bool.{le-ltb, or_parts}
-use Rattle.lvm_vol.specs.declared.entry.Outcome.TheVariants as outcome
+use Rattle.lvm_path.specs.passed.VolEntryOutcome as outcome
 use Rattle.lvm_num.specs.declared.descriptor.Policy.{Policy}
 use Rattle.lvm_num.specs.declared.descriptor.Policy.TheVariants as policy
 use Rattle.lvm_sched.specs.Writes.{is_flying, is_waiting, next_target}
@@ -18,9 +18,8 @@ use Rattle.lvm_path.specs.declared.target.Target.{Target}
 use Rattle.lvm_path.specs.Asks.{is_write}
 use Rattle.lvm_path.specs.Next.{next_chosen, next_in, next_read, next_write, start_or_wait}
 use Rattle.lvm_path.specs.Targets.{is_begun, is_done, states_of}
-use Rattle.lvm_session.specs.Enabled.{is_admit, is_pin, outcome_next, target_next}
+use Rattle.lvm_facts.specs.passed.Names.{is_admit, is_pin, outcome_next, target_next, wants_entry}
 use Rattle.lvm_firsts.specs.Might.{any_waits, are_at_rest, might_admit_in, might_land_in, might_start_in, none_goes}
-use Rattle.lvm_session.specs.Requests.{wants_entry}
 
 -- ---- what something is of each thing that it may do next is so of what it does
 

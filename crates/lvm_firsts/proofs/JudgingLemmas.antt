@@ -9,10 +9,7 @@ use Rattle.lvm_path.specs.declared.request.Phase.{Phase}
 use Rattle.lvm_path.specs.declared.request.Phase.TheVariants as phase
 use Rattle.lvm_path.specs.declared.request.Request.{Request}
 use Rattle.lvm_path.specs.declared.target.Target.{Target}
-use Rattle.lvm_session.specs.State.{Core}
-use Rattle.lvm_session.specs.Judging.{copies_for, is_usable}
-use Rattle.lvm_session.specs.Marks.{is_among}
-use Rattle.lvm_session.specs.Requests.{IsTarget}
+use Rattle.lvm_facts.specs.passed.Names.{Core, copies_for, is_usable, is_among, IsTarget}
 use Rattle.lvm_firsts.specs.Might.{any_is_usable, shows_usable}
 
 -- a test that a partition passes is passed by one of those that it is among

@@ -1,3 +1,4 @@
+pub mod passed
 pub mod Nexts
 pub mod Places
 pub mod OrderLemmas

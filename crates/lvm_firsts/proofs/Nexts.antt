@@ -6,13 +6,8 @@ use Rattle.lvm_hold.specs.Order.{IsAscending}
 use Rattle.lvm_path.specs.declared.facts.Next.TheVariants as next
 use Rattle.lvm_path.specs.declared.request.Phase.{Phase}
 use Rattle.lvm_path.specs.Next.{next_in}
-use Rattle.lvm_session.specs.declared.bringing.OpenCopy.{OpenCopy}
-use Rattle.lvm_session.specs.declared.open.Open.{Open}
-use Rattle.lvm_session.specs.State.{Core}
-use Rattle.lvm_session.specs.Judging.{facts_of, held_of, is_waiting, next_for, place_of}
+use Rattle.lvm_facts.specs.passed.Names.{OpenCopy, Open, Core, facts_of, held_of, is_waiting, next_for, place_of, IsOpenOne, IsCopy, IsGoing}
 use Rattle.lvm_facts.specs.Queued.{IsQueued}
-use Rattle.lvm_session.specs.Requests.{IsOpenOne}
-use Rattle.lvm_session.specs.Sound.{IsCopy, IsGoing}
 use Rattle.lvm_firsts.proofs.Places.{at_place}
 use Rattle.lvm_firsts.proofs.OrderLemmas.{queue_ascends, queue_has}
 

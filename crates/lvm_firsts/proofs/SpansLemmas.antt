@@ -3,9 +3,7 @@ use Rattle.std.proofs.Common.{◌≡◌, ◌==◌, ◌<◌, ◌≤◌, ◌+◌, 
 use Rattle.std.specs.Prelude.{is_some}
 use Rattle.std.proofs.lemmas.Bool.{eqb-true}
 use Rattle.std.proofs.lemmas.Bool.Decides.{nat_tests}
-use Rattle.lvm_session.specs.declared.event.Event.{Event}
-use Rattle.lvm_session.specs.declared.open.Open.{Open}
-use Rattle.lvm_session.specs.Enabled.{first_from, or_next}
+use Rattle.lvm_facts.specs.passed.Names.{Event, Open, first_from, or_next}
 use Rattle.lvm_firsts.specs.declared.span.Span.{Span}
 use Rattle.lvm_firsts.specs.Spans.{is_in, Spans}
 

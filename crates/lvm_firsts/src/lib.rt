@@ -1,6 +1,7 @@
 //! Which events of a turn may be made, kind by kind, the first request first.
 #![tactic(auto)]
 
+pub mod below;
 mod firsts;
 mod next;
 mod notes;

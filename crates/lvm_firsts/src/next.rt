@@ -1,13 +1,10 @@
 //! What the request at a place of the table does next.
 ghost use Rattle.std.specs.Prelude.{◌≡◌, ◌<◌, length, slice_get, Some};
-ghost use Rattle.lvm_session.specs.declared.open.Open.{Open};
-ghost use Rattle.lvm_session.specs.Fields.{core_of};
-ghost use Rattle.lvm_session.specs.Judging.{next_for};
-ghost use Rattle.lvm_session.specs.Sound.{IsGoing};
+ghost use Rattle.lvm_facts.specs.passed.Names.{Open, core_of, next_for, IsGoing};
 
+use lvm_facts::below::Session;
 use lvm_facts::{is_waiting, next_of};
 use lvm_path::Next;
-use lvm_session::Session;
 
 /// What the request at a place of the table, from 0, does next; one that has landed waits.
 pub fn next_at(session: &Session, place: usize) -> Next

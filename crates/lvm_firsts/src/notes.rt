@@ -1,20 +1,14 @@
 //! The first note that a request lacks.
 ghost use Rattle.std.specs.Prelude.{◌≡◌, ◌&&◌, ◌<◌, ◌^◌, find, is_none, length, not, slice_get, Some};
 ghost use Rattle.std.specs.Option.{option_map};
-ghost use Rattle.lvm_mwc.specs.Cache.{flight_on, is_named};
+ghost use Rattle.lvm_facts.specs.passed.Names.{flight_on, is_named, Open, core_of, is_missing, first_from, note_at, note_due, IsGoing};
 ghost use Rattle.lvm_path.specs.Asks.{at_of};
 ghost use Rattle.lvm_path.specs.declared.target.Target.{Target};
-ghost use Rattle.lvm_session.specs.declared.open.Open.{Open};
-ghost use Rattle.lvm_session.specs.Fields.{core_of};
-ghost use Rattle.lvm_session.specs.Judging.{is_missing};
-ghost use Rattle.lvm_session.specs.Enabled.{first_from, note_at, note_due};
-ghost use Rattle.lvm_session.specs.Sound.{IsGoing};
 ghost use Rattle.lvm_firsts.specs.Spans.{Spans};
 
 use crate::span::Span;
-use lvm_copies::{group_of, is_missing};
+use lvm_facts::below::{Event, Open, Session, group_of, is_missing};
 use lvm_path::{Phase, Target};
-use lvm_session::{Event, Open, Session};
 
 // Whether a note may be started on the disk of a target, and doesn't name this track group of the volume.
 fn is_unnamed(session: &Session, lv: u16, group: u32, target: &Target) -> bool

@@ -5,15 +5,13 @@ ghost use Rattle.lvm_num.specs.Descriptor.{IsValid};
 ghost use Rattle.lvm_sched.specs.Writes.{is_flying};
 ghost use Rattle.lvm_path.specs.declared.target.Target.{Target};
 ghost use Rattle.lvm_path.specs.Targets.{is_done};
-ghost use Rattle.lvm_session.specs.Fields.{core_of};
-ghost use Rattle.lvm_session.specs.Judging.{IsWithin};
+ghost use Rattle.lvm_facts.specs.passed.Names.{core_of, IsWithin};
 ghost use Rattle.lvm_firsts.specs.Might.{any_is_usable, any_waits, are_at_rest, might_admit, might_land, might_pin, might_start, might_transfer, none_goes};
 
-use lvm_copies::is_usable;
+use lvm_facts::below::{Session, is_usable};
 use lvm_facts::{has_names, has_usable, is_changed, is_unbegun};
 use lvm_path::{Phase, Request, Target};
 use lvm_sched::TargetState;
-use lvm_session::Session;
 
 fn any_is_done(targets: &[Target]) -> bool
     ensures { result ≡ list_any (λ (t : Target). is_done t.state) targets.now }

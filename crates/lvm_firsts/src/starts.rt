@@ -2,13 +2,9 @@
 ghost use Rattle.std.specs.Prelude.{◌≡◌};
 ghost use Rattle.std.specs.List.{list_any};
 ghost use Rattle.lvm_num.specs.declared.status.StatusRow.{StatusRow};
-ghost use Rattle.lvm_session.specs.Fields.{core_of};
-ghost use Rattle.lvm_session.specs.State.{votes_there};
-ghost use Rattle.lvm_session.specs.Enabled.{copy_write, has_buffer, is_lost};
-ghost use Rattle.lvm_session.specs.Sound.{IsFitting};
+ghost use Rattle.lvm_facts.specs.passed.Names.{core_of, votes_there, copy_write, has_buffer, is_lost, IsFitting};
 
-use lvm_copies::is_running;
-use lvm_session::{Event, Session, Step};
+use lvm_facts::below::{Event, Session, Step, is_running};
 
 // Whether some row of the wanted status calls its disk missing.
 fn is_any_missing(session: &Session) -> bool

@@ -10,7 +10,7 @@ use Rattle.lvm_num.specs.Record.{Stamped}
 use Rattle.lvm_survey.specs.declared.row.SurveyRow.{SurveyRow}
 use Rattle.lvm_survey.specs.declared.row.Survey.{Survey}
 use Rattle.lvm_survey.specs.Surveyed.{surveyed}
-use Rattle.lvm_area.specs.Reading.{under}
+use Rattle.lvm_survey.specs.passed.Names.{under}
 use Rattle.lvm_survey.proofs.SurveyedLemmas.SurveyRows.{descriptor_shown, status_shown}
 use Rattle.lvm_group.specs.Shown.{HasGroup, ShowsEarlier, ShowsMoment}
 use Rattle.lvm_group.specs.Judged.{IsTaken, HasMoment, IsLastOf}

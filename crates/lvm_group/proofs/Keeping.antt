@@ -51,15 +51,8 @@ use Rattle.lvm_kept.proofs.CommittedLemmas.Finding.{some_same, finding_reads, fi
 use Rattle.lvm_num.specs.Votes.{all_disks, votes_in}
 use Rattle.lvm_num.proofs.VotesLemmas.{more_have_more, more_is_enough}
 use Rattle.lvm_status.specs.Update.{Updates}
-use Rattle.lvm_core.specs.declared.parts.Room.{Room}
-use Rattle.lvm_commit.specs.Committed.{Began, ShowsCommitted, HoldsCommitted}
-use Rattle.lvm_commit.proofs.LawsLemmas.Found.{newest_is_beginning}
-use Rattle.lvm_core.specs.Held.{NotesAreHome, StartsHeld}
-use Rattle.lvm_session_start.specs.declared.parts.Parts.{Parts}
-use Rattle.lvm_core.specs.Starting.{IsReservedFor}
-use Rattle.lvm_session_start.specs.Beginning.{first_core}
-use Rattle.lvm_session.specs.State.{Core, is_there}
-use Rattle.lvm_core.proofs.CacheLemmas.{empty_names_none}
+use Rattle.lvm_group_plan.specs.passed.Names.{Room, Began, ShowsCommitted, HoldsCommitted, NotesAreHome, StartsHeld, Parts, IsReservedFor, first_core, Core, is_there}
+use Rattle.lvm_group_plan.proofs.passed.Names.{newest_is_beginning, empty_names_none}
 use Rattle.lvm_group_plan.specs.NewGroup.{NewGroup, among, sectors_on, size_for, member_for, new_group, new_status, first_absent, first_too_small}
 use Rattle.lvm_group.specs.Shown.{IfShown, HasGroup, ShowsEarlier, SparesTold}
 use Rattle.lvm_group.specs.Made.{beginning_for}

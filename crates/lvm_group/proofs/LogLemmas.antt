@@ -12,8 +12,8 @@ use Rattle.lvm_kept.specs.Moments.{Moment, StaysCalm}
 use Rattle.lvm_steps.specs.Moments.{Keeps}
 use Rattle.lvm_steps.specs.Requests.{at}
 use Rattle.lvm_steps.proofs.EnteringLemmas.{quiet_goes_on, calm_goes_on}
-use Rattle.lvm_core.specs.Sound.{HaveAllLanded}
-use Rattle.lvm_core.proofs.SoundLemmas.Dark.{landed_still}
+use Rattle.lvm_group_plan.specs.passed.Names.{HaveAllLanded}
+use Rattle.lvm_group_plan.proofs.passed.Names.{landed_still}
 use Rattle.lvm_stamps.proofs.LawsLemmas.Clock.{later_joins}
 use Rattle.lvm_group_plan.specs.NewGroup.{given_up}
 

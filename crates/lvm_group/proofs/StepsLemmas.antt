@@ -28,13 +28,7 @@ use Rattle.lvm_write.proofs.PartsLemmas.Transfers.{spends_then}
 use Rattle.lvm_begin.specs.Beginning.{Beginning, new_beginning, new_order, IsOfParts, AllStand}
 use Rattle.lvm_begin.specs.Ends.{BothFlip}
 use Rattle.lvm_begin.specs.Kept.{NewStaysKept}
-use Rattle.lvm_core.specs.declared.parts.Room.{Room}
-use Rattle.lvm_core.specs.declared.refused.Cause.{Cause}
-use Rattle.lvm_core.specs.Coming.{BringsOn}
-use Rattle.lvm_core.specs.Held.{StartsHeld}
-use Rattle.lvm_session_start.specs.declared.parts.Parts.{Parts}
-use Rattle.lvm_core.specs.Starting.{IsReservedFor}
-use Rattle.lvm_session_start.specs.Beginning.{first_core}
+use Rattle.lvm_group_plan.specs.passed.Names.{Room, Cause, BringsOn, StartsHeld, Parts, IsReservedFor, first_core}
 use Rattle.lvm_group_plan.specs.NewGroup.{NewGroup, among, sectors_on, size_for, new_group, new_status, given_up, first_absent, first_too_small, MayBegin}
 use Rattle.lvm_group.specs.Shown.{IfShown, HasGroup, ShowsEarlier, SparesTold}
 use Rattle.lvm_group_plan.specs.Planned.{IsPlanned}

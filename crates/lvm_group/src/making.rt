@@ -1,17 +1,13 @@
 //! The making of a group.
 ghost use Rattle.std.specs.Prelude.{IfOk};
 ghost use Rattle.lvm_disk.specs.Device.{IsReady};
-ghost use Rattle.lvm_session_start.specs.Beginning.{AreFaults};
-ghost use Rattle.lvm_core.specs.Sound.{HaveAllLanded};
-ghost use Rattle.lvm_core.specs.Starting.{IsRoom};
-ghost use Rattle.lvm_core.specs.State.{state_of};
-ghost use Rattle.lvm_core.specs.Coming.{BringsOn, IsStarted, shelf_left, history_left};
+ghost use Rattle.lvm_group_plan.specs.passed.Names.{AreFaults, HaveAllLanded, IsRoom, state_of, BringsOn, IsStarted, shelf_left, history_left};
 ghost use Rattle.lvm_group.specs.Made.{MkvgGives};
 ghost use Rattle.lvm_group_plan.specs.NewGroup.{IsWellFormed};
 
 use crate::make::{Asked, make};
-use lvm_core::{Driver, Refused, Room};
 use lvm_disk::Shelf;
+use lvm_group_plan::below::{Driver, Refused, Room};
 use lvm_history::History;
 use lvm_num::{Name, Stamp};
 use lvm_transfer::Patience;

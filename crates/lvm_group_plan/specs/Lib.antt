@@ -1,2 +1,3 @@
+pub mod passed
 pub mod NewGroup
 pub mod Planned

@@ -5,11 +5,10 @@ use Rattle.lvm_num.specs.Status.{IsValidStatus}
 use Rattle.lvm_num.specs.DescriptorBytes.{descriptor_bytes}
 use Rattle.lvm_num.specs.StatusBytes.{status_bytes}
 use Rattle.lvm_num.specs.Disks.{has}
-use Rattle.lvm_quorum.specs.declared.choice.Choice.{Choice}
+use Rattle.lvm_core.specs.passed.Names.{Choice, IsOneGroup}
 use Rattle.lvm_core.specs.declared.parts.Room.{Room}
 use Rattle.lvm_core.specs.declared.refused.Cause.{Cause}
 use Rattle.lvm_core.specs.declared.refused.Cause.TheVariants as cause
-use Rattle.lvm_session_start.specs.Parts.{IsOneGroup}
 use Rattle.lvm_core.specs.Starting.{IsReservedFor}
 use Rattle.lvm_group_plan.specs.declared.plan.Plan.{Plan}
 use Rattle.lvm_group_plan.specs.NewGroup.{NewGroup, among, size_for, descriptor_for, status_for, first_absent, first_too_small, MayBegin, RefusesFirst}

@@ -1,6 +1,7 @@
 //! What a new group is made with: the size of its partitions, its first records, and the memory of its session.
 #![tactic(auto)]
 
+pub mod below;
 mod checks;
 mod plan;
 

@@ -5,17 +5,17 @@ ghost use Rattle.lvm_num.specs.Descriptor.{IsValid, is_size};
 ghost use Rattle.lvm_num.specs.Disks.{has};
 ghost use Rattle.lvm_num.specs.Status.{IsValidStatus};
 ghost use Rattle.lvm_core.specs.Starting.{IsRoom};
-ghost use Rattle.lvm_session_start.specs.Parts.{IsOneGroup};
+ghost use Rattle.lvm_core.specs.passed.Names.{IsOneGroup};
 ghost use Rattle.lvm_group_plan.specs.NewGroup.{among, member_for, clear_row, disks_in_order, descriptor_for, first_absent};
 ghost use Rattle.lvm_group_plan.specs.Planned.{CanBeMade, IsChoiceFor, IsPlanOf, IsPlanned};
 
 use crate::checks::partitions_on;
+use lvm_core::below::Choice;
 use lvm_core::{Parts, Room, encode_records};
 use lvm_disk::Shelf;
 use lvm_num::{
     DISKS, Descriptor, DiskSet, Memory, Name, PvRow, Rows, Status, StatusRow, VolumeNumbers,
 };
-use lvm_quorum::Choice;
 use std::alloc::Global;
 
 /// All that a new group takes memory for: the bytes of its two records, to which disks they go, and the parts of its

@@ -29,7 +29,7 @@ use Rattle.lvm_session_start.specs.Beginning.{first_core}
 use Rattle.lvm_session_start.specs.Parts.{IsReserved}
 use Rattle.lvm_keeps.specs.Begins.{Begins, IsCalm, IsUnused}
 use Rattle.lvm_keeps.proofs.BeginsLemmas.{beginning_is_sound}
-use Rattle.lvm_core.specs.Starting.{room_of}
+use Rattle.lvm_earlier.specs.passed.Names.{room_of}
 use Rattle.lvm_group.specs.passed.GroupPlan.{given_up, new_group, new_status}
 use Rattle.lvm_earlier.specs.passed.Tie.{IsStamped}
 use Rattle.lvm_handover.specs.Beginning.{HasJustBegun, IsHistory, MadeBegins, Serves, VariedOnBegins}

@@ -1,7 +1,7 @@
 -- A history's fields as what it keeps.
 use Rattle.std.specs.Prelude.{vec_capacity}
 use Rattle.lvm_history.specs.declared.history.History.TheInside.{Inside}
-use Rattle.lvm_vol.specs.Log.{Log}
+use Rattle.lvm_checker.specs.passed.Names.{Log}
 use Rattle.lvm_history.specs.Keeping.{Kept, log_of, IsSound}
 
 abbrev pub kept_of : Inside → Kept

@@ -12,7 +12,7 @@ use Rattle.lvm_num.specs.Disks.{has}
 use Rattle.lvm_vol.specs.declared.entry.Outcome.{Outcome}
 use Rattle.lvm_vol.specs.declared.entry.Outcome.TheVariants as outcome
 use Rattle.lvm_vol.specs.Log.{Log, next_id}
-use Rattle.lvm_hold.specs.Waiting.{Waiting}
+use Rattle.lvm_session.specs.passed.Names.{Waiting}
 use Rattle.lvm_mwc.specs.declared.entries.CacheEntry.{CacheEntry}
 use Rattle.lvm_path.specs.declared.request.Request.{Request}
 use Rattle.lvm_path.specs.declared.target.Target.{Target}

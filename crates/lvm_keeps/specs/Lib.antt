@@ -1,3 +1,4 @@
+pub mod passed
 pub mod Keeps
 pub mod Falls
 pub mod Begins

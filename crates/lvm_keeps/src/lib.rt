@@ -1,6 +1,7 @@
 //! Each event of a session keeps it sound.
 #![tactic(auto)]
 
+pub mod below;
 mod laws;
 
 pub use laws::{

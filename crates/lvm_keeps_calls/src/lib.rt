@@ -1,6 +1,7 @@
 //! The calls of a client keep a session sound: requests that are submitted, and copies that are opened.
 #![tactic(auto)]
 
+pub mod below;
 mod laws;
 mod opens;
 

@@ -1,3 +1,4 @@
+pub mod passed
 pub mod EventsLemmas
 pub mod KeepsFallsLemmas
 pub mod SoundLemmas

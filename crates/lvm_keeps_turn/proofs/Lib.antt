@@ -1,3 +1,4 @@
+pub mod passed
 pub mod KeepsLemmas
 pub mod TurningLemmas
 pub mod TellingLemmas

@@ -1,13 +1,7 @@
 -- What is kept of blocks is kept under other descriptors and other statuses, over the same data and notes.
 use Rattle.std.proofs.Common.{inl, inr, ⊎_elim, ℕ, List, [], ◌∷◌, ◌++◌, Option}
-use Rattle.lvm_num.specs.declared.place.Pp.{Pp}
-use Rattle.lvm_num.specs.declared.descriptor.Mode.{Mode}
-use Rattle.lvm_num.specs.declared.descriptor.Mode.TheVariants.{Active, Passive, Off}
-use Rattle.lvm_num.specs.declared.descriptor.LvRow.{LvRow}
-use Rattle.lvm_num.specs.declared.descriptor.Descriptor.{Descriptor}
-use Rattle.lvm_num.specs.declared.status.Status.{Status}
-use Rattle.lvm_num.specs.Disks.{Disks}
-use Rattle.lvm_num.specs.Record.{Stamped}
+use Rattle.lvm_disk.specs.passed.Names.{Pp, Mode, LvRow, Descriptor, Status, Disks, Stamped}
+use Rattle.lvm_disk.specs.passed.NumDescriptorMode.{Active, Passive, Off}
 use Rattle.lvm_vol.specs.declared.entry.Vol.TheVariants.{Lv}
 use Rattle.lvm_vol.specs.Facts.{Fact, Cut}
 use Rattle.lvm_vol.specs.May.{Known, known}

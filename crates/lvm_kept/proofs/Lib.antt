@@ -1,3 +1,4 @@
+pub mod passed
 pub mod MayLemmas
 pub mod RawLemmas
 pub mod LegalLemmas

@@ -1,7 +1,7 @@
 -- What one block may have while a request goes through.
 use Rattle.std.proofs.Common.{◌≡◌, inl, inr, ◌&&◌, ◌||◌, ◌∷◌, ◌++◌, [], ℕ, List, Bool, Option, Some, None, true, not, cond, refl, sym, ◌∙◌, ap, map, IfSome}
 use Rattle.std.proofs.lemmas.Bool.{eq-eqb}
-use Rattle.lvm_num.specs.Buffer.{Sector}
+use Rattle.lvm_disk.specs.passed.Names.{Sector}
 use Rattle.lvm_vol.specs.declared.entry.Vol.{Vol}
 use Rattle.lvm_vol.specs.Facts.{Request, Fact, Stands, same_request, block_of}
 use Rattle.lvm_vol.specs.May.{Knowledge, after, after_fact, known, nothing_known, change, source, also, is_open_in, without}

@@ -1,16 +1,7 @@
 -- Which changes of what the disks show keep the history, and which entries do.
 use Rattle.std.specs.Prelude.{◌≡◌, ◌⊎◌, ℕ, ◌<◌, ◌≤◌, List, ◌∷◌, [], ◌++◌, Option, None, Some, IsTrue, is_some, true}
 use Rattle.std.specs.List.{AllByRecursion}
-use Rattle.lvm_num.specs.declared.place.Pp.{Pp}
-use Rattle.lvm_num.specs.declared.descriptor.LvRow.{LvRow}
-use Rattle.lvm_num.specs.declared.descriptor.Descriptor.{Descriptor}
-use Rattle.lvm_num.specs.declared.status.Status.{Status}
-use Rattle.lvm_num.specs.Buffer.{Sector, zero_sector}
-use Rattle.lvm_num.specs.Disks.{Disks}
-use Rattle.lvm_num.specs.Geometry.{data_start}
-use Rattle.lvm_num.specs.Descriptor.{volume_of}
-use Rattle.lvm_num.specs.Votes.{all_disks}
-use Rattle.lvm_num.specs.Record.{Stamped, stamp_lt}
+use Rattle.lvm_disk.specs.passed.Names.{Pp, LvRow, Descriptor, Status, Sector, zero_sector, Disks, data_start, volume_of, all_disks, Stamped, stamp_lt}
 use Rattle.lvm_vol.specs.declared.entry.Vol.{Vol}
 use Rattle.lvm_vol.specs.declared.entry.Vol.TheVariants.{Disk, Lv}
 use Rattle.lvm_vol.specs.Facts.{Request, Fact, Begun, Cut}

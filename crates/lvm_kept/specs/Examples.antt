@@ -1,18 +1,8 @@
 -- Small groups, worked by hand: what the definitions say of them.
 use Rattle.std.specs.Prelude.{◌≡◌, ℕ, Bool, true, false, not, ◌==◌, if◌then◌else◌, List, [], ◌∷◌, replicate, Option, Some, None}
-use Rattle.lvm_num.specs.declared.descriptor.Mode.{Mode}
-use Rattle.lvm_num.specs.declared.descriptor.Mode.TheVariants as mode
-use Rattle.lvm_num.specs.declared.descriptor.Policy.TheVariants as policy
-use Rattle.lvm_num.specs.declared.descriptor.PvRow.{PvRow}
-use Rattle.lvm_num.specs.declared.descriptor.LvRow.{LvRow}
-use Rattle.lvm_num.specs.declared.descriptor.Descriptor.{Descriptor}
-use Rattle.lvm_num.specs.declared.status.StatusRow.{StatusRow}
-use Rattle.lvm_num.specs.declared.status.Status.{Status}
-use Rattle.lvm_num.specs.Buffer.{Sector, zero_sector}
-use Rattle.lvm_num.specs.Disks.{Disks}
-use Rattle.lvm_num.specs.Votes.{all_disks}
-use Rattle.lvm_num.specs.Record.{Stamped}
-use Rattle.lvm_num.specs.Note.{Noted}
+use Rattle.lvm_disk.specs.passed.Names.{Mode, PvRow, LvRow, Descriptor, StatusRow, Status, Sector, zero_sector, Disks, all_disks, Stamped, Noted}
+use Rattle.lvm_disk.specs.passed.NumDescriptorMode as mode
+use Rattle.lvm_disk.specs.passed.NumDescriptorPolicy as policy
 use Rattle.lvm_vol.specs.Standing.{Absent, Open, Settled}
 use Rattle.lvm_vol.specs.May.{Known}
 use Rattle.lvm_kept.specs.Contents.{Contents}

@@ -1,19 +1,8 @@
 -- What a set of disks says of a group: its descriptor, its voters, its status, and which copies are fresh.
 use Rattle.std.specs.Prelude.{◌≡◌, ◌⊎◌, ℕ, ◌<◌, Bool, false, ◌&&◌, not, nat_le, ◌==◌, if◌then◌else◌, List, [], ◌∷◌, Option, Some, None, IsTrue, filter}
 use Rattle.std.specs.List.{list_any, AllByRecursion}
-pub use Rattle.lvm_num.specs.Among.{IsOneOf}
-use Rattle.lvm_num.specs.declared.place.Pp.{Pp}
-use Rattle.lvm_num.specs.declared.descriptor.LvRow.{LvRow}
-use Rattle.lvm_num.specs.declared.descriptor.Descriptor.{Descriptor}
-use Rattle.lvm_num.specs.declared.status.Status.{Status}
-use Rattle.lvm_num.specs.Buffer.{Sector}
-use Rattle.lvm_num.specs.Disks.{Disks}
-use Rattle.lvm_num.specs.Geometry.{partition_of, sector_of, sectors_needed}
-use Rattle.lvm_num.specs.Descriptor.{copies_of}
-use Rattle.lvm_num.specs.Votes.{all_disks, votes_in, is_enough_to_read, CanRead}
-use Rattle.lvm_num.specs.Record.{Stamped, newest_below}
-use Rattle.lvm_num.specs.Status.{calls_stale, calls_dirty}
-use Rattle.lvm_num.specs.Note.{Noted, names}
+pub use Rattle.lvm_disk.specs.passed.Names.{IsOneOf}
+use Rattle.lvm_disk.specs.passed.Names.{Pp, LvRow, Descriptor, Status, Sector, Disks, partition_of, sector_of, sectors_needed, copies_of, all_disks, votes_in, is_enough_to_read, CanRead, Stamped, newest_below, calls_stale, calls_dirty, Noted, names}
 use Rattle.lvm_kept.specs.Contents.{Contents}
 
 -- the record, if its value passes

@@ -1,18 +1,8 @@
 -- When what the disks show agrees with a history.
 use Rattle.std.specs.Prelude.{◌≡◌, ◌⊎◌, ℕ, ◌<◌, ◌≤◌, List, [], ◌∷◌, ◌++◌, Option, Some, None, IsTrue, is_some}
 use Rattle.std.specs.List.{AllByRecursion}
-use Rattle.lvm_num.specs.declared.descriptor.Mode.{Mode}
-use Rattle.lvm_num.specs.declared.descriptor.Mode.TheVariants.{Active, Passive, Off}
-use Rattle.lvm_num.specs.declared.place.Pp.{Pp}
-use Rattle.lvm_num.specs.declared.descriptor.PvRow.{PvRow}
-use Rattle.lvm_num.specs.declared.descriptor.LvRow.{LvRow}
-use Rattle.lvm_num.specs.declared.descriptor.Descriptor.{Descriptor}
-use Rattle.lvm_num.specs.declared.status.Status.{Status}
-use Rattle.lvm_num.specs.Disks.{Disks}
-use Rattle.lvm_num.specs.Geometry.{data_start, volume_blocks, track_group_of}
-use Rattle.lvm_num.specs.Descriptor.{member_of, volume_of}
-use Rattle.lvm_num.specs.Votes.{all_disks}
-use Rattle.lvm_num.specs.Record.{Stamped}
+use Rattle.lvm_disk.specs.passed.Names.{Mode, Pp, PvRow, LvRow, Descriptor, Status, Disks, data_start, volume_blocks, track_group_of, member_of, volume_of, all_disks, Stamped}
+use Rattle.lvm_disk.specs.passed.NumDescriptorMode.{Active, Passive, Off}
 use Rattle.lvm_vol.specs.declared.entry.Vol.TheVariants.{Disk, Lv}
 use Rattle.lvm_vol.specs.Facts.{Fact, Cut}
 use Rattle.lvm_vol.specs.May.{Known, known, May, IsValue}

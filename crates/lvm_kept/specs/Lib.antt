@@ -1,3 +1,4 @@
+pub mod passed
 pub mod Contents
 pub mod Group
 pub mod Kept

@@ -1,20 +1,9 @@
 -- What a varyon leaves.
 use Rattle.std.specs.Prelude.{◌≡◌, ◌⊎◌, ◌↔◌, ℕ, ◌+◌, ◌%◌, ◌<◌, ◌≤◌, List, [], ◌∷◌, None, Some, IsTrue, IsFalse, option_map, is_some}
 use Rattle.std.specs.List.{AllByRecursion}
-use Rattle.lvm_num.specs.declared.descriptor.Mode.{Mode}
-use Rattle.lvm_num.specs.declared.descriptor.Mode.TheVariants.{Active, Passive, Off}
-use Rattle.lvm_num.specs.declared.place.Pp.{Pp}
-use Rattle.lvm_num.specs.declared.descriptor.PvRow.{PvRow}
-use Rattle.lvm_num.specs.declared.descriptor.LvRow.{LvRow}
-use Rattle.lvm_num.specs.declared.descriptor.Descriptor.{Descriptor}
-use Rattle.lvm_num.specs.declared.status.Status.{Status}
-use Rattle.lvm_num.specs.declared.record.Kind.{Kind}
-use Rattle.lvm_num.specs.declared.record.Kind.TheVariants as kind
-use Rattle.lvm_num.specs.Disks.{Disks}
-use Rattle.lvm_num.specs.Geometry.{data_start, partition_blocks, track_group_of, sector_of}
-use Rattle.lvm_num.specs.Descriptor.{member_of, copies_of}
-use Rattle.lvm_num.specs.Record.{Stamped, slot_start, slot_size}
-use Rattle.lvm_num.specs.Status.{calls_stale, calls_missing, calls_dirty}
+use Rattle.lvm_disk.specs.passed.Names.{Mode, Pp, PvRow, LvRow, Descriptor, Status, Kind, Disks, data_start, partition_blocks, track_group_of, sector_of, member_of, copies_of, Stamped, slot_start, slot_size, calls_stale, calls_missing, calls_dirty}
+use Rattle.lvm_disk.specs.passed.NumDescriptorMode.{Active, Passive, Off}
+use Rattle.lvm_disk.specs.passed.NumRecordKind as kind
 use Rattle.lvm_vol.specs.Facts.{Fact}
 use Rattle.lvm_disk.specs.Device.{Range}
 use Rattle.lvm_kept.specs.Contents.{Contents, note_sector}

@@ -1,18 +1,7 @@
 -- What a write of a record to some disks may leave, and what the disks then show.
 use Rattle.std.specs.Prelude.{◌≡◌, ◌⊎◌, ℕ, ◌+◌, ◌<◌, ◌≤◌, true, if◌then◌else◌, List, length, Option, Some, None, Result, IsTrue}
-use Rattle.lvm_num.specs.declared.record.Stamp.{Stamp}
-use Rattle.lvm_num.specs.declared.record.Framed.{Framed}
-use Rattle.lvm_num.specs.declared.descriptor.Descriptor.{Descriptor}
-use Rattle.lvm_num.specs.declared.status.Status.{Status}
-use Rattle.lvm_num.specs.declared.record.Kind.{Kind}
-use Rattle.lvm_num.specs.declared.record.Kind.TheVariants as kind
-use Rattle.lvm_num.specs.Buffer.{Buffer, Sector, zero_sector}
-use Rattle.lvm_num.specs.Disks.{Disks}
-use Rattle.lvm_num.specs.DescriptorBytes.{descriptor_of}
-use Rattle.lvm_num.specs.StatusBytes.{status_of}
-use Rattle.lvm_num.specs.Note.{Noted, note_in}
-use Rattle.lvm_num.specs.Record.{Frames, Stamped, frame, record_sectors, slot_start, slot_size, stamp_lt}
-use Rattle.lvm_num.specs.Torn.{Sectors, AllBefore}
+use Rattle.lvm_disk.specs.passed.Names.{Stamp, Framed, Descriptor, Status, Kind, Buffer, Sector, zero_sector, Disks, descriptor_of, status_of, Noted, note_in, Frames, Stamped, frame, record_sectors, slot_start, slot_size, stamp_lt, Sectors, AllBefore}
+use Rattle.lvm_disk.specs.passed.NumRecordKind as kind
 use Rattle.lvm_rec.specs.Slots.{SlotWrite, IsOfSlot, StandsIn, MayWrite, BothBefore}
 use Rattle.lvm_disk.specs.Device.{Media, Image, Device, image_of, written as flown, IsInFlight, MayLeave}
 use Rattle.lvm_disk.specs.Steps.{EndsDone}

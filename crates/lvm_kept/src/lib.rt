@@ -1,6 +1,7 @@
 //! What crash images keep of a history, and the moments of a run at which they keep it.
 #![tactic(auto)]
 
+pub mod below;
 mod laws;
 
 pub use laws::{

@@ -1,3 +1,4 @@
+pub mod passed
 mod SoundLemmas
 pub mod OutLemmas
 mod Starting

@@ -16,8 +16,8 @@ ghost use Rattle.lvm_session.specs.Sound.{IsGoing};
 ghost use Rattle.lvm_launch.specs.Launching.{HasFlight, MayLaunch, MayReadCopy, MayWriteCopy, StartGives};
 
 use crate::launch::{add_flight, end_dark, take_free};
-use lvm_copies::partition_blocks;
 use lvm_disk::{Shelf, Started};
+use lvm_enabled::below::partition_blocks;
 use lvm_enabled::next_source;
 use lvm_num::{Pbuf, Pp};
 use lvm_session::{OpenCopy, Owner, Session, Step, Turned};

@@ -1,6 +1,7 @@
 //! Transfers of a session are started.
 #![tactic(auto)]
 
+pub mod below;
 mod copying;
 mod data;
 mod launch;

@@ -1,3 +1,4 @@
+pub mod passed
 pub mod MarksLemmas
 mod Places
 mod DueLemmas

@@ -13,7 +13,7 @@ ghost use Rattle.lvm_session.specs.Marks.{WantsStale, is_among, due_of};
 ghost use Rattle.lvm_marks.specs.Due.{IsDue, IsFirstSure, IsWithinDue, MayMark, due_among};
 
 use crate::wanted::{mark_others, mark_targets};
-use lvm_copies::is_sure;
+use lvm_facts::below::is_sure;
 use lvm_facts::is_kept;
 use lvm_path::Target;
 use lvm_sched::TargetState;

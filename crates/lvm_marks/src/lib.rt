@@ -1,6 +1,7 @@
 //! Staleness is wanted of the targets of a write that has ended.
 #![tactic(auto)]
 
+pub mod below;
 mod due;
 mod wanted;
 

@@ -1,3 +1,4 @@
+pub mod passed
 pub mod LawsOfVolumesLemmas
 pub mod JudgingLemmas
 pub mod SettlingLemmas

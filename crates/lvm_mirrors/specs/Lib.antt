@@ -1,3 +1,4 @@
+pub mod passed
 pub mod Mirrors
 pub mod Stages
 pub mod Laws

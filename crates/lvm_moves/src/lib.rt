@@ -2,6 +2,7 @@
 //! track group.
 #![tactic(auto)]
 
+pub mod below;
 mod moves;
 mod pins;
 

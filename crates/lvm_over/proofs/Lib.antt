@@ -1,3 +1,4 @@
+pub mod passed
 mod HandsLemmas
 mod DarkLemmas
 mod LogLemmas

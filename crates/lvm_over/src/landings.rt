@@ -5,10 +5,8 @@ ghost use Rattle.lvm_session.specs.Judging.{is_waiting};
 ghost use Rattle.lvm_session.specs.Dark.{AreTold, ended_as, with_hands, with_landings};
 ghost use Rattle.lvm_over.specs.Hands.{AreInHand, IsOutIf, back_if};
 
-use lvm_history::History;
-use lvm_num::Pbuf;
-use lvm_pbuf::Pool;
 use lvm_session::Open;
+use lvm_session::below::{History, Pbuf, Pool};
 use lvm_vol::Outcome;
 
 // Whether it hasn't landed.

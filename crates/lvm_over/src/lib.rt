@@ -1,6 +1,7 @@
 //! The end of a session: what was open lands, and what was in hand goes back.
 #![tactic(auto)]
 
+pub mod below;
 mod ends;
 mod landings;
 

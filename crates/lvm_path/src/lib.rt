@@ -2,6 +2,7 @@
 #![tactic(auto)]
 
 mod ask;
+pub mod below;
 mod facts;
 mod next;
 mod request;

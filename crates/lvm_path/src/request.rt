@@ -1,6 +1,6 @@
 //! A request and its phases.
 ghost use Rattle.std.specs.Prelude.{◌≡◌, ◌≤◌, ◌<◌, [], false, length, if◌then◌else◌};
-ghost use Rattle.lvm_num.specs.declared.descriptor.Policy.TheVariants as policy;
+ghost use Rattle.lvm_sched.specs.passed.NumDescriptorPolicy as policy;
 ghost use Rattle.lvm_path.specs.declared.request.Phase.TheVariants as phase;
 ghost use Rattle.lvm_path.specs.Asks.{is_write};
 ghost use Rattle.lvm_path.specs.Next.{first_phase};
@@ -10,8 +10,8 @@ use crate::facts::{Facts, Next};
 use crate::next::{next_chosen, next_held, next_marked, next_read, next_write};
 use crate::target::{Target, any_is_begun, are_over, set_state, targets_of};
 use arrayvec::ArrayVec;
-use lvm_num::{Mode, Policy};
 use lvm_sched::TargetState;
+use lvm_sched::below::{Mode, Policy};
 
 /// How far a request is.
 #[derive(Clone, Copy, PartialEq, Eq)]

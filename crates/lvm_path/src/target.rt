@@ -6,8 +6,8 @@ ghost use Rattle.lvm_path.specs.declared.target.Target.{Target};
 ghost use Rattle.lvm_path.specs.Targets.{is_done, is_begun, are_over, states_of, with_state};
 
 use arrayvec::ArrayVec;
-use lvm_num::Pp;
 use lvm_sched::TargetState;
+use lvm_sched::below::Pp;
 
 /// A copy to which a write goes, or which a read may try.
 #[derive(Clone, Copy, PartialEq, Eq)]

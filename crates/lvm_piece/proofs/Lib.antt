@@ -1,3 +1,4 @@
+pub mod passed
 pub mod Fronts
 pub mod LogLemmas
 pub mod KeepingLemmas

@@ -1,3 +1,4 @@
+pub mod passed
 pub mod LawsLemmas
 pub mod GroupsLemmas
 pub mod RangesLemmas

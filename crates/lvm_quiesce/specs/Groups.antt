@@ -8,9 +8,8 @@ use Rattle.lvm_steps.specs.Moments.{Keeps}
 use Rattle.lvm_steps.specs.Requests.{at}
 use Rattle.lvm_stamps.specs.Behind.{IsBehind}
 use Rattle.lvm_write.specs.Parts.{Spends}
-use Rattle.lvm_commit.specs.Settling.{NoneIsLeft}
+use Rattle.lvm_core.specs.passed.Names.{NoneIsLeft, AreFaults}
 use Rattle.lvm_session.specs.State.{Core, State}
-use Rattle.lvm_session_start.specs.Beginning.{AreFaults}
 use Rattle.lvm_core.specs.declared.parts.Room.{Room}
 use Rattle.lvm_core.specs.declared.refused.Cause.{Cause}
 use Rattle.lvm_core.specs.declared.refused.Cause.TheVariants as cause

@@ -1,3 +1,4 @@
+pub mod passed
 pub mod Ends
 pub mod Behind
 pub mod Groups

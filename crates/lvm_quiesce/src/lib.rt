@@ -1,6 +1,7 @@
 //! Commands on a shelf on which transfers of before may still be out: these are ended first.
 #![tactic(auto)]
 
+pub mod below;
 mod ends;
 mod groups;
 pub mod laws;

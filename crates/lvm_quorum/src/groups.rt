@@ -6,9 +6,8 @@ ghost use Rattle.lvm_num.specs.Disks.{has};
 ghost use Rattle.lvm_num.specs.Geometry.{sectors_needed};
 ghost use Rattle.lvm_num.specs.Record.{newest_below};
 ghost use Rattle.lvm_num.specs.Votes.{all_disks};
-ghost use Rattle.lvm_kept.specs.Group.{descriptor_among, members_in, if_passes, passes, is_of, is_status_of};
+ghost use Rattle.lvm_survey.specs.passed.Names.{descriptor_among, members_in, if_passes, passes, is_of, is_status_of, under};
 ghost use Rattle.lvm_survey.specs.Surveyed.{surveyed};
-ghost use Rattle.lvm_area.specs.Reading.{under};
 ghost use Rattle.lvm_quorum.specs.Groups.{shown_record_if, IsGroup, IsLastEpoch};
 ghost use Rattle.lvm_survey.specs.Rows.{AreRows};
 

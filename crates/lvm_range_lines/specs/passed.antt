@@ -6,9 +6,11 @@ pub mod GroupLines
 pub mod Handover
 pub mod HolderVariants
 pub mod Mirrors
+pub mod Names
 pub mod Quiesce
 pub mod QuiescedVariants
 pub mod Ranges
+pub mod Recover
 pub mod RefusalVariants
 pub mod ReplyVariants
 pub mod Running
@@ -16,6 +18,6 @@ pub mod Stage
 pub mod Tie
 pub mod TieCommands
 pub mod TieCopies
-pub mod Recover
 pub mod Varyon
+pub mod VolumePlanFaultGroupFault
 pub mod Volumes

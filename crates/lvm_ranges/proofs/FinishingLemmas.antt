@@ -34,16 +34,15 @@ use Rattle.lvm_session.specs.State.{Core, State, state, votes_there}
 use Rattle.lvm_keeps.proofs.Lists.{all_on, all_push, all_removed}
 use Rattle.lvm_keeps.proofs.KeepsLemmas.Losing.{loss_is_caused}
 use Rattle.lvm_keeps.proofs.Small.{both, is_false, not_so}
-use Rattle.lvm_keeps_turn.proofs.CountsLemmas.{turn_counts}
+use Rattle.lvm_driver.proofs.passed.Names.{turn_counts, Given, turn_goes}
 use Rattle.lvm_turn_losses.specs.Losing.{LosesVotesByFaults, LostForFaults}
-use Rattle.lvm_running.proofs.RunningLemmas.Shapes.{Given, turn_goes}
 use Rattle.lvm_driver.specs.Drains.{IsAny}
 use Rattle.lvm_posts.specs.declared.asked.Asked.{Asked}
 use Rattle.lvm_posts.specs.declared.fault.RangeFault.{RangeFault}
 use Rattle.lvm_posts.specs.declared.fault.RangeFault.TheVariants as fault
 use Rattle.lvm_posts.specs.Deciding.{AllWell, FirstFails, RangeEnds, fault_by}
 use Rattle.lvm_posts.specs.Pieces.{piece_lp, piece_start}
-use Rattle.lvm_raw.specs.Pieces.{piece_end}
+use Rattle.lvm_posts.specs.passed.Names.{piece_end}
 use Rattle.lvm_ranges.specs.declared.refusal.AskRangeFault.{AskRangeFault}
 use Rattle.lvm_ranges.specs.Asking.{AskRangeGives, Asks, range_fault}
 use Rattle.lvm_ranges.specs.Choosing.{AreAllSince, AreSince}

@@ -6,8 +6,7 @@ use Rattle.lvm_session.specs.declared.answers.Turned.TheVariants as turned
 use Rattle.lvm_session.specs.State.{State}
 use Rattle.lvm_session.specs.Sound.{IsSound}
 use Rattle.lvm_session.specs.Turns.{TurnMakes}
-use Rattle.lvm_running.specs.Running.{RunsOn}
-use Rattle.lvm_keeps_turn.specs.Telling.{TurnTells}
+use Rattle.lvm_driver.specs.passed.Names.{RunsOn, TurnTells}
 use Rattle.lvm_ranges.specs.Stepping.{LastEnded, Moves, NoMove, OneMove, StepEnds}
 use Rattle.lvm_ranges.proofs.LandingLemmas.{GoesWith, at_first, with_turn}
 

@@ -25,9 +25,8 @@ use Rattle.lvm_session.specs.State.{Core, State, votes_there}
 use Rattle.lvm_keeps.proofs.Lists.{all_at, any_removed}
 use Rattle.lvm_keeps.proofs.Small.{both, not_so}
 use Rattle.lvm_keeps.proofs.SoundLemmas.Telling.{answered_still, open_still, outcome_still}
-use Rattle.lvm_keeps_turn.proofs.CallsLemmas.{some_position}
-use Rattle.lvm_running.specs.Running.{RunsOn}
-use Rattle.lvm_running.proofs.LawsLemmas.Running.{runs_both, runs_none}
+use Rattle.lvm_driver.proofs.passed.Names.{some_position, runs_both, runs_none}
+use Rattle.lvm_driver.specs.passed.Names.{RunsOn}
 use Rattle.lvm_driver.specs.Answers.{IsCausedFor}
 use Rattle.lvm_posts.specs.declared.asked.Asked.{Asked}
 use Rattle.lvm_posts.specs.declared.fault.RangeFault.{RangeFault}

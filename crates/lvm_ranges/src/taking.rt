@@ -1,8 +1,7 @@
 //! The answers of a range that has landed.
 ghost use Rattle.std.specs.Prelude.{◌≡◌, ◌<◌, ◌+◌, ◌-◌, Option};
-ghost use Rattle.lvm_write.specs.Parts.{Spends};
+ghost use Rattle.lvm_driver.specs.passed.Names.{Spends, RunsOn};
 ghost use Rattle.lvm_session.specs.declared.open.Power.TheVariants as power;
-ghost use Rattle.lvm_running.specs.Running.{RunsOn};
 ghost use Rattle.lvm_session.specs.State.{state_of};
 ghost use Rattle.lvm_posts.specs.Posts.{AreHeld};
 ghost use Rattle.lvm_posts.specs.Pieces.{IsLaidOut};

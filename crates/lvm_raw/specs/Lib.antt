@@ -1,3 +1,4 @@
+pub mod passed
 pub mod Pieces
 pub mod Keeping
 pub mod Asking

@@ -25,7 +25,7 @@ use Rattle.std.proofs.Math.Nat.{mod-lt}
 use Rattle.lvm_kept.specs.Group.{is_stale_by, is_named, fresh_on, block_at, IsOneOf}
 use Rattle.lvm_next.specs.Next.{IsLeftBehind, IsNextStatus}
 use Rattle.lvm_crash.proofs.GroupLemmas.Lists.{left_of, right_of, one_passes}
-use Rattle.lvm_commit.proofs.AmongLemmas.{contains, of_map, of_rows}
+use Rattle.lvm_rest.proofs.passed.Names.{contains, of_map, of_rows}
 use Rattle.lvm_rest.proofs.GoodLemmas.Good.{mib_positive}
 use Rattle.lvm_rest.proofs.Rows.{clash, tested, none_passing}
 use Rattle.lvm_recover.specs.Recopied.{IsToEqual}

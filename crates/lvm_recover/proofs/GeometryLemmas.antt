@@ -7,8 +7,7 @@ use Rattle.lvm_num.specs.declared.descriptor.Descriptor.{Descriptor}
 use Rattle.lvm_num.specs.Descriptor.{IsValid, copies_of}
 use Rattle.lvm_num.specs.Geometry.{partition_blocks, sector_of}
 use Rattle.lvm_kept.specs.Group.{IsBlockOf, IsOneOf}
-use Rattle.lvm_commit.proofs.LawsOfDataLemmas.Free.{partition_is}
-use Rattle.lvm_commit.proofs.AmongLemmas.{one_place}
+use Rattle.lvm_rest.proofs.passed.Names.{partition_is, one_place}
 use Rattle.lvm_rest.proofs.GoodLemmas.Good.{mib_positive}
 
 -- two blocks with one partition and one rest

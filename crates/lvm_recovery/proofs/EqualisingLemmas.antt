@@ -10,7 +10,7 @@ use Rattle.lvm_disk.proofs.PathsLemmas.{append-path, map-path}
 use Rattle.lvm_kept.specs.Contents.{contents_of}
 use Rattle.lvm_kept.specs.Plans.{ChangesBy}
 use Rattle.lvm_kept.specs.Torn.{IsOfNote}
-use Rattle.lvm_steps.specs.Moments.{StaysKept}
+use Rattle.lvm_recover.specs.passed.Names.{StaysKept}
 use Rattle.lvm_write.specs.Notes.{empty_note_sector}
 use Rattle.lvm_write.specs.Written.{IsWriting}
 use Rattle.lvm_write.proofs.WrittenLemmas.Writing.{told_at, both_at, changes_more}

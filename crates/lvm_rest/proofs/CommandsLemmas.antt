@@ -23,14 +23,12 @@ use Rattle.lvm_kept.specs.Committed.{IsWithinDisks}
 use Rattle.lvm_kept.specs.Changes.{Serves}
 use Rattle.lvm_kept.specs.Torn.{StatusesChange}
 use Rattle.lvm_kept.proofs.CommittedLemmas.Finding.{finding_reads}
-use Rattle.lvm_steps.proofs.RecordLemmas.{clash}
-use Rattle.lvm_steps.proofs.ChangesLemmas.{serving, put_keeps}
-use Rattle.lvm_steps.specs.Committing.{IsServed}
+use Rattle.lvm_commit.proofs.passed.Names.{clash, serving, put_keeps, member_of_parts}
+use Rattle.lvm_commit.specs.passed.Names.{IsServed}
 use Rattle.lvm_commit.specs.Committed.{ShowsCommitted}
 use Rattle.lvm_commit.specs.Laws.{IsLaterStatus}
 use Rattle.lvm_commit.proofs.LawsOfDataLemmas.Free.{none_stands}
 use Rattle.lvm_commit.proofs.LawsLemmas.Found.{shows_group, only_found, status_read}
-use Rattle.lvm_steps.proofs.GroupLemmas.Members.{member_of_parts}
 use Rattle.lvm_crash.proofs.GroupLemmas.Lists.{left_of, right_of, both_of, not_so, so_not, of_passing, one_passes}
 use Rattle.lvm_rest.specs.Rest.{IsEven, NoneIsBehind}
 use Rattle.lvm_rest.specs.Commands.{IsUsable, KeepsCopies, IsUniform, EvenStays, FreeKeepsEven, BehindStays, HasCopiesOf, CopiesServe, MayClean, CleaningFollows}

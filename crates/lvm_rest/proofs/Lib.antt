@@ -1,3 +1,4 @@
+pub mod passed
 pub mod MayLemmas
 pub mod GoodLemmas
 pub mod Rows

@@ -32,9 +32,8 @@ use Rattle.lvm_session.specs.Ends.{Ends, EndsAs}
 use Rattle.lvm_session.specs.Judging.{copies_in}
 use Rattle.lvm_session.specs.State.{Core, State}
 use Rattle.lvm_session.specs.Turns.{FinishMakes, Finishes, Makes, Moves, NoStart, OnMakes, TurnMakes, WasDark, WasOff, WasOn}
-use Rattle.lvm_calls.specs.Opening.{counts_seen, faults_seen}
-use Rattle.lvm_keeps_turn.proofs.CountsLemmas.{turn_counts}
-use Rattle.lvm_running.proofs.RunningLemmas.Shapes.{Given, given, turn_goes}
+use Rattle.lvm_ranges.specs.passed.Names.{counts_seen, faults_seen}
+use Rattle.lvm_ranges.proofs.passed.Names.{turn_counts, Given, given, turn_goes, at_place, counted_at}
 use Rattle.lvm_resync.specs.declared.copies.Passed.{Passed}
 use Rattle.lvm_resync.specs.declared.copies.Passed.TheVariants as passed
 use Rattle.lvm_resync.specs.declared.fault.SyncFault.{SyncFault}
@@ -45,7 +44,6 @@ use Rattle.lvm_resync.specs.Passing.{Copy, EachTurnWhile, FailedFor, IsBroughtUp
 use Rattle.lvm_resync.specs.Syncing.{ArePassed, IsAnswer, NonePassed, OnePassed, Passes, StopsAmong, fault_by, fault_on, group_fault, no_tally, numbers_fault, or_first, partition_fault, volume_fault, with_passed}
 use Rattle.lvm_resync.proofs.PassingLemmas.Making.{as_opened}
 use Rattle.lvm_resync.proofs.TurningLemmas.{TurnsIn, turns_in}
-use Rattle.lvm_keeps_calls.proofs.OpeningLemmas.Opening.{at_place, counted_at}
 
 -- ---- a turn leaves the disks as they are
 

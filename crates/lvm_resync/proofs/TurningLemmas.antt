@@ -9,13 +9,9 @@ use Rattle.lvm_session.specs.declared.open.Power.TheVariants as power
 use Rattle.lvm_session.specs.Sound.{IsSound}
 use Rattle.lvm_session.specs.State.{Core, State}
 use Rattle.lvm_session.specs.Turns.{Finds, FindsNothing, TurnMakes}
-use Rattle.lvm_running.specs.Running.{RunsOn}
-use Rattle.lvm_running.proofs.LawsLemmas.Running.{leaves_both, leaves_none, stays_unstuck}
-use Rattle.lvm_keeps_turn.specs.Telling.{TurnTells}
-use Rattle.lvm_keeps_turn.proofs.CountsLemmas.{turn_counts}
-use Rattle.lvm_turn_losses.proofs.LosingLemmas.Losing.{loses_both, loses_none, turn_loses}
+use Rattle.lvm_ranges.specs.passed.Names.{RunsOn, TurnTells, IsAny, IsTurn, LastTurn, NoTurn, ThenMoves, ThenWaits}
+use Rattle.lvm_ranges.proofs.passed.Names.{leaves_both, leaves_none, stays_unstuck, turn_counts, loses_both, loses_none, turn_loses}
 use Rattle.lvm_ranges.proofs.KeepingLemmas.Tables.{table_same, table_then, turn_table}
-use Rattle.lvm_driver.specs.Drains.{IsAny, IsTurn, LastTurn, NoTurn, ThenMoves, ThenWaits}
 use Rattle.lvm_resync.specs.declared.fault.SyncFault.{SyncFault}
 use Rattle.lvm_resync.specs.declared.fault.SyncFault.TheVariants as fault
 use Rattle.lvm_resync.specs.Passing.{EachTurnWhile, EndsTurning}

@@ -1,3 +1,4 @@
+pub mod passed
 pub mod Turning
 pub mod Passing
 pub mod Syncing

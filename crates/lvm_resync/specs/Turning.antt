@@ -5,11 +5,9 @@ use Rattle.lvm_session.specs.declared.open.Power.TheVariants as power
 use Rattle.lvm_session.specs.Calls.{has_numbers}
 use Rattle.lvm_session.specs.Left.{left_of}
 use Rattle.lvm_session.specs.State.{Core, State}
-use Rattle.lvm_running.specs.Running.{LeavesSession}
+use Rattle.lvm_ranges.specs.passed.Names.{LeavesSession, LosesByFaults, IsDrained}
 use Rattle.lvm_session.specs.declared.answers.Turned.TheVariants as turned
 use Rattle.lvm_session.specs.Turns.{Finds, TurnMakes}
-use Rattle.lvm_turn_losses.specs.Losing.{LosesByFaults}
-use Rattle.lvm_driver.specs.Drains.{IsDrained}
 use Rattle.lvm_ranges.specs.Keeping.{KeepsTable}
 use Rattle.lvm_resync.specs.declared.fault.SyncFault.{SyncFault}
 use Rattle.lvm_resync.specs.declared.fault.SyncFault.TheVariants as fault

@@ -9,8 +9,8 @@ ghost use Rattle.lvm_resync.specs.Turning.{GoesBeside};
 use crate::fault::SyncFault;
 use crate::turns::make_turn;
 use lvm_disk::Shelf;
-use lvm_driver::Driver;
 use lvm_num::Pp;
+use lvm_ranges::below::Driver;
 use lvm_session::{CopyFault, CopyState};
 use lvm_transfer::Patience;
 

@@ -1,6 +1,7 @@
 //! Stale copies of a group that is on are brought up beside its requests.
 #![tactic(auto)]
 
+pub mod below;
 mod copies;
 mod fault;
 mod passes;

@@ -14,8 +14,8 @@ use crate::fault::SyncFault;
 use crate::tally::Tally;
 use lvm_copies::copies_in;
 use lvm_disk::Shelf;
-use lvm_driver::Driver;
 use lvm_num::{Pp, volume_of};
+use lvm_ranges::below::Driver;
 use lvm_transfer::Patience;
 
 // The most copies of a logical partition.

@@ -10,8 +10,8 @@ use crate::fault::SyncFault;
 use crate::passes::{pass_group, pass_partition, pass_volume};
 use crate::tally::Tally;
 use lvm_disk::Shelf;
-use lvm_driver::Driver;
 use lvm_num::volume_of;
+use lvm_ranges::below::Driver;
 use lvm_session::{CopyState, Power};
 use lvm_transfer::Patience;
 

@@ -6,7 +6,7 @@ ghost use Rattle.lvm_resync.specs.Turning.{GoesBeside, IsUnderWay, TurnEnds};
 
 use crate::fault::SyncFault;
 use lvm_disk::Shelf;
-use lvm_driver::Driver;
+use lvm_ranges::below::Driver;
 use lvm_session::Turned;
 use lvm_transfer::Patience;
 

@@ -20,12 +20,11 @@ use Rattle.lvm_num.specs.Descriptor.{IsVolume, IsPartitionOf, IsLaidOut, IsValid
 use Rattle.lvm_num.specs.Status.{calls_stale, calls_missing}
 use Rattle.lvm_num.proofs.DisksLemmas.{has-zero, has-with}
 use Rattle.lvm_kept.specs.Examples.{member}
-use Rattle.lvm_vol.specs.Facts.{Begun}
-use Rattle.lvm_vol.specs.Order.{Ordered}
+use Rattle.lvm_kept.specs.passed.Names.{Begun, Ordered}
 use Rattle.lvm_mwc.specs.declared.entries.CacheEntry.{CacheEntry}
 use Rattle.lvm_status.specs.Update.{is_there, members_there, seen}
 use Rattle.lvm_status.specs.Runs.{IsSoundStatus}
-use Rattle.lvm_sched.specs.declared.writes.TargetState.TheVariants as stage
+use Rattle.lvm_path.specs.passed.SchedWritesTargetState as stage
 use Rattle.lvm_path.specs.declared.target.Target.{Target}
 use Rattle.lvm_session.specs.declared.event.Event.TheVariants as event
 use Rattle.lvm_session.specs.declared.flown.Owner.TheVariants as owner
@@ -34,7 +33,7 @@ use Rattle.lvm_session.specs.Judging.{copies_in, is_missing, is_stale}
 use Rattle.lvm_session.specs.Bringing.{copy_ends}
 use Rattle.lvm_session.specs.Enabled.{first_event}
 use Rattle.lvm_session.specs.Marks.{can_replace, is_among, is_entailed}
-use Rattle.lvm_vol.specs.declared.entry.Outcome.TheVariants as outcome
+use Rattle.lvm_kept.specs.passed.VolEntryOutcome as outcome
 use Rattle.lvm_session.specs.Owners.{AreOwned, IsDataOf, target_flies}
 use Rattle.lvm_session.specs.Left.{updates_left}
 use Rattle.lvm_session.specs.Requests.{IsOpenOne}

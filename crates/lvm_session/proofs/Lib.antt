@@ -1,3 +1,4 @@
+pub mod passed
 pub mod RoomsLemmas
 pub mod Small
 pub mod EnabledLemmas

@@ -5,14 +5,13 @@ use Rattle.lvm_num.specs.declared.place.Pp.{Pp}
 use Rattle.lvm_num.specs.declared.descriptor.Descriptor.{Descriptor}
 use Rattle.lvm_num.specs.declared.descriptor.LvRow.{LvRow}
 use Rattle.lvm_num.specs.declared.descriptor.Mode.TheVariants as mode
-use Rattle.lvm_disk.specs.Device.{Device, Flight}
-use Rattle.lvm_vol.specs.declared.entry.Outcome.TheVariants as outcome
-use Rattle.lvm_vol.specs.declared.entry.Vol.TheVariants.{Lv}
-use Rattle.lvm_vol.specs.Facts.{Begun, Request as Asked}
+use Rattle.lvm_kept.specs.passed.Names.{Device, Flight, Begun, Request as Asked}
+use Rattle.lvm_kept.specs.passed.VolEntryOutcome as outcome
+use Rattle.lvm_kept.specs.passed.VolEntryVol.{Lv}
 use Rattle.lvm_kept.specs.Examples.{member, mirror, group_of}
 use Rattle.lvm_mwc.specs.Cache.{no_notes}
-use Rattle.lvm_sched.specs.declared.writes.TargetState.{TargetState}
-use Rattle.lvm_sched.specs.declared.writes.TargetState.TheVariants as stage
+use Rattle.lvm_path.specs.passed.Names.{TargetState}
+use Rattle.lvm_path.specs.passed.SchedWritesTargetState as stage
 use Rattle.lvm_path.specs.declared.ask.Ask.{Ask}
 use Rattle.lvm_path.specs.declared.ask.Ask.TheVariants.{Read}
 use Rattle.lvm_path.specs.declared.request.Phase.TheVariants as phase

@@ -8,12 +8,9 @@ use Rattle.lvm_num.specs.declared.descriptor.Policy.TheVariants as policy
 use Rattle.lvm_num.specs.Disks.{has}
 use Rattle.lvm_num.specs.Descriptor.{copies_of, volume_of, is_pp}
 use Rattle.lvm_num.specs.Geometry.{volume_blocks}
-use Rattle.lvm_disk.specs.Counts.{Counts}
-use Rattle.lvm_vol.specs.declared.entry.Vol.TheVariants.{Lv}
-use Rattle.lvm_vol.specs.declared.entry.Outcome.{Outcome}
-use Rattle.lvm_vol.specs.declared.entry.Outcome.TheVariants as outcome
-use Rattle.lvm_vol.specs.Facts.{Begun}
-use Rattle.lvm_vol.specs.Log.{with_fact, next_id, next_request, taken_fact, spare_entries, spare_bytes, blocks_begun}
+use Rattle.lvm_kept.specs.passed.Names.{Counts, Outcome, Begun, with_fact, next_id, next_request, taken_fact, spare_entries, spare_bytes, blocks_begun}
+use Rattle.lvm_kept.specs.passed.VolEntryVol.{Lv}
+use Rattle.lvm_kept.specs.passed.VolEntryOutcome as outcome
 use Rattle.lvm_path.specs.declared.ask.Ask.{Ask}
 use Rattle.lvm_path.specs.declared.request.Phase.TheVariants as phase
 use Rattle.lvm_path.specs.Asks.{lv_of, at_of, count_of}

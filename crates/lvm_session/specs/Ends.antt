@@ -5,15 +5,12 @@ use Rattle.lvm_num.specs.Buffer.{Buffer}
 use Rattle.lvm_num.specs.declared.place.Pp.{Pp}
 use Rattle.lvm_num.specs.declared.record.Kind.TheVariants as kind
 use Rattle.lvm_num.specs.Disks.{has}
-use Rattle.lvm_disk.specs.Device.{Device}
-use Rattle.lvm_disk.specs.Steps.{EndsDone, EndsFailed}
+use Rattle.lvm_kept.specs.passed.Names.{Device, EndsDone, EndsFailed, Homes, Flips}
 use Rattle.lvm_hold.specs.Waiting.{without}
 use Rattle.lvm_mwc.specs.Cache.{after_end as after_note_end}
 use Rattle.lvm_status.specs.declared.change.Change.TheVariants as change
 use Rattle.lvm_status.specs.Update.{Stored, seen}
 use Rattle.lvm_status.specs.Calls.{BecomesMissing, WantsAtEnd, with_wanted, after_end}
-use Rattle.lvm_rec.specs.declared.homes.Homes.{Homes}
-use Rattle.lvm_rec.specs.Homes.{Flips}
 use Rattle.lvm_path.specs.declared.target.Target.{Target}
 use Rattle.lvm_path.specs.Asks.{is_write}
 use Rattle.lvm_path.specs.Next.{with_end as with_target_end}

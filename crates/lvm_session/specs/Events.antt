@@ -14,25 +14,20 @@ use Rattle.lvm_num.specs.Geometry.{sector_of}
 use Rattle.lvm_num.specs.Note.{note_bytes}
 use Rattle.lvm_num.specs.Record.{frame, record_sectors, slot_start}
 use Rattle.lvm_num.specs.StatusBytes.{status_bytes}
-use Rattle.lvm_disk.specs.Device.{Flight}
-use Rattle.lvm_disk.specs.Steps.{Starts}
-use Rattle.lvm_vol.specs.declared.entry.Outcome.{Outcome}
-use Rattle.lvm_vol.specs.Facts.{Landed}
-use Rattle.lvm_vol.specs.Log.{with_fact, request_of}
+use Rattle.lvm_kept.specs.passed.Names.{Flight, Starts, Outcome, Landed, with_fact, request_of, next_slot}
 use Rattle.lvm_pbuf.specs.Out.{TakesLowest}
 use Rattle.lvm_hold.specs.Waiting.{without}
-use Rattle.lvm_sched.specs.Reads.{IsReadOrder}
+use Rattle.lvm_path.specs.passed.Names.{IsReadOrder}
 use Rattle.lvm_mwc.specs.Entries.{note_of}
 use Rattle.lvm_mwc.specs.Cache.{Cached, after_pin, after_unpin, after_start}
 use Rattle.lvm_status.specs.Update.{Stored, seen, MayStart}
 use Rattle.lvm_status.specs.Calls.{with_update, with_start as with_write_start}
 use Rattle.lvm_kept.specs.Contents.{note_sector}
-use Rattle.lvm_rec.specs.Homes.{next_slot}
 use Rattle.lvm_path.specs.declared.facts.Next.TheVariants as next
 use Rattle.lvm_path.specs.declared.ask.Ask.{Ask}
 use Rattle.lvm_path.specs.declared.request.Request.{Request}
 use Rattle.lvm_path.specs.declared.target.Target.{Target}
-use Rattle.lvm_sched.specs.declared.writes.TargetState.TheVariants as stage
+use Rattle.lvm_path.specs.passed.SchedWritesTargetState as stage
 use Rattle.lvm_path.specs.Asks.{lv_of, at_of, count_of, is_write}
 use Rattle.lvm_path.specs.Targets.{is_begun}
 use Rattle.lvm_path.specs.Next.{admitted, with_pin, with_start, with_landing}

@@ -1,3 +1,4 @@
+pub mod passed
 pub mod State
 pub mod Fields
 pub mod Rooms

@@ -7,12 +7,8 @@ use Rattle.lvm_num.specs.declared.place.Pp.{Pp}
 use Rattle.lvm_num.specs.declared.descriptor.LvRow.{LvRow}
 use Rattle.lvm_num.specs.Descriptor.{IsValid, is_member, volume_of, is_pp}
 use Rattle.lvm_num.specs.Disks.{has}
-use Rattle.lvm_disk.specs.Device.{Device, Flight}
-use Rattle.lvm_vol.specs.declared.entry.Vol.TheVariants.{Lv}
-use Rattle.lvm_vol.specs.Facts.{Request as Asked, Fact, Making, Made, Split, Removing, Removed, Begun, Landed, Taken, Cut, On, begun}
-use Rattle.lvm_vol.specs.declared.entry.Outcome.{Outcome}
-use Rattle.lvm_vol.specs.Log.{asked, next_id, is_open, lands_id, is_answered}
-use Rattle.lvm_vol.specs.Order.{Ordered}
+use Rattle.lvm_kept.specs.passed.Names.{Device, Flight, Request as Asked, Fact, Making, Made, Split, Removing, Removed, Begun, Landed, Taken, Cut, On, begun, Outcome, asked, next_id, is_open, lands_id, is_answered, Ordered}
+use Rattle.lvm_kept.specs.passed.VolEntryVol.{Lv}
 use Rattle.lvm_hold.specs.declared.queue.Row.{Row}
 use Rattle.lvm_mwc.specs.Entries.{AreEntries, pins_of}
 use Rattle.lvm_mwc.specs.Cache.{has_disk}

@@ -3,13 +3,11 @@ use Rattle.std.specs.Prelude.{ℕ, Bool, List, Option}
 use Rattle.lvm_num.specs.declared.descriptor.Descriptor.{Descriptor}
 use Rattle.lvm_num.specs.Disks.{Disks}
 use Rattle.lvm_num.specs.Votes.{votes_in}
-use Rattle.lvm_disk.specs.Device.{Device}
-use Rattle.lvm_vol.specs.Log.{Log}
+use Rattle.lvm_kept.specs.passed.Names.{Device, Log, Homes}
 use Rattle.lvm_kept.specs.Moments.{Moment}
 use Rattle.lvm_hold.specs.Waiting.{Waiting}
 use Rattle.lvm_mwc.specs.Cache.{Cached}
 use Rattle.lvm_status.specs.Update.{Stored, members_there}
-use Rattle.lvm_rec.specs.declared.homes.Homes.{Homes}
 use Rattle.lvm_session.specs.declared.open.Open.{Open}
 use Rattle.lvm_session.specs.declared.open.Power.{Power}
 use Rattle.lvm_session.specs.declared.bringing.OpenCopy.{OpenCopy}

@@ -1,6 +1,6 @@
 //! The events that a turn may make.
 
-use lvm_vol::Outcome;
+use lvm_kept::below::Outcome;
 
 /// An event of a turn. A place is that of a request in the table, from 0.
 #[derive(Clone, Copy, PartialEq, Eq)]

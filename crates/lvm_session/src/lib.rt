@@ -4,6 +4,7 @@
 #![tactic(auto)]
 
 mod answers;
+pub mod below;
 mod bringing;
 mod event;
 mod flown;

@@ -1,8 +1,8 @@
 //! The requests that a session has open, and whether it goes on.
 
+use lvm_kept::below::Outcome;
 use lvm_num::Pbuf;
 use lvm_path::Request;
-use lvm_vol::Outcome;
 
 /// A request that was submitted and whose answer isn't taken yet.
 #[derive(Drop)]

@@ -6,10 +6,10 @@ use crate::open::{Open, Power};
 use crate::origin::Origin;
 use lvm_history::History;
 use lvm_hold::Queue;
+use lvm_kept::below::Homes;
 use lvm_mwc::Cache;
 use lvm_num::Descriptor;
 use lvm_pbuf::Pool;
-use lvm_rec::Homes;
 use lvm_status::Updater;
 
 /// What a driver has beside its shelf.

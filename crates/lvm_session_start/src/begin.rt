@@ -1,19 +1,14 @@
 //! A session begins with its parts.
 ghost use Rattle.std.specs.Prelude.{◌≡◌, ◌≤◌, vec_capacity};
 ghost use Rattle.lvm_vol.specs.Log.{spare_entries};
-ghost use Rattle.lvm_session.specs.Fields.{core_of};
-ghost use Rattle.lvm_session.specs.Rooms.{HasRooms};
-ghost use Rattle.lvm_session.specs.State.{state};
-ghost use Rattle.lvm_session.specs.Sound.{IsSound};
+ghost use Rattle.lvm_keeps.specs.passed.Names.{core_of, HasRooms, state, IsSound};
 ghost use Rattle.lvm_session_start.specs.Beginning.{AreFaults, MayBegin, first_core, with_parts};
 ghost use Rattle.lvm_session_start.specs.Parts.{IsReserved};
 
 use crate::parts::Parts;
 use lvm_disk::Shelf;
-use lvm_history::History;
+use lvm_keeps::below::{History, Homes, Origin, Power, Session};
 use lvm_num::Stamp;
-use lvm_rec::Homes;
-use lvm_session::{Origin, Power, Session};
 use lvm_vol::Entry;
 
 fn faults_of<S: Shelf>(shelf: &S) -> [u64; 128]

@@ -2,6 +2,7 @@
 #![tactic(auto)]
 
 mod begin;
+pub mod below;
 mod parts;
 
 pub use begin::{begin_session, first_session};

@@ -8,12 +8,11 @@ ghost use Rattle.lvm_status.specs.Update.{seen};
 ghost use Rattle.lvm_session_start.specs.Parts.{IsEmptyCache, IsOneGroup, IsReserved, IsSessionRoom};
 
 use lvm_hold::Queue;
+use lvm_keeps::below::{Flown, Open, Pool};
 use lvm_mwc::Cache;
 use lvm_num::{Descriptor, DiskSet, Memory, Status};
-use lvm_pbuf::Pool;
-use lvm_session::{Flown, Open};
-use lvm_stale::StaleTable;
 use lvm_status::Updater;
+use lvm_status::below::StaleTable;
 use std::alloc::Global;
 
 // The bytes of 256 blocks, which are more than those of any status.

@@ -1,6 +1,7 @@
 //! One turn of a session, and orders to its shelf between turns.
 #![tactic(auto)]
 
+pub mod below;
 mod ending;
 mod first;
 mod orders;

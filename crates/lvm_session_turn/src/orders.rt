@@ -6,12 +6,12 @@ ghost use Rattle.lvm_session.specs.Rooms.{SameRooms};
 ghost use Rattle.lvm_session.specs.State.{state};
 ghost use Rattle.lvm_session.specs.Dark.{after_arrange, is_cut};
 ghost use Rattle.lvm_session.specs.Turns.{ArrangesSession};
-ghost use Rattle.lvm_over.specs.Hands.{MayEnd};
+ghost use Rattle.lvm_starts.specs.passed.Names.{MayEnd};
 ghost use Rattle.lvm_session.specs.Sound.{IsSound};
 
 use lvm_disk::{Arrange, Shelf};
-use lvm_over::darken;
 use lvm_session::Session;
+use lvm_starts::below::darken;
 
 fn is_cut(what: Arrange) -> bool
     ensures { result ≡ is_cut what }

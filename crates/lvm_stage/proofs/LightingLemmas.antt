@@ -13,8 +13,8 @@ use Rattle.lvm_session.specs.Sound.{IsLit}
 use Rattle.lvm_tie_copies.specs.passed.Tie.{LeavesDescriptors}
 use Rattle.lvm_quiesce.specs.Behind.{IsBehindEach}
 use Rattle.lvm_quiesce.proofs.LawsLemmas.Behind.{still_is_behind_each}
-use Rattle.lvm_core.specs.declared.refused.Cause.{Cause}
-use Rattle.lvm_core.specs.declared.refused.Cause.TheVariants as cause
+use Rattle.lvm_quiesce.specs.passed.Names.{Cause}
+use Rattle.lvm_quiesce.specs.passed.CoreRefusedCause as cause
 use Rattle.lvm_stage.specs.Lighting.{IsRelit, refusal_of}
 use Rattle.lvm_stage.specs.Replies.{IsStuck}
 use Rattle.lvm_stage.specs.declared.reply.Refusal.TheVariants as refusal

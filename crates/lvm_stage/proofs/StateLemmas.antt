@@ -17,9 +17,7 @@ use Rattle.lvm_session.specs.declared.open.Open.{Open}
 use Rattle.lvm_session.specs.Sound.{IsAsked}
 use Rattle.lvm_session.specs.State.{Core}
 use Rattle.lvm_tie_copies.specs.passed.Earlier.{AreGone}
-use Rattle.lvm_posts.specs.declared.asked.Asked.{Asked}
-use Rattle.lvm_posts.specs.declared.posts.Post.{Post}
-use Rattle.lvm_posts.specs.Posts.{AreAnswered, AreHeld, ended_with}
+use Rattle.lvm_tie_copies.specs.passed.Names.{Asked, Post, AreAnswered, AreHeld, ended_with}
 use Rattle.lvm_stage.specs.State.{ArePosted, IsPosted}
 use Rattle.lvm_stage.proofs.FactsLemmas.{Bears}
 

@@ -4,10 +4,8 @@ use Rattle.lvm_disk.specs.Device.{Device, IsReady}
 use Rattle.lvm_kept.specs.Moments.{Moment}
 use Rattle.lvm_steps.specs.Moments.{Keeps}
 use Rattle.lvm_stamps.specs.Behind.{IsAhead}
-use Rattle.lvm_commit.specs.LawsOfVolumes.{IsOneByAllOn}
-use Rattle.lvm_core.specs.Held.{IsHeld}
-use Rattle.lvm_core.specs.Leaves.{EntersVolumes}
-use Rattle.lvm_core.specs.Settled.{IsSettled as IsSettledCore}
+use Rattle.lvm_tie_copies.specs.passed.Names.{IsOneByAllOn}
+use Rattle.lvm_quiesce.specs.passed.Names.{IsHeld, EntersVolumes, IsSettled as IsSettledCore}
 use Rattle.lvm_session.specs.State.{Core, State, state}
 use Rattle.lvm_disk.specs.Paths.{Path}
 use Rattle.lvm_tie_copies.specs.passed.Driver.{IsAny, IsTurn}

@@ -4,6 +4,7 @@ pub mod Earlier
 pub mod Group
 pub mod Handover
 pub mod Mirrors
+pub mod Names
 pub mod Quiesce
 pub mod QuiescedVariants
 pub mod Ranges
@@ -13,4 +14,5 @@ pub mod Tie
 pub mod TieCommands
 pub mod TieCopies
 pub mod Varyon
+pub mod VolumePlanFaultGroupFault
 pub mod Volumes

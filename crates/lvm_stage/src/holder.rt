@@ -5,9 +5,9 @@ ghost use Rattle.lvm_disk.specs.Steps.{MayArrange, ArrangeGives};
 ghost use Rattle.lvm_session.specs.Dark.{after_arrange};
 ghost use Rattle.lvm_stage.specs.Stages.{GivesBack, IsOfKind, IsOnIn, history_after, history_of, open_in, session_of, shelf_of};
 
-use lvm_core::Closed;
 use lvm_disk::{Arrange, Shelf};
 use lvm_history::History;
+use lvm_quiesce::below::Closed;
 use lvm_session::Power;
 use lvm_tie_copies::below::driver;
 
@@ -15,11 +15,18 @@ use lvm_tie_copies::below::driver;
 #[derive(Drop)]
 pub enum Holder<S: Shelf> {
     /// No group is on: the shelf beside the history.
-    Off { shelf: S, history: History },
+    Off {
+        shelf: S,
+        history: History,
+    },
     /// The session of a group without volumes. It takes commands on the group at once, since nothing is under way.
-    Empty { driver: lvm_core::Driver<S> },
+    Empty {
+        driver: lvm_quiesce::below::Driver<S>,
+    },
     /// The session of a group with volumes. It takes requests.
-    Serving { driver: driver::Driver<S> },
+    Serving {
+        driver: driver::Driver<S>,
+    },
 }
 
 impl<S: Shelf> Holder<S> {

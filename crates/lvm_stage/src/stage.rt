@@ -7,13 +7,13 @@ ghost use Rattle.lvm_stage.specs.Stages.{ComesTo, GivesBack, HaveRooms, IsCarrie
 
 use crate::holder::Holder;
 use crate::reply::{Refusal, Reply};
-use lvm_core::Closed;
 use lvm_disk::Shelf;
 use lvm_history::History;
 use lvm_num::{Memory, Name};
-use lvm_posts::{Post, end_posts};
+use lvm_quiesce::below::Closed;
 use lvm_session::Power;
 use lvm_tie_copies::below::driver::{self, Driver};
+use lvm_tie_copies::below::{Post, end_posts};
 use lvm_transfer::relight;
 use std::alloc::Global;
 

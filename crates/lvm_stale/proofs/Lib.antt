@@ -1,3 +1,4 @@
+pub mod passed
 pub mod RowsLemmas
 pub mod DescriptorLemmas
 pub mod MarkingLemmas

@@ -1,3 +1,4 @@
+pub mod passed
 pub mod Rows
 pub mod Table
 pub mod Marking

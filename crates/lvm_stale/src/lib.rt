@@ -2,6 +2,7 @@
 //! dirty, as a session keeps it; and which copies are left behind by the disks that don't answer.
 #![tactic(auto)]
 
+pub mod below;
 mod mark;
 mod table;
 

@@ -7,13 +7,8 @@ use Rattle.lvm_num.specs.declared.status.Status.{Status}
 use Rattle.lvm_num.specs.Buffer.{Sector}
 use Rattle.lvm_num.specs.Geometry.{data_start}
 use Rattle.lvm_num.specs.Record.{Frames, Stamped, stamp_lt}
-use Rattle.lvm_rec.specs.Slots.{BothBefore}
-use Rattle.lvm_disk.specs.Device.{Media, Image, Flight, Device, SameDisks, image_of, written, IsInFlight, MayLeave, HasSectors, IsWholeImage}
-use Rattle.lvm_disk.specs.Images.{LeavesNoMore}
-use Rattle.lvm_disk.specs.Steps.{BothTold}
-use Rattle.lvm_vol.specs.declared.entry.Vol.TheVariants.{Disk}
-use Rattle.lvm_vol.specs.Facts.{Fact, On, Removed, joined}
-use Rattle.lvm_vol.specs.Legal.{IsLater}
+use Rattle.lvm_kept.specs.passed.Names.{BothBefore, Media, Image, Flight, Device, SameDisks, image_of, written, IsInFlight, MayLeave, HasSectors, IsWholeImage, LeavesNoMore, BothTold, Fact, On, Removed, joined, IsLater}
+use Rattle.lvm_kept.specs.passed.VolEntryVol.{Disk}
 use Rattle.lvm_kept.specs.Contents.{Contents, contents_of, has_records, note_sector}
 use Rattle.lvm_kept.specs.Plans.{Plan, ChangesBy, IsUnderWay}
 use Rattle.lvm_kept.specs.Raw.{OnlyAdds}

@@ -1,3 +1,4 @@
+pub mod passed
 pub mod StartsLemmas
 mod Writes
 pub mod ReadyLemmas

@@ -1,3 +1,4 @@
+pub mod passed
 pub mod Starts
 pub mod Updating
 pub mod Ready

@@ -2,6 +2,7 @@
 //! session is ready for.
 #![tactic(auto)]
 
+pub mod below;
 mod bytes;
 mod first;
 mod laws;

@@ -5,10 +5,7 @@ use Rattle.std.specs.List.{list_any}
 use Rattle.std.proofs.lemmas.Bool.{eq-eqb, eqb-true}
 use Rattle.std.proofs.lemmas.Bool.Decides.{eqb_tells}
 use Rattle.std.proofs.lemmas.List.Folds.{Any-from_list_any, list_any_more}
-use Rattle.lvm_num.specs.declared.descriptor.PvRow.{PvRow}
-use Rattle.lvm_num.specs.declared.descriptor.Descriptor.{Descriptor}
-use Rattle.lvm_num.specs.Descriptor.{IsValid, is_member}
-use Rattle.lvm_num.specs.Disks.{Disks}
+use Rattle.lvm_stale.specs.passed.Names.{PvRow, Descriptor, IsValid, is_member, Disks}
 pub use Rattle.std.proofs.lemmas.Bool.{cases_Bool as bool_tells}
 
 -- sets with the same disks

@@ -1,3 +1,4 @@
+pub mod passed
 pub mod Disks
 pub mod MembersLemmas
 pub mod Same

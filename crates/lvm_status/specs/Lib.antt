@@ -1,3 +1,4 @@
+pub mod passed
 pub mod Calls
 pub mod Members
 pub mod Progress

@@ -1,12 +1,7 @@
 -- Tables with a row for each member, and what is true of an updater's tables and sets.
 use Rattle.std.specs.Prelude.{◌≡◌, ℕ, Bool, true, length, map}
 use Rattle.std.specs.List.{list_all}
-use Rattle.lvm_num.specs.declared.descriptor.PvRow.{PvRow}
-use Rattle.lvm_num.specs.declared.descriptor.Descriptor.{Descriptor}
-use Rattle.lvm_num.specs.declared.status.StatusRow.{StatusRow}
-use Rattle.lvm_num.specs.declared.status.Status.{Status}
-use Rattle.lvm_num.specs.Descriptor.{is_member, IsValid}
-use Rattle.lvm_num.specs.Disks.{has}
+use Rattle.lvm_stale.specs.passed.Names.{PvRow, Descriptor, StatusRow, Status, is_member, IsValid, has}
 use Rattle.lvm_stale.specs.Table.{has_row}
 use Rattle.lvm_status.specs.declared.writes.Writes.{Writes}
 

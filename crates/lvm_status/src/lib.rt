@@ -2,6 +2,7 @@
 //! and what is wanted.
 #![tactic(auto)]
 
+pub mod below;
 mod change;
 pub mod laws;
 mod updater;

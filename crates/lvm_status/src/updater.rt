@@ -2,16 +2,13 @@
 ghost use Rattle.std.specs.Prelude.{All, ◌≡◌, ◌≢◌, ◌↔◌, ◌<◌, ◌+◌, ◌^◌, None, [], ◌||◌, IsTrue, IfOk, if◌then◌else◌};
 ghost use Rattle.std.specs.List.{list_any};
 ghost use Rattle.std.specs.Option.{option_copied};
-ghost use Rattle.lvm_num.specs.declared.descriptor.PvRow.{PvRow};
-ghost use Rattle.lvm_num.specs.Descriptor.{IsValid, IsLaidOut, partitions_in};
-ghost use Rattle.lvm_num.specs.Votes.{total_votes};
-ghost use Rattle.lvm_num.specs.Disks.{has, IsLowest};
+ghost use Rattle.lvm_stale.specs.passed.Names.{PvRow, IsValid, IsLaidOut, partitions_in, total_votes, has, IsLowest};
 ghost use Rattle.lvm_stale.specs.Marking.{IsLeftIn, Marks, IsMarkable};
 ghost use Rattle.lvm_status.specs.Members.{HasItsRows, all_rows, all_members};
 ghost use Rattle.lvm_status.specs.Update.{members_there};
 
 use crate::{Change, Progress, Writes};
-use lvm_num::{
+use lvm_stale::below::{
     Descriptor, DiskSet, LvRow, Memory, Pp, Rows, Stamp, Status, has_member, with_volumes,
 };
 use lvm_stale::{StaleTable, mark_volumes};

@@ -7,8 +7,7 @@ use Rattle.lvm_num.specs.Record.{slot_start, slot_size}
 use Rattle.lvm_num.specs.Torn.{Carries}
 use Rattle.lvm_num.proofs.RecordLemmas.Records.{joined-same}
 use Rattle.lvm_num.proofs.TornLemmas.Torn.{sectors-fit}
-use Rattle.lvm_rec.specs.Slots.{held, slot_of, slot_to_write, slot_for}
-use Rattle.lvm_disk.specs.Device.{Image}
+use Rattle.lvm_kept.specs.passed.Names.{held, slot_of, slot_to_write, slot_for, Image}
 use Rattle.lvm_kept.specs.Contents.{note_sector}
 use Rattle.lvm_kept.specs.Plans.{ChangesBy}
 use Rattle.lvm_kept.specs.Torn.{IsOutside, IsOfNote, IsOfRecord}

@@ -1,3 +1,4 @@
+pub mod passed
 pub mod Moments
 pub mod Entries
 pub mod Requests

@@ -2,10 +2,7 @@
 use Rattle.std.specs.Prelude.{◌≡◌, ◌<◌, ◌≤◌, ◌+◌, ◌++◌, ◌∷◌, ℕ, Bool, true, false, List, [], Some, None, IfSome, count_by, length, take}
 use Rattle.lvm_num.specs.Buffer.{Buffer, Sector}
 use Rattle.lvm_num.specs.Geometry.{data_start}
-use Rattle.lvm_disk.specs.Device.{Media, Image, Flight, Device, image_of, written, MayLeave}
-use Rattle.lvm_disk.specs.Images.{LeavesNoMore}
-use Rattle.lvm_disk.specs.Steps.{BothTold, Puts, PutsSome, Reads, IsRange}
-use Rattle.lvm_disk.specs.Paths.{DeviceStep, Path}
+use Rattle.lvm_kept.specs.passed.Names.{Media, Image, Flight, Device, image_of, written, MayLeave, LeavesNoMore, BothTold, Puts, PutsSome, Reads, IsRange, DeviceStep, Path}
 use Rattle.lvm_vol.specs.declared.entry.Outcome.{Outcome}
 use Rattle.lvm_vol.specs.declared.entry.Outcome.TheVariants as outcome
 use Rattle.lvm_vol.specs.Facts.{Request, Fact, Begun, Landed, Taken, Cut}

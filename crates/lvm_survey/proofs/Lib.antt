@@ -1,3 +1,4 @@
+pub mod passed
 pub mod SurveyedLemmas
 pub mod ReadingLemmas
 pub mod LawsLemmas

@@ -1,17 +1,11 @@
 -- A survey of disks one after the other.
 use Rattle.std.proofs.Common.{◌≡◌, inl, inr, ◌≤◌, ◌+◌, ◌++◌, [], ◌∷◌, ℕ, List, Option, Some, IfSome, length, slice_get, refl, sym, ◌∙◌, subst, arith}
 use Rattle.std.proofs.lemmas.List.{length-append}
-use Rattle.lvm_disk.specs.Counts.{Rose}
-use Rattle.lvm_disk.specs.Device.{Media, Device, IsReady, image_of}
-use Rattle.lvm_disk.specs.Paths.{DeviceStep, Path}
-use Rattle.lvm_disk.proofs.PathsLemmas.{append-path, map-path}
-use Rattle.lvm_transfer.specs.declared.reading.Stop.{Stop}
+use Rattle.lvm_area.specs.passed.Names.{Rose, Media, Device, IsReady, image_of, DeviceStep, Path, Stop, IsUntouched, OnlyReads, IsRested, StopGives}
+use Rattle.lvm_area.proofs.passed.Names.{append-path, map-path, only_none, untouched_none, rested_none, only_more, untouched_more, rested_more, stop_more, got_within}
 use Rattle.lvm_survey.specs.declared.row.SurveyRow.{SurveyRow}
 use Rattle.lvm_survey.specs.Surveyed.{IsRead}
-use Rattle.lvm_transfer.specs.Reading.{IsUntouched, OnlyReads, IsRested, StopGives}
 use Rattle.lvm_survey.specs.Surveying.{IsSmall, IsSurveyed}
-use Rattle.lvm_transfer.proofs.ReadingLemmas.Following.{only_none, untouched_none, rested_none, only_more, untouched_more, rested_more, stop_more}
-use Rattle.lvm_transfer.proofs.RecordLemmas.{got_within}
 use Rattle.lvm_survey.proofs.SurveyedLemmas.DiskRows.{got_one_more}
 
 -- the disks below so many have their rows, and no other was read

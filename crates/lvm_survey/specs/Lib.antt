@@ -1,3 +1,4 @@
+pub mod passed
 pub mod Surveyed
 pub mod Rows
 pub mod Surveying

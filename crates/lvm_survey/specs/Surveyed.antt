@@ -6,10 +6,7 @@ use Rattle.lvm_num.specs.Descriptor.{IsValid}
 use Rattle.lvm_num.specs.Status.{IsValidStatus}
 use Rattle.lvm_num.specs.DescriptorBytes.{descriptor_of}
 use Rattle.lvm_num.specs.StatusBytes.{status_of}
-use Rattle.lvm_rec.specs.Note.{noted_of}
-use Rattle.lvm_rec.specs.Slots.{held, slot_of}
-use Rattle.lvm_disk.specs.Device.{Image}
-use Rattle.lvm_kept.specs.Contents.{Contents, has_records, contents_of}
+use Rattle.lvm_area.specs.passed.Names.{noted_of, held, slot_of, Image, Contents, has_records, contents_of}
 use Rattle.lvm_survey.specs.declared.row.SurveyRow.{SurveyRow}
 use Rattle.lvm_survey.specs.declared.row.Survey.{Survey}
 use Rattle.lvm_area.specs.Reading.{under, home_of}

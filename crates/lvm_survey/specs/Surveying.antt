@@ -4,17 +4,12 @@ use Rattle.std.specs.Global.{Global}
 use Rattle.lvm_num.specs.Buffer.{Buffer}
 use Rattle.lvm_num.specs.Geometry.{data_start}
 use Rattle.lvm_num.specs.Note.{note_in}
-use Rattle.lvm_rec.specs.Note.{noted_of}
-use Rattle.lvm_disk.specs.Counts.{Rose}
-use Rattle.lvm_disk.specs.Device.{Device, image_of}
-use Rattle.lvm_disk.specs.Paths.{DeviceStep, Path}
+use Rattle.lvm_area.specs.passed.Names.{noted_of, Rose, Device, image_of, DeviceStep, Path, Stop, IsRested, IsCutOff, IsReadStuck, StopGives}
 use Rattle.lvm_area.specs.declared.area.RecordArea.{RecordArea}
-use Rattle.lvm_transfer.specs.declared.reading.Stop.{Stop}
 use Rattle.lvm_survey.specs.declared.row.Survey.{Survey}
 use Rattle.lvm_survey.specs.declared.row.SurveyRow.{SurveyRow}
 use Rattle.lvm_survey.specs.declared.survey.Surveyed.{Surveyed}
 use Rattle.lvm_survey.specs.declared.survey.Surveyed.TheVariants as surveyed
-use Rattle.lvm_transfer.specs.Reading.{IsRested, IsCutOff, IsReadStuck, StopGives}
 use Rattle.lvm_area.specs.Reading.{AreaRead, IsHome, under}
 use Rattle.lvm_survey.specs.Surveyed.{IsEmpty, IsRead, IsRowValid}
 

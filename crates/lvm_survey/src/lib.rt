@@ -1,6 +1,7 @@
 //! What stands on the disks of a shelf: the newest records of each.
 #![tactic(auto)]
 
+pub mod below;
 mod laws;
 mod row;
 mod survey;

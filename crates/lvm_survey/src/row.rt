@@ -1,7 +1,7 @@
 //! What was found on each disk of a shelf.
 
+use lvm_area::below::Note;
 use lvm_num::{Descriptor, Rows, Stamp, Status};
-use lvm_rec::Note;
 
 /// What was found on one disk.
 #[derive(Drop)]

@@ -1,18 +1,15 @@
 //! Reading the records of all disks of a shelf.
 ghost use Rattle.std.specs.Prelude.{◌≡◌, ℕ, ◌<◌, length, false};
-ghost use Rattle.lvm_disk.specs.Device.{IsReady};
+ghost use Rattle.lvm_area.specs.passed.Names.{IsReady, IsUntouched, OnlyReads};
 ghost use Rattle.lvm_survey.specs.Rows.{AreRows};
 ghost use Rattle.lvm_survey.specs.Surveyed.{IsEmpty, IsRowValid, IsSurveyValid};
-ghost use Rattle.lvm_transfer.specs.Reading.{IsUntouched, OnlyReads};
 ghost use Rattle.lvm_area.specs.Reading.{IsAreaValid};
 ghost use Rattle.lvm_survey.specs.Surveying.{AreHomes, DiskGives, IfSurveyed, IsRowOfArea, IsSmall, RowGives, RowsGive, SurveyEnds};
 
 use crate::row::{Survey, SurveyRow};
+use lvm_area::below::{Patience, Shelf, Stop, Unread, read_note};
 use lvm_area::{RecordArea, read_area};
-use lvm_disk::Shelf;
 use lvm_num::{Pbuf, Rows, Stamp};
-use lvm_rec::read_note;
-use lvm_transfer::{Patience, Stop, Unread};
 use std::alloc::Global;
 
 // Where the data of a disk begins. The records stand below.

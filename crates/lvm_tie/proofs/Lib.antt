@@ -1,3 +1,4 @@
+pub mod passed
 pub mod AmongLemmas
 pub mod TiedLemmas
 pub mod StateLemmas

@@ -66,7 +66,7 @@ use Rattle.lvm_session.specs.Marks.{WantsDirtyIf, WantsStale}
 use Rattle.lvm_session.specs.Requests.{IsOpenOne, IsTarget}
 use Rattle.lvm_session.specs.Turns.{ArrangesSession, Darkens, FinishMakes, Finishes, Makes, Moves, NoStart, OnMakes, TurnMakes, WasDark, WasOff, WasOn}
 use Rattle.lvm_session.specs.Sound.{IsSound}
-use Rattle.lvm_keeps.proofs.Lists.{all_at}
+use Rattle.lvm_keeps_events.proofs.passed.Names.{all_at}
 use Rattle.lvm_tie_shelf.proofs.DeviceLemmas.{writes_at}
 use Rattle.lvm_tie_shelf.proofs.OwnedLemmas.{reads_none}
 use Rattle.lvm_tie.specs.Stamps.{AreValid, ArrangeLeavesBefore, CallsStay, IsStamped, KeepsEpoch, StaysOf, TurnIsEarlier, TurnKeepsEpoch, TurnLeavesBefore}

@@ -34,7 +34,7 @@ use Rattle.lvm_session.specs.Judging.{copies_for, group_in, group_of, mode_of, i
 use Rattle.lvm_session.specs.Enabled.{target_due, target_next}
 use Rattle.lvm_invariant.specs.State.{Stage, Todo, Ready, Groups, Marks, Queued, ModelState, is_usable as sees_usable, is_settled_stale, HasPassed}
 use Rattle.lvm_invariant.specs.StartWrite.{MayStart}
-use Rattle.lvm_keeps.proofs.KeepsLemmas.Noting.{first_start_is_noted}
+use Rattle.lvm_keeps_events.proofs.passed.Names.{first_start_is_noted}
 use Rattle.lvm_tie_shelf.proofs.WritingLemmas.{and_both}
 use Rattle.lvm_tie.proofs.StateLemmas.{wanted_seen, usable_seen, settled_seen, copy_is_one, on_member, there_is_copy, caught_passed, passed_caught}
 use Rattle.lvm_tie.proofs.ModesLemmas.{active_is, active_mode, passive_is, passive_mode}

@@ -1,3 +1,4 @@
+pub mod passed
 pub mod Seen
 pub mod Out
 pub mod Tied

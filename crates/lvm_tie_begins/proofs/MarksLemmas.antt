@@ -13,12 +13,12 @@ use Rattle.lvm_status.specs.Update.{members_there}
 use Rattle.lvm_kept.specs.Group.{IsOneOf}
 use Rattle.lvm_stale.specs.Marking.{IsLeftIn, is_served}
 use Rattle.lvm_next.proofs.NextLemmas.{copy_is_placed, is_member_of}
-use Rattle.lvm_commit.specs.Settling.{NoneIsLeft, there}
+use Rattle.lvm_tie.specs.passed.Names.{NoneIsLeft, there}
 use Rattle.lvm_session.specs.State.{Core}
 use Rattle.lvm_session.specs.Judging.{is_missing, is_stale, is_usable, is_wanted_stale}
 use Rattle.lvm_session.specs.Marks.{can_replace, is_among, is_entailed, is_entailed_in, is_left_behind}
 use Rattle.lvm_tie.proofs.AmongLemmas.{any_one, clash, not_true, or_true}
-use Rattle.lvm_tie_shelf.proofs.WritingLemmas.{and_both, pp_same}
+use Rattle.lvm_tie.proofs.passed.Names.{and_both, pp_same}
 
 -- ---- lists
 

@@ -15,14 +15,11 @@ use Rattle.lvm_steps.specs.Moments.{Begins, Holds, Upholds}
 use Rattle.lvm_status.specs.Update.{Updates}
 use Rattle.lvm_commit.specs.LawsOfVolumes.{IsOneByAllOn}
 use Rattle.lvm_session.specs.State.{Core, State, is_there}
-use Rattle.lvm_core.specs.Committing.{moment_of}
-use Rattle.lvm_core.specs.Held.{NotesAreHome, StartsHeld}
-use Rattle.lvm_core.proofs.CacheLemmas.{empty_names_none}
+use Rattle.lvm_handover.specs.passed.Names.{moment_of, NotesAreHome, StartsHeld, HasNoPassive}
+use Rattle.lvm_handover.proofs.passed.Names.{empty_names_none, quiet_is_even}
 use Rattle.lvm_mwc.specs.Cache.{is_named as is_named_by}
 use Rattle.lvm_kept.proofs.CommittedLemmas.Finding.{images_within}
 use Rattle.lvm_steps.proofs.MakingLemmas.Making.{media_may}
-use Rattle.lvm_recover.specs.Recovered.{HasNoPassive}
-use Rattle.lvm_recover.proofs.KeepingLemmas.Equalling.{quiet_is_even}
 use Rattle.lvm_handover.specs.passed.Tie.{SparesDescriptors, IsTied}
 use Rattle.lvm_handover.specs.passed.TieBegins.{shown_to}
 use Rattle.lvm_tie_commands.specs.Beginning.{HasBegun, MadeStands, VariedOnStands}

@@ -19,9 +19,9 @@ use Rattle.lvm_commit.specs.LawsOfVolumes.{IsOneByAllOn}
 use Rattle.lvm_commit.proofs.LawsLemmas.Found.{shows_group}
 use Rattle.lvm_session.specs.State.{Core, State, is_there}
 use Rattle.lvm_session.specs.Sound.{IsSound}
-use Rattle.lvm_core.specs.Settled.{IsSettled}
-use Rattle.lvm_rest.specs.Rest.{IsEven, NoneIsBehind}
-use Rattle.lvm_rest.proofs.MarkingLemmas.{none_is_left_behind}
+use Rattle.lvm_handover.specs.passed.Names.{IsSettled}
+use Rattle.lvm_even.specs.passed.Names.{IsEven, NoneIsBehind}
+use Rattle.lvm_even.proofs.passed.Names.{none_is_left_behind}
 use Rattle.lvm_handover.specs.passed.Tie.{SparesDescriptors, IsTied, moment_of}
 use Rattle.lvm_handover.specs.passed.TieBegins.{NotesAreHomeIn, MembersShow, StandsAtRest, shown_to}
 use Rattle.lvm_handover.proofs.passed.TieBegins.{rest_spares, rest_ties}

@@ -12,9 +12,8 @@ use Rattle.lvm_commit.specs.LawsOfVolumes.{IsOneByAllOn, IsOnlyGroupOn}
 use Rattle.lvm_commit.proofs.LawsOfVolumesLemmas.Others.{one_by_all_is_only_since}
 use Rattle.lvm_commit.proofs.LawsOfDataLemmas.Still.{still_holds_committed}
 use Rattle.lvm_session.specs.State.{State, is_there}
-use Rattle.lvm_core.specs.Held.{AreNotesHome, IsHeld, NotesAreHome}
-use Rattle.lvm_core.specs.Settled.{IsSettled}
-use Rattle.lvm_rest.specs.Rest.{IsEven}
+use Rattle.lvm_handover.specs.passed.Names.{AreNotesHome, IsHeld, NotesAreHome, IsSettled}
+use Rattle.lvm_even.specs.passed.Names.{IsEven}
 use Rattle.lvm_even.proofs.EvenLemmas.Off.{off_is_even}
 use Rattle.lvm_handover.specs.passed.Tie.{SparesDescriptors, SparesOn, IsTied}
 use Rattle.lvm_handover.specs.passed.TieBegins.{IsRested, IsResting, NotesAreHomeIn as AreHome, shown_to}

@@ -3,8 +3,7 @@ use Rattle.std.proofs.Common.{◌≡◌, List, [], ap, ◌∙◌}
 use Rattle.lvm_session.specs.State.{State}
 use Rattle.lvm_session.specs.Sound.{IsGoing, IsSound, waits}
 use Rattle.lvm_session.specs.declared.open.Open.{Open}
-use Rattle.lvm_core.specs.Settled.{IsSettled}
-use Rattle.lvm_core.specs.Sound.{HaveAllLanded}
+use Rattle.lvm_handover.specs.passed.Names.{IsSettled, HaveAllLanded}
 use Rattle.lvm_commit.specs.Settling.{NoneIsLeft}
 use Rattle.lvm_handover.proofs.SoundLemmas.{rest_is_still}
 use Rattle.lvm_handover.proofs.CommitSettlingLemmas.{none_left}

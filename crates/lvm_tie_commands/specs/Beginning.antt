@@ -8,14 +8,10 @@ use Rattle.lvm_steps.specs.Moments.{Keeps}
 use Rattle.lvm_commit.specs.LawsOfVolumes.{IsOneByAllOn}
 use Rattle.lvm_session.specs.State.{State}
 use Rattle.lvm_session.specs.Sound.{IsSound}
-use Rattle.lvm_core.specs.declared.parts.Room.{Room}
-use Rattle.lvm_core.specs.Committing.{moment_of}
-use Rattle.lvm_core.specs.Held.{StartsHeld}
-use Rattle.lvm_core.specs.Settled.{IsSettled}
+use Rattle.lvm_handover.specs.passed.Names.{Room, moment_of, StartsHeld, IsSettled, HasNoPassive}
 use Rattle.lvm_handover.specs.passed.Varyon.{ComesOn}
 use Rattle.lvm_handover.specs.passed.Group.{IsMade, NewGroup}
 use Rattle.lvm_handover.specs.passed.Tie.{IsStamped}
-use Rattle.lvm_recover.specs.Recovered.{HasNoPassive}
 use Rattle.lvm_tie_commands.specs.Standing.{StandsAfter, StandsSince}
 
 -- The session of this run has begun, settled and sound, a span leads to it, and its disks hold what it says.

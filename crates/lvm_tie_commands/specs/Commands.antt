@@ -8,11 +8,7 @@ use Rattle.lvm_steps.specs.Moments.{Begins, Keeps}
 use Rattle.lvm_commit.specs.LawsOfVolumes.{IsOneByAllOn}
 use Rattle.lvm_session.specs.State.{Core, State, state}
 use Rattle.lvm_session.specs.Sound.{IsSound}
-use Rattle.lvm_core.specs.Committing.{moment_of}
-use Rattle.lvm_core.specs.Leaves.{EntersVolumes}
-use Rattle.lvm_volume_plan.specs.declared.fault.GroupFault.{GroupFault}
-use Rattle.lvm_volume_plan.specs.declared.new_volume.NewVolume.{NewVolume}
-use Rattle.lvm_volume_plan.specs.Faults.{IfOn}
+use Rattle.lvm_handover.specs.passed.Names.{moment_of, EntersVolumes, GroupFault, NewVolume, IfOn}
 use Rattle.lvm_handover.specs.passed.Volumes.{MklvGives, RmlvGives, to_make, to_remove}
 use Rattle.lvm_handover.specs.Serving.{IsCommanded, IsServed}
 use Rattle.lvm_handover.specs.passed.Tie.{IsStamped}

@@ -5,7 +5,7 @@ use Rattle.lvm_vol.specs.Facts.{Fact}
 use Rattle.lvm_kept.specs.Moments.{Moment}
 use Rattle.lvm_steps.specs.Moments.{Begins}
 use Rattle.lvm_session.specs.State.{Core, State, state}
-use Rattle.lvm_core.specs.Held.{AreNotesHome, IsHeld}
+use Rattle.lvm_handover.specs.passed.Names.{AreNotesHome, IsHeld}
 use Rattle.lvm_handover.specs.passed.Tie.{SparesDescriptors, IsTied}
 
 -- Of a group without volumes: the disks hold what the session says is committed, and their notes name what its cache does.

@@ -8,11 +8,11 @@ use Rattle.lvm_num.specs.Descriptor.{IsValid}
 use Rattle.lvm_status.specs.Calls.{IsMarkable}
 use Rattle.lvm_status.specs.Members.{HasItsRows}
 use Rattle.lvm_session.specs.State.{Core, State, is_there}
-use Rattle.lvm_core.specs.Committing.{AreUnused}
-use Rattle.lvm_core.proofs.SettlingLemmas.{unused_markable}
-use Rattle.lvm_copy_plan.specs.Copies.{further_copies, with_copies, with_map}
-use Rattle.lvm_copy_plan.proofs.CopiesLemmas.More as more
-use Rattle.lvm_copy_plan.proofs.CopiesLemmas.Rows.{named}
+use Rattle.lvm_tie_commands.specs.passed.Names.{AreUnused}
+use Rattle.lvm_tie_commands.proofs.passed.Names.{unused_markable}
+use Rattle.lvm_mirrors.specs.passed.Names.{further_copies, with_copies, with_map}
+use Rattle.lvm_mirrors.proofs.passed.CopyPlanCopiesLemmasMore as more
+use Rattle.lvm_mirrors.proofs.passed.Names.{named}
 use Rattle.lvm_mirrors.specs.Mirrors.{AreAdded}
 use Rattle.lvm_tie_copies.proofs.CopiesLemmas.Adding.{no_volume}
 

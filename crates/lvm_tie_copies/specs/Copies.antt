@@ -5,11 +5,8 @@ use Rattle.lvm_num.specs.declared.place.Pp.{Pp}
 use Rattle.lvm_kept.specs.Moments.{Moment}
 use Rattle.lvm_steps.specs.Moments.{Keeps}
 use Rattle.lvm_session.specs.State.{State}
-use Rattle.lvm_core.specs.Committing.{moment_of}
-use Rattle.lvm_volume_plan.specs.declared.fault.GroupFault.{GroupFault}
-use Rattle.lvm_volume_plan.specs.Faults.{IfOn}
-use Rattle.lvm_copy_plan.specs.Faults.{MayBeTaken}
-use Rattle.lvm_core.specs.Looking.{IsNumberOf}
+use Rattle.lvm_tie_commands.specs.passed.Names.{moment_of, GroupFault, IfOn, IsNumberOf}
+use Rattle.lvm_mirrors.specs.passed.Names.{MayBeTaken}
 use Rattle.lvm_mirrors.specs.Mirrors.{IfShown, KeepsShown, MklvcopyGives, RmlvcopyGives, to_add, to_take}
 use Rattle.lvm_tie_commands.specs.passed.Handover.{IsCommanded}
 use Rattle.lvm_tie_commands.specs.Commands.{IsLeftStandingSince, MayBeCommanded}

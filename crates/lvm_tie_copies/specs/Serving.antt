@@ -3,8 +3,7 @@ use Rattle.std.specs.Prelude.{◌≡◌, ℕ, List, [], Result, Ok, Err}
 use Rattle.lvm_num.specs.declared.place.Pp.{Pp}
 use Rattle.lvm_session.specs.State.{State}
 use Rattle.lvm_session.specs.Sound.{IsSound}
-use Rattle.lvm_volume_plan.specs.declared.fault.GroupFault.{GroupFault}
-use Rattle.lvm_volume_plan.specs.Faults.{IfOn}
+use Rattle.lvm_tie_commands.specs.passed.Names.{GroupFault, IfOn}
 use Rattle.lvm_mirrors.specs.Mirrors.{MklvcopyGives, RmlvcopyGives, to_add, to_take}
 use Rattle.lvm_tie_commands.specs.passed.Handover.{IsCommanded, MayServe, StaysSound}
 

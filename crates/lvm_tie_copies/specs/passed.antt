@@ -4,10 +4,12 @@ pub mod Earlier
 pub mod Group
 pub mod Handover
 pub mod Mirrors
+pub mod Names
 pub mod Ranges
 pub mod Recover
 pub mod Running
 pub mod Tie
 pub mod TieCommands
 pub mod Varyon
+pub mod VolumePlanFaultGroupFault
 pub mod Volumes

@@ -9,9 +9,9 @@ use Rattle.lvm_vol.specs.Log.{asked, has_id, lands_id}
 use Rattle.lvm_vol.specs.Order.{Ordered}
 use Rattle.lvm_vol.proofs.FactsLemmas.Order.{IsNumbered, numbered, stands_begun}
 use Rattle.lvm_kept.specs.Moments.{Calm}
-use Rattle.lvm_rest.specs.Closed.{AllLand}
-use Rattle.lvm_rest.proofs.ClosedLemmas.{landed_are_closed}
-use Rattle.lvm_core.specs.Sound.{HaveAllLanded}
+use Rattle.lvm_tie_begins.specs.passed.Names.{AllLand}
+use Rattle.lvm_tie_begins.proofs.passed.Names.{landed_are_closed}
+use Rattle.lvm_settled.specs.passed.Names.{HaveAllLanded}
 
 -- a request that stands there is found by its number
 is_found : (rs : List Request) (r : Request) → Stands r rs → is_some (find (has_id r.id) rs) ≡ true

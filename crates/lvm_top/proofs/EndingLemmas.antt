@@ -18,7 +18,7 @@ use Rattle.lvm_session.specs.State.{Core, State, state}
 use Rattle.lvm_session.specs.Turns.{TurnMakes}
 use Rattle.lvm_line.specs.passed.Running.{RunsOn}
 use Rattle.lvm_line.proofs.passed.Running.{runs_both, runs_none}
-use Rattle.lvm_keeps_turn.specs.Telling.{TurnTells}
+use Rattle.lvm_line.specs.passed.Names.{TurnTells}
 use Rattle.lvm_line.specs.passed.Ranges.{Moves, NoMove, OneMove}
 use Rattle.lvm_top.specs.Ending.{Concludes, IsQuietNow, IsServed, MakesTurns, NoneIsServed, NothingIsLeft, RestsNow, RunsOut, TurnsAreMade}
 

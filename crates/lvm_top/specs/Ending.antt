@@ -6,7 +6,7 @@ use Rattle.lvm_session.specs.declared.answers.Turned.TheVariants as turned
 use Rattle.lvm_session.specs.State.{Core, State, state}
 use Rattle.lvm_session.specs.Sound.{IsSound}
 use Rattle.lvm_session.specs.Turns.{TurnMakes}
-use Rattle.lvm_keeps_turn.specs.Telling.{TurnTells}
+use Rattle.lvm_line.specs.passed.Names.{TurnTells}
 use Rattle.lvm_line.specs.passed.Running.{RunsOn}
 use Rattle.lvm_line.specs.passed.Ranges.{Moves}
 use Rattle.lvm_line.specs.passed.Stage.{IsClosed}

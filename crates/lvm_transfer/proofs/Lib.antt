@@ -1,3 +1,4 @@
+pub mod passed
 pub mod TransferLemmas
 pub mod StepsLemmas
 pub mod RecordLemmas

@@ -1,14 +1,14 @@
 //! Sectors of a disk's record area are read, by one transfer after another.
 ghost use Rattle.std.specs.Prelude.{◌≡◌, ◌+◌, ◌-◌, ◌*◌, ◌++◌, ◌<◌, ◌≤◌, ℕ, length, max, min, slice_index_or, [], IfSome, IfOk, OnOk};
-ghost use Rattle.lvm_num.specs.declared.record.Kind.TheVariants as kind_is;
-ghost use Rattle.lvm_num.specs.Record.{joined, record_in, record_sectors};
+ghost use Rattle.lvm_disk.specs.passed.NumRecordKind as kind_is;
+ghost use Rattle.lvm_disk.specs.passed.Names.{joined, record_in, record_sectors};
 ghost use Rattle.lvm_disk.specs.Device.{IsReady};
 ghost use Rattle.lvm_disk.specs.Steps.{IsRange};
 ghost use Rattle.lvm_transfer.specs.Reading.{announced_length, only_buffer, IsInRecords, OneWasRead, ReadsEnd, SectorsRead};
 
 use crate::moves::{Moved, Patience, transfer};
 use lvm_disk::Shelf;
-use lvm_num::Pbuf;
+use lvm_disk::below::Pbuf;
 use std::alloc::{AllocError, Global};
 
 const SECTOR: usize = 512;

@@ -1,3 +1,4 @@
+pub mod passed
 pub mod LosingLemmas
 pub mod StatusLemmas
 pub mod MarksLemmas

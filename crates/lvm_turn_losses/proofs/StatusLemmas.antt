@@ -12,7 +12,7 @@ use Rattle.lvm_session.specs.Ends.{LosesDisk}
 use Rattle.lvm_session.specs.Events.{Begins}
 use Rattle.lvm_session.specs.Marks.{WantsDirty, WantsFresh, WantsStale}
 use Rattle.lvm_session.specs.Turns.{SaysTheSame}
-use Rattle.lvm_keeps.proofs.Small.{both, not_so}
+use Rattle.lvm_keeps_events.proofs.passed.Names.{both, not_so}
 
 -- the status in flight, or else the committed one
 abbrev pub flown : Stored → Status

@@ -22,8 +22,8 @@ use Rattle.lvm_kept.proofs.CommittedLemmas.Finding.{images_within}
 use Rattle.lvm_stamps.specs.Behind.{StampsBefore, beginning_at, IsBehind}
 use Rattle.lvm_rec.specs.declared.homes.Homes.{Homes}
 use Rattle.lvm_write.specs.Homes.{SparesNewest}
-use Rattle.lvm_commit.specs.Committed.{ShowsCommitted}
-use Rattle.lvm_commit.proofs.LawsLemmas.Found.{newest_is_beginning}
+use Rattle.lvm_varyon_plan.specs.passed.Names.{ShowsCommitted, LogsOnly}
+use Rattle.lvm_varyon_plan.proofs.passed.Names.{newest_is_beginning, only_planned}
 use Rattle.lvm_steps.specs.VaryingOn.{HasNewest}
 use Rattle.lvm_steps.proofs.VaryingOnLemmas.Following.{restamp_is_newest}
 use Rattle.lvm_steps.proofs.VaryingOnLemmas.VaryingOn.{restamp_keeps, restate_keeps}
@@ -36,8 +36,6 @@ use Rattle.lvm_begin.proofs.NewestLemmas.{all_find_newest, again_is_found, statu
 use Rattle.lvm_begin.proofs.ShownLemmas.Shown.{again_is_shown, media_by}
 use Rattle.lvm_next.specs.Next.{IsNextStatus}
 use Rattle.lvm_next.specs.Restated.{Restated}
-use Rattle.lvm_recovery.specs.Copying.{LogsOnly}
-use Rattle.lvm_recovery.proofs.CopyingLemmas.Logged.{only_planned}
 use Rattle.lvm_varyon.specs.Found.{records_on}
 use Rattle.lvm_varyon_plan.specs.Chosen.{answering}
 use Rattle.lvm_varyon.specs.Varied.{HasWritten}

@@ -20,7 +20,7 @@ use Rattle.lvm_kept.specs.Contents.{Contents, contents_of, descriptor_on, status
 use Rattle.lvm_kept.specs.Group.{Finds, descriptor_among, has_quorum, is_voter}
 use Rattle.lvm_kept.proofs.PlacesLemmas.{at-same, newest-same}
 use Rattle.lvm_steps.proofs.MakingLemmas.Making.{media_may}
-use Rattle.lvm_core.specs.Leaves.{MayBeFound}
+use Rattle.lvm_varyon_plan.specs.passed.Names.{MayBeFound, Recopy, IsOfCopies, ArePlanned}
 use Rattle.lvm_kept.specs.Plans.{Plan, ChangesBy}
 use Rattle.lvm_kept.specs.Torn.{IsOfNote}
 use Rattle.lvm_stamps.specs.Behind.{StampsBefore, beginning_at, IsBehind}
@@ -31,9 +31,6 @@ use Rattle.lvm_write.specs.Homes.{SparesNewest}
 use Rattle.lvm_write.specs.Written.{KeepsShelf}
 use Rattle.lvm_write.proofs.WrittenLemmas.Writing.{both_from, both_then, changes_then, if_told, told_at}
 use Rattle.lvm_rec.proofs.SlotsLemmas.Next.{slot_for_same}
-use Rattle.lvm_recovery.specs.declared.copying.Recopy.{Recopy}
-use Rattle.lvm_recovery.specs.Copying.{IsOfCopies}
-use Rattle.lvm_recovery.specs.Planned.{ArePlanned}
 
 -- the sector is a note's, or one of data
 abbrev pub IsBesideSlots : Plan

@@ -19,9 +19,7 @@ use Rattle.lvm_survey.specs.declared.row.SurveyRow.{SurveyRow}
 use Rattle.lvm_survey.specs.declared.row.Survey.{Survey}
 use Rattle.lvm_survey.specs.Surveyed.{surveyed}
 use Rattle.lvm_status.specs.Update.{Updates}
-use Rattle.lvm_core.specs.declared.parts.Room.{Room}
-use Rattle.lvm_session.specs.Placed.{IsPlaced, ArePlaced}
-use Rattle.lvm_recovery.specs.Ending.{HaveSectors}
+use Rattle.lvm_varyon_plan.specs.passed.Names.{Room, IsPlaced, ArePlaced, HaveSectors}
 use Rattle.lvm_varyon_plan.specs.declared.plan.Plan.{Plan}
 use Rattle.lvm_varyon_plan.specs.Planned.{IsPlan}
 use Rattle.lvm_varyon.specs.Parts.{IsSurveyOf}

@@ -1,3 +1,4 @@
+pub mod passed
 pub mod FoundLemmas
 pub mod GroupLemmas
 pub mod DescriptorLemmas

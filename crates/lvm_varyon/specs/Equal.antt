@@ -17,11 +17,9 @@ use Rattle.lvm_write.specs.Written.{HaveRoom, KeepsShelf}
 use Rattle.lvm_rec.specs.declared.homes.Homes.{Homes}
 use Rattle.lvm_begin.specs.Beginning.{Beginning, again_order, MayBeginAgain}
 use Rattle.lvm_begin.specs.Ends.{HasNoFault, IsLowestFailed}
-pub use Rattle.lvm_recovery.specs.declared.copying.Recopy.{Recopy}
-use Rattle.lvm_recovery.specs.Copying.{AreApart, IsCopied, IsInOneRun, IsOfCopies, LogsJust, LogsOnly, MayCopy, StopsAtOne, runs_into, sources_and_targets}
-use Rattle.lvm_recovery.specs.Equalising.{MayEqualise}
-use Rattle.lvm_core.specs.declared.refused.Cause.{Cause}
-use Rattle.lvm_core.specs.declared.refused.Cause.TheVariants as cause
+pub use Rattle.lvm_varyon_plan.specs.passed.Names.{Recopy}
+use Rattle.lvm_varyon_plan.specs.passed.Names.{AreApart, IsCopied, IsInOneRun, IsOfCopies, LogsJust, LogsOnly, MayCopy, StopsAtOne, runs_into, sources_and_targets, MayEqualise, Cause}
+use Rattle.lvm_varyon_plan.specs.passed.CoreRefusedCause as cause
 use Rattle.lvm_varyon_plan.specs.declared.plan.Plan.{Plan}
 use Rattle.lvm_varyon.specs.Writing.{AllWritten, OneWriteFailed, WasBrokenOff, IsStillOut}
 

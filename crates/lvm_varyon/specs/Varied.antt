@@ -12,26 +12,14 @@ use Rattle.lvm_kept.specs.Contents.{Contents, contents_of}
 use Rattle.lvm_kept.specs.Recovered.{Recovered}
 use Rattle.lvm_stamps.specs.Behind.{ClockIsAhead, IsBehind}
 use Rattle.lvm_rec.specs.declared.homes.Homes.{Homes}
-use Rattle.lvm_quorum.specs.Choosing.{HasNoRecord, HasRecord, IsAmbiguous, LacksQuorum}
+use Rattle.lvm_varyon_plan.specs.passed.Names.{HasNoRecord, HasRecord, IsAmbiguous, LacksQuorum, Room, Cause, Refused, Parts, IsReservedFor, ArePlaced, first_core, Core, HasNoPassive, Recopy, ArePlannedInOrder, ArePlanned}
 use Rattle.lvm_transfer.specs.Reading.{IsUnwritten, IsRested, IsCutOff}
-use Rattle.lvm_core.specs.declared.parts.Room.{Room}
-use Rattle.lvm_core.specs.declared.refused.Cause.{Cause}
-use Rattle.lvm_core.specs.declared.refused.Refused.{Refused}
-use Rattle.lvm_core.specs.declared.refused.Cause.TheVariants as cause
-use Rattle.lvm_session_start.specs.declared.parts.Parts.{Parts}
-use Rattle.lvm_core.specs.Starting.{IsReservedFor}
-use Rattle.lvm_session.specs.Placed.{ArePlaced}
-use Rattle.lvm_session_start.specs.Beginning.{first_core}
-use Rattle.lvm_session.specs.State.{Core}
+use Rattle.lvm_varyon_plan.specs.passed.CoreRefusedCause as cause
 use Rattle.lvm_begin.specs.Beginning.{Beginning, MayBeginAgain}
 use Rattle.lvm_varyon.specs.Found.{Found, HaveAnswered}
 use Rattle.lvm_next.specs.Next.{IsNextStatus}
 use Rattle.lvm_varyon_plan.specs.Chosen.{answering, MayComeOn, IsClockBehindGroup}
 use Rattle.lvm_next.specs.Restated.{Restated}
-use Rattle.lvm_recover.specs.Recovered.{HasNoPassive}
-use Rattle.lvm_recovery.specs.declared.copying.Recopy.{Recopy}
-use Rattle.lvm_recovery.specs.Plan.{ArePlannedInOrder}
-use Rattle.lvm_recovery.specs.Planned.{ArePlanned}
 use Rattle.lvm_varyon.specs.Writing.{beginning, Writes, IsStillOut}
 use Rattle.lvm_varyon.specs.Equal.{IsEqualled, OneFailed, BrokeOff}
 use Rattle.lvm_varyon.specs.Restated.{WhereTold}

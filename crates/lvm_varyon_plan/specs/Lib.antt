@@ -1,2 +1,3 @@
+pub mod passed
 pub mod Chosen
 pub mod Planned

@@ -2,17 +2,17 @@
 ghost use Rattle.std.specs.Prelude.{◌≡◌, Some, IfOk};
 ghost use Rattle.lvm_num.specs.declared.record.Stamp.{Stamp};
 ghost use Rattle.lvm_num.specs.Disks.{has};
-ghost use Rattle.lvm_survey.specs.Surveyed.{surveyed};
+ghost use Rattle.lvm_survey.specs.Surveyed.{surveyed, IsSurveyValid};
 ghost use Rattle.lvm_recovery.specs.Plan.{ArePlannedInOrder};
 ghost use Rattle.lvm_recovery.specs.Planned.{ArePlanned};
 ghost use Rattle.lvm_num.specs.Descriptor.{IsValid};
 ghost use Rattle.lvm_num.specs.Status.{IsValidStatus};
 ghost use Rattle.lvm_survey.specs.Rows.{AreRows};
-ghost use Rattle.lvm_survey.specs.Surveyed.{IsSurveyValid};
 ghost use Rattle.lvm_core.specs.Starting.{IsRoom};
-ghost use Rattle.lvm_session_start.specs.Parts.{IsOneGroup};
+ghost use Rattle.lvm_core.specs.passed.Names.{IsOneGroup};
 ghost use Rattle.lvm_varyon_plan.specs.Planned.{PlanGives, IsPlanFor, cause_of, IsPlanOfChoice};
 
+use lvm_core::below::homes_of;
 use lvm_core::{Cause, Parts, Room, encode_records};
 use lvm_next::next_status;
 use lvm_num::{DiskSet, Memory, Name, Rows, Status};
@@ -21,7 +21,6 @@ use lvm_rec::Homes;
 use lvm_recovery::{Recopy, named_by, plan_copies};
 use lvm_stale::StaleTable;
 use lvm_survey::Survey;
-use lvm_write::homes_of;
 use std::alloc::Global;
 
 // The last moment that a clock may answer. None is later.

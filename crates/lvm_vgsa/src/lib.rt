@@ -1,6 +1,7 @@
 //! The bytes of a status.
 #![tactic(auto)]
 
+pub mod below;
 mod laws;
 mod putting;
 mod reading;

@@ -1,3 +1,4 @@
+pub mod passed
 pub mod FactsLemmas
 pub mod LogLemmas
 pub mod LegalLemmas

@@ -1,3 +1,4 @@
+pub mod passed
 pub mod Facts
 pub mod May
 pub mod Legal

@@ -2,6 +2,7 @@
 //! a block may have after it.
 #![tactic(auto)]
 
+pub mod below;
 mod entry;
 pub mod laws;
 mod shown;

@@ -31,15 +31,12 @@ use Rattle.lvm_core.specs.Settled.{IsSettled as IsSettledCore}
 use Rattle.lvm_core.specs.Sound.{HaveAllLanded, IsSoundBetween}
 use Rattle.lvm_commit.specs.LawsOfVolumes.{IsOneByAllOn}
 use Rattle.lvm_range_lines.proofs.passed.Quiesce.{each_is_behind, still_is_behind_each}
-use Rattle.lvm_posts.specs.declared.posts.Post.{Post}
-use Rattle.lvm_posts.specs.Posts.{AreAnswered, AreHeld, ended_with}
+use Rattle.lvm_range_lines.specs.passed.Names.{Post, AreAnswered, AreHeld, ended_with}
 use Rattle.lvm_range_lines.specs.passed.Running.{IsBefore, LeavesSession}
 use Rattle.lvm_range_lines.specs.passed.Tie.{IsStamped, IsGood}
 use Rattle.lvm_range_lines.specs.passed.TieCommands.{IsAloneAtFirst, MayBeCommanded, StandsAfter, StandsSince}
-use Rattle.lvm_range_lines.specs.passed.Stage.{GoesOn, HasBegunHeld, IsAllowed, IsAlone, Role, IsStuck, most_refusals, posts_ended, ArePosted, IsBetween}
-use Rattle.lvm_range_lines.specs.passed.Stage.{IsOnBetween, IsTimely, StandsAlone, StandsBy, ScriptState, Reply}
-use Rattle.lvm_range_lines.proofs.passed.Stage.{relit_path, was_session, ready_is_lit, still_leaves_descriptors, LeavesAnswers, end_posts, none_held}
-use Rattle.lvm_range_lines.proofs.passed.Stage.{on_posts}
+use Rattle.lvm_range_lines.specs.passed.Stage.{GoesOn, HasBegunHeld, IsAllowed, IsAlone, Role, IsStuck, most_refusals, posts_ended, ArePosted, IsBetween, IsOnBetween, IsTimely, StandsAlone, StandsBy, ScriptState, Reply}
+use Rattle.lvm_range_lines.proofs.passed.Stage.{relit_path, was_session, ready_is_lit, still_leaves_descriptors, LeavesAnswers, end_posts, none_held, on_posts}
 
 -- ---- what a command promises, whatever its answer
 

@@ -17,10 +17,8 @@ use Rattle.lvm_range_lines.specs.passed.ReplyVariants as reply
 use Rattle.lvm_range_lines.specs.passed.Stage.{most_refusals}
 use Rattle.lvm_volume_lines.proofs.Commanding.{ClosesWell, closes_dark, closes_lit}
 use Rattle.lvm_volume_lines.specs.Volumes.{volume_reply}
-use Rattle.lvm_volume_plan.specs.declared.fault.GroupFault.{GroupFault}
-use Rattle.lvm_volume_plan.specs.declared.fault.GroupFault.TheVariants as fault
-use Rattle.lvm_volume_plan.specs.declared.new_volume.NewVolume.{NewVolume}
-use Rattle.lvm_volume_plan.specs.Faults.{is_over}
+use Rattle.lvm_range_lines.specs.passed.Names.{GroupFault, NewVolume, is_over}
+use Rattle.lvm_range_lines.specs.passed.VolumePlanFaultGroupFault as fault
 
 -- ---- what is known by the answer
 

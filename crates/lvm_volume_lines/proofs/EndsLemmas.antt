@@ -11,19 +11,17 @@ use Rattle.lvm_session.specs.Sound.{is_dark}
 use Rattle.lvm_session.specs.declared.open.Power.{Power}
 use Rattle.lvm_session.specs.declared.open.Power.TheVariants as power
 use Rattle.lvm_session.specs.State.{Core, State, votes_there}
-use Rattle.lvm_turn_losses.proofs.LosingLemmas.Votes.{votes_go}
+use Rattle.lvm_range_lines.proofs.passed.Names.{votes_go}
 use Rattle.lvm_core.specs.declared.fault.CommitFault.{CommitFault}
 use Rattle.lvm_core.specs.declared.fault.CommitFault.TheVariants as commit
 use Rattle.lvm_core.specs.Settled.{IsSettled as IsSettledCore}
 use Rattle.lvm_core.specs.Sound.{HaveAllLanded}
 use Rattle.lvm_core.specs.State.{state_of}
 use Rattle.lvm_range_lines.specs.passed.Driver.{FailsSo}
-use Rattle.lvm_posts.specs.Posts.{AreAnswered, ended_with}
+use Rattle.lvm_range_lines.specs.passed.Names.{AreAnswered, ended_with}
 use Rattle.lvm_range_lines.specs.passed.Running.{LeavesSession}
 use Rattle.lvm_range_lines.proofs.passed.Running.{stays_unstuck}
-use Rattle.lvm_range_lines.specs.passed.Stage.{EndsUnasked, patience_of_line, GoesOn, Role, IsStuck, most_refusals, HaveRooms, IsBetweenStage}
-use Rattle.lvm_range_lines.specs.passed.Stage.{IsClosed, IsEnded, IsFittingStage, IsOfKind, history_in, open_in, posts_ended, session_in, session_of}
-use Rattle.lvm_range_lines.specs.passed.Stage.{shelf_in, state_in, ArePosted, IsAtRest, ScriptState, without_facts, Holder, Reply, Stage}
+use Rattle.lvm_range_lines.specs.passed.Stage.{EndsUnasked, patience_of_line, GoesOn, Role, IsStuck, most_refusals, HaveRooms, IsBetweenStage, IsClosed, IsEnded, IsFittingStage, IsOfKind, history_in, open_in, posts_ended, session_in, session_of, shelf_in, state_in, ArePosted, IsAtRest, ScriptState, without_facts, Holder, Reply, Stage}
 use Rattle.lvm_range_lines.specs.passed.HolderVariants as holder
 use Rattle.lvm_range_lines.specs.passed.ReplyVariants as reply
 use Rattle.lvm_range_lines.proofs.passed.Stage.{one_refused, LeavesAnswers, end_posts, none_held, IsRun, over_goes, over_landed}

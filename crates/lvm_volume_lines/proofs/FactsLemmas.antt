@@ -8,13 +8,10 @@ use Rattle.lvm_vol.specs.Facts.{Fact, Making, Made, Removing, Removed}
 use Rattle.lvm_vol.specs.Log.{Log}
 use Rattle.lvm_core.specs.Sound.{HaveAllLanded}
 use Rattle.lvm_session.specs.State.{Core, State}
-use Rattle.lvm_posts.specs.declared.asked.Asked.{Asked}
-use Rattle.lvm_posts.specs.Posts.{AreAnswered}
+use Rattle.lvm_range_lines.specs.passed.Names.{Asked, AreAnswered, GroupFault, NewVolume}
 use Rattle.lvm_range_lines.specs.passed.Volumes.{MklvGives, RmlvGives, HasEntered, making, removing}
 use Rattle.lvm_range_lines.proofs.passed.Stage.{Bears, open_more, bears_cut, landed_bears, answered_bears, answered_on}
-use Rattle.lvm_volume_plan.specs.declared.fault.GroupFault.{GroupFault}
-use Rattle.lvm_volume_plan.specs.declared.fault.GroupFault.TheVariants as fault
-use Rattle.lvm_volume_plan.specs.declared.new_volume.NewVolume.{NewVolume}
+use Rattle.lvm_range_lines.specs.passed.VolumePlanFaultGroupFault as fault
 
 -- a volume's entries leave this true, and a cut does
 pub record BearsVolumes (P : List Fact → Type 0) : Type 0 where

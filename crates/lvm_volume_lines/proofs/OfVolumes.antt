@@ -20,11 +20,8 @@ use Rattle.lvm_disk.proofs.PathsLemmas.{last-path}
 use Rattle.lvm_range_lines.specs.passed.Running.{LeavesSession}
 use Rattle.lvm_range_lines.specs.passed.TieCommands.{IsAloneAtFirst, IsLeftStanding, IsLeftStandingSince, MayBeCommanded, HoldsEmpty, StandsAfter}
 use Rattle.lvm_range_lines.specs.passed.Volumes.{StillHeld}
-use Rattle.lvm_volume_plan.specs.declared.fault.GroupFault.{GroupFault}
-use Rattle.lvm_range_lines.specs.passed.Stage.{CommandEnds, EndsUnasked, patience_of_line, GoesOn, IsAllowed, Role, HaveRooms, IsBetweenStage, IsFittingStage}
-use Rattle.lvm_volume_plan.specs.Faults.{IfOn, is_over}
-use Rattle.lvm_range_lines.specs.passed.Stage.{IsOfKind, history_of, open_in, session_in, session_of, shelf_in, history_in, state_in, IsAtRest}
-use Rattle.lvm_range_lines.specs.passed.Stage.{IsOnBetween, ScriptState, without_facts, Holder, Reply, Stage}
+use Rattle.lvm_range_lines.specs.passed.Names.{GroupFault, IfOn, is_over}
+use Rattle.lvm_range_lines.specs.passed.Stage.{CommandEnds, EndsUnasked, patience_of_line, GoesOn, IsAllowed, Role, HaveRooms, IsBetweenStage, IsFittingStage, IsOfKind, history_of, open_in, session_in, session_of, shelf_in, history_in, state_in, IsAtRest, IsOnBetween, ScriptState, without_facts, Holder, Reply, Stage}
 use Rattle.lvm_range_lines.specs.passed.HolderVariants as holder
 use Rattle.lvm_range_lines.proofs.passed.Stage.{LeavesAnswers}
 use Rattle.lvm_volume_lines.specs.Commands.{HasRested, IsCarriedOut, IsHeldAgain, IsLeftAs, IsLeftOff, IsLeftOn}

@@ -10,7 +10,7 @@ use Rattle.lvm_write.specs.Written.{KeepsShelf}
 use Rattle.lvm_session.specs.Judging.{is_missing}
 use Rattle.lvm_session.specs.Sound.{IsSound}
 use Rattle.lvm_session.specs.State.{Core, State, state, is_there}
-use Rattle.lvm_turn_losses.specs.Losing.{LosesVotesByFaults}
+use Rattle.lvm_range_lines.specs.passed.Names.{LosesVotesByFaults, GroupFault, NewVolume, ends_session, fault_of}
 use Rattle.lvm_core.specs.declared.fault.CommitFault.{CommitFault}
 use Rattle.lvm_core.specs.Held.{IsHeld}
 use Rattle.lvm_core.specs.Leaves.{IsOfCommand, KeepsStatus, FindsOnly, Scope}
@@ -18,10 +18,7 @@ use Rattle.lvm_core.specs.Looking.{IsNumberOf, HasNoVolumeNamed}
 use Rattle.lvm_core.specs.Settled.{IsSettled}
 use Rattle.lvm_range_lines.specs.passed.Driver.{FailsSo, IsAny, IsTurn}
 use Rattle.lvm_range_lines.specs.passed.Running.{RunsOn}
-use Rattle.lvm_volume_plan.specs.declared.fault.GroupFault.{GroupFault}
-use Rattle.lvm_volume_plan.specs.declared.fault.GroupFault.TheVariants as fault
-use Rattle.lvm_volume_plan.specs.declared.new_volume.NewVolume.{NewVolume}
-use Rattle.lvm_volume_plan.specs.Faults.{ends_session, fault_of}
+use Rattle.lvm_range_lines.specs.passed.VolumePlanFaultGroupFault as fault
 use Rattle.lvm_range_lines.specs.passed.Volumes.{MklvGives, RmlvGives, to_make, to_remove}
 use Rattle.lvm_range_lines.specs.passed.Stage.{patience_of_line, IsRefused, IsOn, IsNotOn, open_in, posts_ended, IsAtRest, ScriptState, Refusal, Reply}
 use Rattle.lvm_range_lines.specs.passed.RefusalVariants as refusal

@@ -10,20 +10,18 @@ ghost use Rattle.lvm_core.specs.State.{state_of};
 ghost use Rattle.lvm_range_lines.specs.passed.Handover.{MayServe, StaysSound};
 ghost use Rattle.lvm_range_lines.specs.passed.TieCopies.{MayServeWith};
 ghost use Rattle.lvm_range_lines.specs.passed.Volumes.{MklvGives, RmlvGives, to_make, to_remove};
-ghost use Rattle.lvm_range_lines.specs.passed.Stage.{EndsUnasked, OfGroup, IsBetweenStage, IsFittingStage, IsOfKind, open_in, session_of, shelf_of};
-ghost use Rattle.lvm_range_lines.specs.passed.Stage.{IsOnBetween};
+ghost use Rattle.lvm_range_lines.specs.passed.Stage.{EndsUnasked, OfGroup, IsBetweenStage, IsFittingStage, IsOfKind, open_in, session_of, shelf_of, IsOnBetween};
 ghost use Rattle.lvm_volume_lines.specs.Commands.{HasBrokenOff, HasRested, IsCarriedOut, IsHeldAgain, IsLeftAs, IsLeftOff, IsLeftOn, none_added};
 ghost use Rattle.lvm_volume_lines.specs.Volumes.{MklvDoes, RmlvDoes, drain_refusal, refusal_for, volume_reply, wanted};
-ghost use Rattle.lvm_volume_plan.specs.Faults.{ends_session, is_over};
+ghost use Rattle.lvm_range_lines.specs.passed.Names.{ends_session, is_over};
 
 use lvm_core::{Closed, CommitFault, Driver};
 use lvm_disk::Shelf;
 use lvm_num::{Mode, Name, Policy, Pp};
-use lvm_posts::Post;
-use lvm_range_lines::below::driver;
 use lvm_range_lines::below::handover::{serve, settle};
 use lvm_range_lines::below::stage::{Answered, Holder, Refusal, Reply, Stage};
 use lvm_range_lines::below::volumes::{GroupFault, mklv, rmlv};
+use lvm_range_lines::below::{Post, driver};
 use lvm_transfer::{Patience, relight};
 use std::alloc::Global;
 

@@ -1,3 +1,4 @@
+pub mod passed
 pub mod NewVolume
 pub mod Faults
 pub mod PlannedVolume

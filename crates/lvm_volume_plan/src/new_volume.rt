@@ -9,11 +9,11 @@ ghost use Rattle.lvm_volume_plan.specs.PlannedVolume.{AreOfOneGroup, IsPlannedVo
 
 use crate::fault::GroupFault;
 use crate::next::{lowest_free, with_volume, without_volume};
+use lvm_core::below::Power;
 use lvm_core::{Driver, Prepared};
 use lvm_disk::Shelf;
 use lvm_map::{MapFault, allocate, blocks};
 use lvm_num::{Descriptor, LvRow, Memory, Mode, Name, Policy, Pp, Rows};
-use lvm_session::Power;
 use lvm_status::members_there;
 use std::alloc::Global;
 

@@ -15,16 +15,10 @@ use Rattle.lvm_kept.specs.Moments.{Moment}
 use Rattle.lvm_kept.specs.Torn.{RecordWrite}
 use Rattle.lvm_kept.specs.Plans.{Plan}
 use Rattle.lvm_status.specs.Update.{members_there}
-use Rattle.lvm_write.specs.Written.{KeepsShelf}
-use Rattle.lvm_write.proofs.PartsLemmas.Transfers.{keeps_here, keeps_then, spends_none, spends_then}
-use Rattle.lvm_commit.specs.Settling.{there, IsOfSession, StatesGroup, IsOfStatus, IsOfCommit}
-use Rattle.lvm_commit.proofs.SettlingLemmas.Chaining.{keeps_wider}
+use Rattle.lvm_volume_plan.specs.passed.Names.{KeepsShelf, there, IsOfSession, StatesGroup, IsOfStatus, IsOfCommit, IsZeroOf, IsHeld, Scope, NoPartition, IsHeldSince, IsOfCommand, WasLeftBehind, MayBeFound, Leaves}
+use Rattle.lvm_volume_plan.proofs.passed.Names.{keeps_here, keeps_then, spends_none, spends_then, keeps_wider, outside, keeps_same, same_status}
 use Rattle.lvm_session.specs.State.{State, is_there, moment_of}
-use Rattle.lvm_core.specs.Zeros.{IsZeroOf}
-use Rattle.lvm_core.specs.Held.{IsHeld}
 use Rattle.lvm_steps.specs.Moments.{SpanGoesOn}
-use Rattle.lvm_core.specs.Leaves.{Scope, NoPartition, IsHeldSince, IsOfCommand, WasLeftBehind, MayBeFound, Leaves}
-use Rattle.lvm_core.proofs.LeavesLemmas.{outside, keeps_same, same_status}
 use Rattle.lvm_volumes.specs.Endings.{StillHeld, IfAlone, commanding}
 
 -- ---- counts

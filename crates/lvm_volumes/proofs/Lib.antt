@@ -1,3 +1,4 @@
+pub mod passed
 pub mod SettlingLemmas
 pub mod DescriptorLemmas
 pub mod EndingsLemmas

@@ -30,11 +30,8 @@ use Rattle.lvm_kept.proofs.MayLemmas.{known_more}
 use Rattle.lvm_steps.specs.Committing.{IsServed}
 use Rattle.lvm_steps.proofs.EntriesLemmas.{volumes-append}
 use Rattle.lvm_steps.proofs.VolumeEntriesLemmas.{zeros_serve}
-use Rattle.lvm_commit.specs.Committed.{ShowsCommitted}
-use Rattle.lvm_commit.specs.LawsOfData.{IsSectorOf}
-use Rattle.lvm_commit.specs.LawsOfVolumes.{VolumeServes, HasFreshCopies}
-use Rattle.lvm_commit.proofs.AmongLemmas.{contains, of_map}
-use Rattle.lvm_commit.proofs.LawsOfVolumesLemmas.Volumes.{zeros_are_found}
+use Rattle.lvm_volume_plan.specs.passed.Names.{ShowsCommitted, IsSectorOf, VolumeServes, HasFreshCopies}
+use Rattle.lvm_volume_plan.proofs.passed.Names.{contains, of_map, zeros_are_found}
 use Rattle.lvm_volume_plan.specs.declared.new_volume.NewVolume.{NewVolume}
 use Rattle.lvm_volume_plan.specs.NewVolume.{IsLowestFree, IsInOrder, row_for, with_volume, without_volume}
 use Rattle.lvm_volume_plan.proofs.Sublists.{one_insert}

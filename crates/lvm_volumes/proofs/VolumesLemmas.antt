@@ -6,11 +6,9 @@ use Rattle.lvm_num.specs.declared.descriptor.Descriptor.{Descriptor}
 use Rattle.lvm_vol.specs.declared.entry.Vol.TheVariants.{Lv}
 use Rattle.lvm_vol.specs.Facts.{Making, Made, Removed}
 use Rattle.lvm_vol.specs.Log.{Log, with_fact}
-use Rattle.lvm_core.specs.declared.fault.CommitFault.{CommitFault}
-use Rattle.lvm_core.specs.declared.fault.CommitFault.TheVariants as commit
+use Rattle.lvm_volume_plan.specs.passed.Names.{CommitFault, IsSettled, NoPartition, Leaves}
+use Rattle.lvm_volume_plan.specs.passed.CoreFaultCommitFault as commit
 use Rattle.lvm_session.specs.State.{State}
-use Rattle.lvm_core.specs.Settled.{IsSettled}
-use Rattle.lvm_core.specs.Leaves.{NoPartition, Leaves}
 use Rattle.lvm_volumes.specs.Endings.{commanding}
 use Rattle.lvm_volumes.specs.Stages.{making_of, MakingBroke, MakeEnds, IsNamed, RemoveEnds, IsUnnamed}
 use Rattle.lvm_volumes.specs.Volumes.{IsWith, IsChosen, making, HasEntered, MakingEnds, IsVolumeMade, MklvGives, to_make, IsVolumeRemoved, RmlvGives, to_remove}

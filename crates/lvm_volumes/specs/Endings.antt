@@ -9,16 +9,11 @@ use Rattle.lvm_disk.specs.Device.{IsReady}
 use Rattle.lvm_vol.specs.Log.{Log, cut_log}
 use Rattle.lvm_kept.specs.Group.{IsOneOf}
 use Rattle.lvm_kept.specs.Moments.{Moment}
-use Rattle.lvm_write.specs.Written.{IsDarkened, IsGivenUp}
-use Rattle.lvm_commit.specs.LawsOfVolumes.{IsOnlyGroupOn, IsOnlyGroupSince}
-use Rattle.lvm_commit.specs.Settling.{NoneIsLeft, HasLostQuorum}
+use Rattle.lvm_volume_plan.specs.passed.Names.{IsDarkened, IsGivenUp, IsOnlyGroupOn, IsOnlyGroupSince, NoneIsLeft, HasLostQuorum, with_one_out, IsHeld, AreNotesHome, Scope, NoPartition, EntersVolumes}
 use Rattle.lvm_session.specs.declared.open.Power.TheVariants as power
 use Rattle.lvm_session.specs.Dark.{all_dark}
 use Rattle.lvm_session.specs.State.{Core, State}
 use Rattle.lvm_session.specs.Judging.{copies_in, is_wanted_stale}
-use Rattle.lvm_core.specs.Committing.{with_one_out}
-use Rattle.lvm_core.specs.Held.{IsHeld, AreNotesHome}
-use Rattle.lvm_core.specs.Leaves.{Scope, NoPartition, EntersVolumes}
 
 -- ---- faults as they happen
 

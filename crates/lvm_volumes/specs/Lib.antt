@@ -1,3 +1,4 @@
+pub mod passed
 pub mod Endings
 pub mod Volumes
 pub mod Stages

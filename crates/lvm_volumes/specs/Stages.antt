@@ -11,15 +11,9 @@ use Rattle.lvm_vol.specs.declared.entry.Vol.TheVariants.{Lv}
 use Rattle.lvm_vol.specs.Facts.{Fact, Making, Made, Removed}
 use Rattle.lvm_vol.specs.Log.{Log, with_fact}
 use Rattle.lvm_map.specs.FirstFit.{has_partition_on}
-use Rattle.lvm_commit.specs.LawsOfData.{IsFree}
-use Rattle.lvm_commit.specs.Settling.{MarksLeft}
-use Rattle.lvm_core.specs.declared.fault.CommitFault.{CommitFault}
-use Rattle.lvm_core.specs.declared.fault.CommitFault.TheVariants as commit
+use Rattle.lvm_volume_plan.specs.passed.Names.{IsFree, MarksLeft, CommitFault, IsSettled, HasGoneDark, IsLeftOut, CommitEnds, Leaves, committing, IsAsBefore}
+use Rattle.lvm_volume_plan.specs.passed.CoreFaultCommitFault as commit
 use Rattle.lvm_session.specs.State.{Core, State, is_there}
-use Rattle.lvm_core.specs.Settled.{IsSettled}
-use Rattle.lvm_core.specs.Committing.{HasGoneDark, IsLeftOut, CommitEnds}
-use Rattle.lvm_core.specs.Leaves.{Leaves, committing}
-use Rattle.lvm_core.specs.Zeros.{IsAsBefore}
 use Rattle.lvm_volumes.specs.Endings.{CommandDarkened, CommandWentOff, CommandStuck, CommandFailed}
 use Rattle.lvm_volumes.specs.Volumes.{AreZeroed, removing}
 use Rattle.lvm_volume_plan.specs.declared.new_volume.NewVolume.{NewVolume}

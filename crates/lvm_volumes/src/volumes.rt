@@ -5,23 +5,18 @@ ghost use Rattle.lvm_num.specs.Status.{calls_missing};
 ghost use Rattle.lvm_disk.specs.Device.{IsReady};
 ghost use Rattle.lvm_vol.specs.Log.{spare_entries, plain_fact};
 ghost use Rattle.lvm_map.specs.FirstFit.{has_partition_on};
-ghost use Rattle.lvm_commit.specs.Committed.{IsAlike};
-ghost use Rattle.lvm_core.specs.State.{state_of};
-ghost use Rattle.lvm_core.specs.Leaves.{Leaves, NoDescriptor, NoPartition};
-ghost use Rattle.lvm_core.specs.Settled.{IsSettled, HasSpareNumbers};
-ghost use Rattle.lvm_core.specs.Entering.{IsOfVolume};
+ghost use Rattle.lvm_volume_plan.specs.passed.Names.{IsAlike, state_of, Leaves, NoDescriptor, NoPartition, IsSettled, HasSpareNumbers, IsOfVolume};
 ghost use Rattle.lvm_volume_plan.specs.Faults.{TakesCommands, IfOn, command_answer};
 ghost use Rattle.lvm_volume_plan.specs.PlannedVolume.{AreOfOneGroup, IsWithout};
 ghost use Rattle.lvm_volumes.specs.Endings.{StillHeld, KeepsFresh, commanding};
 ghost use Rattle.lvm_volumes.specs.Stages.{AreUnusedOn, IsLowestMissing, ZerosEnd, ClearEnds, MakeEnds, MayMake, RemoveEnds, CommitsBetween};
 ghost use Rattle.lvm_volumes.specs.Volumes.{MklvGives, RmlvGives, to_make, to_remove};
 
-use lvm_core::{CommitFault, Driver, Prepared};
 use lvm_disk::Shelf;
 use lvm_num::{DISKS, Mode, Name, Policy, Pp, has_partition_on};
 use lvm_stale::StaleTable;
-use lvm_transfer::Patience;
 use lvm_vol::{Entry, Vol};
+use lvm_volume_plan::below::{CommitFault, Driver, Patience, Prepared};
 use lvm_volume_plan::{GroupFault, NewVolume, VolumePlan, prepare_without};
 use std::alloc::Global;
 

@@ -1,6 +1,7 @@
 //! How much work is left in a session.
 #![tactic(auto)]
 
+pub mod below;
 mod copy;
 mod requests;
 mod status;

@@ -1,3 +1,4 @@
+pub mod passed
 pub mod WrittenLemmas
 pub mod PartsLemmas
 pub mod WritesLemmas

@@ -6,11 +6,7 @@ use Rattle.std.proofs.lemmas.Bool.Decides.{nat_tests}
 use Rattle.lvm_num.specs.Buffer.{Buffer, Sector}
 use Rattle.lvm_num.specs.Disks.{Disks}
 use Rattle.lvm_disk.specs.Device.{Device, image_of}
-use Rattle.lvm_kept.specs.Contents.{note_sector}
-use Rattle.lvm_kept.specs.Plans.{ChangesBy, IsPlanned}
-use Rattle.lvm_kept.specs.Torn.{IsOfNote}
-use Rattle.lvm_transfer.specs.Transfer.{flight_of}
-use Rattle.lvm_transfer.specs.declared.moves.Moved.{Moved}
+use Rattle.lvm_survey.specs.passed.Names.{note_sector, ChangesBy, IsPlanned, IsOfNote, flight_of, Moved}
 use Rattle.lvm_survey.proofs.Passing.{is_other}
 use Rattle.lvm_write.specs.Notes.{NoteTold}
 use Rattle.lvm_write.specs.Parts.{DoesPart}

@@ -10,16 +10,10 @@ use Rattle.lvm_num.specs.Disks.{Disks}
 use Rattle.lvm_num.specs.DescriptorBytes.{descriptor_of}
 use Rattle.lvm_num.specs.StatusBytes.{status_of}
 use Rattle.lvm_num.specs.Record.{Frames}
-use Rattle.lvm_rec.specs.Slots.{MayWrite}
-use Rattle.lvm_rec.proofs.SlotsLemmas.SlotLaws.{may_write}
+use Rattle.lvm_survey.specs.passed.Names.{MayWrite, has_records, ChangesBy, RecordWrite, MayWriteAll, IsOfRecord, StandsOn, on_disk, Homes, second_slots}
+use Rattle.lvm_survey.proofs.passed.Names.{may_write, descriptor_shows, status_shows, wider, whole_is_new}
 use Rattle.lvm_disk.specs.Device.{Media, Image, Device, image_of, MayLeave}
 use Rattle.lvm_disk.specs.Steps.{BothTold}
-use Rattle.lvm_kept.specs.Contents.{has_records}
-use Rattle.lvm_kept.specs.Plans.{ChangesBy}
-use Rattle.lvm_kept.specs.Torn.{RecordWrite, MayWriteAll, IsOfRecord, StandsOn, on_disk}
-use Rattle.lvm_kept.proofs.TornLemmas.Records.{descriptor_shows, status_shows, wider, whole_is_new}
-use Rattle.lvm_rec.specs.declared.homes.Homes.{Homes}
-use Rattle.lvm_rec.specs.Homes.{second_slots}
 use Rattle.lvm_write.specs.Written.{write_of, IsWriting}
 use Rattle.lvm_write.specs.Shows.{DescriptorMayBeWritten, StatusMayBeWritten, DescriptorsOldOrNew, StatusesOldOrNew, WrittenIsNewest}
 use Rattle.lvm_write.proofs.WrittenLemmas.Writing.{told_at}

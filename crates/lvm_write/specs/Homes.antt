@@ -6,11 +6,8 @@ use Rattle.lvm_num.specs.declared.record.Kind.TheVariants as kind
 use Rattle.lvm_num.specs.Disks.{Disks}
 use Rattle.lvm_num.specs.DescriptorBytes.{descriptor_of}
 use Rattle.lvm_num.specs.StatusBytes.{status_of}
-use Rattle.lvm_rec.specs.Slots.{slot_for}
+use Rattle.lvm_survey.specs.passed.Names.{slot_for, has_records, Homes, next_slot}
 use Rattle.lvm_disk.specs.Device.{Image}
-use Rattle.lvm_kept.specs.Contents.{has_records}
-use Rattle.lvm_rec.specs.declared.homes.Homes.{Homes}
-use Rattle.lvm_rec.specs.Homes.{next_slot}
 use Rattle.lvm_survey.specs.declared.row.SurveyRow.{SurveyRow}
 use Rattle.lvm_survey.specs.declared.row.Survey.{Survey}
 use Rattle.lvm_survey.specs.Surveyed.{IsRead}

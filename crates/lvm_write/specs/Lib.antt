@@ -1,3 +1,4 @@
+pub mod passed
 pub mod Homes
 pub mod Written
 pub mod Parts

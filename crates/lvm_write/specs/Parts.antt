@@ -6,11 +6,8 @@ use Rattle.lvm_num.specs.Record.{frame, slot_start}
 use Rattle.lvm_disk.specs.Counts.{Counts, Rose, RoseAt, RoseBy}
 use Rattle.lvm_disk.specs.Device.{Device}
 use Rattle.lvm_disk.specs.Paths.{DeviceStep, Path}
-use Rattle.lvm_kept.specs.Plans.{Plan}
-use Rattle.lvm_kept.specs.Torn.{RecordWrite, IsOfRecord}
-use Rattle.lvm_transfer.specs.Transfer.{Rests}
-use Rattle.lvm_transfer.specs.declared.moves.Moved.{Moved}
-use Rattle.lvm_transfer.specs.declared.moves.Moved.TheVariants as moved
+use Rattle.lvm_survey.specs.passed.Names.{Plan, RecordWrite, IsOfRecord, Rests, Moved}
+use Rattle.lvm_survey.specs.passed.TransferMovesMoved as moved
 use Rattle.lvm_write.specs.declared.write.SlotWrite.{SlotWrite}
 use Rattle.lvm_write.specs.Written.{IsWriting, KeepsShelf, IsDarkened, IsGivenUp}
 

@@ -4,12 +4,9 @@ use Rattle.lvm_num.specs.Buffer.{Buffer}
 use Rattle.lvm_num.specs.Disks.{Disks, has}
 use Rattle.lvm_disk.specs.Device.{Device, IsReady}
 use Rattle.lvm_disk.specs.Paths.{DeviceStep, Path}
-use Rattle.lvm_kept.specs.Plans.{Plan}
-use Rattle.lvm_kept.specs.Torn.{RecordWrite}
-use Rattle.lvm_rec.specs.declared.homes.Homes.{Homes}
+use Rattle.lvm_survey.specs.passed.Names.{Plan, RecordWrite, Homes, Flips}
 use Rattle.lvm_write.specs.declared.write.Wrote.{Wrote}
 use Rattle.lvm_write.specs.declared.write.Wrote.TheVariants as wrote
-use Rattle.lvm_rec.specs.Homes.{Flips}
 use Rattle.lvm_write.specs.Parts.{Spends}
 use Rattle.lvm_write.specs.Written.{KeepsShelf, IsWriting, EndsOn, StandsTold, written_well, IsDarkened, IsGivenUp}
 

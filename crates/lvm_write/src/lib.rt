@@ -1,6 +1,7 @@
 //! How records are written to disks: to which slot each next one goes, and what is written of it.
 #![tactic(auto)]
 
+pub mod below;
 mod homes;
 mod laws;
 mod notes;

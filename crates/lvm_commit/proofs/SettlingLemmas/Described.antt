@@ -16,7 +16,7 @@ use Rattle.lvm_disk.proofs.PathsLemmas.{map-path, append-path, last-path}
 use Rattle.lvm_kept.specs.Contents.{contents_of}
 use Rattle.lvm_kept.specs.Plans.{ChangesBy}
 use Rattle.lvm_kept.specs.Torn.{RecordWrite, IsOfRecord}
-use Rattle.lvm_stale.specs.Table.{SameMissing}
+use Rattle.lvm_status.specs.passed.Names.{SameMissing}
 use Rattle.lvm_status.specs.Update.{Stored}
 use Rattle.lvm_steps.specs.Moments.{ImagesKept, StaysKept}
 use Rattle.lvm_steps.proofs.RecordLemmas.{clash}

@@ -9,7 +9,7 @@ use Rattle.lvm_num.specs.declared.descriptor.LvRow.{LvRow}
 use Rattle.lvm_num.specs.declared.descriptor.Descriptor.{Descriptor}
 use Rattle.lvm_kept.specs.Group.{IsOneOf}
 use Rattle.lvm_steps.specs.Committing.{DiffersInVolume}
-use Rattle.lvm_commit.proofs.AmongLemmas.{contains}
+use Rattle.lvm_volume_plan.proofs.passed.Names.{contains}
 use Rattle.lvm_volume_plan.proofs.Sublists.{pairs_first, pairs_rest}
 use Rattle.lvm_copy_plan.specs.Copies.{with_map, with_copies}
 

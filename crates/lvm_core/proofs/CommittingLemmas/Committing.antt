@@ -13,16 +13,16 @@ use Rattle.lvm_vol.specs.Facts.{Fact}
 use Rattle.lvm_kept.specs.Contents.{contents_of}
 use Rattle.lvm_kept.specs.Moments.{Moment, StaysCalm}
 use Rattle.lvm_kept.specs.Plans.{Plan}
-use Rattle.lvm_steps.specs.Moments.{ImagesKept, SpanGoesOn}
+use Rattle.lvm_commit.specs.passed.Names.{ImagesKept, SpanGoesOn}
 use Rattle.lvm_write.specs.Written.{KeepsShelf}
-use Rattle.lvm_vgda.proofs.DescriptorBytesLemmas.Whole.{spelled_is_read}
+use Rattle.lvm_commit.proofs.passed.Names.{spelled_is_read}
 use Rattle.lvm_commit.specs.Committed.{IsAlike}
 use Rattle.lvm_commit.specs.LawsOfFinding.{FindsNoMoreOn}
 use Rattle.lvm_commit.specs.LawsOfVolumes.{VolumeServes}
 use Rattle.lvm_commit.specs.Settling.{MayCommit, IsOf, IsOfCommit, IsPlain, SessionIsHeld, ComesHeld}
 use Rattle.lvm_commit.proofs.SettlingLemmas.Chaining.{keeps_wider}
 use Rattle.lvm_core.specs.declared.fault.CommitFault.{CommitFault}
-use Rattle.lvm_session.specs.State.{Core, State, is_there}
+use Rattle.lvm_over.specs.passed.Names.{Core, State, is_there}
 use Rattle.lvm_core.specs.Sound.{IsSoundBetween}
 use Rattle.lvm_core.specs.Held.{IsHeld}
 use Rattle.lvm_core.specs.Settled.{IsSettled}

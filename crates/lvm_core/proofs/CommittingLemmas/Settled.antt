@@ -16,14 +16,9 @@ use Rattle.lvm_vol.specs.Log.{Log, cut_log}
 use Rattle.lvm_kept.specs.Moments.{Moment, StaysCalm}
 use Rattle.lvm_kept.specs.Plans.{Plan, ChangesBy}
 use Rattle.lvm_kept.specs.Torn.{RecordWrite}
-use Rattle.lvm_steps.specs.Moments.{ImagesKept, Begins, Holds, Keeps}
-use Rattle.lvm_steps.specs.Requests.{at}
-use Rattle.lvm_steps.proofs.MomentsLemmas.Spans.{keeps_path}
+use Rattle.lvm_commit.specs.passed.Names.{ImagesKept, Begins, Holds, Keeps, at, beginning_at, IsOtherOrEarlier}
+use Rattle.lvm_commit.proofs.passed.Names.{keeps_path, earlier_stays_behind, session_is_before_later}
 use Rattle.lvm_stale.specs.Table.{SameMissing}
-use Rattle.lvm_stamps.specs.Behind.{beginning_at}
-use Rattle.lvm_stamps.specs.Laws.{IsOtherOrEarlier}
-use Rattle.lvm_stamps.proofs.LawsLemmas.Shelves.{earlier_stays_behind}
-use Rattle.lvm_stamps.proofs.LawsLemmas.Stamps.{session_is_before_later}
 use Rattle.lvm_status.specs.Update.{Stored, members_there}
 use Rattle.lvm_write.proofs.WrittenLemmas.Writing.{both_map, changes_more}
 use Rattle.lvm_commit.specs.declared.commit.CommitEnd.{CommitEnd}
@@ -33,11 +28,8 @@ use Rattle.lvm_commit.specs.Settling.{HasSameRows, IsForgotten, there, many_ther
 use Rattle.lvm_commit.proofs.RoundsLemmas.Wanting.{row_stays}
 use Rattle.lvm_commit.proofs.SettlingLemmas.Chaining.{stays_before}
 use Rattle.lvm_core.specs.declared.fault.CommitFault.{CommitFault}
-use Rattle.lvm_session.specs.declared.open.Power.TheVariants as power
-use Rattle.lvm_session.specs.State.{Core, State, state, is_there}
-use Rattle.lvm_session.specs.Dark.{all_dark}
-use Rattle.lvm_session.specs.Placed.{IsPlaced, ArePlaced}
-use Rattle.lvm_session.specs.Sound.{is_dark}
+use Rattle.lvm_over.specs.passed.SessionOpenPower as power
+use Rattle.lvm_over.specs.passed.Names.{Core, State, state, is_there, all_dark, IsPlaced, ArePlaced, is_dark}
 use Rattle.lvm_core.specs.Sound.{HasNoneOpen, IsFittingBetween, IsSoundBetween}
 use Rattle.lvm_core.specs.Settled.{IsSettled}
 use Rattle.lvm_core.specs.Committing.{with_one_out, RecordsEnd, FailsCommitted, moment_of, StaysBehind}

@@ -10,7 +10,7 @@ use Rattle.lvm_num.specs.Status.{calls_stale}
 use Rattle.lvm_disk.specs.Counts.{NoneFalls}
 use Rattle.lvm_kept.specs.Moments.{Moment, StaysCalm}
 use Rattle.lvm_kept.specs.Plans.{Plan}
-use Rattle.lvm_steps.specs.Moments.{StaysKept, SpanGoesOn}
+use Rattle.lvm_commit.specs.passed.Names.{StaysKept, SpanGoesOn}
 use Rattle.lvm_status.specs.Update.{Stored}
 use Rattle.lvm_write.specs.Written.{KeepsShelf}
 use Rattle.lvm_commit.specs.Committed.{IsAlike, MayMark}
@@ -22,7 +22,7 @@ use Rattle.lvm_commit.specs.Settling.{IsPassedOver, there, IsOf, IsOfStatus, IsP
 use Rattle.lvm_commit.proofs.SettlingLemmas.Chaining.{keeps_wider}
 use Rattle.lvm_commit.proofs.RoundsLemmas.Leaving.{passed_before}
 use Rattle.lvm_core.specs.declared.fault.CommitFault.{CommitFault}
-use Rattle.lvm_session.specs.State.{State, is_there}
+use Rattle.lvm_over.specs.passed.Names.{State, is_there}
 use Rattle.lvm_core.specs.Sound.{IsSoundBetween}
 use Rattle.lvm_core.specs.Held.{IsHeld}
 use Rattle.lvm_core.specs.Settled.{IsSettled}

@@ -6,19 +6,18 @@ use Rattle.lvm_num.specs.Geometry.{data_start}
 use Rattle.lvm_disk.specs.Device.{Media, Image, image_of, MayLeave}
 use Rattle.lvm_kept.specs.Places.{SameRecords}
 use Rattle.lvm_kept.specs.Plans.{ChangesBy}
-use Rattle.lvm_transfer.specs.declared.moves.Moved.{Moved}
-use Rattle.lvm_transfer.specs.declared.moves.Moved.TheVariants as moved
+use Rattle.lvm_commit.specs.passed.Names.{Moved}
+use Rattle.lvm_commit.specs.passed.TransferMovesMoved as moved
 use Rattle.lvm_write.specs.Parts.{DoesPart}
 use Rattle.lvm_write.proofs.WrittenLemmas.Writing.{if_told, told_at, both_from}
-use Rattle.lvm_stamps.proofs.LawsLemmas.Shelves.{data_stays_behind}
+use Rattle.lvm_commit.proofs.passed.Names.{data_stays_behind}
 use Rattle.lvm_commit.specs.Committed.{HoldsCommitted}
 use Rattle.lvm_commit.specs.LawsOfFinding.{FindsNothingNewOn, FindsNothingNew}
 use Rattle.lvm_commit.proofs.LawsOfDataLemmas.Still.{data_keeps_committed}
 use Rattle.lvm_commit.proofs.LawsOfFindingLemmas.NoMore.{data_finds_nothing_new}
 use Rattle.lvm_kept.specs.Contents.{contents_of}
 use Rattle.lvm_core.specs.declared.fault.CommitFault.{CommitFault}
-use Rattle.lvm_session.specs.State.{Core, State, is_there}
-use Rattle.lvm_session.specs.Dark.{all_dark}
+use Rattle.lvm_over.specs.passed.Names.{Core, State, is_there, all_dark}
 use Rattle.lvm_core.specs.Held.{IsHeld}
 use Rattle.lvm_core.specs.Committing.{with_one_out, StaysBehind}
 use Rattle.lvm_core.specs.Zeros.{IsZeroOf, KeepsRecords, ZeroEnds, GoesOnAfter, WritesZeros}

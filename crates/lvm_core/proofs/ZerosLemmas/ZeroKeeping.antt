@@ -19,13 +19,10 @@ use Rattle.lvm_kept.specs.Moments.{Moment, StaysCalm}
 use Rattle.lvm_kept.specs.Plans.{ChangesBy}
 use Rattle.lvm_kept.proofs.PlacesLemmas.{data_writes}
 use Rattle.lvm_kept.proofs.CommittedLemmas.Finding.{images_within}
-use Rattle.lvm_steps.specs.Moments.{ImagesKept, Keeps, SpanGoesOn}
-use Rattle.lvm_steps.specs.Requests.{at}
-use Rattle.lvm_steps.proofs.MakingLemmas.Making.{media_may}
-use Rattle.lvm_steps.proofs.MomentsLemmas.Spans.{keeps_path}
+use Rattle.lvm_commit.specs.passed.Names.{ImagesKept, Keeps, SpanGoesOn, at, Moved}
+use Rattle.lvm_commit.proofs.passed.Names.{media_may, keeps_path}
 use Rattle.lvm_status.specs.Update.{Stored}
-use Rattle.lvm_transfer.specs.declared.moves.Moved.{Moved}
-use Rattle.lvm_transfer.specs.declared.moves.Moved.TheVariants as moved
+use Rattle.lvm_commit.specs.passed.TransferMovesMoved as moved
 use Rattle.lvm_write.specs.Parts.{DoesPart}
 use Rattle.lvm_write.specs.Written.{IsWriting}
 use Rattle.lvm_write.proofs.WrittenLemmas.Writing.{told_at}
@@ -35,10 +32,7 @@ use Rattle.lvm_commit.specs.Settling.{SpendsNumbers}
 use Rattle.lvm_commit.proofs.SettlingLemmas.Chaining.{keeps_wider}
 use Rattle.lvm_commit.proofs.LawsOfDataLemmas.Data.{free_data_keeps}
 use Rattle.lvm_core.specs.declared.fault.CommitFault.{CommitFault}
-use Rattle.lvm_session.specs.State.{Core, State, state, is_there}
-use Rattle.lvm_session.specs.Dark.{all_dark}
-use Rattle.lvm_session.specs.Placed.{ArePlaced}
-use Rattle.lvm_session.specs.Sound.{is_dark}
+use Rattle.lvm_over.specs.passed.Names.{Core, State, state, is_there, all_dark, ArePlaced, is_dark}
 use Rattle.lvm_core.specs.Sound.{HasNoneOpen, IsSoundBetween}
 use Rattle.lvm_core.specs.Held.{IsHeld}
 use Rattle.lvm_core.specs.Settled.{IsSettled}

@@ -12,8 +12,7 @@ use Rattle.lvm_num.specs.Note.{note_in, note_bytes}
 use Rattle.lvm_num.specs.Record.{Stamped, Frames, record_sectors, slot_start, stamp_lt}
 use Rattle.lvm_num.specs.StatusBytes.{status_of}
 use Rattle.lvm_num.proofs.TornLemmas.Fresh.{before_is_fresh}
-use Rattle.lvm_rec.specs.Slots.{slot_to_write, MayWrite}
-use Rattle.lvm_disk.specs.Device.{Flight, IsInFlight, written}
+use Rattle.lvm_kept.specs.passed.Names.{slot_to_write, MayWrite, Flight, IsInFlight, written}
 use Rattle.lvm_vol.specs.Facts.{Begun}
 use Rattle.lvm_kept.specs.Contents.{note_sector, contents_of}
 use Rattle.lvm_kept.specs.Examples.{two}

@@ -25,13 +25,9 @@ use Rattle.lvm_session.specs.Sound.{IsSound, waits}
 use Rattle.lvm_session.specs.State.{Core, State, state, votes_there}
 use Rattle.lvm_session.specs.Turns.{ArrangesSession}
 use Rattle.lvm_keeps.proofs.KeepsLemmas.Orders.{order_keeps}
-use Rattle.lvm_core.specs.Sound.{HaveAllLanded}
-use Rattle.lvm_core.specs.Settled.{IsSettled as IsSettledCore}
-use Rattle.lvm_core.proofs.SoundLemmas.Dark.{cut_landed}
+use Rattle.lvm_stage.specs.passed.Names.{HaveAllLanded, IsSettled as IsSettledCore, Post, AreAnswered, ended_with}
+use Rattle.lvm_stage.proofs.passed.Names.{cut_landed, over_answered}
 use Rattle.lvm_stage.proofs.passed.Running.{calls_run_on}
-use Rattle.lvm_posts.specs.declared.posts.Post.{Post}
-use Rattle.lvm_posts.specs.Posts.{AreAnswered, ended_with}
-use Rattle.lvm_posts.proofs.PostsLemmas.{over_answered}
 use Rattle.lvm_stage.specs.passed.Quiesce.{IsAheadEach}
 use Rattle.lvm_stage.proofs.passed.Quiesce.{fewer_stay_behind}
 use Rattle.lvm_stage.specs.passed.TieCommands.{StandsAfter}

@@ -14,10 +14,8 @@ use Rattle.lvm_session.specs.declared.open.Power.TheVariants as power
 use Rattle.lvm_session.specs.Calls.{is_asked}
 use Rattle.lvm_session.specs.Sound.{IsSound}
 use Rattle.lvm_session.specs.State.{State, state}
-use Rattle.lvm_tie.proofs.LandingsLemmas.Causes.{goes_on}
-use Rattle.lvm_tie.proofs.GoingOnLemmas.Spanning.{goes_entry}
-use Rattle.lvm_posts.specs.declared.asked.Asked.{Asked}
-use Rattle.lvm_posts.specs.Posts.{AreAnswered, takings}
+use Rattle.lvm_ranges.proofs.passed.Names.{goes_on, goes_entry}
+use Rattle.lvm_ranges.specs.passed.Names.{Asked, AreAnswered, takings}
 use Rattle.lvm_ranges.specs.passed.Running.{RunsOn}
 use Rattle.lvm_ranges.proofs.passed.Running.{runs_both, runs_none}
 use Rattle.lvm_earlier.specs.Earlier.{AreGone, EarlierStaysBeside, StaysBeside, with_taken}

@@ -1,4 +1,2 @@
 -- Passed on from `lvm_tie`.
-pub use Rattle.lvm_tie.specs.Spares.{LeavesDescriptors, SparesDescriptors, SparesOn}
-pub use Rattle.lvm_tie.specs.Stamps.{IsStamped}
-pub use Rattle.lvm_tie.specs.Tied.{IsGood, IsTied, moment_of}
+pub use Rattle.lvm_ranges.specs.passed.Names.{LeavesDescriptors, SparesDescriptors, SparesOn, IsStamped, IsGood, IsTied, moment_of}

@@ -23,7 +23,7 @@ use Rattle.lvm_commit.specs.LawsOfData.{IsFree, IsSectorOf}
 use Rattle.lvm_commit.specs.Settling.{IsOfStatus, IsOfCommit}
 use Rattle.lvm_write.specs.Written.{KeepsShelf}
 use Rattle.lvm_session.specs.State.{State, is_there}
-use Rattle.lvm_core.specs.Leaves.{NoPartition, IsOfCommand, KeepsStatus}
+use Rattle.lvm_volumes.specs.passed.Names.{NoPartition, IsOfCommand, KeepsStatus, without_volume}
 use Rattle.lvm_volumes.specs.Volumes.{IsWith, IsChosen}
 use Rattle.lvm_rest.specs.Rest.{IsEven}
 use Rattle.lvm_rest.specs.Commands.{IsUsable}
@@ -32,7 +32,6 @@ use Rattle.lvm_steps.proofs.RecordLemmas.{clash}
 use Rattle.lvm_rest.proofs.Rows.{tested}
 use Rattle.lvm_rest.proofs.CommandsLemmas.{free_keeps_even}
 use Rattle.lvm_even.specs.Even.{AreWanted, MklvKeepsEven, RmlvKeepsEven}
-use Rattle.lvm_volume_plan.specs.NewVolume.{without_volume}
 
 -- records stand below the data
 record_low : (kind : Kind) (slot part len s : ℕ) → slot < 2 → len ≤ longest_content kind → part < record_sectors len → s ≡ slot_start kind slot + part → s < data_start

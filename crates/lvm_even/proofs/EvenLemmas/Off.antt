@@ -18,9 +18,8 @@ use Rattle.lvm_kept.proofs.PlacesLemmas.{blocks_are_sectors}
 use Rattle.lvm_commit.specs.LawsOfData.{IsSectorOf}
 use Rattle.lvm_commit.proofs.AmongLemmas.{contains, of_map}
 use Rattle.lvm_crash.proofs.GroupLemmas.Lists.{of_passing}
-use Rattle.lvm_volume_plan.specs.declared.new_volume.NewVolume.{NewVolume}
-use Rattle.lvm_volume_plan.specs.NewVolume.{row_for}
-use Rattle.lvm_volume_plan.proofs.Sublists.{one_insert, one_filter}
+use Rattle.lvm_volumes.specs.passed.Names.{NewVolume, row_for}
+use Rattle.lvm_volumes.proofs.passed.Names.{one_insert, one_filter}
 use Rattle.lvm_volumes.specs.Volumes.{AreZeroed}
 use Rattle.lvm_even.specs.Even.{OffIsEven, ZeroedVolumeIsEven, FewerAreEven}
 

@@ -14,9 +14,8 @@ use Rattle.lvm_write.proofs.PartsLemmas.Transfers.{darkened_then, given_up_then}
 use Rattle.lvm_transfer.specs.Reading.{IsUnwritten, IsRested}
 use Rattle.lvm_begin.specs.Beginning.{Beginning, Part, new_beginning, new_order, IsOfParts, Stands as PartStands}
 use Rattle.lvm_begin.specs.Ends.{BothFlip, HasNoFault, StopsAt, IsLowestFailed, WasTriedOnTargets}
-use Rattle.lvm_core.specs.declared.parts.Room.{Room}
-use Rattle.lvm_core.specs.declared.refused.Cause.{Cause}
-use Rattle.lvm_core.specs.declared.refused.Cause.TheVariants as cause
+use Rattle.lvm_group_plan.specs.passed.Names.{Room, Cause}
+use Rattle.lvm_group_plan.specs.passed.CoreRefusedCause as cause
 use Rattle.lvm_group_plan.specs.NewGroup.{NewGroup, among, size_for, given_up, MayBegin, RefusesFirst}
 use Rattle.lvm_group.specs.Shown.{IsClear}
 use Rattle.lvm_group_plan.specs.Planned.{IsPlanned, RefusesPlan}

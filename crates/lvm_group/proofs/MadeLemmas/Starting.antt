@@ -20,15 +20,8 @@ use Rattle.lvm_steps.proofs.MomentsLemmas.Spans.{group_goes_on}
 use Rattle.lvm_kept.specs.Group.{IsOneOf}
 use Rattle.lvm_status.specs.Update.{Updates, Stored, members_there}
 use Rattle.lvm_stamps.specs.Behind.{IsAhead, ClockIsAhead}
-use Rattle.lvm_commit.specs.Settling.{NoneIsLeft}
-use Rattle.lvm_core.specs.declared.parts.Room.{Room}
-use Rattle.lvm_core.specs.Sound.{HaveAllLanded}
-use Rattle.lvm_core.specs.Settled.{IsSettled, HasSpareNumbers}
-use Rattle.lvm_core.proofs.SoundLemmas.Settling.{starts_settled, starts_numbered}
-use Rattle.lvm_session.specs.Placed.{ArePlaced}
-use Rattle.lvm_session_start.specs.Beginning.{first_core}
-use Rattle.lvm_session.specs.State.{Core}
-use Rattle.lvm_session_start.specs.declared.parts.Parts.{Parts}
+use Rattle.lvm_group_plan.specs.passed.Names.{NoneIsLeft, Room, HaveAllLanded, IsSettled, HasSpareNumbers, ArePlaced, first_core, Core, Parts}
+use Rattle.lvm_group_plan.proofs.passed.Names.{starts_settled, starts_numbered}
 use Rattle.lvm_group_plan.specs.NewGroup.{NewGroup, size_for, new_group, new_status}
 use Rattle.lvm_group.specs.Made.{IsMade}
 use Rattle.lvm_group.specs.Steps.{Stands}

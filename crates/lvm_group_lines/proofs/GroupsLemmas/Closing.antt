@@ -6,11 +6,9 @@ use Rattle.lvm_num.specs.Buffer.{Buffer}
 use Rattle.lvm_disk.specs.Device.{Device}
 use Rattle.lvm_vol.specs.Log.{Log}
 use Rattle.lvm_session.specs.State.{Core}
-use Rattle.lvm_posts.specs.declared.posts.Post.{Post}
+use Rattle.lvm_disk_lines.specs.passed.Names.{Post}
 use Rattle.lvm_group_lines.specs.Groups.{VaryoffDoes, VariesOff}
-use Rattle.lvm_disk_lines.specs.passed.Stage.{EndsSession, EndsUnasked, Aside, most_refusals, GivesBack, HaveRooms, IsBetweenStage, IsFittingStage, IsOn}
-use Rattle.lvm_disk_lines.specs.passed.Stage.{history_in, history_of, posts_ended, session_in, session_of, shelf_in, state_in, without_facts, Holder}
-use Rattle.lvm_disk_lines.specs.passed.Stage.{Reply, Stage}
+use Rattle.lvm_disk_lines.specs.passed.Stage.{EndsSession, EndsUnasked, Aside, most_refusals, GivesBack, HaveRooms, IsBetweenStage, IsFittingStage, IsOn, history_in, history_of, posts_ended, session_in, session_of, shelf_in, state_in, without_facts, Holder, Reply, Stage}
 use Rattle.lvm_disk_lines.specs.passed.HolderVariants as holder
 use Rattle.lvm_disk_lines.specs.passed.ReplyVariants as reply
 use Rattle.lvm_disk_lines.proofs.passed.Stage.{unasked_as, ended_goes}

@@ -22,7 +22,7 @@ use Rattle.lvm_kept.specs.Group.{IsAlike, IsOneOf}
 use Rattle.lvm_status.specs.Update.{members_there}
 use Rattle.lvm_commit.specs.Settling.{NoneIsLeft, SpendsNumbers}
 use Rattle.lvm_commit.proofs.AmongLemmas.{contains, of_map}
-use Rattle.lvm_rest.proofs.Rows.{row_is_volume}
+use Rattle.lvm_tie_begins.proofs.passed.Names.{row_is_volume}
 use Rattle.lvm_next.proofs.NextLemmas.{copy_is_placed, is_member_of}
 use Rattle.lvm_session.specs.State.{Core, State, is_there}
 use Rattle.lvm_session.specs.Judging.{copies_in, is_missing, is_settled, is_wanted_stale}
@@ -30,14 +30,11 @@ use Rattle.lvm_session.specs.Causes.{is_held_stale}
 use Rattle.lvm_session.specs.Left.{updates_left}
 use Rattle.lvm_session.specs.Marks.{is_among}
 use Rattle.lvm_session.specs.Sound.{IsGoing, IsSound, may_be_fresh, stays_fresh}
-use Rattle.lvm_core.specs.Leaves.{KeepsStatus, Leaves, NoPartition, WasLeftBehind}
-use Rattle.lvm_core.specs.Settled.{IsSettled}
+use Rattle.lvm_earlier.specs.passed.Names.{KeepsStatus, Leaves, NoPartition, WasLeftBehind, IsSettled}
 use Rattle.lvm_earlier.proofs.passed.Tie.{or_true}
-use Rattle.lvm_volume_plan.specs.declared.fault.GroupFault.TheVariants as fault
-use Rattle.lvm_volume_plan.specs.declared.new_volume.NewVolume.{NewVolume}
-use Rattle.lvm_volume_plan.specs.Faults.{HasSpareRoom}
-use Rattle.lvm_volume_plan.specs.NewVolume.{row_for, with_volume, without_volume}
-use Rattle.lvm_volume_plan.proofs.Sublists.{one_filter, one_insert}
+use Rattle.lvm_volumes.specs.passed.VolumePlanFaultGroupFault as fault
+use Rattle.lvm_volumes.specs.passed.Names.{NewVolume, HasSpareRoom, row_for, with_volume, without_volume}
+use Rattle.lvm_volumes.proofs.passed.Names.{one_filter, one_insert}
 use Rattle.lvm_volumes.specs.Endings.{HasFresh, KeepsFresh, StillHeld}
 use Rattle.lvm_volumes.specs.Volumes.{IsChosen, IsVolumeMade, IsVolumeRemoved, IsWith, MakingFails, making, removing, to_make, to_remove}
 use Rattle.lvm_volumes.proofs.StagesLemmas.Entering.{many_bound}

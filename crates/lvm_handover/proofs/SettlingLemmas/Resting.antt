@@ -23,8 +23,7 @@ use Rattle.lvm_session.specs.State.{Core, State, is_there, votes_there}
 use Rattle.lvm_session.specs.Enabled.{first_of, has_buffer, is_status_due, landing, or_next, parts_to_settle, parts_to_start, same_status}
 use Rattle.lvm_session.specs.Owners.{flies, same_owner}
 use Rattle.lvm_session.specs.Sound.{IsGoing, IsOn, IsSound, count_if}
-use Rattle.lvm_core.specs.Settled.{IsSettled}
-use Rattle.lvm_core.specs.Sound.{HasNoneOpen, IsSoundBetween}
+use Rattle.lvm_earlier.specs.passed.Names.{IsSettled, HasNoneOpen, IsSoundBetween}
 use Rattle.lvm_earlier.specs.passed.Driver.{IsDrained}
 use Rattle.lvm_tie_begins.specs.Begins.{IsResting}
 use Rattle.lvm_handover.specs.Settling.{DrainedRests, MayHandOver}

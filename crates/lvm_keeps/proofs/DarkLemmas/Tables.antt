@@ -5,7 +5,7 @@ use Rattle.std.proofs.lemmas.Bool.{eqb-true}
 use Rattle.lvm_session.specs.declared.open.Open.{Open}
 use Rattle.lvm_session.specs.Judging.{is_waiting, place_of, held_of}
 use Rattle.lvm_session.specs.Dark.{IsAscending}
-use Rattle.lvm_hold.specs.declared.queue.Row.{Row}
+use Rattle.lvm_session.specs.passed.Names.{Row}
 use Rattle.lvm_session.specs.Sound.{waiting_rows}
 use Rattle.lvm_keeps.proofs.Lists.{all_at, all_on, all_removed}
 

@@ -7,8 +7,7 @@ use Rattle.std.proofs.lemmas.Bool.{eq-eqb}
 use Rattle.lvm_num.specs.declared.place.Pp.{Pp}
 use Rattle.lvm_num.specs.Disks.{has}
 use Rattle.lvm_num.specs.Descriptor.{is_pp}
-use Rattle.lvm_disk.specs.Device.{Device, Flight, Range}
-use Rattle.lvm_disk.specs.Steps.{IsFresh, Starts}
+use Rattle.lvm_session.specs.passed.Names.{Device, Flight, Range, IsFresh, Starts}
 use Rattle.lvm_session.specs.declared.bringing.CopyEnd.{CopyEnd}
 use Rattle.lvm_session.specs.declared.bringing.CopyEnd.TheVariants as ending
 use Rattle.lvm_session.specs.declared.bringing.OpenCopy.{OpenCopy}

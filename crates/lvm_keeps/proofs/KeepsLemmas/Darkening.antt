@@ -8,8 +8,7 @@ use Rattle.lvm_num.specs.Buffer.{Buffer}
 use Rattle.lvm_num.specs.declared.place.Pp.{Pp}
 use Rattle.lvm_num.specs.Status.{calls_stale}
 use Rattle.lvm_num.specs.declared.status.Status.{Status}
-use Rattle.lvm_disk.specs.Device.{Device, Flight, Media}
-use Rattle.lvm_disk.specs.Steps.{GoesDark}
+use Rattle.lvm_session.specs.passed.Names.{Device, Flight, Media, GoesDark, Stored}
 use Rattle.lvm_vol.specs.declared.entry.Outcome.{Outcome}
 use Rattle.lvm_vol.specs.declared.entry.Outcome.TheVariants as outcome
 use Rattle.lvm_vol.specs.Facts.{Cut, Request}
@@ -18,7 +17,6 @@ use Rattle.lvm_vol.specs.Order.{IsGotOf}
 use Rattle.lvm_vol.proofs.FactsLemmas.Order.{ordered-push}
 use Rattle.lvm_mwc.specs.Cache.{Cached, has_disk}
 use Rattle.lvm_path.specs.Next.{with_landing}
-use Rattle.lvm_status.specs.Update.{Stored}
 use Rattle.lvm_session.specs.declared.bringing.OpenCopy.{OpenCopy}
 use Rattle.lvm_session.specs.declared.open.Open.{Open}
 use Rattle.lvm_session.specs.declared.open.Power.{Power}

@@ -8,9 +8,8 @@ use Rattle.lvm_num.specs.Status.{calls_stale, calls_missing}
 use Rattle.lvm_vol.specs.declared.entry.Outcome.{Outcome}
 use Rattle.lvm_vol.specs.declared.entry.Outcome.TheVariants as outcome
 use Rattle.lvm_mwc.proofs.FirstsLemmas.{none_at}
-use Rattle.lvm_sched.specs.Writes.{is_flying, is_waiting as is_unstarted, next_target}
-use Rattle.lvm_sched.specs.declared.writes.TargetState.{TargetState}
-use Rattle.lvm_sched.specs.declared.writes.TargetState.TheVariants as stage
+use Rattle.lvm_path.specs.passed.Names.{is_flying, is_waiting as is_unstarted, next_target, TargetState}
+use Rattle.lvm_path.specs.passed.SchedWritesTargetState as stage
 use Rattle.lvm_path.specs.declared.facts.Facts.{Facts}
 use Rattle.lvm_path.specs.declared.facts.Next.{Next}
 use Rattle.lvm_path.specs.declared.facts.Next.TheVariants as next

@@ -7,8 +7,7 @@ use Rattle.std.proofs.lemmas.Bool.{eq-eqb, eqb-true}
 use Rattle.lvm_num.specs.declared.descriptor.Mode.{Mode}
 use Rattle.lvm_num.specs.declared.descriptor.Mode.TheVariants as mode
 use Rattle.lvm_num.specs.Descriptor.{is_member}
-use Rattle.lvm_disk.specs.Device.{Device, Flight, Range}
-use Rattle.lvm_disk.specs.Steps.{IsFresh, Starts}
+use Rattle.lvm_session.specs.passed.Names.{Device, Flight, Range, IsFresh, Starts}
 use Rattle.lvm_mwc.specs.Cache.{after_start, flight_on, has_disk, is_named}
 use Rattle.lvm_mwc.specs.Entries.{note_of, pins_of}
 use Rattle.lvm_path.specs.declared.request.Phase.{Phase}

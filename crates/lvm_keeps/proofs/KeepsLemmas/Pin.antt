@@ -8,7 +8,7 @@ use Rattle.std.proofs.lemmas.List.Sums.{count_by-le-length}
 use Rattle.lvm_num.specs.declared.place.Pp.{Pp}
 use Rattle.lvm_num.specs.declared.descriptor.Mode.{Mode}
 use Rattle.lvm_num.specs.declared.descriptor.Mode.TheVariants as mode
-use Rattle.lvm_disk.specs.Device.{Flight}
+use Rattle.lvm_session.specs.passed.Names.{Flight}
 use Rattle.lvm_mwc.specs.Cache.{Cached, after_pin}
 use Rattle.lvm_mwc.specs.Entries.{AreEntries, are_all_pinned, pins_of, with_pin as with_entry}
 use Rattle.lvm_mwc.specs.Runs.{IsAllowed, Pins as PinsGroup}

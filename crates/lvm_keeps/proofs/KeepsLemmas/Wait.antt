@@ -1,7 +1,7 @@
 -- No transfer has ended, or a client has given an order to the shelf.
 use Rattle.std.proofs.Common.{◌⊎◌, inl, inr, ℕ, List, sym, subst}
 use Rattle.lvm_num.specs.declared.place.Pp.{Pp}
-use Rattle.lvm_disk.specs.Device.{Device, Orders}
+use Rattle.lvm_session.specs.passed.Names.{Device, Orders}
 use Rattle.lvm_vol.specs.declared.entry.Outcome.{Outcome}
 use Rattle.lvm_vol.specs.declared.entry.Outcome.TheVariants as outcome
 use Rattle.lvm_session.specs.declared.bringing.OpenCopy.{OpenCopy}

@@ -2,16 +2,8 @@
 use Rattle.std.proofs.Common.{◌≡◌, ◌⊎◌, inl, inr, ⊎_elim, ℕ, Bool, true, false, ◌&&◌, ◌||◌, List, [], ◌∷◌, ◌++◌, map, Option, Some, None, refl, sym, ap, subst, ◌∙◌}
 use Rattle.std.specs.Prelude.{IsTrue, if◌then◌else◌, ◌==◌, IsSomeAnd, is_some, find}
 use Rattle.std.proofs.lemmas.Bool.{eqb-true}
-use Rattle.lvm_num.specs.declared.place.Pp.{Pp}
-use Rattle.lvm_num.specs.declared.descriptor.Mode.{Mode}
-use Rattle.lvm_num.specs.declared.descriptor.Mode.TheVariants.{Active, Passive, Off}
-use Rattle.lvm_num.specs.declared.descriptor.LvRow.{LvRow}
-use Rattle.lvm_num.specs.declared.descriptor.Descriptor.{Descriptor}
-use Rattle.lvm_num.specs.declared.status.Status.{Status}
-use Rattle.lvm_num.specs.Buffer.{Sector}
-use Rattle.lvm_num.specs.Disks.{Disks}
-use Rattle.lvm_num.specs.Descriptor.{volume_of}
-use Rattle.lvm_num.specs.Record.{Stamped}
+use Rattle.lvm_disk.specs.passed.Names.{Pp, Mode, LvRow, Descriptor, Status, Sector, Disks, volume_of, Stamped, all_disks}
+use Rattle.lvm_disk.specs.passed.NumDescriptorMode.{Active, Passive, Off}
 use Rattle.lvm_vol.specs.declared.entry.Vol.{Vol}
 use Rattle.lvm_vol.specs.declared.entry.Vol.TheVariants.{Disk, Lv}
 use Rattle.lvm_vol.specs.Facts.{Request, Fact, Begun, Cut, Stands, is_over, block_of}
@@ -25,7 +17,6 @@ use Rattle.lvm_kept.specs.Changes.{OnlyAllowsMore, BlocksStayKept, MoreIsKept, I
 use Rattle.lvm_kept.proofs.MayLemmas.{cut_adds_more, one_more}
 use Rattle.lvm_kept.proofs.ChangesLemmas.Changing.{map_one}
 use Rattle.lvm_kept.proofs.CommittedLemmas.Finding.{some_same, finding_reads}
-use Rattle.lvm_num.specs.Votes.{all_disks}
 
 module _ (c : Contents) (facts : List Fact) (f : Fact) (more : OnlyAllowsMore facts f) where
   abbrev earlier : ℕ → ℕ → Known

@@ -1,24 +1,12 @@
 -- Descriptors that get a new stamp.
-use Rattle.std.proofs.Common.{◌≡◌, ◌⊎◌, inl, inr, ⊎_elim, ℕ, ◌<◌, Bool, true, false, ◌&&◌, List, [], ◌∷◌, ◌++◌, Option, Some, None, refl, sym, ap, subst, ◌∙◌}
+use Rattle.std.proofs.Common.{◌≡◌, ◌⊎◌, inl, inr, ⊎_elim, ℕ, ◌<◌, Bool, true, false, ◌&&◌, List, [], ◌∷◌, ◌++◌, Option, Some, None, refl, sym, ap, subst, ◌∙◌, arith}
 use Rattle.std.specs.Prelude.{IsTrue, ◌==◌, not, if◌then◌else◌, filter}
 use Rattle.std.specs.List.{AllByRecursion}
 use Rattle.std.proofs.lemmas.Bool.{eqb-true, and_parts, and_from}
 use Rattle.std.proofs.lemmas.Bool.Decides.{nat_tests}
-use Rattle.std.proofs.Common.{arith}
-use Rattle.lvm_num.specs.declared.record.Stamp.{Stamp}
-use Rattle.lvm_num.specs.declared.place.Pp.{Pp}
-use Rattle.lvm_num.specs.declared.descriptor.Mode.{Mode}
-use Rattle.lvm_num.specs.declared.descriptor.Mode.TheVariants.{Active, Passive, Off}
-use Rattle.lvm_num.specs.declared.descriptor.LvRow.{LvRow}
-use Rattle.lvm_num.specs.declared.descriptor.Descriptor.{Descriptor}
-use Rattle.lvm_num.specs.declared.status.Status.{Status}
-use Rattle.lvm_num.specs.Disks.{Disks}
-use Rattle.lvm_num.specs.Geometry.{track_group_of}
-use Rattle.lvm_num.specs.Descriptor.{copies_of}
-use Rattle.lvm_num.specs.Votes.{all_disks, votes_in, CanRead}
-use Rattle.lvm_num.specs.Record.{Stamped, stamp_lt, newest_below}
-use Rattle.lvm_num.proofs.VotesLemmas.{more_have_more, more_is_enough}
-use Rattle.lvm_num.proofs.RecordLemmas.Newest.{is_one, is_last}
+use Rattle.lvm_disk.specs.passed.Names.{Stamp, Pp, Mode, LvRow, Descriptor, Status, Disks, track_group_of, copies_of, all_disks, votes_in, CanRead, Stamped, stamp_lt, newest_below}
+use Rattle.lvm_disk.specs.passed.NumDescriptorMode.{Active, Passive, Off}
+use Rattle.lvm_disk.proofs.passed.Names.{more_have_more, more_is_enough, is_one, is_last}
 use Rattle.lvm_vol.specs.declared.entry.Vol.TheVariants.{Lv}
 use Rattle.lvm_vol.specs.Facts.{Fact, Cut}
 use Rattle.lvm_vol.specs.May.{Known, known, IsValue}

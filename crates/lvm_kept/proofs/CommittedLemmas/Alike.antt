@@ -2,13 +2,8 @@
 use Rattle.std.proofs.Common.{◌≡◌, ⊎_elim, ℕ, Bool, true, false, ◌&&◌, [], Option, None, Some, refl, sym, ap, subst, ◌∙◌, eq-eqb}
 use Rattle.std.specs.Prelude.{IsTrue}
 use Rattle.std.proofs.lemmas.Bool.{eqb-true}
-use Rattle.lvm_num.specs.declared.descriptor.Descriptor.{Descriptor}
-use Rattle.lvm_num.specs.Disks.{Disks}
-use Rattle.lvm_num.specs.Descriptor.{is_member}
-use Rattle.lvm_num.specs.Votes.{all_disks, votes_in, is_enough_to_read, CanRead}
-use Rattle.lvm_num.specs.Record.{Stamped}
-use Rattle.lvm_num.proofs.RecordLemmas.Newest.{is_one, is_last}
-use Rattle.lvm_num.proofs.VotesLemmas.{more_have_more, more_is_enough}
+use Rattle.lvm_disk.specs.passed.Names.{Descriptor, Disks, is_member, all_disks, votes_in, is_enough_to_read, CanRead, Stamped}
+use Rattle.lvm_disk.proofs.passed.Names.{is_one, is_last, more_have_more, more_is_enough}
 use Rattle.lvm_kept.specs.Contents.{Contents}
 use Rattle.lvm_kept.specs.Group.{passes, is_of, has_room, descriptor_among, is_voter, has_quorum, IsFound, members_in, IsAlike, AreAlike}
 use Rattle.lvm_kept.specs.Committed.{SameVotes, IsWithinDisks, FoundByAll, OneByAllIsOnly, OneShownIsOne, AlikeStays}

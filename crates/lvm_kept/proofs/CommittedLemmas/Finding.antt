@@ -3,20 +3,8 @@ use Rattle.std.proofs.Common.{◌≡◌, ◌⊎◌, inl, inr, ⊎_elim, ℕ, ◌
 use Rattle.std.specs.Prelude.{IsTrue, if◌then◌else◌, nat_lt, nat_le, sum_by, Result}
 use Rattle.std.proofs.lemmas.Bool.{ltb-true}
 use Rattle.std.proofs.lemmas.Bool.Decides.{nat_tests}
-use Rattle.lvm_num.specs.declared.record.Stamp.{Stamp}
-use Rattle.lvm_num.specs.declared.record.Kind.{Kind}
-use Rattle.lvm_num.specs.declared.descriptor.PvRow.{PvRow}
-use Rattle.lvm_num.specs.declared.descriptor.Descriptor.{Descriptor}
-use Rattle.lvm_num.specs.declared.status.Status.{Status}
-use Rattle.lvm_num.specs.Disks.{Disks}
-use Rattle.lvm_num.specs.Geometry.{data_start}
-use Rattle.lvm_num.specs.DescriptorBytes.{descriptor_of}
-use Rattle.lvm_num.specs.StatusBytes.{status_of}
-use Rattle.lvm_num.specs.Votes.{votes_by, votes_in, all_disks, is_enough_to_read, CanRead}
-use Rattle.lvm_num.specs.Record.{Stamped, stamp_lt, newest_below}
-use Rattle.lvm_num.proofs.VotesLemmas.{read_meets_write, read_meets_read}
-use Rattle.lvm_num.proofs.RecordLemmas.Newest.{is_one, is_last}
-use Rattle.lvm_num.proofs.Booleans.{first_holds}
+use Rattle.lvm_disk.specs.passed.Names.{Stamp, Kind, PvRow, Descriptor, Status, Disks, data_start, descriptor_of, status_of, votes_by, votes_in, all_disks, is_enough_to_read, CanRead, Stamped, stamp_lt, newest_below}
+use Rattle.lvm_disk.proofs.passed.Names.{read_meets_write, read_meets_read, is_one, is_last, first_holds}
 use Rattle.lvm_rec.specs.Slots.{newest_on}
 use Rattle.lvm_disk.specs.Device.{Image}
 use Rattle.lvm_kept.specs.Contents.{has_records, newest_at, descriptor_on, status_on, Contents}

@@ -1,16 +1,14 @@
 -- A read of a raw disk gets values that its blocks may have, and leaves the images kept.
 use Rattle.std.proofs.Common.{◌≡◌, inl, ◌≤◌, ◌<◌, ◌+◌, ◌∷◌, ◌++◌, [], ℕ, List, Bool, Some, true, false, if◌then◌else◌, length, refl, sym, ◌∙◌, ap, subst, arith}
-use Rattle.lvm_num.specs.Buffer.{Sector}
+use Rattle.lvm_disk.specs.passed.Names.{Sector, data_start}
 use Rattle.lvm_disk.specs.Device.{Image}
 use Rattle.lvm_vol.specs.declared.entry.Vol.TheVariants.{Disk}
 use Rattle.lvm_vol.specs.declared.entry.Outcome.TheVariants as outcome
 use Rattle.lvm_vol.specs.Facts.{Request, Fact, Begun, Landed, is_over, block_of}
 use Rattle.lvm_vol.specs.May.{Known, known, change, May, read, cut}
 use Rattle.lvm_vol.specs.Legal.{Gets}
-use Rattle.lvm_kept.specs.Raw.{RawKept}
-use Rattle.lvm_num.specs.Geometry.{data_start}
+use Rattle.lvm_kept.specs.Raw.{RawKept, raw_request}
 use Rattle.lvm_kept.specs.Moments.{Calm}
-use Rattle.lvm_kept.specs.Raw.{raw_request}
 use Rattle.lvm_kept.proofs.MayLemmas.{Among, after_cut, cut_adds_none, known_more}
 use Rattle.lvm_kept.proofs.RawLemmas.Carrying.{over_here}
 use Rattle.lvm_kept.proofs.RawLemmas.Keeping.{of_kept, kept_more}

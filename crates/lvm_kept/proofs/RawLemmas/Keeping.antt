@@ -1,6 +1,6 @@
 -- Crash images stay kept while a write of a raw disk goes through.
 use Rattle.std.proofs.Common.{◌≡◌, ◌⊎◌, inl, inr, ⊎_elim, ◌≤◌, ◌<◌, ◌∷◌, ◌++◌, [], ℕ, List, Bool, Option, Some, None, true, false, if◌then◌else◌, unwrap_or, refl, sym, ◌∙◌, ap, subst}
-use Rattle.lvm_num.specs.Buffer.{Sector}
+use Rattle.lvm_disk.specs.passed.Names.{Sector, data_start}
 use Rattle.lvm_disk.specs.Device.{Image, Flight, SameDisks, written}
 use Rattle.lvm_disk.specs.Images.{DiffersBy}
 use Rattle.lvm_disk.specs.Steps.{Puts, PutsSome}
@@ -11,10 +11,8 @@ use Rattle.lvm_vol.specs.declared.entry.Outcome.TheVariants as outcome
 use Rattle.lvm_vol.specs.Facts.{Request, Fact, Begun, Landed, Taken, Cut, is_over, block_of}
 use Rattle.lvm_vol.specs.May.{Known, known, change, source, May, ended, landed, is_open_in, cut}
 use Rattle.lvm_vol.proofs.LawsLemmas.Knowing.{ended_open}
-use Rattle.lvm_kept.specs.Raw.{RawKept}
-use Rattle.lvm_num.specs.Geometry.{data_start}
+use Rattle.lvm_kept.specs.Raw.{RawKept, raw_request, Carries}
 use Rattle.lvm_kept.specs.Moments.{Calm}
-use Rattle.lvm_kept.specs.Raw.{raw_request, Carries}
 use Rattle.lvm_kept.proofs.MayLemmas.{Among, after_cut, cut_adds_none, cut_adds_more, cut_adds_it, also_adds, also_is, known_more, open_now, closes}
 pub use Rattle.std.proofs.lemmas.Bool.{cases_Bool as either}
 

@@ -2,18 +2,9 @@
 use Rattle.std.proofs.Common.{◌≡◌, ◌⊎◌, inl, inr, ⊎_elim, ℕ, ◌+◌, ◌-◌, ◌<◌, ◌≤◌, Bool, true, false, ◌&&◌, List, length, take, Option, Some, None, Result, refl, sym, ap, subst, ◌∙◌, arith}
 use Rattle.std.specs.Prelude.{IsTrue, IsFalse, nat_le, nat_lt, if◌then◌else◌}
 use Rattle.std.proofs.lemmas.Bool.Decides.{nat_tests}
-use Rattle.lvm_num.specs.declared.record.Stamp.{Stamp}
-use Rattle.lvm_num.specs.declared.record.Kind.{Kind}
-use Rattle.lvm_num.specs.declared.record.Kind.TheVariants as kind
-use Rattle.lvm_num.specs.declared.descriptor.Descriptor.{Descriptor}
-use Rattle.lvm_num.specs.declared.status.Status.{Status}
-use Rattle.lvm_num.specs.Buffer.{Sector}
-use Rattle.lvm_num.specs.Geometry.{data_start}
-use Rattle.lvm_num.specs.DescriptorBytes.{descriptor_of}
-use Rattle.lvm_num.specs.StatusBytes.{status_of}
-use Rattle.lvm_num.specs.Record.{Frames, Stamped, frame, record_sectors, slot_start, slot_size, stamp_lt}
-use Rattle.lvm_num.specs.Torn.{Sectors, AllBefore, stamp_of}
-use Rattle.lvm_num.proofs.TornLemmas.Torn.{sectors-fit}
+use Rattle.lvm_disk.specs.passed.Names.{Stamp, Kind, Descriptor, Status, Sector, data_start, descriptor_of, status_of, Frames, Stamped, frame, record_sectors, slot_start, slot_size, stamp_lt, Sectors, AllBefore, stamp_of}
+use Rattle.lvm_disk.specs.passed.NumRecordKind as kind
+use Rattle.lvm_disk.proofs.passed.Names.{sectors-fit}
 use Rattle.lvm_rec.specs.Slots.{newest_on, IsOfSlot, IsTornWrite}
 use Rattle.lvm_rec.proofs.SlotsLemmas.SlotLaws.{slots-apart, newest_stays_or_is_new, whole_is_newest, keeps_before}
 use Rattle.lvm_disk.specs.Device.{Image}
@@ -21,7 +12,7 @@ use Rattle.lvm_kept.specs.Contents.{newest_at, descriptor_on, status_on, note_on
 use Rattle.lvm_kept.specs.Plans.{ChangesBy}
 use Rattle.lvm_kept.specs.Torn.{NewestStays, RecordWrite, on_disk, IsOfRecord, IsOtherOrRecord, StandsOn, MayWriteAll, written, NewestIsOldOrNew, WholeIsNew, DescriptorWriteShows, StatusWriteShows, EarlierStaysBefore}
 use Rattle.lvm_kept.proofs.PlacesLemmas.{room-same, newest-same, at-same, note-same, data-same}
-pub use Rattle.lvm_num.proofs.Booleans.{clash as never}
+pub use Rattle.lvm_disk.proofs.passed.Names.{clash as never}
 
 -- ---- places
 

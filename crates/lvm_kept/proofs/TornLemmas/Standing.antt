@@ -3,14 +3,8 @@ use Rattle.std.proofs.Common.{◌≡◌, ◌⊎◌, inl, inr, ⊎_elim, ℕ, ◌
 use Rattle.std.specs.Prelude.{IsTrue, if◌then◌else◌, unwrap_or, IsSomeAnd}
 use Rattle.std.proofs.lemmas.Bool.{cases_lt}
 use Rattle.std.proofs.lemmas.List.{length-replicate, get_or-replicate, get_or_past}
-use Rattle.lvm_num.specs.declared.record.Kind.{Kind}
-use Rattle.lvm_num.specs.declared.record.Kind.TheVariants as kind
-use Rattle.lvm_num.specs.Buffer.{Sector, zero_sector, IsSector}
-use Rattle.lvm_num.specs.Disks.{Disks}
-use Rattle.lvm_num.specs.Note.{note_in}
-use Rattle.lvm_num.specs.DescriptorBytes.{descriptor_of}
-use Rattle.lvm_num.specs.StatusBytes.{status_of}
-use Rattle.lvm_num.specs.Record.{slot_start, kind_magic}
+use Rattle.lvm_disk.specs.passed.Names.{Kind, Sector, zero_sector, IsSector, Disks, note_in, descriptor_of, status_of, slot_start, kind_magic}
+use Rattle.lvm_disk.specs.passed.NumRecordKind as kind
 use Rattle.lvm_disk.specs.Device.{Media, Image, Flight, written as flown, IsInFlight, IsCrashImage, image_of}
 use Rattle.lvm_disk.specs.Steps.{BothTold, Puts}
 use Rattle.lvm_kept.specs.Contents.{has_records, newest_at, descriptor_on, status_on, note_on, note_sector, data_at}

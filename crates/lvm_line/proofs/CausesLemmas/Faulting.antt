@@ -27,9 +27,8 @@ use Rattle.lvm_copy_lines.proofs.passed.VolumeLines.{FaultFacts}
 use Rattle.lvm_copy_lines.proofs.passed.Ranges.{off_votes}
 use Rattle.lvm_line.proofs.CausesLemmas.Knowing.{IsOther, Known, has_by}
 use Rattle.lvm_line.proofs.CausesLemmas.Turns.{dark_cause, off_cause, stuck_cause}
-use Rattle.lvm_volume_plan.specs.declared.fault.GroupFault.{GroupFault}
-use Rattle.lvm_volume_plan.specs.declared.fault.GroupFault.TheVariants as fault
-use Rattle.lvm_volume_plan.specs.Faults.{ends_session}
+use Rattle.lvm_copy_lines.specs.passed.Names.{GroupFault, ends_session}
+use Rattle.lvm_copy_lines.specs.passed.VolumePlanFaultGroupFault as fault
 
 -- votes that are too few to write are at most half
 at_most_half : (group : Descriptor) (have : ℕ) → IsFalse (is_enough_to_write group have) → 2 * have ≤ total_votes group

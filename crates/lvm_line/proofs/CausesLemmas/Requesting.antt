@@ -8,7 +8,7 @@ use Rattle.lvm_session.specs.declared.answers.Turned.{Turned}
 use Rattle.lvm_session.specs.declared.answers.Turned.TheVariants as turned
 use Rattle.lvm_session.specs.Calls.{has_numbers}
 use Rattle.lvm_session.specs.State.{Core, State, votes_there}
-use Rattle.lvm_turn_losses.proofs.LosingLemmas.Votes.{votes_go}
+use Rattle.lvm_copy_lines.proofs.passed.Names.{votes_go}
 use Rattle.lvm_posts.specs.declared.asked.Asked.{Asked}
 use Rattle.lvm_posts.specs.declared.fault.RangeFault.{RangeFault}
 use Rattle.lvm_posts.specs.declared.fault.RangeFault.TheVariants as fault
@@ -17,11 +17,7 @@ use Rattle.lvm_copy_lines.specs.passed.AskRangeFaultVariants as ask
 use Rattle.lvm_copy_lines.specs.Resyncing.{IsSynced, NoGroupForSync, NoVolumeForSync, NothingSyncs, OtherGroupForSync, SyncGroupDoes, SyncVolumeDoes, SyncsGroup, SyncsVolume, sync_reply}
 use Rattle.lvm_copy_lines.specs.passed.Resync.{Copy, SyncCause, SyncFault, group_copies, group_fault, volume_copies, volume_fault}
 use Rattle.lvm_copy_lines.specs.passed.SyncFaultVariants as sync
-use Rattle.lvm_copy_lines.specs.passed.RangeLines.{FailsBy, FailsIf, CarriesBy, StopsAs, session_over}
-use Rattle.lvm_copy_lines.specs.passed.RangeLines.{Tells, TellsAll, TellsNone, Ending, ask_refusal, range_refusal, EndsWell, Fails, IsFinished}
-use Rattle.lvm_copy_lines.specs.passed.RangeLines.{Finishes, NoMemory, NotBegun, NotPosted, NotThere, OnVolume, Posted, Posts, PostDoes, RdDoes}
-use Rattle.lvm_copy_lines.specs.passed.RangeLines.{ShowsBlocks, ShowsThem, There, WhileOff, WrDoes, NoStepWhileOff, NothingMoves, StepDoes, Steps}
-use Rattle.lvm_copy_lines.specs.passed.RangeLines.{step_reply}
+use Rattle.lvm_copy_lines.specs.passed.RangeLines.{FailsBy, FailsIf, CarriesBy, StopsAs, session_over, Tells, TellsAll, TellsNone, Ending, ask_refusal, range_refusal, EndsWell, Fails, IsFinished, Finishes, NoMemory, NotBegun, NotPosted, NotThere, OnVolume, Posted, Posts, PostDoes, RdDoes, ShowsBlocks, ShowsThem, There, WhileOff, WrDoes, NoStepWhileOff, NothingMoves, StepDoes, Steps, step_reply}
 use Rattle.lvm_copy_lines.specs.passed.RangeLinesWaiting.{AtRest, Awaits, Goes, InVain, Over, WaitDoes, WaitEnds, WhileOff as WaitsWhileOff}
 use Rattle.lvm_copy_lines.specs.passed.Stage.{InFull, IsBetween, Shows, WithoutMemory, ScriptState, Refusal, Reply, is_unheard}
 use Rattle.lvm_copy_lines.specs.passed.RefusalVariants as refusal

@@ -8,7 +8,7 @@ use Rattle.lvm_session.specs.State.{Core, state}
 use Rattle.lvm_copy_lines.specs.passed.Resync.{AnyFails}
 use Rattle.lvm_copy_lines.specs.passed.Stage.{Refusal, ScriptState}
 use Rattle.lvm_copy_lines.specs.passed.RefusalVariants as refusal
-use Rattle.lvm_turn_losses.specs.Losing.{LostForFaults}
+use Rattle.lvm_copy_lines.specs.passed.Names.{LostForFaults}
 use Rattle.lvm_line.specs.Causes.{CauseOf, HasCause, HasFailed, HasFailedInSession, RangeLineCause, RoseOn, TurnCause, WereLost, disk_of}
 use Rattle.lvm_line.specs.Complete.{CompleteLaw, HasLostVotes, IsOwn, NothingFailed}
 use Rattle.lvm_line.proofs.CausesLemmas.Causing.{has_cause}

@@ -7,7 +7,7 @@ use Rattle.lvm_num.specs.Record.{Stamped}
 use Rattle.lvm_survey.specs.declared.row.SurveyRow.{SurveyRow}
 use Rattle.lvm_survey.specs.declared.row.Survey.{Survey}
 use Rattle.lvm_survey.specs.Surveyed.{surveyed}
-use Rattle.lvm_area.specs.Reading.{under}
+use Rattle.lvm_survey.specs.passed.Names.{under}
 use Rattle.lvm_quorum.specs.Choosing.{HasName}
 use Rattle.lvm_quorum.specs.Groups.{IsNamedBy}
 use Rattle.lvm_survey.proofs.SurveyedLemmas.SurveyRows.{descriptor_shown, descriptor_past}

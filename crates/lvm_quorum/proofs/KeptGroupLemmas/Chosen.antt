@@ -7,12 +7,10 @@ use Rattle.lvm_num.specs.Descriptor.{IsValid}
 use Rattle.lvm_num.specs.Disks.{Disks}
 use Rattle.lvm_num.specs.Record.{Stamped, newest_below}
 use Rattle.lvm_num.specs.Votes.{all_disks, votes_in, is_enough_to_read}
-use Rattle.lvm_kept.specs.Contents.{Contents}
-use Rattle.lvm_kept.specs.Group.{if_passes, passes, is_status_of, descriptor_among, is_voter, has_quorum, status_among}
+use Rattle.lvm_survey.specs.passed.Names.{Contents, if_passes, passes, is_status_of, descriptor_among, is_voter, has_quorum, status_among, under}
 use Rattle.lvm_survey.specs.declared.row.SurveyRow.{SurveyRow}
 use Rattle.lvm_survey.specs.declared.row.Survey.{Survey}
 use Rattle.lvm_survey.specs.Surveyed.{surveyed, IsSurveyValid}
-use Rattle.lvm_area.specs.Reading.{under}
 use Rattle.lvm_quorum.proofs.RecordLemmas.{newest_none}
 use Rattle.lvm_quorum.proofs.KeptGroupLemmas.Voting.{no_voters}
 use Rattle.lvm_quorum.proofs.GroupsLemmas.Epochs.{found_on}

@@ -9,12 +9,10 @@ use Rattle.lvm_num.specs.declared.descriptor.Descriptor.{Descriptor}
 use Rattle.lvm_num.specs.Geometry.{sectors_needed}
 use Rattle.lvm_num.specs.Record.{Stamped}
 use Rattle.lvm_num.specs.Votes.{all_disks}
-use Rattle.lvm_kept.specs.Contents.{Contents}
-use Rattle.lvm_kept.specs.Group.{passes, is_of, has_room, members_in, descriptor_among, is_voter}
+use Rattle.lvm_survey.specs.passed.Names.{Contents, passes, is_of, has_room, members_in, descriptor_among, is_voter, under}
 use Rattle.lvm_survey.specs.declared.row.SurveyRow.{SurveyRow}
 use Rattle.lvm_survey.specs.declared.row.Survey.{Survey}
 use Rattle.lvm_survey.specs.Surveyed.{surveyed}
-use Rattle.lvm_area.specs.Reading.{under}
 use Rattle.lvm_survey.specs.Rows.{AreRows}
 use Rattle.lvm_survey.proofs.SurveyedLemmas.SurveyRows.{descriptor_shown, size_shown, descriptor_past}
 use Rattle.lvm_survey.proofs.Passing.{neither, PassBelow, all_pass}

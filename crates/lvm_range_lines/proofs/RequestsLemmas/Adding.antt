@@ -5,7 +5,7 @@ use Rattle.std.specs.Global.{Vec}
 use Rattle.std.proofs.lemmas.List.{length-append}
 use Rattle.lvm_disk.specs.Device.{Device}
 use Rattle.lvm_vol.specs.Log.{spare_entries}
-use Rattle.lvm_raw.specs.Pieces.{piece_count}
+use Rattle.lvm_posts.specs.passed.Names.{piece_count}
 use Rattle.lvm_session.specs.declared.open.Power.{Power}
 use Rattle.lvm_session.specs.declared.open.Power.TheVariants as power
 use Rattle.lvm_session.specs.Sound.{IsSound}
@@ -15,8 +15,7 @@ use Rattle.lvm_posts.specs.declared.asked.Asked.{Asked}
 use Rattle.lvm_posts.specs.declared.posts.Post.{Post}
 use Rattle.lvm_group_lines.specs.passed.Ranges.{AskRangeFault, Asks, IsAskedFor, range_fault}
 use Rattle.lvm_group_lines.proofs.passed.Ranges.{room_first}
-use Rattle.lvm_group_lines.specs.passed.Stage.{Reply, Stage, EndsUnasked, OfRequests, most_refusals, HaveRooms, IsBetweenStage, IsCarried, IsFittingStage}
-use Rattle.lvm_group_lines.specs.passed.Stage.{state_in, ArePosted}
+use Rattle.lvm_group_lines.specs.passed.Stage.{Reply, Stage, EndsUnasked, OfRequests, most_refusals, HaveRooms, IsBetweenStage, IsCarried, IsFittingStage, state_in, ArePosted}
 use Rattle.lvm_group_lines.specs.passed.ReplyVariants as reply
 use Rattle.lvm_group_lines.proofs.passed.Stage.{posts_need}
 use Rattle.lvm_range_lines.specs.Leaving.{KeepsPosts, serving}

@@ -8,8 +8,7 @@ use Rattle.lvm_vol.specs.Log.{Log}
 use Rattle.lvm_kept.specs.Moments.{Moment}
 use Rattle.lvm_steps.specs.Moments.{Keeps}
 use Rattle.lvm_steps.specs.Requests.{at}
-use Rattle.lvm_core.specs.Leaves.{is_of_volume}
-use Rattle.lvm_core.specs.Sound.{HaveAllLanded}
+use Rattle.lvm_group_lines.specs.passed.Names.{is_of_volume, HaveAllLanded}
 use Rattle.lvm_keeps.proofs.Lists.{count_cons}
 use Rattle.lvm_session.specs.State.{Core, State}
 use Rattle.lvm_group_lines.specs.passed.Quiesce.{IsBehindEach}
@@ -19,8 +18,7 @@ use Rattle.lvm_group_lines.specs.passed.Tie.{LeavesDescriptors}
 use Rattle.lvm_posts.specs.declared.posts.Post.{Post}
 use Rattle.lvm_posts.specs.Posts.{takings}
 use Rattle.lvm_group_lines.specs.passed.HolderVariants as holder
-use Rattle.lvm_group_lines.specs.passed.Stage.{Reply, Stage, GoesOn, HasBegunHeld, IsAlone, OfRequests, IsStuck, most_refusals, HaveRooms, IsFittingStage}
-use Rattle.lvm_group_lines.specs.passed.Stage.{history_in, session_in, shelf_in, state_in, ArePosted, IsOnBetween, StandsAlone, ScriptState}
+use Rattle.lvm_group_lines.specs.passed.Stage.{Reply, Stage, GoesOn, HasBegunHeld, IsAlone, OfRequests, IsStuck, most_refusals, HaveRooms, IsFittingStage, history_in, session_in, shelf_in, state_in, ArePosted, IsOnBetween, StandsAlone, ScriptState}
 use Rattle.lvm_group_lines.specs.passed.TieCommands.{StandsAfter}
 use Rattle.lvm_range_lines.specs.declared.answers.Answers.{Answers}
 use Rattle.lvm_range_lines.specs.Answers.{Gathers, Tells, TellsAll, TellsNone}

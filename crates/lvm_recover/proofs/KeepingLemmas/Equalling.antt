@@ -24,8 +24,8 @@ use Rattle.lvm_kept.specs.Committed.{IsWithinDisks}
 use Rattle.lvm_kept.specs.Changes.{StayExcused}
 use Rattle.lvm_kept.proofs.ChangesLemmas.Changing.{notes_keep}
 use Rattle.lvm_kept.proofs.CommittedLemmas.Finding.{finding_reads}
-use Rattle.lvm_commit.specs.Committed.{ShowsCommitted}
-use Rattle.lvm_commit.proofs.LawsLemmas.Found.{shows_group, only_found, status_read}
+use Rattle.lvm_rest.specs.passed.Names.{ShowsCommitted}
+use Rattle.lvm_rest.proofs.passed.Names.{shows_group, only_found, status_read}
 use Rattle.lvm_steps.proofs.GroupLemmas.Members.{one_group, parts_of, member_of_parts}
 use Rattle.lvm_crash.specs.Session.{members_showing}
 use Rattle.lvm_crash.proofs.LawsLemmas.Remaining.{by_id}

@@ -17,8 +17,7 @@ use Rattle.lvm_kept.specs.Contents.{Contents, contents_of}
 use Rattle.lvm_kept.specs.Group.{IsOneOf, is_named, is_stale_by, fresh_on}
 use Rattle.lvm_kept.proofs.TornLemmas.Standing.{note_shows}
 use Rattle.lvm_write.proofs.WrittenLemmas.Writing.{changes_more}
-use Rattle.lvm_commit.proofs.AmongLemmas.{of_map, of_rows}
-use Rattle.lvm_rest.proofs.GoodLemmas.Good.{mib_positive}
+use Rattle.lvm_recover.proofs.passed.Names.{of_map, of_rows, mib_positive}
 use Rattle.lvm_recover.specs.Recopied.{IsFromFirst}
 use Rattle.lvm_recover.proofs.KeepingLemmas.Copying.{left_passes}
 use Rattle.lvm_recover.proofs.KeepingLemmas.Images.{images_are_recopied}

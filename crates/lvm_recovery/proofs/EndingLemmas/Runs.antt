@@ -16,7 +16,7 @@ use Rattle.lvm_disk.specs.Device.{Range}
 use Rattle.lvm_kept.specs.Contents.{Contents}
 use Rattle.lvm_kept.specs.Group.{is_voter, status_among, is_stale_by, is_named, fresh_on, IsOneOf}
 use Rattle.lvm_kept.specs.Recovered.{IsMadeEqual, IsCopyRange}
-use Rattle.lvm_rest.proofs.GoodLemmas.Good.{mib_positive}
+use Rattle.lvm_recover.proofs.passed.Names.{mib_positive}
 use Rattle.lvm_recover.proofs.KeepingLemmas.Copying.{left_passes}
 use Rattle.lvm_recover.proofs.BeginningLemmas.{is_at}
 use Rattle.lvm_recovery.specs.declared.copying.Recopy.{Recopy}

@@ -19,7 +19,7 @@ use Rattle.lvm_survey.specs.declared.row.Survey.{Survey}
 use Rattle.lvm_survey.specs.declared.row.SurveyRow.{SurveyRow}
 use Rattle.lvm_survey.specs.Rows.{AreRows}
 use Rattle.lvm_survey.specs.Surveyed.{surveyed}
-use Rattle.lvm_commit.proofs.AmongLemmas.{contains}
+use Rattle.lvm_recover.proofs.passed.Names.{contains}
 use Rattle.lvm_recovery.specs.declared.plan.TrackGroup.{TrackGroup}
 use Rattle.lvm_recovery.specs.Plan.{group_of, AreNamed}
 use Rattle.lvm_recovery.proofs.CopyingLemmas.AllCopied.{one_at, at_index}

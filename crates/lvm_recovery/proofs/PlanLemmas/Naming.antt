@@ -17,7 +17,7 @@ use Rattle.lvm_kept.specs.Contents.{Contents}
 use Rattle.lvm_kept.specs.Group.{IsOneOf, fresh_on}
 use Rattle.lvm_kept.proofs.ChangesLemmas.Entries.{volume_is_row}
 use Rattle.lvm_num.specs.Modes.{is_active}
-use Rattle.lvm_rest.proofs.Rows.{row_is_volume}
+use Rattle.lvm_recover.proofs.passed.Names.{row_is_volume}
 use Rattle.lvm_recovery.specs.declared.copying.Recopy.{Recopy}
 use Rattle.lvm_recovery.specs.declared.plan.TrackGroup.{TrackGroup}
 use Rattle.lvm_recovery.specs.Planned.{IsNamedByOne, IsPlannedCopy}

@@ -18,7 +18,7 @@ use Rattle.lvm_kept.specs.Kept.{Kept}
 use Rattle.lvm_kept.specs.Committed.{IsWithinDisks}
 use Rattle.lvm_commit.specs.Committed.{ShowsCommitted}
 use Rattle.lvm_commit.proofs.LawsLemmas.Found.{shows_group}
-use Rattle.lvm_steps.proofs.GroupLemmas.Members.{member_of_parts}
+use Rattle.lvm_commit.proofs.passed.Names.{member_of_parts}
 use Rattle.lvm_invariant.specs.State.{Marks, ModelState, Live, stale_in, told}
 use Rattle.lvm_num.specs.Modes.{is_active, is_passive}
 use Rattle.lvm_invariant.specs.Sound.{MayDiffer, Agree}

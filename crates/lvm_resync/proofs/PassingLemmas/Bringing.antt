@@ -14,12 +14,9 @@ use Rattle.lvm_session.specs.Judging.{is_missing}
 use Rattle.lvm_disk.specs.Device.{Device}
 use Rattle.lvm_session.specs.State.{Core, State, state}
 use Rattle.lvm_session.specs.Sound.{IsSound}
-use Rattle.lvm_driver.specs.Answers.{IsCopyCaused}
+use Rattle.lvm_ranges.specs.passed.Names.{IsCopyCaused, NoTurn, is_marked, RunsOn}
 use Rattle.lvm_session.specs.declared.answers.Turned.TheVariants as told
-use Rattle.lvm_driver.specs.Drains.{NoTurn}
 use Rattle.lvm_resync.specs.declared.fault.SyncFault.{SyncFault}
-use Rattle.lvm_turn_losses.specs.Marks.{is_marked}
-use Rattle.lvm_running.specs.Running.{RunsOn}
 use Rattle.lvm_ranges.specs.Keeping.{KeepsTable}
 use Rattle.lvm_resync.specs.Passing.{HasEnded, IsEnded, IsJustOpened, IsSameCopy, Runs, EndsTurning, EachTurnWhile}
 use Rattle.lvm_resync.specs.Turning.{GoesBeside, IsUnderWay, MakesLast, MakesTurn}

@@ -16,9 +16,7 @@ use Rattle.lvm_session.specs.Ends.{with_step}
 use Rattle.lvm_session.specs.Judging.{copies_in, is_missing, is_stale}
 use Rattle.lvm_session.specs.Sound.{IsSound}
 use Rattle.lvm_session.specs.State.{Core, State, state}
-use Rattle.lvm_calls.specs.Opening.{counts_seen}
-use Rattle.lvm_driver.specs.Drains.{NoTurn}
-use Rattle.lvm_running.specs.Running.{LeavesSession}
+use Rattle.lvm_ranges.specs.passed.Names.{counts_seen, NoTurn, LeavesSession}
 use Rattle.lvm_ranges.specs.Keeping.{KeepsTable}
 use Rattle.lvm_resync.specs.declared.copies.Opening.{Opening}
 use Rattle.lvm_resync.specs.declared.fault.SyncFault.{SyncFault}

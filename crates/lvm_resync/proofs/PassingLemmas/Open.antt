@@ -26,8 +26,8 @@ use Rattle.lvm_session.specs.Marks.{Reviews, end_by_write, hits_copy}
 use Rattle.lvm_session.specs.Sound.{IsCopy, IsSound}
 use Rattle.lvm_session.specs.State.{Core, State}
 use Rattle.lvm_session.specs.Turns.{FinishMakes, Finishes, Makes, Moves, NoStart, OnMakes, TurnMakes, WasDark, WasOff, WasOn}
-use Rattle.lvm_turn_losses.specs.Marks.{is_marked}
-use Rattle.lvm_turn_losses.proofs.MarksLemmas.Reviewing.{reviewed}
+use Rattle.lvm_ranges.specs.passed.Names.{is_marked}
+use Rattle.lvm_ranges.proofs.passed.Names.{reviewed}
 use Rattle.lvm_resync.specs.Passing.{IsSameCopy, Runs}
 
 -- no transfer of it is out, and it is stale by nothing

@@ -35,8 +35,8 @@ use Rattle.lvm_session.specs.Requests.{IsOpenOne}
 use Rattle.lvm_session.specs.Sound.{IsGoing, IsOn, IsSound, count_if, has_number, is_dark, is_hand}
 use Rattle.lvm_keeps.proofs.Lists.{count_cons}
 use Rattle.lvm_keeps.proofs.VotesLemmas.{enough_more, more_votes}
-use Rattle.lvm_keeps_events.proofs.KeepsFallsLemmas.Standing.{never_stands_still}
-use Rattle.lvm_driver.specs.Drains.{IsDrained}
+use Rattle.lvm_ranges.proofs.passed.Names.{never_stands_still}
+use Rattle.lvm_ranges.specs.passed.Names.{IsDrained}
 use Rattle.lvm_resync.specs.Passing.{Runs}
 
 -- where no transfer is out none is owned

@@ -26,17 +26,9 @@ use Rattle.lvm_session.specs.Causes.{fails_on, is_held_stale, is_over}
 use Rattle.lvm_session.specs.Judging.{is_missing, is_running, is_settled, is_stale, is_wanted_stale}
 use Rattle.lvm_session.specs.Sound.{IsSound}
 use Rattle.lvm_session.specs.State.{Core, State, state}
-use Rattle.lvm_calls.specs.Opening.{counts_seen}
+use Rattle.lvm_ranges.specs.passed.Names.{counts_seen, MarksFor, has_failed_on, is_lasting, is_marked, is_open_at, IsTurn}
 use Rattle.lvm_keeps.proofs.KeepsLemmas.Close.{close_keeps}
-use Rattle.lvm_keeps_events.proofs.JudgingLemmas.DuesMarks.{own_pp, pp_same}
-use Rattle.lvm_keeps_calls.proofs.OpeningLemmas.Opening.{seen_open_keeps}
-use Rattle.lvm_keeps_turn.proofs.TurningLemmas.{turn_keeps}
-use Rattle.lvm_keeps_turn.proofs.CountsLemmas.{turn_counts}
-use Rattle.lvm_turn_losses.specs.Marks.{MarksFor, has_failed_on, is_lasting, is_marked, is_open_at}
-use Rattle.lvm_turn_losses.proofs.MarksLemmas.Turning.{turn_marks}
-use Rattle.lvm_running.proofs.LawsLemmas.Running.{stays_unstuck}
-use Rattle.lvm_running.proofs.RunningLemmas.Shapes.{turn_goes}
-use Rattle.lvm_driver.specs.Drains.{IsTurn}
+use Rattle.lvm_ranges.proofs.passed.Names.{own_pp, pp_same, seen_open_keeps, turn_keeps, turn_counts, turn_marks, stays_unstuck, turn_goes}
 use Rattle.lvm_resync.specs.declared.copies.Passed.TheVariants as passed
 use Rattle.lvm_resync.specs.declared.fault.SyncFault.{SyncFault}
 use Rattle.lvm_resync.specs.declared.tally.Tally.{Tally}

@@ -19,9 +19,8 @@ use Rattle.lvm_kept.specs.Contents.{contents_of, data_at, descriptor_on, note_on
 use Rattle.lvm_kept.specs.Plans.{ChangesBy}
 use Rattle.lvm_kept.specs.Torn.{IsOutside}
 use Rattle.lvm_kept.proofs.TornLemmas.Records.{newest_stays}
-use Rattle.lvm_commit.specs.LawsOfFinding.{FindsNothingNew}
-use Rattle.lvm_commit.proofs.LawsOfFindingLemmas.NoMore.{rest_finds_nothing_new}
-use Rattle.lvm_commit.proofs.RecordLemmas.{status_fits}
+use Rattle.lvm_tie.specs.passed.Names.{FindsNothingNew}
+use Rattle.lvm_tie.proofs.passed.Names.{rest_finds_nothing_new, status_fits, writes_at, reads_none}
 use Rattle.lvm_rec.specs.Homes.{next_slot, second_slots}
 use Rattle.lvm_path.specs.declared.target.Target.{Target}
 use Rattle.lvm_path.specs.Asks.{at_of}
@@ -39,9 +38,7 @@ use Rattle.lvm_session.specs.Requests.{IsOpenOne, IsTarget}
 use Rattle.lvm_session.specs.State.{State}
 use Rattle.lvm_session.specs.Turns.{FinishMakes, Finishes, Makes, Moves, NoStart, OnMakes, TurnMakes, WasDark, WasOff, WasOn}
 use Rattle.lvm_session.specs.Sound.{IsSound}
-use Rattle.lvm_keeps.proofs.Lists.{all_at}
-use Rattle.lvm_tie_shelf.proofs.DeviceLemmas.{writes_at}
-use Rattle.lvm_tie_shelf.proofs.OwnedLemmas.{reads_none}
+use Rattle.lvm_keeps_turn.proofs.passed.Names.{all_at}
 use Rattle.lvm_tie.specs.Spares.{LeavesDescriptors}
 use Rattle.lvm_tie.specs.Stamps.{AreValid}
 use Rattle.lvm_tie.proofs.LandingsLemmas.Causes.{waits_unless}

@@ -8,8 +8,8 @@ use Rattle.lvm_num.specs.declared.place.Pp.{Pp}
 use Rattle.lvm_num.specs.declared.descriptor.Mode.TheVariants as mode
 use Rattle.lvm_num.specs.Status.{calls_stale}
 use Rattle.lvm_kept.specs.Examples.{mirror}
-use Rattle.lvm_vol.specs.Facts.{Begun}
-use Rattle.lvm_sched.specs.declared.writes.TargetState.TheVariants as stage
+use Rattle.lvm_kept.specs.passed.Names.{Begun}
+use Rattle.lvm_path.specs.passed.SchedWritesTargetState as stage
 use Rattle.lvm_path.specs.declared.target.Target.{Target}
 use Rattle.lvm_path.specs.declared.request.Phase.TheVariants as phase
 use Rattle.lvm_session.specs.declared.flown.Owner.TheVariants as owner

@@ -29,8 +29,7 @@ use Rattle.lvm_kept.proofs.CommittedLemmas.Finding.{some_same}
 use Rattle.lvm_kept.specs.Kept.{Kept}
 use Rattle.lvm_kept.specs.Moments.{Calm}
 use Rattle.lvm_stamps.specs.Behind.{StampsBefore}
-use Rattle.lvm_write.specs.Homes.{SparesNewest}
-use Rattle.lvm_commit.specs.Committed.{ShowsCommitted, HoldsCommitted}
+use Rattle.lvm_core.specs.passed.Names.{SparesNewest, ShowsCommitted, HoldsCommitted}
 use Rattle.lvm_mwc.specs.Cache.{Cached, has_disk, no_notes}
 use Rattle.lvm_mwc.specs.declared.notes.DiskNotes.{DiskNotes}
 use Rattle.lvm_session.specs.State.{Core, state, is_there}

@@ -26,7 +26,7 @@ use Rattle.lvm_session.specs.Requests.{IsLanded}
 use Rattle.lvm_session.specs.Sound.{IsLit, IsSound, is_dark, waits}
 use Rattle.lvm_session.specs.State.{Core, State, state}
 use Rattle.lvm_status.specs.Members.{HasItsRows}
-use Rattle.lvm_core.specs.Sound.{HaveAllLanded}
+use Rattle.lvm_quiesce.specs.passed.Names.{HaveAllLanded}
 use Rattle.lvm_tie_copies.specs.passed.Tie.{IsGood, moment_of}
 use Rattle.lvm_tie_copies.specs.passed.Running.{IsBefore, LeavesSession}
 use Rattle.lvm_quiesce.specs.Behind.{IsAheadEach}

@@ -1,9 +1,8 @@
 -- A clock that rises.
 use Rattle.std.proofs.Common.{◌≡◌, inl, inr, ℕ, ◌+◌, ◌-◌, ◌^◌, ◌<◌, ◌≤◌, List, map, [], ◌∷◌, subst, arith}
 use Rattle.std.proofs.lemmas.Bool.{cases_lt}
-use Rattle.lvm_vol.specs.declared.entry.Vol.TheVariants.{Disk}
-use Rattle.lvm_vol.specs.Facts.{On, Removed, Cut}
-use Rattle.lvm_vol.specs.Legal.{IsLater}
+use Rattle.lvm_kept.specs.passed.VolEntryVol.{Disk}
+use Rattle.lvm_kept.specs.passed.Names.{On, Removed, Cut, IsLater}
 use Rattle.lvm_stamps.specs.Behind.{IsBehind}
 use Rattle.lvm_stamps.specs.Laws.{LaterStaysAhead, RisenIsAhead, AllIsBehindNext, LaterIsLaterToo, LaterJoins, OnIsEarlier, RemovedStaysLater, JoinedIsLater}
 use Rattle.lvm_stamps.proofs.LawsLemmas.Stamps.{later_is_ahead_too}

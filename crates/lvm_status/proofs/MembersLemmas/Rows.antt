@@ -4,11 +4,7 @@ use Rattle.std.specs.Prelude.{◌==◌}
 use Rattle.std.specs.List.{list_any, list_all}
 use Rattle.std.proofs.lemmas.Bool.{eq-eqb, eqb-true, false≢true}
 use Rattle.std.proofs.lemmas.List.Folds.{Any-from_list_any, list_any_at, list_all_at}
-use Rattle.lvm_num.specs.declared.descriptor.PvRow.{PvRow}
-use Rattle.lvm_num.specs.declared.descriptor.Descriptor.{Descriptor}
-use Rattle.lvm_num.specs.declared.status.StatusRow.{StatusRow}
-use Rattle.lvm_num.specs.declared.status.Status.{Status}
-use Rattle.lvm_num.specs.Descriptor.{is_member}
+use Rattle.lvm_stale.specs.passed.Names.{PvRow, Descriptor, StatusRow, Status, is_member}
 use Rattle.lvm_stale.specs.Table.{has_row}
 use Rattle.lvm_status.specs.Members.{HasItsRows, all_rows, all_members}
 use Rattle.lvm_status.proofs.Disks.{bool_tells, no_is_false}

@@ -4,12 +4,7 @@ use Rattle.std.specs.Prelude.{◌==◌, if◌then◌else◌, nat_lt, unwrap_or}
 use Rattle.std.specs.List.{list_any}
 use Rattle.std.proofs.lemmas.Bool.{eq-eqb, eqb-true, false≢true, cases_lt, cases_eq, lt-ltb, or_right, or_parts}
 use Rattle.std.proofs.lemmas.Bool.Decides.{nat_tests}
-use Rattle.lvm_num.specs.declared.place.Pp.{Pp}
-use Rattle.lvm_num.specs.declared.record.Stamp.{Stamp}
-use Rattle.lvm_num.specs.declared.status.Status.{Status}
-use Rattle.lvm_num.specs.Descriptor.{is_member, is_pp}
-use Rattle.lvm_num.specs.Record.{stamp_lt}
-use Rattle.lvm_num.specs.Status.{calls_stale, calls_missing}
+use Rattle.lvm_stale.specs.passed.Names.{Pp, Stamp, Status, is_member, is_pp, stamp_lt, calls_stale, calls_missing}
 use Rattle.lvm_status.specs.declared.change.Change.{Change}
 use Rattle.lvm_status.specs.declared.change.Change.TheVariants as change
 use Rattle.lvm_status.specs.Update.{Updates, no_disks, is_held, is_owed, is_settled_stale}

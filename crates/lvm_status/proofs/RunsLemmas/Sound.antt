@@ -6,14 +6,7 @@ use Rattle.std.proofs.lemmas.Bool.{eq-eqb, eqb-true, false≢true}
 use Rattle.std.proofs.lemmas.Bool.Decides.{nat_tests}
 use Rattle.std.proofs.lemmas.List.Folds.{Any-from_list_any, list_any_at}
 use Rattle.std.proofs.lemmas.List.Sums.{sum_by-cons}
-use Rattle.lvm_num.specs.declared.record.Stamp.{Stamp}
-use Rattle.lvm_num.specs.declared.descriptor.PvRow.{PvRow}
-use Rattle.lvm_num.specs.declared.descriptor.Descriptor.{Descriptor}
-use Rattle.lvm_num.specs.declared.status.Status.{Status}
-use Rattle.lvm_num.specs.Descriptor.{is_member}
-use Rattle.lvm_num.specs.Disks.{Disks}
-use Rattle.lvm_num.specs.Status.{calls_missing}
-use Rattle.lvm_num.specs.Votes.{votes_in, total_votes, is_enough_to_write}
+use Rattle.lvm_stale.specs.passed.Names.{Stamp, PvRow, Descriptor, Status, is_member, Disks, calls_missing, votes_in, total_votes, is_enough_to_write}
 use Rattle.lvm_stale.specs.Table.{SameMissing}
 use Rattle.lvm_status.specs.declared.change.Change.{Change}
 use Rattle.lvm_status.specs.declared.change.Change.TheVariants as change
@@ -21,12 +14,8 @@ use Rattle.lvm_status.specs.Update.{Updates, no_disks, with_disk, without_disk, 
 use Rattle.lvm_status.specs.Calls.{Changes, WantsAtEnd, given_up, closed, comes_held, with_wanted, with_update, with_start, with_end, with_commit}
 use Rattle.lvm_status.specs.Runs.{Want, Start, NextWrite, Ended, SetStamp, IsSoundStatus, FirstIsSound, StepsStaySound, RunsStaySound}
 use Rattle.lvm_status.proofs.Disks.{no_is_false}
-pub use Rattle.std.proofs.lemmas.Bool.{and_from as both}
-pub use Rattle.std.proofs.lemmas.Bool.{not-true as not_false}
-pub use Rattle.std.proofs.lemmas.Bool.{or_cases as or_tells}
-pub use Rattle.std.proofs.lemmas.Bool.{or_left}
-pub use Rattle.lvm_num.proofs.Booleans.{first_holds as and_left}
-pub use Rattle.lvm_num.proofs.Booleans.{second_holds as and_right}
+pub use Rattle.std.proofs.lemmas.Bool.{and_from as both, not-true as not_false, or_cases as or_tells, or_left}
+pub use Rattle.lvm_stale.proofs.passed.Names.{first_holds as and_left, second_holds as and_right}
 
 -- ---- tests
 

@@ -3,10 +3,7 @@ use Rattle.std.proofs.Common.{◌≡◌, ◌⊎◌, inl, ⊎_elim, ◌+◌, ◌<
 use Rattle.std.specs.List.{list_any}
 use Rattle.lvm_num.specs.Buffer.{Sector}
 use Rattle.lvm_num.specs.Geometry.{data_start}
-use Rattle.lvm_disk.specs.Device.{Media, Image, Flight, Device, IsCrashImage, image_of, MayLeave, written}
-use Rattle.lvm_disk.specs.Steps.{BothTold, Puts, PutsSome}
-use Rattle.lvm_disk.specs.Images.{LeavesNoMore, DiffersBy}
-use Rattle.lvm_disk.specs.Paths.{DeviceStep, Path}
+use Rattle.lvm_kept.specs.passed.Names.{Media, Image, Flight, Device, IsCrashImage, image_of, MayLeave, written, BothTold, Puts, PutsSome, LeavesNoMore, DiffersBy, DeviceStep, Path}
 use Rattle.lvm_vol.specs.declared.entry.Vol.TheVariants.{Disk}
 use Rattle.lvm_vol.specs.declared.entry.Outcome.{Outcome}
 use Rattle.lvm_vol.specs.declared.entry.Outcome.TheVariants as outcome
@@ -17,12 +14,11 @@ use Rattle.lvm_kept.specs.Kept.{RawAgrees, Kept}
 use Rattle.lvm_kept.specs.Moments.{Moment, Calm}
 use Rattle.lvm_kept.specs.Raw.{RawKept, raw_request, Carries, OnlyAdds, IsStill}
 use Rattle.lvm_kept.specs.Places.{SameRecords}
-use Rattle.lvm_kept.proofs.LegalLemmas.{stands_last, stands_first, any_more, any_last, lands_itself}
+use Rattle.lvm_kept.proofs.LegalLemmas.{stands_last, stands_first, any_more, any_last, lands_itself, first_landing, first_taking}
 use Rattle.lvm_kept.proofs.RawLemmas.Keeping.{either, begun_kept, done_kept, lost_kept, kept_closed, cut_calm}
 use Rattle.lvm_kept.proofs.RawLemmas.Carrying.{over_here}
 use Rattle.lvm_kept.proofs.PlacesLemmas.{descriptor-same}
 use Rattle.lvm_kept.proofs.MomentsLemmas.Spans.{at_moment, regroup, next_joined, from_before}
-use Rattle.lvm_kept.proofs.LegalLemmas.{first_landing, first_taking}
 use Rattle.lvm_steps.specs.Moments.{ImagesKept, Begins, Holds, Keeps}
 use Rattle.lvm_steps.specs.Entries.{IsDisk}
 use Rattle.lvm_steps.specs.Requests.{IsInNoGroup, StillShowsNone, IsOfData, StaysInNoGroup, answered, darkened, WriteDoneKeeps, WriteLostKeeps, WriteDarkKeeps, WriteStuckKeeps}

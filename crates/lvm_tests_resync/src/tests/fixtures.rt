@@ -15,8 +15,6 @@ ghost use Rattle.lvm_vol.specs.Log.{empty_log};
 
 use lvm_core::CommitFault;
 use lvm_disk::{Arrange, Shelf};
-use lvm_driver::laws::whole_groups_begin;
-use lvm_driver::{Closed, Driver};
 use lvm_faults::{Planned, names_disks};
 use lvm_history::History;
 use lvm_memory::MemShelf;
@@ -26,6 +24,7 @@ use lvm_num::{
 };
 use lvm_path::Ask;
 use lvm_rec::Homes;
+use lvm_resync::below::{Closed, Driver, whole_groups_begin};
 use lvm_resync::{SyncFault, sync_volume};
 use lvm_session::{AskFault, CopyFault, CopyState, Power, Taken, Turned};
 use lvm_session_start::{Room, take_parts};

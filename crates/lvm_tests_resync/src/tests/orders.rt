@@ -5,9 +5,9 @@ use crate::tests::fixtures::{
 };
 use lvm_core::CommitFault;
 use lvm_disk::{Arrange, Shelf};
-use lvm_driver::Driver;
 use lvm_faults::{Act, Planned};
 use lvm_num::Mode;
+use lvm_resync::below::Driver;
 use lvm_session::{CopyState, Taken};
 use std::process::Abort;
 

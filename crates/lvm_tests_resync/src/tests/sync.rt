@@ -4,8 +4,8 @@ use crate::tests::fixtures::{
     order, sync, turn, write, written,
 };
 use lvm_disk::{Arrange, Shelf};
-use lvm_driver::Driver;
 use lvm_faults::{Act, Planned};
+use lvm_resync::below::Driver;
 use lvm_resync::{SyncFault, sync_group, sync_partition, sync_volume};
 use lvm_session::Taken;
 use lvm_transfer::Patience;

@@ -30,7 +30,7 @@ use Rattle.lvm_session.specs.declared.answers.CopyFault.TheVariants as refusal
 use Rattle.lvm_session.specs.Calls.{Opens, aged, copy_at, copy_fault, faults_of, has_numbers, opened, refusal_at, refusal_when, refusal_in, refusal_on}
 use Rattle.lvm_session.specs.Ends.{with_step}
 use Rattle.lvm_session.specs.Sound.{IsSound}
-use Rattle.lvm_calls.proofs.LogLemmas.{below_next}
+use Rattle.lvm_keeps_events.proofs.passed.Names.{below_next}
 use Rattle.lvm_invariant.specs.State.{Held, ModelCopy, Queued, ModelState}
 use Rattle.lvm_invariant.specs.EnterStep.{entered}
 use Rattle.lvm_invariant.specs.Events.{EnterStep, Open as Opening, ModelStep}

@@ -46,10 +46,7 @@ use Rattle.lvm_session.specs.Turns.{Darkens, FinishMakes, Finishes, GoesOff, Mak
 use Rattle.lvm_session.specs.Causes.{AnyFailedSince, AreCaused, AreCounted, HasFailed, IsCaused, IsCounted, IsLandedFor, faults_at_first, is_blamed, was_usable}
 use Rattle.lvm_session.specs.Requests.{IsOpenOne}
 use Rattle.lvm_session.specs.Sound.{IsAsked, IsSound}
-use Rattle.lvm_keeps.proofs.KeepsLemmas.Landing.{landing_is_caused}
-use Rattle.lvm_keeps.proofs.Lists.{all_at, all_on, all_set}
-use Rattle.lvm_keeps.proofs.KeepsLemmas.Losing.{loss_is_caused}
-use Rattle.lvm_keeps.proofs.Small.{both, not_so}
+use Rattle.lvm_keeps_events.proofs.passed.Names.{landing_is_caused, all_at, all_on, all_set, loss_is_caused, both, not_so}
 use Rattle.lvm_keeps_events.proofs.EndsLemmas.CopyReadFail.{at_number, some_at}
 use Rattle.lvm_keeps_events.proofs.EndsLemmas.Counts.{rose_on, rose_since}
 use Rattle.lvm_keeps_events.proofs.RequestsLemmas.{waits}

@@ -18,7 +18,7 @@ use Rattle.lvm_session.specs.Bringing.{block_at, copy_ends, groups_of, has_row, 
 use Rattle.lvm_session.specs.Ends.{with_step}
 use Rattle.lvm_session.specs.Marks.{Reviews, is_entailed}
 use Rattle.lvm_session.specs.Sound.{IsSound}
-use Rattle.lvm_calls.proofs.LogLemmas.{below_next}
+use Rattle.lvm_keeps_events.proofs.passed.Names.{below_next}
 use Rattle.lvm_keeps_events.specs.EndsGroup.{EndsGroup}
 use Rattle.lvm_invariant.specs.State.{Held, Queued, ModelState}
 use Rattle.lvm_invariant.specs.EnterStep.{StepEnters, entered}

@@ -29,8 +29,8 @@ use Rattle.lvm_crash.specs.Session.{as_marks, marks_of, marks_shown, Describes}
 use Rattle.lvm_rest.specs.Rest.{IsAtRest, IsIdle, SeesThat}
 use Rattle.lvm_rest.proofs.GoodLemmas.Rest.{good_is_rest}
 use Rattle.lvm_steps.proofs.GroupLemmas.Members.{parts_of}
-use Rattle.lvm_commit.specs.Committed.{Began}
-use Rattle.lvm_tie_shelf.proofs.WritingLemmas.{and_both}
+use Rattle.lvm_tie.specs.passed.Names.{Began}
+use Rattle.lvm_tie.proofs.passed.Names.{and_both}
 use Rattle.lvm_tie.proofs.StateLemmas.{there_first}
 use Rattle.lvm_tie.proofs.TiedLemmas.Orderly.{valid_of}
 use Rattle.lvm_tie.proofs.TiedLemmas.Recorded.{shown_of, shows_own}

@@ -20,14 +20,9 @@ use Rattle.lvm_commit.specs.LawsOfVolumes.{IsOneByAllOn}
 use Rattle.lvm_session.specs.State.{Core, State, is_there, state}
 use Rattle.lvm_session.specs.Judging.{is_missing}
 use Rattle.lvm_session.specs.Sound.{IsSound}
-use Rattle.lvm_core.specs.Committing.{moment_of}
-use Rattle.lvm_core.specs.Held.{IsHeld, NotesAreHome}
-use Rattle.lvm_core.specs.Leaves.{EntersVolumes, IsOfCommand, Leaves, Scope}
-use Rattle.lvm_core.specs.Settled.{IsSettled}
-use Rattle.lvm_volume_plan.specs.declared.fault.GroupFault.{GroupFault}
-use Rattle.lvm_volume_plan.specs.Faults.{IfOn, is_over}
+use Rattle.lvm_handover.specs.passed.Names.{moment_of, IsHeld, NotesAreHome, EntersVolumes, IsOfCommand, Leaves, Scope, IsSettled, GroupFault, IfOn, is_over}
 use Rattle.lvm_handover.specs.passed.Volumes.{IfAlone, StillHeld}
-use Rattle.lvm_rest.specs.Rest.{IsEven}
+use Rattle.lvm_even.specs.passed.Names.{IsEven}
 use Rattle.lvm_even.specs.Even.{AreWanted}
 use Rattle.lvm_handover.specs.passed.Tie.{SparesDescriptors, IsTied}
 use Rattle.lvm_handover.specs.passed.TieBegins.{shown_to}

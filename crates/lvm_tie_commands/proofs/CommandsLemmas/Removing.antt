@@ -8,18 +8,13 @@ use Rattle.lvm_kept.specs.Moments.{Moment}
 use Rattle.lvm_steps.specs.Moments.{Keeps}
 use Rattle.lvm_commit.specs.LawsOfVolumes.{IsOneByAllOn}
 use Rattle.lvm_session.specs.State.{Core, State, is_there}
-use Rattle.lvm_core.specs.Committing.{moment_of}
-use Rattle.lvm_core.specs.Leaves.{EntersVolumes}
-use Rattle.lvm_core.specs.Settled.{IsSettled}
-use Rattle.lvm_volume_plan.specs.declared.fault.GroupFault.{GroupFault}
-use Rattle.lvm_volume_plan.specs.declared.fault.GroupFault.TheVariants as fault
-use Rattle.lvm_volume_plan.specs.NewVolume.{without_volume}
-use Rattle.lvm_volume_plan.specs.Faults.{IfOn}
+use Rattle.lvm_handover.specs.passed.Names.{moment_of, EntersVolumes, IsSettled, GroupFault, without_volume, IfOn}
+use Rattle.lvm_handover.specs.passed.VolumePlanFaultGroupFault as fault
 use Rattle.lvm_handover.specs.passed.Volumes.{StillHeld, RmlvGives, to_remove}
 use Rattle.lvm_handover.specs.Serving.{IsCommanded}
 use Rattle.lvm_even.proofs.EvenLemmas.Even.{rmlv_keeps_even}
 use Rattle.lvm_even.proofs.EvenLemmas.Off.{fewer_are_even}
-use Rattle.lvm_rest.specs.Rest.{IsEven}
+use Rattle.lvm_even.specs.passed.Names.{IsEven}
 use Rattle.lvm_handover.specs.passed.TieBegins.{shown_to}
 use Rattle.lvm_tie_commands.specs.Commands.{IsLeftStandingSince, MayBeCommanded, RmlvGoesOn}
 use Rattle.lvm_tie_commands.proofs.CommandsLemmas.Commands.{KeepsEven, is_alone, keeps_on, left_standing, on_all}

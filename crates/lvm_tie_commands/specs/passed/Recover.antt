@@ -1,2 +1,2 @@
 -- Passed on from `lvm_recover`.
-pub use Rattle.lvm_recover.specs.Recovered.{HasNoPassive}
+pub use Rattle.lvm_handover.specs.passed.Names.{HasNoPassive}

@@ -8,22 +8,14 @@ use Rattle.lvm_disk.specs.Device.{image_of}
 use Rattle.lvm_kept.specs.Contents.{contents_of}
 use Rattle.lvm_kept.specs.Moments.{Moment}
 use Rattle.lvm_steps.specs.Moments.{Keeps}
-use Rattle.lvm_commit.specs.LawsOfVolumes.{IsOneByAllOn}
+use Rattle.lvm_tie_commands.specs.passed.Names.{IsOneByAllOn, moment_of, NoPartition, IsSettled, GroupFault, IfOn}
 use Rattle.lvm_session.specs.State.{Core, State, is_there}
-use Rattle.lvm_core.specs.Committing.{moment_of}
-use Rattle.lvm_core.specs.Leaves.{NoPartition}
-use Rattle.lvm_core.specs.Settled.{IsSettled}
-use Rattle.lvm_volume_plan.specs.declared.fault.GroupFault.{GroupFault}
-use Rattle.lvm_volume_plan.specs.declared.fault.GroupFault.TheVariants as fault
-use Rattle.lvm_volume_plan.specs.Faults.{IfOn}
-use Rattle.lvm_volumes.specs.Endings.{StillHeld}
-use Rattle.lvm_copy_plan.specs.Copies.{first_copies, with_copies}
-use Rattle.lvm_copy_plan.specs.Faults.{MayBeTaken}
+use Rattle.lvm_tie_commands.specs.passed.VolumePlanFaultGroupFault as fault
+use Rattle.lvm_mirrors.specs.passed.Names.{StillHeld, first_copies, with_copies, MayBeTaken, IsEven}
 use Rattle.lvm_mirrors.specs.Mirrors.{AreTaken, IsWithFirst, RmlvcopyGives, to_take}
 use Rattle.lvm_mirrors.proofs.LawsLemmas.{first_are_even}
 use Rattle.lvm_tie_commands.specs.passed.Handover.{IsCommanded}
 use Rattle.lvm_tie_commands.proofs.passed.Even.{kept_even}
-use Rattle.lvm_rest.specs.Rest.{IsEven}
 use Rattle.lvm_tie_commands.specs.Commands.{IsLeftStandingSince, MayBeCommanded}
 use Rattle.lvm_tie_commands.proofs.CommandsLemmas.Commands.{KeepsEven, keeps_on, left_standing, on_all}
 use Rattle.lvm_tie_copies.specs.Copies.{KeepsShownIfTaken, RmlvcopyGoesOn}

@@ -11,12 +11,10 @@ use Rattle.lvm_kept.specs.Group.{IsOneOf}
 use Rattle.lvm_session.specs.State.{Core, State}
 use Rattle.lvm_session.specs.Judging.{copies_in}
 use Rattle.lvm_session.specs.Sound.{IsSound}
-use Rattle.lvm_core.specs.Leaves.{Leaves, NoPartition}
-use Rattle.lvm_core.specs.Settled.{IsSettled}
-use Rattle.lvm_volume_plan.specs.declared.fault.GroupFault.TheVariants as fault
-use Rattle.lvm_volumes.specs.Endings.{HasFresh, KeepsFresh, StillHeld}
-use Rattle.lvm_copy_plan.specs.Copies.{first_copies, with_copies}
-use Rattle.lvm_copy_plan.proofs.CopiesLemmas.Fewer as fewer
+use Rattle.lvm_tie_commands.specs.passed.Names.{Leaves, NoPartition, IsSettled}
+use Rattle.lvm_tie_commands.specs.passed.VolumePlanFaultGroupFault as fault
+use Rattle.lvm_mirrors.specs.passed.Names.{HasFresh, KeepsFresh, StillHeld, first_copies, with_copies}
+use Rattle.lvm_mirrors.proofs.passed.CopyPlanCopiesLemmasFewer as fewer
 use Rattle.lvm_mirrors.specs.Mirrors.{AreTaken, IsWithFirst, to_take}
 use Rattle.lvm_tie_commands.proofs.passed.Handover.{found, had_fresh, its_row, may_serve}
 use Rattle.lvm_tie_copies.specs.Serving.{MayServeWith, RmlvcopyServes}

@@ -13,15 +13,12 @@ use Rattle.lvm_session.specs.State.{Core, State, is_there}
 use Rattle.lvm_session.specs.Judging.{copies_in}
 use Rattle.lvm_session.specs.Marks.{is_among}
 use Rattle.lvm_session.specs.Sound.{IsSound}
-use Rattle.lvm_core.specs.Leaves.{Leaves, NoPartition}
-use Rattle.lvm_core.specs.Settled.{IsSettled}
+use Rattle.lvm_tie_commands.specs.passed.Names.{Leaves, NoPartition, IsSettled}
 use Rattle.lvm_next.proofs.NextLemmas.{copy_is_placed, is_member_of}
-use Rattle.lvm_rest.proofs.Rows.{row_is_volume}
-use Rattle.lvm_volume_plan.specs.declared.fault.GroupFault.TheVariants as fault
-use Rattle.lvm_volumes.specs.Endings.{HasFresh, KeepsFresh, StillHeld}
-use Rattle.lvm_copy_plan.specs.Copies.{further_copies, with_copies, with_map}
-use Rattle.lvm_copy_plan.specs.Faults.{HasFurtherPlaces}
-use Rattle.lvm_copy_plan.proofs.CopiesLemmas.More as more
+use Rattle.lvm_mirrors.proofs.passed.Names.{row_is_volume}
+use Rattle.lvm_tie_commands.specs.passed.VolumePlanFaultGroupFault as fault
+use Rattle.lvm_mirrors.specs.passed.Names.{HasFresh, KeepsFresh, StillHeld, further_copies, with_copies, with_map, HasFurtherPlaces}
+use Rattle.lvm_mirrors.proofs.passed.CopyPlanCopiesLemmasMore as more
 use Rattle.lvm_mirrors.specs.Mirrors.{AreAdded, IsFurther, IsWithMore, to_add}
 use Rattle.lvm_tie_commands.proofs.passed.Handover.{copies_at, found, had_fresh, its_row, may_serve, refused_serves}
 use Rattle.lvm_tie_copies.specs.Serving.{MayServeWith, MklvcopyServes}

@@ -20,8 +20,8 @@ use Rattle.lvm_commit.specs.Committed.{HoldsCommitted}
 use Rattle.lvm_commit.specs.LawsOfVolumes.{IsOneByAllOn}
 use Rattle.lvm_commit.proofs.LawsOfDataLemmas.Still.{still_image}
 use Rattle.lvm_session.specs.State.{Core, State, is_there}
-use Rattle.lvm_begin.specs.Beginning.{Beginning, IsOfParts, Part, TheDescriptor, TheNotes, TheStatus, new_order}
-use Rattle.lvm_core.specs.declared.parts.Room.{Room}
+use Rattle.lvm_varyon.specs.passed.Names.{Beginning, IsOfParts, Part, TheDescriptor, TheNotes, TheStatus, new_order}
+use Rattle.lvm_settled.specs.passed.Names.{Room}
 use Rattle.lvm_group.specs.Made.{IsMade, beginning_for}
 use Rattle.lvm_group.specs.passed.GroupPlan.{NewGroup, among, new_group, size_for}
 use Rattle.lvm_group.specs.Shown.{HasGroup}

@@ -39,18 +39,14 @@ use Rattle.lvm_keeps.proofs.SoundLemmas.Telling.{open_still}
 use Rattle.lvm_session.specs.Placed.{ArePlaced}
 use Rattle.lvm_session.specs.Causes.{faults_at_first}
 use Rattle.lvm_session.specs.Sound.{IsFitting, IsSound, is_dark}
-use Rattle.lvm_core.specs.declared.parts.Room.{Room}
-use Rattle.lvm_core.specs.Held.{NotesAreHome}
-use Rattle.lvm_core.proofs.CacheLemmas.{empty_names_none}
+use Rattle.lvm_settled.specs.passed.Names.{Room, NotesAreHome, HaveAllLanded, IsFittingBetween, IsRoom, room_of}
+use Rattle.lvm_settled.proofs.passed.Names.{empty_names_none}
 use Rattle.lvm_mwc.specs.Cache.{is_named as is_named_by}
 use Rattle.lvm_kept.proofs.CommittedLemmas.Finding.{images_within}
-use Rattle.lvm_recover.proofs.KeepingLemmas.Equalling.{quiet_is_even}
-use Rattle.lvm_core.specs.Sound.{HaveAllLanded, IsFittingBetween}
-use Rattle.lvm_core.specs.Starting.{IsRoom, room_of}
+use Rattle.lvm_varyon.proofs.passed.Names.{quiet_is_even}
 use Rattle.lvm_group.specs.passed.GroupPlan.{given_up, new_group, new_status}
-use Rattle.lvm_rest.specs.Rest.{NoneIsBehind}
-use Rattle.lvm_rest.proofs.MarkingLemmas.{none_is_left_behind}
-use Rattle.lvm_tie.specs.Tied.{IsGood, moment_of}
+use Rattle.lvm_tie_begins.specs.passed.Names.{NoneIsBehind, IsGood, moment_of}
+use Rattle.lvm_tie_begins.proofs.passed.Names.{none_is_left_behind}
 use Rattle.lvm_tie_begins.specs.Begins.{BeginsSound, StandsAtRest, Start, begun, shown_to}
 use Rattle.lvm_tie_begins.proofs.BeginsLemmas.Beginning.{begins_good}
 use Rattle.lvm_tie_groups.specs.Coming.{IsBegun, IsDriven, IsMadeEven, LeadsTo, MadeServes, VariedIsMadeEven, VariedOnServes}

@@ -27,13 +27,10 @@ use Rattle.lvm_session.specs.Dark.{hand_of_copy}
 use Rattle.lvm_session.specs.Owners.{AreRows}
 use Rattle.lvm_session.specs.Placed.{ArePlaced}
 use Rattle.lvm_session.specs.Sound.{IsOn, IsSound, count_if, has_number, hands_with, is_dark, is_hand, out_with, waits}
-use Rattle.lvm_core.specs.Sound.{HaveAllLanded, IsFittingBetween, IsQuiet, IsSoundBetween}
-use Rattle.lvm_core.specs.Settled.{IsSettled}
+use Rattle.lvm_settled.specs.passed.Names.{HaveAllLanded, IsFittingBetween, IsQuiet, IsSoundBetween, IsSettled}
 use Rattle.lvm_settled.specs.Settled.{IsKnown}
-use Rattle.lvm_tie.specs.Seen.{update_of}
-use Rattle.lvm_tie.specs.Spares.{SparesOn}
-use Rattle.lvm_tie.specs.Tied.{IsTied, moment_of}
-use Rattle.lvm_tie.proofs.TiedLemmas.Tied.{tied_matches}
+use Rattle.lvm_tie_begins.specs.passed.Names.{update_of, SparesOn, IsTied, moment_of}
+use Rattle.lvm_tie_begins.proofs.passed.Names.{tied_matches}
 use Rattle.lvm_tie_begins.specs.Begins.{IsRested, IsResting, ShowsIts}
 use Rattle.lvm_tie_begins.proofs.BeginsLemmas.Rested.{tied_rests}
 use Rattle.lvm_tie_groups.specs.Settled.{IsSettledAfter, MayBeLeft, MayServe, TiedHolds, TiedSettles}

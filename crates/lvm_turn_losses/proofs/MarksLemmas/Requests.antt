@@ -16,7 +16,7 @@ use Rattle.lvm_session.specs.Causes.{fails_on}
 use Rattle.lvm_session.specs.Dark.{ended_as}
 use Rattle.lvm_session.specs.Events.{Chooses, ChoosesBy, target_at}
 use Rattle.lvm_session.specs.State.{State}
-use Rattle.lvm_keeps.proofs.Small.{both, not_so}
+use Rattle.lvm_keeps_events.proofs.passed.Names.{both, not_so}
 use Rattle.lvm_keeps_events.proofs.TargetsLemmas.{at_state}
 use Rattle.lvm_keeps_events.proofs.Lists.{any_at, either, set_either}
 

@@ -14,7 +14,7 @@ use Rattle.lvm_session.specs.State.{Core}
 use Rattle.lvm_session.specs.Judging.{is_missing, is_running}
 use Rattle.lvm_session.specs.Bringing.{after_copy_end, copy_ends, end_by_sources, end_of, ends_if, is_cleared, is_done_end, is_whole, marked_by_end, with_end}
 use Rattle.lvm_session.specs.Marks.{Reviews, is_entailed}
-use Rattle.lvm_keeps.proofs.Small.{both, not_so}
+use Rattle.lvm_keeps_events.proofs.passed.Names.{both, not_so}
 use Rattle.lvm_keeps_events.proofs.JudgingLemmas.DuesMarks.{pp_same}
 use Rattle.lvm_keeps_events.proofs.JudgingLemmas.Review.{left_behind}
 use Rattle.lvm_turn_losses.specs.Marks.{has_failed_on, is_lasting, is_marked}

@@ -6,10 +6,8 @@ use Rattle.lvm_num.specs.Record.{longest_content}
 use Rattle.lvm_disk.specs.Device.{Device}
 use Rattle.lvm_survey.specs.declared.row.Survey.{Survey}
 use Rattle.lvm_survey.specs.Surveyed.{surveyed}
-use Rattle.lvm_core.specs.declared.parts.Room.{Room}
-use Rattle.lvm_core.proofs.RecordLemmas.{descriptor_fits}
-use Rattle.lvm_recovery.proofs.EndingLemmas.Ending.{planned_may_be_made}
-use Rattle.lvm_recovery.proofs.PlannedLemmas.{planned_are_apart}
+use Rattle.lvm_varyon_plan.specs.passed.Names.{Room}
+use Rattle.lvm_varyon_plan.proofs.passed.Names.{descriptor_fits, planned_may_be_made, planned_are_apart}
 use Rattle.lvm_varyon_plan.specs.declared.plan.Plan.{Plan}
 use Rattle.lvm_varyon.specs.Equal.{MayWritePlan}
 use Rattle.lvm_varyon_plan.specs.Planned.{IsPlan}

@@ -20,15 +20,9 @@ use Rattle.lvm_rec.specs.declared.homes.Homes.{Homes}
 use Rattle.lvm_write.specs.Homes.{SparesNewest}
 use Rattle.lvm_status.specs.Update.{Updates}
 use Rattle.lvm_mwc.specs.Cache.{is_named as is_named_by}
-use Rattle.lvm_commit.specs.Committed.{next_stamp, ShowsCommitted, HoldsCommitted}
-use Rattle.lvm_session.specs.State.{Core, is_there}
-use Rattle.lvm_session_start.specs.declared.parts.Parts.{Parts}
-use Rattle.lvm_session_start.specs.Beginning.{first_core}
-use Rattle.lvm_core.specs.declared.parts.Room.{Room}
-use Rattle.lvm_core.specs.Held.{NotesAreHome}
-use Rattle.lvm_core.proofs.CacheLemmas.{empty_names_none}
+use Rattle.lvm_varyon_plan.specs.passed.Names.{next_stamp, ShowsCommitted, HoldsCommitted, Core, is_there, Parts, first_core, Room, NotesAreHome, HasNoPassive}
+use Rattle.lvm_varyon_plan.proofs.passed.Names.{empty_names_none}
 use Rattle.lvm_next.specs.Restated.{Restated}
-use Rattle.lvm_recover.specs.Recovered.{HasNoPassive}
 use Rattle.lvm_varyon_plan.specs.Chosen.{answering}
 use Rattle.lvm_varyon.specs.Equal.{MakesEqual}
 use Rattle.lvm_varyon.specs.Found.{HaveAnswered}

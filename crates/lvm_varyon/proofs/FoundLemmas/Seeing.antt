@@ -21,7 +21,7 @@ use Rattle.lvm_write.specs.Written.{HasRoom}
 use Rattle.lvm_survey.specs.declared.row.SurveyRow.{SurveyRow}
 use Rattle.lvm_survey.specs.declared.row.Survey.{Survey}
 use Rattle.lvm_survey.specs.Surveyed.{surveyed, IsEmpty, IsRead}
-use Rattle.lvm_area.specs.Reading.{under}
+use Rattle.lvm_survey.specs.passed.Names.{under}
 use Rattle.lvm_varyon.specs.Found.{HaveAnswered, records_on, Found}
 use Rattle.lvm_varyon.specs.Parts.{IsSurveyOf}
 

@@ -22,16 +22,11 @@ use Rattle.lvm_write.specs.Homes.{SparesNewest}
 use Rattle.lvm_survey.specs.declared.row.Survey.{Survey}
 use Rattle.lvm_survey.specs.Surveyed.{surveyed}
 use Rattle.lvm_transfer.specs.Reading.{IsUnwritten, IsCutOff}
-use Rattle.lvm_core.specs.declared.parts.Room.{Room}
-use Rattle.lvm_core.specs.declared.refused.Cause.{Cause}
-use Rattle.lvm_core.specs.declared.refused.Cause.TheVariants as cause
+use Rattle.lvm_varyon_plan.specs.passed.Names.{Room, Cause, Recopy, IsOfCopies, sources_and_targets, ArePlannedInOrder, ArePlanned}
+use Rattle.lvm_varyon_plan.specs.passed.CoreRefusedCause as cause
 use Rattle.lvm_begin.specs.Beginning.{Beginning, Part, again_beginning, IsOfParts, MayBeginAgain}
 use Rattle.lvm_begin.proofs.ShownLemmas.Following.{stamps_are_of_beginning}
 use Rattle.lvm_next.specs.Next.{IsNextStatus}
-use Rattle.lvm_recovery.specs.declared.copying.Recopy.{Recopy}
-use Rattle.lvm_recovery.specs.Copying.{IsOfCopies, sources_and_targets}
-use Rattle.lvm_recovery.specs.Plan.{ArePlannedInOrder}
-use Rattle.lvm_recovery.specs.Planned.{ArePlanned}
 use Rattle.lvm_varyon_plan.specs.declared.plan.Plan.{Plan}
 use Rattle.lvm_varyon_plan.specs.Chosen.{answering}
 use Rattle.lvm_varyon.specs.Equal.{AllWritesGive, BrokeOff, IsEqualled, OneFailed}

@@ -20,20 +20,11 @@ use Rattle.lvm_steps.proofs.MomentsLemmas.Spans.{keeps_still, steps_go_on, group
 use Rattle.lvm_stamps.specs.Behind.{ClockIsAhead}
 use Rattle.lvm_status.specs.Update.{Updates, members_there}
 use Rattle.lvm_rec.specs.declared.homes.Homes.{Homes}
-use Rattle.lvm_core.specs.declared.parts.Room.{Room}
-use Rattle.lvm_core.specs.declared.refused.Cause.{Cause}
-use Rattle.lvm_core.specs.declared.refused.Cause.TheVariants as cause
-use Rattle.lvm_commit.specs.Committed.{HoldsCommitted}
-use Rattle.lvm_commit.specs.Settling.{NoneIsLeft}
-use Rattle.lvm_core.specs.Held.{NotesAreHome, StartsHeld}
-use Rattle.lvm_core.specs.Settled.{IsSettled, HasSpareNumbers}
-use Rattle.lvm_core.proofs.SoundLemmas.Settling.{starts_settled, starts_numbered}
-use Rattle.lvm_session_start.specs.declared.parts.Parts.{Parts}
-use Rattle.lvm_session_start.specs.Beginning.{first_core}
-use Rattle.lvm_session.specs.State.{Core, is_there}
+use Rattle.lvm_varyon_plan.specs.passed.Names.{Room, Cause, HoldsCommitted, NoneIsLeft, NotesAreHome, StartsHeld, IsSettled, HasSpareNumbers, Parts, first_core, Core, is_there, HasNoPassive}
+use Rattle.lvm_varyon_plan.specs.passed.CoreRefusedCause as cause
+use Rattle.lvm_varyon_plan.proofs.passed.Names.{starts_settled, starts_numbered}
 use Rattle.lvm_varyon.specs.Varied.{IsRecovered, ComesOn, IsRestated, IsAheadOfDisks, IsBrought, last_stamp, log_after}
 use Rattle.lvm_varyon_plan.specs.Chosen.{answering}
-use Rattle.lvm_recover.specs.Recovered.{HasNoPassive}
 use Rattle.lvm_varyon.proofs.SettlingLemmas.{next_leaves_none}
 use Rattle.lvm_varyon.proofs.FoundLemmas.Seeing.{if_told}
 use Rattle.lvm_varyon.proofs.FoundLemmas.Holding.{holds, notes_home, recovers, restated, shows_recovered, was_told}

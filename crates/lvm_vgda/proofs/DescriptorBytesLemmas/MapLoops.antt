@@ -12,9 +12,8 @@ use Rattle.lvm_num.specs.declared.descriptor.LvRow.{LvRow}
 use Rattle.lvm_num.specs.Descriptor.{partitions_in}
 use Rattle.lvm_num.specs.DescriptorBytes.{unfinished, partition_at, partitions_at, maps_at}
 use Rattle.lvm_num.specs.Reading.{◌>>=◌, Rest, number_at}
-use Rattle.lvm_fields.specs.declared.fault.Fault.{Fault}
-use Rattle.lvm_fields.specs.declared.fault.Fault.TheVariants as faults
-use Rattle.lvm_fields.specs.Reading.{Fails}
+use Rattle.lvm_descriptor.specs.passed.Names.{Fault, Fails}
+use Rattle.lvm_descriptor.specs.passed.FieldsFaultFault as faults
 use Rattle.lvm_vgda.specs.Used.{free_at}
 
 -- a step that fails, and one that goes on

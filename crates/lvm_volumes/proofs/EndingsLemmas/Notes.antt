@@ -18,12 +18,8 @@ use Rattle.lvm_kept.proofs.PlacesLemmas.{note-same}
 use Rattle.lvm_kept.proofs.TornLemmas.Records.{slot-above}
 use Rattle.lvm_mwc.specs.Cache.{Cached, is_named as is_named_by}
 use Rattle.lvm_status.specs.Update.{Stored}
-use Rattle.lvm_write.specs.Written.{KeepsShelf}
-use Rattle.lvm_commit.specs.Settling.{IsOfStatus, IsOfCommit}
+use Rattle.lvm_volume_plan.specs.passed.Names.{KeepsShelf, IsOfStatus, IsOfCommit, NotesAreHome, AreNotesHome, IsZeroOf, IsOfCommand}
 use Rattle.lvm_session.specs.State.{State, is_there}
-use Rattle.lvm_core.specs.Held.{NotesAreHome, AreNotesHome}
-use Rattle.lvm_core.specs.Zeros.{IsZeroOf}
-use Rattle.lvm_core.specs.Leaves.{IsOfCommand}
 use Rattle.lvm_volumes.proofs.Leaving.{there_before}
 
 -- ---- nothing comes to a note

@@ -4,16 +4,12 @@ use Rattle.std.specs.Prelude.{IsTrue}
 use Rattle.lvm_num.specs.declared.descriptor.Descriptor.{Descriptor}
 use Rattle.lvm_vol.specs.Log.{Log, cut_log}
 use Rattle.lvm_status.specs.Update.{members_there}
-use Rattle.lvm_write.proofs.PartsLemmas.Transfers.{darkened_then, given_up_then}
-use Rattle.lvm_core.specs.declared.fault.CommitFault.{CommitFault}
-use Rattle.lvm_core.specs.declared.fault.CommitFault.TheVariants as commit
+use Rattle.lvm_volume_plan.proofs.passed.Names.{darkened_then, given_up_then, cut_core, dark_is}
+use Rattle.lvm_volume_plan.specs.passed.Names.{CommitFault, IsSettled, HasGoneDark, RecordsEnd, with_one_out, Scope, Leaves}
+use Rattle.lvm_volume_plan.specs.passed.CoreFaultCommitFault as commit
 use Rattle.lvm_session.specs.declared.open.Power.TheVariants as power
 use Rattle.lvm_session.specs.Dark.{all_dark}
 use Rattle.lvm_session.specs.State.{Core, State}
-use Rattle.lvm_core.specs.Settled.{IsSettled}
-use Rattle.lvm_core.specs.Committing.{HasGoneDark, RecordsEnd, with_one_out}
-use Rattle.lvm_core.specs.Leaves.{Scope, Leaves}
-use Rattle.lvm_core.proofs.SoundLemmas.Dark.{cut_core, dark_is}
 use Rattle.lvm_volume_plan.specs.Faults.{IfOn, fault_of}
 use Rattle.lvm_volumes.specs.Stages.{CommandBroke}
 use Rattle.lvm_volumes.proofs.Leaving.{rose_from, there_before}

@@ -13,15 +13,10 @@ use Rattle.lvm_vol.specs.Log.{Log}
 use Rattle.lvm_map.specs.FirstFit.{has_partition_on}
 use Rattle.lvm_steps.proofs.RecordLemmas.{either}
 use Rattle.lvm_status.specs.Update.{members_there}
-use Rattle.lvm_commit.specs.LawsOfData.{IsFree}
-use Rattle.lvm_commit.proofs.AmongLemmas.{one_place}
-use Rattle.lvm_commit.specs.Settling.{NoneIsLeft}
-use Rattle.lvm_core.specs.declared.fault.CommitFault.{CommitFault}
-use Rattle.lvm_core.specs.declared.fault.CommitFault.TheVariants as commit
+use Rattle.lvm_volume_plan.specs.passed.Names.{IsFree, NoneIsLeft, CommitFault, IsSettled, is_among, Restates, HasStated, RecordsEnd, MarkEnds, NoDescriptor, Leaves, marking}
+use Rattle.lvm_volume_plan.proofs.passed.Names.{one_place}
+use Rattle.lvm_volume_plan.specs.passed.CoreFaultCommitFault as commit
 use Rattle.lvm_session.specs.State.{Core, State, is_there}
-use Rattle.lvm_core.specs.Settled.{IsSettled}
-use Rattle.lvm_core.specs.Committing.{is_among, Restates, HasStated, RecordsEnd, MarkEnds}
-use Rattle.lvm_core.specs.Leaves.{NoDescriptor, Leaves, marking}
 use Rattle.lvm_volumes.specs.Endings.{StillHeld, KeepsFresh, commanding}
 use Rattle.lvm_volumes.specs.Stages.{AreUnusedOn, IsLowestMissing, CommandBroke, DiskFailsFirst, ZerosEnd, ClearEnds}
 use Rattle.lvm_volumes.specs.Volumes.{AreZeroed}

@@ -17,20 +17,10 @@ use Rattle.lvm_kept.specs.Contents.{contents_of}
 use Rattle.lvm_kept.specs.Moments.{Moment}
 use Rattle.lvm_steps.specs.Entering.{OpensNone}
 use Rattle.lvm_steps.proofs.EnteringLemmas.{calm_goes_on}
-use Rattle.lvm_write.proofs.PartsLemmas.Transfers.{keeps_here, spends_none}
-use Rattle.lvm_commit.specs.Committed.{HoldsCommitted, ShowsCommitted}
-use Rattle.lvm_commit.specs.LawsOfVolumes.{IsOnlyGroupSince, LeavesCommitted}
-use Rattle.lvm_commit.specs.Settling.{many_there, NoneIsLeft, MarksLeft}
-use Rattle.lvm_commit.proofs.LawsOfDataLemmas.Still.{still_holds_committed}
+use Rattle.lvm_volume_plan.proofs.passed.Names.{keeps_here, spends_none, still_holds_committed, keeps_fact, same_status}
+use Rattle.lvm_volume_plan.specs.passed.Names.{HoldsCommitted, ShowsCommitted, IsOnlyGroupSince, LeavesCommitted, many_there, NoneIsLeft, MarksLeft, IsHeld, IsSettled, HasSpareNumbers, moment_of, LetsCommit, HasStated, CommitEnds, CommitFault, NoPartition, IsHeldSince, IsOfCommand, Leaves, committing, IsOfVolume}
 use Rattle.lvm_session.specs.State.{Core, State, is_there}
-use Rattle.lvm_core.specs.Held.{IsHeld}
-use Rattle.lvm_core.specs.Settled.{IsSettled, HasSpareNumbers}
-use Rattle.lvm_core.specs.Committing.{moment_of, LetsCommit, HasStated, CommitEnds}
 use Rattle.lvm_steps.specs.Moments.{SpanGoesOn}
-use Rattle.lvm_core.specs.declared.fault.CommitFault.{CommitFault}
-use Rattle.lvm_core.specs.Leaves.{NoPartition, IsHeldSince, IsOfCommand, Leaves, committing}
-use Rattle.lvm_core.specs.Entering.{IsOfVolume}
-use Rattle.lvm_core.proofs.LeavesLemmas.{keeps_fact, same_status}
 use Rattle.lvm_volumes.specs.Endings.{StillHeld, IfAlone, commanding}
 use Rattle.lvm_volumes.specs.Stages.{with_entry, ClosesBy, CommitsBetween}
 use Rattle.lvm_volumes.proofs.EndingsLemmas.Holding.{still_by}

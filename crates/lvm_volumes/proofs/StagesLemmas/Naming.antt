@@ -29,20 +29,11 @@ use Rattle.lvm_map.specs.FirstFit.{IsAllocated, new_volume}
 use Rattle.lvm_steps.specs.Committing.{DiffersInVolume}
 use Rattle.lvm_steps.proofs.MakingLemmas.Making.{media_may}
 use Rattle.lvm_status.specs.Update.{members_there}
-use Rattle.lvm_commit.specs.Committed.{ShowsCommitted, HoldsCommitted}
-use Rattle.lvm_commit.specs.LawsOfData.{IsSectorOf}
-use Rattle.lvm_commit.specs.LawsOfVolumes.{VolumeServes}
-use Rattle.lvm_commit.specs.Settling.{NoneIsLeft, MarksLeft}
-use Rattle.lvm_commit.proofs.AmongLemmas.{contains, of_map}
-use Rattle.lvm_commit.proofs.LawsOfVolumesLemmas.Volumes.{volume_begins_in_session, volume_is_made_in_session}
-use Rattle.lvm_core.specs.declared.fault.CommitFault.{CommitFault}
-use Rattle.lvm_core.specs.declared.fault.CommitFault.TheVariants as commit
+use Rattle.lvm_volume_plan.specs.passed.Names.{ShowsCommitted, HoldsCommitted, IsSectorOf, VolumeServes, NoneIsLeft, MarksLeft, CommitFault, IsSettled, LetsCommit, HasStated, HasCommitted, CommitEnds, NoDescriptor, NoPartition, IsHeldSince, IsOfCommand, Leaves, committing}
+use Rattle.lvm_volume_plan.proofs.passed.Names.{contains, of_map, volume_begins_in_session, volume_is_made_in_session, enters_one}
+use Rattle.lvm_volume_plan.specs.passed.CoreFaultCommitFault as commit
 use Rattle.lvm_session.specs.Judging.{copies_in}
 use Rattle.lvm_session.specs.State.{Core, State, is_there}
-use Rattle.lvm_core.specs.Settled.{IsSettled}
-use Rattle.lvm_core.specs.Committing.{LetsCommit, HasStated, HasCommitted, CommitEnds}
-use Rattle.lvm_core.specs.Leaves.{NoDescriptor, NoPartition, IsHeldSince, IsOfCommand, Leaves, committing}
-use Rattle.lvm_core.proofs.LeavesLemmas.{enters_one}
 use Rattle.lvm_volumes.specs.Endings.{StillHeld, KeepsFresh, commanding}
 use Rattle.lvm_volumes.specs.Stages.{CommandBroke, with_entry, ClosesBy, CommitsBetween, AreUnusedOn, AreCleared, ClearEnds, making_of, IsNamed, MakeEnds}
 use Rattle.lvm_volumes.specs.Volumes.{AreZeroed}

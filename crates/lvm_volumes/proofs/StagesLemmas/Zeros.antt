@@ -14,16 +14,11 @@ use Rattle.lvm_disk.specs.Device.{Media, Device, IsReady, image_of}
 use Rattle.lvm_disk.specs.Steps.{BothTold}
 use Rattle.lvm_kept.specs.Plans.{Plan, ChangesBy}
 use Rattle.lvm_map.specs.FirstFit.{has_partition_on}
-use Rattle.lvm_write.specs.Written.{KeepsShelf}
-use Rattle.lvm_write.proofs.PartsLemmas.Transfers.{darkened_then, given_up_then}
-use Rattle.lvm_commit.specs.LawsOfData.{IsSectorOf}
-use Rattle.lvm_core.specs.declared.fault.CommitFault.{CommitFault}
-use Rattle.lvm_core.specs.declared.fault.CommitFault.TheVariants as commit
+use Rattle.lvm_volume_plan.specs.passed.Names.{KeepsShelf, IsSectorOf, CommitFault, with_one_out, IsZeroOf, IsZeroed, IsAsBefore, HasZeroed, ZeroEnds, NoDescriptor, Leaves}
+use Rattle.lvm_volume_plan.proofs.passed.Names.{darkened_then, given_up_then}
+use Rattle.lvm_volume_plan.specs.passed.CoreFaultCommitFault as commit
 use Rattle.lvm_session.specs.State.{Core, State}
 use Rattle.lvm_session.specs.Dark.{all_dark}
-use Rattle.lvm_core.specs.Committing.{with_one_out}
-use Rattle.lvm_core.specs.Zeros.{IsZeroOf, IsZeroed, IsAsBefore, HasZeroed, ZeroEnds}
-use Rattle.lvm_core.specs.Leaves.{NoDescriptor, Leaves}
 use Rattle.lvm_volume_plan.specs.Faults.{IfOn, command_answer}
 use Rattle.lvm_volumes.specs.Endings.{StillHeld, commanding}
 use Rattle.lvm_volumes.specs.Stages.{HasZeroedAll, ZerosEnd}

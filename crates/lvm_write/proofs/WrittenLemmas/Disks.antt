@@ -8,14 +8,10 @@ use Rattle.lvm_num.specs.Buffer.{Buffer, Sector}
 use Rattle.lvm_num.specs.Disks.{Disks, has}
 use Rattle.lvm_num.specs.Record.{frame, record_sectors, slot_start}
 use Rattle.lvm_disk.specs.Device.{Media, Device, IsReady, image_of}
-use Rattle.lvm_kept.specs.Plans.{ChangesBy}
-use Rattle.lvm_kept.specs.Torn.{RecordWrite, IsOfRecord, StandsOn}
-use Rattle.lvm_kept.proofs.TornLemmas.Records.{never}
-use Rattle.lvm_transfer.specs.declared.moves.Moved.{Moved}
-use Rattle.lvm_transfer.specs.declared.moves.Moved.TheVariants as moved
-use Rattle.lvm_rec.specs.declared.homes.Homes.{Homes}
+use Rattle.lvm_survey.specs.passed.Names.{ChangesBy, RecordWrite, IsOfRecord, StandsOn, Moved, Homes, second_slots, next_slot, Flips}
+use Rattle.lvm_survey.proofs.passed.Names.{never}
+use Rattle.lvm_survey.specs.passed.TransferMovesMoved as moved
 use Rattle.lvm_write.specs.declared.write.SlotWrite.{SlotWrite}
-use Rattle.lvm_rec.specs.Homes.{second_slots, next_slot, Flips}
 use Rattle.lvm_write.specs.declared.write.Wrote.TheVariants as wrote
 use Rattle.lvm_write.specs.Written.{write_of, HaveRoom, KeepsShelf, StandsTold, written_well}
 use Rattle.lvm_write.specs.Writes.{DiskWritesLeave, RecordWritesEnd}

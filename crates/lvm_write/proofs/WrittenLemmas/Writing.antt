@@ -10,10 +10,8 @@ use Rattle.lvm_disk.specs.Device.{Media, Image, Flight, Range, Device, IsInFligh
 use Rattle.lvm_disk.specs.Steps.{BothTold, Logs}
 use Rattle.lvm_disk.specs.Paths.{DeviceStep, Path}
 use Rattle.lvm_disk.proofs.PathsLemmas.{append-path, map-path}
-use Rattle.lvm_kept.specs.Raw.{OnlyAdds}
-use Rattle.lvm_kept.specs.Plans.{Plan, ChangesBy, IsPlanned}
-use Rattle.lvm_kept.specs.Torn.{RecordWrite, IsOfRecord}
-use Rattle.lvm_kept.proofs.PlansLemmas.{then_disks, further}
+use Rattle.lvm_survey.specs.passed.Names.{OnlyAdds, Plan, ChangesBy, IsPlanned, RecordWrite, IsOfRecord}
+use Rattle.lvm_survey.proofs.passed.Names.{then_disks, further}
 use Rattle.lvm_write.specs.Written.{IsWriting, IsInPlan, LogsPlan}
 use Rattle.lvm_write.specs.Parts.{PartsStand}
 

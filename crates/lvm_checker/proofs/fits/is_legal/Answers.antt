@@ -1,6 +1,6 @@
 use Rattle.std.proofs.Common.{◌≡◌, List, take, Bool, true, false, refl, sym, ◌∙◌, subst}
 use Rattle.std.proofs.lemmas.List.{drop_all}
-use Rattle.lvm_num.specs.declared.descriptor.Mode.TheVariants.{Active}
+use Rattle.lvm_vol.specs.passed.NumDescriptorMode.{Active}
 use Rattle.lvm_checker.specs.declared.row.Row.{Row}
 use Rattle.lvm_checker.specs.declared.row.Row.TheVariants.{Making}
 use Rattle.lvm_vol.specs.Legal.{LegalFrom}

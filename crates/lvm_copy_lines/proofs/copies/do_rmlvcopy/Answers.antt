@@ -5,21 +5,14 @@ use Rattle.lvm_core.specs.Settled.{IsSettled}
 use Rattle.lvm_volume_lines.specs.passed.Driver.{IsAny, IsTurn}
 use Rattle.lvm_core.specs.State.{state_of}
 use Rattle.lvm_core.specs.Sound.{HaveAllLanded}
-use Rattle.lvm_posts.specs.Posts.{AreAnswered}
+use Rattle.lvm_volume_lines.specs.passed.Names.{AreAnswered}
 use Rattle.lvm_volume_lines.specs.passed.Mirrors.{RmlvcopyGives, to_take}
 use Rattle.lvm_volume_lines.specs.passed.TieCopies.{KeepsShownOf}
 use Rattle.lvm_volume_lines.proofs.passed.TieCopies.{rmlvcopy_goes_on}
-use Rattle.lvm_volume_lines.specs.passed.Stage.{EndsUnasked}
-use Rattle.lvm_volume_lines.specs.passed.Stage.{OfGroupWhere}
-use Rattle.lvm_volume_lines.specs.passed.Stage.{open_in, session_in, shelf_in}
-use Rattle.lvm_volume_lines.specs.passed.Stage.{Refusal}
+use Rattle.lvm_volume_lines.specs.passed.Stage.{EndsUnasked, OfGroupWhere, open_in, session_in, shelf_in, Refusal, Reply, Stage}
 use Rattle.lvm_volume_lines.specs.passed.RefusalVariants as refusal
-use Rattle.lvm_volume_lines.specs.passed.Stage.{Reply}
 use Rattle.lvm_volume_lines.specs.passed.ReplyVariants as reply
-use Rattle.lvm_volume_lines.specs.passed.Stage.{Stage}
-use Rattle.lvm_volume_lines.proofs.passed.Stage.{refused_ends}
-use Rattle.lvm_volume_lines.proofs.passed.Stage.{landed_bears}
-use Rattle.lvm_volume_lines.proofs.passed.Stage.{answered_bears}
+use Rattle.lvm_volume_lines.proofs.passed.Stage.{refused_ends, landed_bears, answered_bears}
 use Rattle.lvm_volume_lines.specs.Commands.{HasBrokenOff, HasRested, none_added}
 use Rattle.lvm_volume_lines.specs.Volumes.{drain_refusal}
 use Rattle.lvm_volume_lines.proofs.Commanding.{rows_mid}

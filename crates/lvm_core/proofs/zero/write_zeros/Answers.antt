@@ -1,7 +1,7 @@
 use Rattle.std.proofs.Common.{◌+◌, ◌*◌, ℕ, sym, subst, arith}
 use Rattle.std.specs.Prelude.{◌==◌}
 use Rattle.lvm_num.specs.Buffer.{Buffer}
-use Rattle.lvm_transfer.specs.declared.moves.Moved.TheVariants as moved
+use Rattle.lvm_commit.specs.passed.TransferMovesMoved as moved
 use Rattle.lvm_write.proofs.PartsLemmas.Transfers.{part_here, part_then, not_done}
 use Rattle.lvm_core.specs.Zeros.{IsZeroOf, IsZeroed, AreZeroed, IsClear}
 use Rattle.lvm_core.proofs.ZerosLemmas.Zeroing.{no_zeros, zeros_stay, zeros_join, all_zeroed}

@@ -1,9 +1,6 @@
 use Rattle.std.proofs.Common.{Some, None, if◌then◌else◌, sym, ◌∙◌, ap}
-use Rattle.lvm_session.specs.declared.event.Event.TheVariants as event
-use Rattle.lvm_session.specs.declared.open.Open.{Open}
-use Rattle.lvm_session.specs.Enabled.{is_admit}
-use Rattle.lvm_session.specs.Fields.{core_of}
-use Rattle.lvm_session.specs.Judging.{facts_of, next_for}
+use Rattle.lvm_facts.specs.passed.SessionEventEvent as event
+use Rattle.lvm_facts.specs.passed.Names.{Open, is_admit, core_of, facts_of, next_for}
 use Rattle.lvm_firsts.proofs.EnabledLemmas.{admits_not}
 use Rattle.lvm_firsts.proofs.Places.{read_same}
 use Rattle.lvm_firsts.proofs.firsts.admission_at.Goals as goal

@@ -1,10 +1,7 @@
 use Rattle.std.proofs.Common.{sym, ◌∙◌, ap}
 use Rattle.std.specs.Option.{option_map}
-use Rattle.lvm_session.specs.declared.event.Event.TheVariants as event
-use Rattle.lvm_session.specs.declared.open.Open.{Open}
-use Rattle.lvm_session.specs.Enabled.{target_next}
-use Rattle.lvm_session.specs.Fields.{core_of}
-use Rattle.lvm_session.specs.Judging.{facts_of, next_for}
+use Rattle.lvm_facts.specs.passed.SessionEventEvent as event
+use Rattle.lvm_facts.specs.passed.Names.{Open, target_next, core_of, facts_of, next_for}
 use Rattle.lvm_firsts.proofs.EnabledLemmas.{starts_not}
 use Rattle.lvm_firsts.proofs.Places.{read_same}
 use Rattle.lvm_firsts.proofs.firsts.data_at.Goals as goal

@@ -1,6 +1,5 @@
 use Rattle.std.proofs.Common.{sym}
-use Rattle.lvm_session.specs.Fields.{core_of}
-use Rattle.lvm_session.specs.Enabled.{data_at}
+use Rattle.lvm_facts.specs.passed.Names.{core_of, data_at}
 use Rattle.lvm_firsts.proofs.SpansLemmas.{ends_here, goes_past, none_due}
 use Rattle.lvm_firsts.proofs.firsts.first_data.Goals as goal
 

@@ -1,12 +1,7 @@
 use Rattle.std.proofs.Common.{◌≡◌, ℕ, Bool, true, false, Some, None, slice_get, refl, sym, ◌∙◌, ap}
 use Rattle.std.specs.Option.{option_map}
-use Rattle.lvm_session.specs.declared.event.Event.TheVariants as event
-use Rattle.lvm_session.specs.declared.open.Open.{Open}
-use Rattle.lvm_session.specs.Enabled.{outcome_next}
-use Rattle.lvm_session.specs.State.{Core}
-use Rattle.lvm_session.specs.Sound.{IsGoing}
-use Rattle.lvm_session.specs.Fields.{core_of}
-use Rattle.lvm_session.specs.Judging.{facts_of, is_waiting, next_for}
+use Rattle.lvm_facts.specs.passed.SessionEventEvent as event
+use Rattle.lvm_facts.specs.passed.Names.{Open, outcome_next, Core, IsGoing, core_of, facts_of, is_waiting, next_for}
 use Rattle.lvm_firsts.specs.Might.{might_land, shows_usable}
 use Rattle.lvm_firsts.proofs.EnabledLemmas.{lands_not}
 use Rattle.lvm_firsts.proofs.Nexts.{landed_waits, one}

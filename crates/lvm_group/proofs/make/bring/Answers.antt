@@ -3,10 +3,7 @@ use Rattle.std.specs.Prelude.{IfOk, IfErr}
 use Rattle.std.proofs.lemmas.Result.{err_from_is_err_and}
 use Rattle.lvm_vol.specs.Log.{Log, spare_entries}
 use Rattle.lvm_rec.specs.declared.homes.Homes.{Homes}
-use Rattle.lvm_core.specs.Coming.{BringsOn}
-use Rattle.lvm_core.specs.Held.{StartsHeld}
-use Rattle.lvm_session_start.specs.Beginning.{first_core}
-use Rattle.lvm_core.specs.declared.refused.Cause.{Cause}
+use Rattle.lvm_group_plan.specs.passed.Names.{BringsOn, StartsHeld, first_core, Cause}
 use Rattle.lvm_group_plan.specs.NewGroup.{NewGroup}
 use Rattle.lvm_group_plan.specs.Planned.{IsPlannedFor}
 use Rattle.lvm_group.specs.Made.{MkvgRefuses}

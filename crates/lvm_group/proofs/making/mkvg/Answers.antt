@@ -1,10 +1,7 @@
 use Rattle.std.proofs.Common.{sym, subst}
 use Rattle.lvm_vol.specs.Log.{Log}
 use Rattle.lvm_steps.specs.Requests.{at}
-use Rattle.lvm_session.specs.State.{Core}
-use Rattle.lvm_session_start.specs.Beginning.{AreFaults}
-use Rattle.lvm_core.specs.Held.{StartsHeld}
-use Rattle.lvm_core.specs.Coming.{BringsOn}
+use Rattle.lvm_group_plan.specs.passed.Names.{Core, AreFaults, StartsHeld, BringsOn}
 use Rattle.lvm_group_plan.specs.NewGroup.{NewGroup}
 use Rattle.lvm_group.specs.Made.{IsMade}
 use Rattle.lvm_group.specs.Steps.{Stands}

@@ -1,8 +1,6 @@
 use Rattle.std.proofs.lemmas.Result.{err_from_is_err_and}
-use Rattle.lvm_core.specs.declared.fault.CommitFault.{CommitFault}
+use Rattle.lvm_copy_plan.specs.passed.Names.{CommitFault, state_of, HasStated}
 use Rattle.lvm_session.specs.State.{State}
-use Rattle.lvm_core.specs.State.{state_of}
-use Rattle.lvm_core.specs.Committing.{HasStated}
 use Rattle.lvm_volumes.specs.Endings.{StillHeld, KeepsFresh}
 use Rattle.lvm_volumes.proofs.StagesLemmas.Breaking.{stopped}
 use Rattle.lvm_volumes.proofs.StagesLemmas.Entering.{has_numbers}

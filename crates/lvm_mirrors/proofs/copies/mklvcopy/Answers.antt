@@ -2,11 +2,8 @@ use Rattle.std.proofs.Common.{List, Err, sym, subst}
 use Rattle.std.proofs.lemmas.Result.{err_from_is_err_and}
 use Rattle.lvm_num.specs.declared.place.Pp.{Pp}
 use Rattle.lvm_num.specs.declared.descriptor.Descriptor.{Descriptor}
-use Rattle.lvm_core.specs.declared.fault.CommitFault.{CommitFault}
+use Rattle.lvm_copy_plan.specs.passed.Names.{CommitFault, state_of, IsSettled, GroupFault}
 use Rattle.lvm_session.specs.State.{State}
-use Rattle.lvm_core.specs.State.{state_of}
-use Rattle.lvm_core.specs.Settled.{IsSettled}
-use Rattle.lvm_volume_plan.specs.declared.fault.GroupFault.{GroupFault}
 use Rattle.lvm_volumes.specs.Endings.{StillHeld, KeepsFresh}
 use Rattle.lvm_volumes.proofs.VolumesLemmas.{always_on}
 use Rattle.lvm_volumes.proofs.EndingsLemmas.Fresh.{keeps_none}

@@ -1,6 +1,5 @@
 use Rattle.std.proofs.Common.{sym, subst}
-use Rattle.lvm_session.specs.State.{Core, state}
-use Rattle.lvm_session.specs.Sound.{IsSound}
+use Rattle.lvm_keeps.specs.passed.Names.{Core, state, IsSound}
 use Rattle.lvm_session_start.proofs.EntriesLemmas.{is_sound}
 use Rattle.lvm_session_start.proofs.begin.begin_session.Goals as goal
 

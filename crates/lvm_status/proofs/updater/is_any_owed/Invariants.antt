@@ -1,8 +1,7 @@
 use Rattle.std.proofs.Common.{◌≡◌, drop}
 use Rattle.std.specs.Prelude.{◌||◌}
 use Rattle.std.specs.List.{list_any}
-use Rattle.lvm_num.specs.declared.descriptor.PvRow.{PvRow}
-use Rattle.lvm_num.specs.Disks.{has}
+use Rattle.lvm_stale.specs.passed.Names.{PvRow, has}
 use Rattle.lvm_status.proofs.updater.is_any_owed.Given as goal
 
 abbrev pub invariant-loop-row : goal.invariant-loop-row

@@ -1,9 +1,7 @@
 use Rattle.std.proofs.Common.{◌≡◌, ℕ, ◌&&◌, not, take}
 use Rattle.std.specs.Prelude.{◌==◌}
 use Rattle.std.specs.List.{list_any}
-use Rattle.lvm_num.specs.declared.descriptor.PvRow.{PvRow}
-use Rattle.lvm_num.specs.Disks.{has}
-use Rattle.lvm_num.specs.Status.{calls_missing}
+use Rattle.lvm_stale.specs.passed.Names.{PvRow, has, calls_missing}
 use Rattle.lvm_status.proofs.updater.members_there.Given as goal
 
 abbrev pub invariant-loop-row : goal.invariant-loop-row

@@ -8,8 +8,7 @@ use Rattle.lvm_varyon.proofs.vary.bring.Goals as goal
 use Rattle.lvm_write.specs.Parts.{Spends}
 use Rattle.lvm_write.proofs.PartsLemmas.Transfers.{spends_then}
 use Rattle.lvm_rec.specs.declared.homes.Homes.{Homes}
-use Rattle.lvm_session_start.specs.declared.parts.Parts.{Parts}
-use Rattle.lvm_core.specs.declared.refused.Cause.{Cause}
+use Rattle.lvm_varyon_plan.specs.passed.Names.{Parts, Cause}
 use Rattle.lvm_varyon.specs.Parts.{IsPlannedBy, plan_beginning}
 use Rattle.lvm_varyon.specs.Varied.{BringGives}
 

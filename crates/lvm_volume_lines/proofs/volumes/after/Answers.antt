@@ -1,7 +1,6 @@
 use Rattle.std.proofs.Common.{◌≡◌, ◌∙◌, [], Bool, Result, Err, false, sym, ap, subst}
-use Rattle.lvm_volume_plan.specs.declared.fault.GroupFault.{GroupFault}
-use Rattle.lvm_volume_plan.specs.declared.fault.GroupFault.TheVariants as fault
-use Rattle.lvm_volume_plan.specs.Faults.{is_over}
+use Rattle.lvm_range_lines.specs.passed.Names.{GroupFault, is_over}
+use Rattle.lvm_range_lines.specs.passed.VolumePlanFaultGroupFault as fault
 use Rattle.lvm_volume_lines.specs.Commands.{IsLeftAs, IsLeftOn}
 use Rattle.lvm_volume_lines.proofs.volumes.after.Goals as goal
 

@@ -4,11 +4,8 @@ use Rattle.std.proofs.lemmas.Result.{err_from_is_err_and}
 use Rattle.lvm_num.specs.declared.place.Pp.{Pp}
 use Rattle.lvm_num.specs.declared.descriptor.Descriptor.{Descriptor}
 use Rattle.lvm_vol.specs.Log.{Log, spare_entries}
-use Rattle.lvm_commit.specs.Settling.{many_there}
-use Rattle.lvm_core.specs.declared.fault.CommitFault.{CommitFault}
+use Rattle.lvm_volume_plan.specs.passed.Names.{many_there, CommitFault, state_of, NoDescriptor, Leaves}
 use Rattle.lvm_session.specs.State.{Core, State}
-use Rattle.lvm_core.specs.State.{state_of}
-use Rattle.lvm_core.specs.Leaves.{NoDescriptor, Leaves}
 use Rattle.lvm_volumes.specs.Endings.{commanding}
 use Rattle.lvm_volumes.specs.Stages.{AreUnusedOn, AreCleared, ClearEnds}
 use Rattle.lvm_volumes.proofs.StagesLemmas.Entering.{many_bound, has_numbers}

@@ -1,9 +1,7 @@
 use Rattle.std.proofs.Common.{Err}
 use Rattle.std.proofs.lemmas.Result.{err_from_is_err_and}
-use Rattle.lvm_core.specs.declared.fault.CommitFault.{CommitFault}
+use Rattle.lvm_volume_plan.specs.passed.Names.{CommitFault, state_of, IsSettled}
 use Rattle.lvm_session.specs.State.{State}
-use Rattle.lvm_core.specs.State.{state_of}
-use Rattle.lvm_core.specs.Settled.{IsSettled}
 use Rattle.lvm_volumes.specs.Endings.{StillHeld, KeepsFresh}
 use Rattle.lvm_volumes.specs.Volumes.{to_remove}
 use Rattle.lvm_volumes.proofs.VolumesLemmas.{refused_rmlv, always_on, removed_leaves, remove_settled, remove_given, remove_fails}

@@ -2,8 +2,7 @@ use Rattle.std.proofs.Common.{◌≡◌, ℕ, ◌+◌, ◌++◌, [], ◌∷◌, 
 use Rattle.lvm_checker.specs.declared.row.Row.TheVariants as row
 use Rattle.lvm_history.specs.Opened.{kept_of}
 use Rattle.lvm_history.specs.Keeping.{Kept, log_of}
-use Rattle.lvm_vol.specs.Facts.{Begun}
-use Rattle.lvm_vol.specs.Log.{next_id, is_open, asked, next_request}
+use Rattle.lvm_checker.specs.passed.Names.{Begun, next_id, is_open, asked, next_request}
 use Rattle.lvm_history.proofs.KeepingLemmas.{Adds, begun_adds, begun_found, room_to_begin, next_number}
 use Rattle.lvm_history.proofs.history.History.begin.Goals as goal
 

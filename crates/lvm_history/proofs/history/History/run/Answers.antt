@@ -1,6 +1,5 @@
 use Rattle.std.proofs.Common.{[], subst}
-use Rattle.lvm_vol.specs.Log.{Log}
-use Rattle.lvm_vol.specs.Order.{Ordered}
+use Rattle.lvm_checker.specs.passed.Names.{Log, Ordered}
 use Rattle.lvm_history.proofs.history.History.run.Goals as goal
 
 pub returns-clause-ordered : goal.returns-clause-ordered

@@ -1,7 +1,6 @@
 use Rattle.std.proofs.Common.{refl, arith}
 use Rattle.lvm_history.specs.Opened.{kept_of}
-use Rattle.lvm_vol.specs.Facts.{Taken}
-use Rattle.lvm_vol.specs.Log.{request_of}
+use Rattle.lvm_checker.specs.passed.Names.{Taken, request_of}
 use Rattle.lvm_history.proofs.KeepingLemmas.{Adds, taken_adds, taken_room}
 use Rattle.lvm_history.proofs.history.History.taken.Goals as goal
 

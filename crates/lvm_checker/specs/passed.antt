@@ -1,0 +1,4 @@
+pub mod Names
+pub mod VolEntryEntry
+pub mod VolEntryOutcome
+pub mod VolEntryVol

@@ -1,0 +1,3 @@
+pub mod CoreFaultCommitFault
+pub mod Names
+pub mod VolumePlanFaultGroupFault

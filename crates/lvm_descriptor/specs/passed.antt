@@ -1,0 +1,2 @@
+pub mod FieldsFaultFault
+pub mod Names

@@ -1,0 +1,4 @@
+pub mod Names
+pub mod NumDescriptorMode
+pub mod NumDescriptorPolicy
+pub mod NumRecordKind

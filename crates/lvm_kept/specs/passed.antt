@@ -1,0 +1,4 @@
+pub mod DiskShelfArrange
+pub mod Names
+pub mod VolEntryOutcome
+pub mod VolEntryVol

@@ -1,0 +1,2 @@
+pub mod CoreRefusedCause
+pub mod Names

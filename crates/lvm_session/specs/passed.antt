@@ -1,0 +1,2 @@
+pub mod DiskShelfArrange
+pub mod Names

@@ -1,0 +1,2 @@
+pub mod CoreFaultCommitFault
+pub mod Names
