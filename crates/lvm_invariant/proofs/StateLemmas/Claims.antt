@@ -164,7 +164,7 @@ OpenKeepsCore = (s : ModelState) (o : ModelCopy) → Opens s o → Sound s → S
 abbrev pub ClearKeepsCore : Type 0
 ClearKeepsCore = (s : ModelState) (wanted : Marks) (c : Pp) → Clears s wanted c → Sound s → Sound (record s { wanted = wanted })
 
--- A write that has started has a target that is fresh by all three statuses: rule 7 always has a copy that stays fresh.
+-- A write that has started has a target that is fresh by all three statuses: a copy is always left that stays fresh.
 pub record KeptTarget (s : ModelState) (r : Queued) : Type 0 where
   pub copy : Pp
   pub stage : Stage
@@ -175,7 +175,7 @@ pub record KeptTarget (s : ModelState) (r : Queued) : Type 0 where
 abbrev pub EachHasKeptTarget : Type 0
 EachHasKeptTarget = (s : ModelState) (i : ℕ) (r : Queued) → Sound s → Started s i r → IsTrue (covers r r.lv r.first) → KeptTarget s r
 
--- the marks of rule 6 or 7: targets become wanted stale, another target stays fresh
+-- marks after transfers failed: targets become wanted stale, another target stays fresh
 pub record MarksOthers (s : ModelState) (r : Queued) (kept : Pp) (wanted : Marks) : Type 0 where
   pub is_copy : IsTrue (s.is_copy r.lv r.first kept)
   pub fresh : IsFalse (s.committed.value.stale kept)

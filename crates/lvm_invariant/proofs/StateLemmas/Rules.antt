@@ -1,4 +1,4 @@
--- What rules 6 and 7 need.
+-- What is needed where writes start, and where copies become wanted stale.
 use Rattle.std.proofs.Common.{inl, inr, ⊎_elim}
 use Rattle.std.specs.Prelude.{IsTrue}
 use Rattle.lvm_invariant.specs.State.{stale_in, Live}
