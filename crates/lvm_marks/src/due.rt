@@ -4,7 +4,6 @@ ghost use Rattle.lvm_status.specs.Calls.{IsMarkable};
 ghost use Rattle.lvm_status.specs.Update.{seen};
 ghost use Rattle.lvm_status.specs.Runs.{IsSoundStatus};
 ghost use Rattle.lvm_path.specs.declared.target.Target.{Target};
-ghost use Rattle.lvm_path.specs.Targets.{are_over};
 ghost use Rattle.lvm_session.specs.declared.open.Open.{Open};
 ghost use Rattle.lvm_session.specs.Fields.{core_of};
 ghost use Rattle.lvm_session.specs.Judging.{pps_of};
@@ -15,8 +14,7 @@ ghost use Rattle.lvm_marks.specs.Due.{IsDue, IsFirstSure, IsWithinDue, MayMark, 
 use crate::wanted::{mark_others, mark_targets};
 use lvm_facts::below::is_sure;
 use lvm_facts::is_kept;
-use lvm_path::Target;
-use lvm_sched::TargetState;
+use lvm_path::{Target, are_over};
 use lvm_session::Session;
 use lvm_status::Updater;
 
@@ -43,12 +41,6 @@ fn mark(updater: &mut Updater, targets: &[Target], due: Due)
         Due::Failed => mark_targets(updater, targets, false),
         Due::Others(sure) => mark_others(updater, targets, sure),
     }
-}
-
-fn are_over(targets: &[Target]) -> bool
-    ensures { result ≡ are_over targets.now }
-{
-    targets.iter().all(|target| matches!(target.state, TargetState::Done | TargetState::Failed))
 }
 
 // The first target that is sure.

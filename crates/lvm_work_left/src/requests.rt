@@ -12,17 +12,8 @@ ghost use Rattle.lvm_session.specs.Sound.{IsGoing};
 
 use crate::writes::{waiting_targets, write_left};
 use lvm_firsts::below::is_waiting;
-use lvm_path::{Phase, Request, Target};
-use lvm_sched::TargetState;
+use lvm_path::{Phase, Request, any_is_done};
 use lvm_session::{Open, Session};
-
-fn any_is_done(targets: &[Target]) -> bool
-    ensures { result ≡ list_any (λ (t : Target). is_done t.state) targets.now }
-{
-    targets
-        .iter()
-        .any(|target| matches!(target.state, TargetState::Done))
-}
 
 // A read that is admitted.
 fn tried_left(request: &Request) -> u64

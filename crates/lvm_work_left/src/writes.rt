@@ -2,7 +2,6 @@
 ghost use Rattle.std.specs.Prelude.{◌≡◌, ◌≤◌, ◌<◌, ◌^◌, ◌&&◌, count_by, length, not, sum_by};
 ghost use Rattle.lvm_num.specs.Descriptor.{IsValid};
 ghost use Rattle.lvm_path.specs.Asks.{at_of};
-ghost use Rattle.lvm_path.specs.Targets.{are_over};
 ghost use Rattle.lvm_session.specs.Fields.{core_of};
 ghost use Rattle.lvm_session.specs.Judging.{IsWithin, copies_for, is_changed};
 ghost use Rattle.lvm_session.specs.Left.{begun_left, if_so, is_brought_up, is_held, lacks_dirty, lacks_note, phase_left, turns_of, unbegun_left, waiting_targets, write_left};
@@ -13,7 +12,7 @@ use lvm_copies::{
     is_usable, mode_of,
 };
 use lvm_num::{Mode, Pp};
-use lvm_path::{Phase, Request, Target};
+use lvm_path::{Phase, Request, Target, are_over};
 use lvm_sched::TargetState;
 use lvm_session::Session;
 
@@ -175,13 +174,6 @@ fn begun_left(request: &Request) -> u64
     ensures few { result ≤ 1024 }
 {
     1 + 2 * waiting_targets(request) + if_so(!are_over(&request.targets), 256)
-}
-
-// Whether all its transfers have ended.
-fn are_over(targets: &[Target]) -> bool
-    ensures { result ≡ are_over targets.now }
-{
-    targets.iter().all(|target| matches!(target.state, TargetState::Done | TargetState::Failed))
 }
 
 /// A write, from its submission to the end of its transfers.
