@@ -8,9 +8,9 @@ ghost use Rattle.lvm_session.specs.Left.{begun_left, if_so, is_brought_up, is_he
 ghost use Rattle.lvm_session.specs.Requests.{IsLaid};
 
 use lvm_copies::{
-    are_targets, copies_for, group_in, group_of, is_missing, is_pp, is_running, is_settled,
-    is_usable, mode_of,
+    copies_for, group_of, is_missing, is_pp, is_running, is_settled, is_usable, mode_of,
 };
+use lvm_firsts::below::is_changed;
 use lvm_num::{Mode, Pp};
 use lvm_path::{Phase, Request, Target, are_over};
 use lvm_sched::TargetState;
@@ -128,21 +128,6 @@ fn lacks_dirty(session: &Session, request: &Request) -> bool
         Mode::Passive => !session.updater.wanted().is_dirty(request.ask.lv()),
         Mode::Active | Mode::Off => false,
     }
-}
-
-// Whether its targets are no longer the copies to which it goes.
-fn is_changed(session: &Session, request: &Request) -> bool
-    requires valid { IsValid session.now.descriptor }
-    requires within { IsWithin session.now.descriptor request.now.ask }
-    ensures { result ≡ is_changed (core_of session.now) request.now }
-{
-    request.ask.is_write()
-        && !are_targets(
-            session,
-            group_in(session, &request.ask),
-            copies_for(session, &request.ask),
-            &request.targets,
-        )
 }
 
 // Whether it is admitted with targets that are no longer those.

@@ -1,2 +1,2 @@
 -- Passed on from the crates below.
-pub use Rattle.lvm_facts.proofs.passed.Names.{laid_out, copies_in_are, few_in, numbered, place_of}
+pub use Rattle.lvm_facts.proofs.passed.Names.{copies_in_are, few_in, numbered, place_of}
