@@ -7,7 +7,6 @@ mod driver;
 mod fault;
 mod look;
 mod marks;
-mod orders;
 mod parts;
 mod prepared;
 mod records;

@@ -2,4 +2,4 @@
 
 pub use lvm_enabled::below::is_running;
 pub use lvm_enabled::first_start;
-pub use lvm_over::{darken, give_back, go_off};
+pub use lvm_over::{arranged, darken, give_back, go_off};

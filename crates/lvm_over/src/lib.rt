@@ -4,6 +4,8 @@
 pub mod below;
 mod ends;
 mod landings;
+mod orders;
 
 pub use ends::{darken, go_off};
 pub use landings::give_back;
+pub use orders::arranged;

@@ -1,6 +1,6 @@
 -- Passed on from the crates below.
 pub use Rattle.lvm_session.specs.passed.Names.{AreAllOut, IsOut, TakesLowest}
-pub use Rattle.lvm_session.specs.Dark.{AreTold, after_arrange, all_dark, hand_of_copy, is_cut}
+pub use Rattle.lvm_session.specs.Dark.{AreTold, after_arrange, all_dark, hand_of_copy}
 pub use Rattle.lvm_session.specs.Enabled.{is_lost}
 pub use Rattle.lvm_session.specs.Fields.{core_of}
 pub use Rattle.lvm_session.specs.Judging.{is_waiting}

@@ -1,11 +1,13 @@
 //! The shelf of a session is given an order.
 ghost use Rattle.std.specs.Prelude.{◌≡◌};
-ghost use Rattle.lvm_over.specs.passed.Names.{core_of, SameRooms, after_arrange, is_cut};
+ghost use Rattle.lvm_session.specs.Fields.{core_of};
+ghost use Rattle.lvm_session.specs.Rooms.{SameRooms};
+ghost use Rattle.lvm_session.specs.Dark.{after_arrange, is_cut};
 ghost use Rattle.lvm_over.specs.Hands.{MayEnd};
 
+use crate::ends::darken;
 use lvm_disk::Arrange;
-use lvm_over::below::Session;
-use lvm_over::darken;
+use lvm_session::Session;
 
 // Whether the order cuts the power.
 fn is_cut(what: Arrange) -> bool
