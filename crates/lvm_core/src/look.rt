@@ -1,11 +1,11 @@
 //! What is looked up in a group.
 ghost use Rattle.std.specs.Prelude.{◌≡◌, IfSome, IfNone, IsTrue, IsFalse};
-ghost use Rattle.lvm_num.specs.Geometry.{sectors_needed};
 ghost use Rattle.lvm_core.specs.Looking.{IsNumberOf, HasNoVolumeNamed};
 ghost use Rattle.lvm_over.specs.passed.Names.{IsPlaced, AreAllPlaced};
 
 use lvm_disk::Shelf;
 use lvm_num::{Descriptor, Name, PvRow};
+use lvm_quorum::sectors_needed;
 use lvm_stale::StaleTable;
 
 /// The number of the volume of a name.
@@ -19,13 +19,6 @@ pub fn number_of(group: &Descriptor, name: Name) -> Option<u16>
         }
     }
     None
-}
-
-// The sectors that a disk with so many partitions of so many MiB needs.
-fn sectors_needed(mib: u16, pps: u16) -> u64
-    ensures { result ≡ sectors_needed mib pps }
-{
-    4096 + 2048 * u64::from(mib) * u64::from(pps)
 }
 
 // Whether a member's disk is on the shelf, and large enough.

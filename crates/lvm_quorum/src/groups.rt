@@ -88,7 +88,8 @@ fn has_room(row: &SurveyRow, group: &Descriptor) -> bool
     })
 }
 
-fn sectors_needed(mib: u16, pps: u16) -> u64
+/// The sectors that a disk with so many partitions of so many MiB needs.
+pub fn sectors_needed(mib: u16, pps: u16) -> u64
     ensures { result ≡ sectors_needed mib pps }
 {
     4096 + 2048 * u64::from(mib) * u64::from(pps)
