@@ -292,8 +292,8 @@ impl<S: Shelf> Driver<S> {
     }
 }
 
-// Takes back the buffers that a power cut made the shelf give up.
-fn without_freed<S: Shelf>(shelf: S) -> S
+/// Takes back the buffers that a power cut made the shelf give up.
+pub fn without_freed<S: Shelf>(shelf: S) -> S
     ensures { S.device result ≡ record (S.device shelf) { freed = [] } }
 {
     let mut shelf = shelf;

@@ -23,8 +23,8 @@ ghost use Rattle.lvm_running.specs.passed.Names.{HasCausesSince, AreValid, GetsI
 ghost use Rattle.lvm_running.specs.Running.{LeavesSession, RunsOn};
 ghost use Rattle.lvm_driver.specs.Answers.{IsCausedFor, IsCopyCaused, IsOffSince};
 
-use crate::closed::{Closed, without_freed};
 use crate::dues::{all_due, submit, take};
+use lvm_core::{Closed, without_freed};
 use lvm_disk::{Arrange, Shelf};
 use lvm_history::History;
 use lvm_keeps_calls::below::{close_copy, copy_state, open_copy};

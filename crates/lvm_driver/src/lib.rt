@@ -2,7 +2,6 @@
 #![tactic(auto)]
 
 pub mod below;
-mod closed;
 mod drain;
 mod driver;
 mod dues;
@@ -10,6 +9,5 @@ pub mod laws;
 mod shown;
 mod sound;
 
-pub use closed::Closed;
 pub use driver::Driver;
 pub use shown::Lent;

@@ -2,6 +2,7 @@
 
 pub mod driver;
 
+pub use lvm_driver::Driver;
+pub use lvm_driver::below::Closed;
 pub use lvm_driver::laws::whole_groups_begin;
-pub use lvm_driver::{Closed, Driver};
 pub use lvm_posts::{Asked, Post, RangeFault, end_posts, take_closed};
