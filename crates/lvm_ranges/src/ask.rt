@@ -16,7 +16,8 @@ use lvm_driver::Driver;
 use lvm_driver::below::partition_blocks;
 use lvm_num::volume_of;
 use lvm_path::Ask;
-use lvm_posts::{Asked, fill_bytes, piece_count, piece_end};
+use lvm_posts::below::piece_end;
+use lvm_posts::{Asked, fill_bytes, piece_count};
 
 // The client whose requests these are.
 const CLIENT: u32 = 1;
