@@ -31,11 +31,11 @@ use Rattle.lvm_kept.specs.Contents.{Contents}
 use Rattle.lvm_stale.specs.Marking.{is_served}
 use Rattle.lvm_commit.specs.LawsOfData.{IsFree}
 use Rattle.lvm_commit.specs.Settling.{NoneIsLeft, there, IsOf, MayCommit, MaySettle, SessionIsHeld}
-use Rattle.lvm_over.specs.passed.Names.{is_dark, Core, State, is_there}
+use Rattle.lvm_over.specs.passed.Names.{is_dark, Core, State, is_among, is_there}
 use Rattle.lvm_core.specs.Sound.{IsSoundBetween}
 use Rattle.lvm_core.specs.Held.{IsHeld}
 use Rattle.lvm_core.specs.Settled.{HasSpareNumbers, IsSettled}
-use Rattle.lvm_core.specs.Committing.{is_among, AreUnused, AreMarked}
+use Rattle.lvm_core.specs.Committing.{AreUnused, AreMarked}
 use Rattle.lvm_core.specs.Steps.{IsMarked}
 use Rattle.lvm_commit.proofs.LawsOfDataLemmas.Free.{none_stands}
 use Rattle.lvm_core.proofs.StepsLemmas.Marking.{pp_is}

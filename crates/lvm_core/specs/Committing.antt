@@ -1,11 +1,10 @@
 -- How the calls end by which a session commits a descriptor or marks.
 use Rattle.std.specs.Prelude.{◌≡◌, ◌⊎◌, ℕ, ◌<◌, Bool, true, false, ◌&&◌, ◌||◌, ◌++◌, not, List, Result, Ok, Err, IsTrue, IfSome, All, slice_set}
-use Rattle.std.specs.List.{list_any}
 use Rattle.lvm_num.specs.declared.place.Pp.{Pp}
 use Rattle.lvm_num.specs.declared.descriptor.Descriptor.{Descriptor}
 use Rattle.lvm_num.specs.declared.status.Status.{Status}
 use Rattle.lvm_num.specs.declared.record.Kind.TheVariants as kind
-use Rattle.lvm_num.specs.Descriptor.{IsPartitionOf, is_pp}
+use Rattle.lvm_num.specs.Descriptor.{IsPartitionOf}
 use Rattle.lvm_num.specs.DescriptorBytes.{descriptor_bytes}
 use Rattle.lvm_num.specs.Status.{calls_stale}
 use Rattle.lvm_disk.specs.Device.{IsReady, image_of}
@@ -20,7 +19,7 @@ use Rattle.lvm_commit.specs.Settling.{NoneIsLeft, IsPassedOver, HasLostQuorum, A
 use Rattle.lvm_core.specs.declared.fault.CommitFault.{CommitFault}
 use Rattle.lvm_core.specs.declared.fault.CommitFault.TheVariants as fault
 use Rattle.lvm_over.specs.passed.SessionOpenPower as power
-use Rattle.lvm_over.specs.passed.Names.{State, all_dark}
+use Rattle.lvm_over.specs.passed.Names.{State, all_dark, is_among}
 pub use Rattle.lvm_over.specs.passed.Names.{moment_of}
 use Rattle.lvm_core.specs.Held.{IsHeld}
 use Rattle.lvm_core.specs.Settled.{IsSettled}
@@ -88,9 +87,6 @@ abbrev pub MarkEnds : ℕ → State → State → Result (Unit {0}) CommitFault 
 MarkEnds patience old new answer = RecordsEnd (HasStated old.core.descriptor old new) patience old new answer
 
 -- ---- marks
-
-abbrev pub is_among : List Pp → Pp → Bool
-is_among pps p = list_any (λ (q : Pp). is_pp p q) pps
 
 -- each of the partitions is one of its member that no volume of the group has
 abbrev pub AreUnused : Descriptor → List Pp → Type 0

@@ -22,11 +22,11 @@ use Rattle.lvm_commit.specs.Settling.{IsPassedOver, there, IsOf, IsOfStatus, IsP
 use Rattle.lvm_commit.proofs.SettlingLemmas.Chaining.{keeps_wider}
 use Rattle.lvm_commit.proofs.RoundsLemmas.Leaving.{passed_before}
 use Rattle.lvm_core.specs.declared.fault.CommitFault.{CommitFault}
-use Rattle.lvm_over.specs.passed.Names.{State, is_there}
+use Rattle.lvm_over.specs.passed.Names.{State, is_among, is_there}
 use Rattle.lvm_core.specs.Sound.{IsSoundBetween}
 use Rattle.lvm_core.specs.Held.{IsHeld}
 use Rattle.lvm_core.specs.Settled.{IsSettled}
-use Rattle.lvm_core.specs.Committing.{MarkEnds, HasStated, FailsCommitted, is_among, AreUnused, AreMarked, Restates, moment_of, StaysBehind}
+use Rattle.lvm_core.specs.Committing.{MarkEnds, HasStated, FailsCommitted, AreUnused, AreMarked, Restates, moment_of, StaysBehind}
 use Rattle.lvm_core.specs.Leaves.{IsOfCommand, NoDescriptor, NoPartition, KeepsStatus, IsHeldSince, Leaves, marking}
 use Rattle.lvm_core.specs.Steps.{CommitsMarks}
 use Rattle.lvm_core.proofs.LeavesLemmas.{finds_nothing, passed_behind}

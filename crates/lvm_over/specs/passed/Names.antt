@@ -4,6 +4,7 @@ pub use Rattle.lvm_session.specs.Dark.{AreTold, after_arrange, all_dark, hand_of
 pub use Rattle.lvm_session.specs.Enabled.{is_lost}
 pub use Rattle.lvm_session.specs.Fields.{core_of}
 pub use Rattle.lvm_session.specs.Judging.{is_waiting}
+pub use Rattle.lvm_session.specs.Marks.{is_among}
 pub use Rattle.lvm_session.specs.Placed.{AreAllPlaced, ArePlaced, IsPlaced}
 pub use Rattle.lvm_session.specs.Rooms.{HasRooms, SameRooms}
 pub use Rattle.lvm_session.specs.Sound.{IsDark, IsLit, count_if, hands_with, has_number, is_dark, is_hand, out_with}
