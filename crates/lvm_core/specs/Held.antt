@@ -18,7 +18,7 @@ NotesAreHome core image = (d lv group : ℕ) → IsTrue (is_there core d) → is
 abbrev pub AreNotesHome : Device → Core → Type 0
 AreNotesHome device core = IfSome device.media (λ media. NotesAreHome core (image_of device.sizes media))
 
--- As a session begins the disks hold what it says is committed, and their notes name what its cache does.
+-- The disks hold what the session says is committed, and their notes name what its cache does, as where a session begins.
 pub record StartsHeld (device : Device) (core : Core) : Type 0 where
   pub held : IsHeld device core
   pub notes : AreNotesHome device core

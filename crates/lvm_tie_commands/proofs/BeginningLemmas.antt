@@ -4,7 +4,7 @@ use Rattle.std.specs.Prelude.{◌≢◌}
 use Rattle.lvm_num.specs.declared.descriptor.Descriptor.{Descriptor}
 use Rattle.lvm_num.specs.declared.status.Status.{Status}
 use Rattle.lvm_num.specs.Status.{calls_missing}
-use Rattle.lvm_disk.specs.Device.{Device, HasSectors, Media, image_of}
+use Rattle.lvm_disk.specs.Device.{HasSectors, Media, image_of}
 use Rattle.lvm_disk.proofs.PathsLemmas.{last-path}
 use Rattle.lvm_vol.specs.Facts.{Fact}
 use Rattle.lvm_vol.specs.Legal.{begins_in}
@@ -15,7 +15,7 @@ use Rattle.lvm_steps.specs.Moments.{Begins, Holds, Upholds}
 use Rattle.lvm_status.specs.Update.{Updates}
 use Rattle.lvm_commit.specs.LawsOfVolumes.{IsOneByAllOn}
 use Rattle.lvm_session.specs.State.{Core, State, is_there}
-use Rattle.lvm_handover.specs.passed.Names.{moment_of, NotesAreHome, StartsHeld, HasNoPassive}
+use Rattle.lvm_handover.specs.passed.Names.{moment_of, NotesAreHome, HasNoPassive}
 use Rattle.lvm_handover.proofs.passed.Names.{empty_names_none, quiet_is_even}
 use Rattle.lvm_mwc.specs.Cache.{is_named as is_named_by}
 use Rattle.lvm_kept.proofs.CommittedLemmas.Finding.{images_within}
@@ -23,15 +23,10 @@ use Rattle.lvm_steps.proofs.MakingLemmas.Making.{media_may}
 use Rattle.lvm_handover.specs.passed.Tie.{SparesDescriptors, IsTied}
 use Rattle.lvm_handover.specs.passed.TieBegins.{shown_to}
 use Rattle.lvm_tie_commands.specs.Beginning.{HasBegun, MadeStands, VariedOnStands}
-use Rattle.lvm_tie_commands.specs.Standing.{HoldsEmpty}
 use Rattle.lvm_tie_commands.proofs.MomentsLemmas.{calm_at}
 use Rattle.lvm_tie_commands.proofs.HeldLemmas.{some_told}
 use Rattle.lvm_tie_commands.proofs.Resting.{landed}
 use Rattle.lvm_tie_commands.proofs.BeginsLemmas.{Held, members_show, of_told, ties}
-
--- as it begins
-holds_empty : (device : Device) (core : Core) → core.descriptor.lvs ≡ [] → StartsHeld device core → HoldsEmpty device core
-holds_empty device core none held = record { held = held.held; notes = held.notes }
 
 module _ (run : ℕ) (first : Moment) (s : State) (begun : HasBegun run first s) (table : s.core.status.wanted ≡ s.core.origin.table) (whole : HasSectors s.device)
     (one : IsOneByAllOn s.device) (none : HasNoPassive s.core.descriptor) (quiet : (d lv track_group : ℕ) → is_named_by s.core.cache d lv track_group ≡ false) (past : List Fact) (begins : Begins run past first) where
@@ -58,7 +53,7 @@ module _ (run : ℕ) (first : Moment) (s : State) (begun : HasBegun run first s)
 
 pub varied_on_stands : VariedOnStands
 varied_on_stands run first was name moment room old s on begun whole alone past begins = record {
-  empty = λ none. holds_empty s.device s.core none begun.held;
+  empty = λ none. begun.held;
   tied = λ some. (tied some).0;
   spares = λ some. (tied some).1;
 }
@@ -76,7 +71,7 @@ pub made_stands : MadeStands
 made_stands past was w room old s made held =
     let none : s.core.descriptor.lvs ≡ [] = ap (λ (c : Core). c.descriptor.lvs) made.core_is ∙ ap (λ (d : Descriptor). d.lvs) made.parts.descriptor in
     record {
-      empty = λ e. holds_empty s.device s.core none held;
+      empty = λ e. held;
       tied = λ some. absurd (some none);
       spares = λ some. absurd (some none);
     }

@@ -12,14 +12,14 @@ use Rattle.lvm_commit.specs.LawsOfVolumes.{IsOneByAllOn, IsOnlyGroupOn}
 use Rattle.lvm_commit.proofs.LawsOfVolumesLemmas.Others.{one_by_all_is_only_since}
 use Rattle.lvm_commit.proofs.LawsOfDataLemmas.Still.{still_holds_committed}
 use Rattle.lvm_session.specs.State.{State, is_there}
-use Rattle.lvm_handover.specs.passed.Names.{AreNotesHome, IsHeld, NotesAreHome, IsSettled}
+use Rattle.lvm_handover.specs.passed.Names.{AreNotesHome, IsHeld, NotesAreHome, StartsHeld, IsSettled}
 use Rattle.lvm_even.specs.passed.Names.{IsEven}
 use Rattle.lvm_even.proofs.EvenLemmas.Off.{off_is_even}
 use Rattle.lvm_handover.specs.passed.Tie.{SparesDescriptors, SparesOn, IsTied}
 use Rattle.lvm_handover.specs.passed.TieBegins.{IsRested, IsResting, NotesAreHomeIn as AreHome, shown_to}
 use Rattle.lvm_tie_groups.proofs.SettledLemmas.Leaving.{its_disks_hold, its_rest}
 use Rattle.lvm_tie_commands.specs.Commands.{MayBeCommanded}
-use Rattle.lvm_tie_commands.specs.Standing.{HoldsEmpty, StandsAfter}
+use Rattle.lvm_tie_commands.specs.Standing.{StandsAfter}
 use Rattle.lvm_tie_commands.proofs.LawsOfVolumesLemmas.{alone_is_only}
 use Rattle.lvm_tie_commands.proofs.Resting.{rests, still}
 use Rattle.lvm_tie_commands.proofs.BeginsLemmas.{Held, of_told}
@@ -81,7 +81,7 @@ module _ (run : ℕ) (first : Moment) (s : State) (may : MayBeCommanded run firs
 
   empty_carries : s.core.descriptor.lvs ≡ [] → IsOneByAllOn s.device → Carries s told.0
   empty_carries none one =
-      let empty : HoldsEmpty s.device s.core = standing.empty none in
+      let empty : StartsHeld s.device s.core = standing.empty none in
       let held : Held s told.0 = of_told (λ (m : Media). Held s m) s.device.media told.0 told.1 empty.held in
       record {
         told = told.1;
@@ -102,7 +102,7 @@ module _ (run : ℕ) (first : Moment) (s : State) (may : MayBeCommanded run firs
 
   pub holds_before : IsHeld s.device s.core × AreNotesHome s.device s.core
   holds_before = ⊎_elim
-      (λ (none : s.core.descriptor.lvs ≡ []). let empty : HoldsEmpty s.device s.core = standing.empty none in (empty.held, empty.notes))
+      (λ (none : s.core.descriptor.lvs ≡ []). let empty : StartsHeld s.device s.core = standing.empty none in (empty.held, empty.notes))
       (λ (some : s.core.descriptor.lvs ≢ []).
       let tied : IsTied past s = standing.tied some in
       let it : Carries s tied.media = tied_carries past s tied settled (standing.spares some) some in

@@ -11,14 +11,14 @@ use Rattle.lvm_steps.specs.Moments.{Keeps}
 use Rattle.lvm_status.specs.Members.{HasItsRows}
 use Rattle.lvm_session.specs.State.{Core, State, state}
 use Rattle.lvm_core.specs.Committing.{moment_of}
-use Rattle.lvm_core.specs.Held.{IsHeld}
+use Rattle.lvm_core.specs.Held.{IsHeld, StartsHeld}
 use Rattle.lvm_core.specs.Leaves.{FindsOnly, Scope}
 use Rattle.lvm_core.specs.Settled.{IsSettled as IsSettledCore}
 use Rattle.lvm_core.specs.Sound.{HaveAllLanded}
 use Rattle.lvm_core.specs.State.{state_of}
 use Rattle.lvm_disk.proofs.PathsLemmas.{last-path}
 use Rattle.lvm_range_lines.specs.passed.Running.{LeavesSession}
-use Rattle.lvm_range_lines.specs.passed.TieCommands.{IsAloneAtFirst, IsLeftStanding, IsLeftStandingSince, MayBeCommanded, HoldsEmpty, StandsAfter}
+use Rattle.lvm_range_lines.specs.passed.TieCommands.{IsAloneAtFirst, IsLeftStanding, IsLeftStandingSince, MayBeCommanded, StandsAfter}
 use Rattle.lvm_range_lines.specs.passed.Volumes.{StillHeld}
 use Rattle.lvm_range_lines.specs.passed.Names.{GroupFault, IfOn, is_over}
 use Rattle.lvm_range_lines.specs.passed.Stage.{CommandEnds, EndsUnasked, patience_of_line, GoesOn, IsAllowed, Role, HaveRooms, IsBetweenStage, IsFittingStage, IsOfKind, history_of, open_in, session_in, session_of, shelf_in, history_in, state_in, IsAtRest, IsOnBetween, ScriptState, without_facts, Holder, Reply, Stage}
@@ -60,7 +60,7 @@ module _ {S : Type 0} (device : S → Device) (added : List Pp) (driver : S × C
       let empty : held.core.descriptor.lvs ≡ [] → driver.1.descriptor.lvs ≡ [] = λ none. sym (ap (λ (d : Descriptor). d.lvs) same_group) ∙ none in
       let some : held.core.descriptor.lvs ≢ [] → driver.1.descriptor.lvs ≢ [] = λ more none. more (ap (λ (d : Descriptor). d.lvs) same_group ∙ none) in
       record {
-        empty = λ none. subst (HoldsEmpty (device driver.0)) (sym (held.empty (empty none))) (stands.empty (empty none));
+        empty = λ none. subst (StartsHeld (device driver.0)) (sym (held.empty (empty none))) (stands.empty (empty none));
         tied = λ more. (stands.served added held.core (held.served (some more)) held.sound).tied more;
         spares = λ more. (stands.served added held.core (held.served (some more)) held.sound).spares more;
       }

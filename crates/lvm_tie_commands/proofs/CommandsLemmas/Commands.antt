@@ -20,14 +20,14 @@ use Rattle.lvm_commit.specs.LawsOfVolumes.{IsOneByAllOn}
 use Rattle.lvm_session.specs.State.{Core, State, is_there, state}
 use Rattle.lvm_session.specs.Judging.{is_missing}
 use Rattle.lvm_session.specs.Sound.{IsSound}
-use Rattle.lvm_handover.specs.passed.Names.{moment_of, IsHeld, NotesAreHome, EntersVolumes, IsOfCommand, Leaves, Scope, IsSettled, GroupFault, IfOn, is_over}
+use Rattle.lvm_handover.specs.passed.Names.{moment_of, IsHeld, NotesAreHome, StartsHeld, EntersVolumes, IsOfCommand, Leaves, Scope, IsSettled, GroupFault, IfOn, is_over}
 use Rattle.lvm_handover.specs.passed.Volumes.{IfAlone, StillHeld}
 use Rattle.lvm_even.specs.passed.Names.{IsEven}
 use Rattle.lvm_even.specs.Even.{AreWanted}
 use Rattle.lvm_handover.specs.passed.Tie.{SparesDescriptors, IsTied}
 use Rattle.lvm_handover.specs.passed.TieBegins.{shown_to}
 use Rattle.lvm_tie_commands.specs.Commands.{IsLeftStanding, MayBeCommanded}
-use Rattle.lvm_tie_commands.specs.Standing.{HoldsEmpty, StandsAfter}
+use Rattle.lvm_tie_commands.specs.Standing.{StandsAfter}
 use Rattle.lvm_tie_commands.proofs.LawsOfVolumesLemmas.{only_is_one_on}
 use Rattle.lvm_tie_commands.proofs.MomentsLemmas.{calm_at}
 use Rattle.lvm_tie_commands.proofs.HeldLemmas.{Carries, are_home, carries, holds_before, is_held}
@@ -116,7 +116,7 @@ module _ (run : ℕ) (first : Moment) (old new : State) (may : MayBeCommanded ru
     carries_on : new.core.descriptor.lvs ≢ [] → (is : Media) × Carries new is
     carries_on some = let was = carries run first old may began past begins (enters some) in ((told was.0 was.1).0, carried was.0 was.1)
 
-    holds_after : HoldsEmpty new.device new.core
+    holds_after : StartsHeld new.device new.core
     holds_after = let was = holds_before run first old may began past begins in record { held = still.held was.0; notes = still.notes was.1 }
 
     -- ---- once it takes requests again, with this status as its first
