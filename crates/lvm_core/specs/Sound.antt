@@ -2,6 +2,7 @@
 use Rattle.std.specs.Prelude.{◌≡◌, ◌≤◌, ◌+◌, ℕ, false, true, List, [], None, length, replicate, slice_index_or}
 use Rattle.lvm_num.specs.Descriptor.{IsValid, is_member}
 pub use Rattle.lvm_vol.specs.Log.{HaveAllLanded}
+pub use Rattle.lvm_over.specs.passed.Names.{HasNoneOpen}
 use Rattle.lvm_mwc.specs.Entries.{AreEntries}
 use Rattle.lvm_mwc.specs.Cache.{has_disk, flight_on}
 use Rattle.lvm_status.specs.Members.{HasItsRows}
@@ -24,11 +25,6 @@ pub record IsFittingBetween (core : Core) : Type 0 where
   pub buffers : length core.pool ≤ 1024
   pub last : length core.last ≡ 512
   pub forgotten : IsForgotten core.status
-
--- neither a request nor a copy is open
-pub record HasNoneOpen (core : Core) : Type 0 where
-  pub requests : core.requests ≡ []
-  pub copy : core.copy ≡ None
 
 -- nothing of the session may have a transfer under way
 pub record IsQuiet (core : Core) : Type 0 where

@@ -250,8 +250,8 @@ pub record IsOver (s : State) : Type 0 where
   pub flights : s.device.flights ≡ []
   pub flying : s.core.flying ≡ []
 
--- a session that is stuck is asked for neither requests nor copies
-pub record IsStuck (core : Core) : Type 0 where
+-- neither a request nor a copy is open
+pub record HasNoneOpen (core : Core) : Type 0 where
   pub requests : core.requests ≡ []
   pub copy : core.copy ≡ None
 
@@ -270,7 +270,8 @@ pub record IsSound (s : State) : Type 0 where
   -- it is off where the members that aren't missing have too few votes to write
   pub off : s.core.power ≡ power.Off → is_lost s.core ≡ true
   pub over : is_over s.core.power ≡ true → IsOver s
-  pub stuck : s.core.power ≡ power.Stuck → IsStuck s.core
+  -- a session that is stuck is asked for neither requests nor copies
+  pub stuck : s.core.power ≡ power.Stuck → HasNoneOpen s.core
   -- why each request that has landed did so, why the copy ended, and why disks are missing and copies stale
   pub counted : AllByRecursion (AreCounted s) s.core.requests
   pub answered : AllByRecursion (IsAnswered s) s.core.requests
