@@ -3,7 +3,7 @@ pub use Rattle.lvm_num.specs.Descriptor.{IsLaidOut, IsValid, is_member, is_pp, p
 unfoldable pub use Rattle.lvm_num.specs.Disks.{has}
 pub use Rattle.lvm_num.specs.Disks.{Disks, IsLowest}
 pub use Rattle.lvm_num.specs.Record.{stamp_lt}
-pub use Rattle.lvm_num.specs.Status.{IsValidStatus, calls_dirty, calls_missing, calls_stale}
+pub use Rattle.lvm_num.specs.Status.{IsValidStatus, IsVolumeNumber, calls_dirty, calls_missing, calls_stale}
 pub use Rattle.lvm_num.specs.Votes.{CanWrite, is_enough_to_write, total_votes, votes_in}
 pub use Rattle.lvm_num.specs.declared.descriptor.Descriptor.{Descriptor}
 pub use Rattle.lvm_num.specs.declared.descriptor.PvRow.{PvRow}
