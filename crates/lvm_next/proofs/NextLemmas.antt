@@ -24,7 +24,7 @@ use Rattle.lvm_stale.specs.Table.{has_row}
 use Rattle.lvm_next.specs.Next.{IsNextStatus, IsLeftBehind, has_passive}
 use Rattle.lvm_num.specs.Modes.{is_passive}
 use Rattle.lvm_next.specs.Rows.{AreMemberRows}
-use Rattle.lvm_stale.specs.Marking.{is_served, IsLeftIn, Marks, IsMarkable}
+use Rattle.lvm_stale.specs.Marking.{is_served, IsLeftIn, Marks, HasMark}
 use Rattle.lvm_next.proofs.RowsLemmas.{found_one}
 use Rattle.lvm_stale.proofs.MarkingLemmas.{has_row-same}
 
@@ -178,10 +178,10 @@ module _ (group : Descriptor) (valid : IsValid group) (answering : Disks) (was :
         });
       }
 
-  pub all_markable : All (IsMarkable first) (partitions_in group.lvs)
+  pub all_markable : All (HasMark first) (partitions_in group.lvs)
   all_markable k d lt = markable (get_or (partitions_in group.lvs) k d) (valid.maps.places k d lt)
     where
-      markable : (p : Pp) → IsPartitionOf group p → IsMarkable first p
+      markable : (p : Pp) → IsPartitionOf group p → HasMark first p
       markable p of = record {
         disk = member_is_disk group valid p.disk (is_member_of group p of);
         partition = (let most = (found_one IsMember (λ (r : PvRow). r.disk == p.disk) group.pvs of.0 of.1 valid.members.each).partitions in let less = of.2 in omega (arith, most, less));

@@ -19,7 +19,7 @@ use Rattle.lvm_num.proofs.AmongLemmas.{one_of_left, one_of_right, one_of_either}
 use Rattle.lvm_num.proofs.Booleans.{clash}
 use Rattle.lvm_num.proofs.DescriptorLemmas.Partitions.{one_partition, same_partition}
 use Rattle.lvm_stale.specs.Table.{has_row, SameMembers, SameMissing}
-use Rattle.lvm_stale.specs.Marking.{is_served, IsLeft, IsLeftBelow, IsLeftIn, Marks, IsMarkable}
+use Rattle.lvm_stale.specs.Marking.{is_served, IsLeft, IsLeftBelow, IsLeftIn, Marks, HasMark}
 
 -- ---- one of a list
 
@@ -46,11 +46,11 @@ pub has_row-same : (old new : Status) → SameMembers old new → (disk : ℕ) �
 has_row-same old new same disk =
     any_disk new.rows disk ∙ ap (λ disks. list_any (λ n. n == disk) disks) same.disks ∙ sym (any_disk old.rows disk)
 
-pub markable_same : (old new : Status) (ps : List Pp) → SameMembers old new → All (IsMarkable old) ps → All (IsMarkable new) ps
+pub markable_same : (old new : Status) (ps : List Pp) → SameMembers old new → All (HasMark old) ps → All (HasMark new) ps
 markable_same old new ps same all k d lt = let one = all k d lt in record { disk = one.disk; partition = one.partition; row = has_row-same old new same (get_or ps k d).disk ∙ one.row }
 
-pub markable_copies : (s : Status) (row : LvRow) (lp : ℕ) → All (IsMarkable s) row.map → All (IsMarkable s) (copies_of row lp)
-markable_copies s row lp all = All-take (IsMarkable s) row.copies (drop (lp * row.copies) row.map) (All-drop (IsMarkable s) (lp * row.copies) row.map all)
+pub markable_copies : (s : Status) (row : LvRow) (lp : ℕ) → All (HasMark s) row.map → All (HasMark s) (copies_of row lp)
+markable_copies s row lp all = All-take (HasMark s) row.copies (drop (lp * row.copies) row.map) (All-drop (HasMark s) (lp * row.copies) row.map all)
 
 -- ---- marks
 
@@ -206,6 +206,6 @@ one_at (x ∷ xs) zero d lt = inl refl
 one_at (x ∷ xs) (suc i) d lt = inr (one_at xs i d (omega (arith, lt)))
 
 -- what holds of all elements of all pieces holds of those of one piece
-pub markable_row : (s : Status) (rows : List LvRow) (i : ℕ) (d : LvRow) → i < length rows → All (IsMarkable s) (partitions_in rows) → All (IsMarkable s) (get_or rows i d).map
-markable_row s rows i d lt all k e less = subst (IsMarkable s) (get_or-flat_map (λ (row : LvRow). row.map) rows i k d e lt less)
+pub markable_row : (s : Status) (rows : List LvRow) (i : ℕ) (d : LvRow) → i < length rows → All (HasMark s) (partitions_in rows) → All (HasMark s) (get_or rows i d).map
+markable_row s rows i d lt all k e less = subst (HasMark s) (get_or-flat_map (λ (row : LvRow). row.map) rows i k d e lt less)
     (all (length (partitions_in (take i rows)) + k) e (let most = length-flat_map-take (λ (row : LvRow). row.map) rows i d lt in omega (arith, most, less)))

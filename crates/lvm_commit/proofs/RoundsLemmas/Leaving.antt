@@ -19,7 +19,7 @@ use Rattle.lvm_num.proofs.AmongLemmas.{any_one}
 use Rattle.lvm_disk.specs.Device.{Device, image_of}
 use Rattle.lvm_kept.specs.Contents.{Contents, contents_of}
 use Rattle.lvm_kept.specs.Group.{passes, is_of, members_in, IsOneOf}
-use Rattle.lvm_status.specs.passed.Names.{IsLeft, IsLeftIn, Marks, IsMarkable}
+use Rattle.lvm_status.specs.passed.Names.{IsLeft, IsLeftIn, Marks, HasMark}
 use Rattle.lvm_status.proofs.passed.Names.{left_same, left_again}
 use Rattle.lvm_status.specs.Members.{HasItsRows}
 use Rattle.lvm_status.specs.Update.{Stored, members_there}
@@ -71,10 +71,10 @@ found_row (r ∷ rs) disk row e all = by_test (r.disk == disk) e (λ is. found_r
     by_test true is rest = let same : r ≡ row = cc in (refl, subst IsMember same (all 0 r (omega arith)))
     by_test false is rest = rest is
 
-pub all_markable : (d : Descriptor) (u : Stored) → IsValid d → IsOf d u → HasItsRows u.group u.wanted → All (IsMarkable u.wanted) (partitions_in d.lvs)
+pub all_markable : (d : Descriptor) (u : Stored) → IsValid d → IsOf d u → HasItsRows u.group u.wanted → All (HasMark u.wanted) (partitions_in d.lvs)
 all_markable d u valid own rows k e lt = markable (get_or (partitions_in d.lvs) k e) (valid.maps.places k e lt)
   where
-    markable : (p : Pp) → IsPartitionOf d p → IsMarkable u.wanted p
+    markable : (p : Pp) → IsPartitionOf d p → HasMark u.wanted p
     markable p of =
         let row = found_row d.pvs p.disk of.0 of.1 valid.members.each in
         record {
