@@ -16,7 +16,7 @@ use Rattle.lvm_checker.specs.declared.row.Row.{Row}
 use Rattle.lvm_checker.specs.declared.row.Row.TheVariants as row
 use Rattle.lvm_checker.specs.Fitting.{is_bounded}
 use Rattle.lvm_checker.specs.Rows.{facts_of, no_ask, ask_of, is_landing, is_taking}
-use Rattle.lvm_history.specs.Keeping.{ask_at, ask_found, is_open_by, awaited_by, is_answered_by, entry_kept, IsOneOfAsks, asks_from, row_of, IsKept, IsRoomy, if_uncut, blocks_first, Kept, log_of, IsSound}
+use Rattle.lvm_history.specs.Keeping.{ask_at, ask_found, is_open_by, awaited_by, is_answered_by, entry_kept, IsOneOfAsks, asks_from, row_of, IsKept, IsRoomy, if_uncut, blocks_first, Holdings, log_of, IsSound}
 use Rattle.lvm_checker.proofs.passed.Names.{IdsFrom, stands_last, stands-at, stands_begun, numbered, begun-push, any-push, ordered-push, found_of, and_left, open_of, follows_taken, count_begun}
 use Rattle.lvm_history.proofs.LogLemmas.Keeping.{counts, ask-back, length-asks, length-flat, length-held, asks-push, facts-back, blocks_aside, blocks-begun, blocks-landed, blocks-read, held_same, unlanded_id, place_of}
 use Rattle.lvm_history.proofs.LogLemmas.Counting.{stands_get, find_at, find_below, counted, three_needed, no_taking_yet, landing_same, taking_same, needed-push, length-push}
@@ -26,11 +26,11 @@ uncut-push b [] f = refl
 uncut-push b (g ∷ facts) f = uncut-push (is_uncut_after b g) facts f
 
 -- one fact more is kept
-pub record Enters (k new : Kept) (f : Fact) : Type 0 where
+pub record Enters (k new : Holdings) (f : Fact) : Type 0 where
   pub sound : IsSound new
   pub log : log_of new ≡ record (log_of k) { facts = (log_of k).facts ++ f ∷ [] }
 
-pub enters : (k new : Kept) (f : Fact) → IsSound k → Follows k.run (log_of k).facts f
+pub enters : (k new : Holdings) (f : Fact) → IsSound k → Follows k.run (log_of k).facts f
     → new.run ≡ k.run → new.room ≡ k.room → new.bytes ≡ k.bytes
     → new.rows ≡ k.rows ++ row_of f ∷ [] → new.asks ≡ asks_from 0 (begun ((log_of k).facts ++ f ∷ [])) → new.blocks ≡ blocks_of ((log_of k).facts ++ f ∷ [])
     → new.need_now ≡ k.need_now + need f → new.uncut ≡ is_uncut_after k.uncut f → new.need_now + if_uncut new.uncut ≤ new.room → 512 * length new.blocks ≤ new.bytes
@@ -79,14 +79,14 @@ pub record IsQuiet (f : Fact) : Type 0 where
   pub begins : begun_by f ≡ None
   pub gets : (id : ℕ) → got_by id f ≡ None
 
-asks_quiet : (k : Kept) (f : Fact) → IsSound k → begun_by f ≡ None → k.asks ≡ asks_from 0 (begun ((log_of k).facts ++ f ∷ []))
+asks_quiet : (k : Holdings) (f : Fact) → IsSound k → begun_by f ≡ None → k.asks ≡ asks_from 0 (begun ((log_of k).facts ++ f ∷ []))
 asks_quiet k f sound none = sound.its_own.its_asks
     ∙ ap (λ (rs : List Request). asks_from 0 rs) (sym (begun-push (log_of k).facts f ∙ ap (λ (o : Option Request). begun (log_of k).facts ++ cons_option o []) none ∙ append-nil (begun (log_of k).facts)))
 
-pub asks_same : (k : Kept) (f : Fact) → IsSound k → begun_by f ≡ None → k.asks ≡ asks_from 0 (begun ((log_of k).facts ++ f ∷ []))
+pub asks_same : (k : Holdings) (f : Fact) → IsSound k → begun_by f ≡ None → k.asks ≡ asks_from 0 (begun ((log_of k).facts ++ f ∷ []))
 asks_same k f sound none = asks_quiet k f sound none
 
-pub blocks_same : (k : Kept) (f : Fact) → IsSound k → IsQuiet f → k.blocks ≡ blocks_of ((log_of k).facts ++ f ∷ [])
+pub blocks_same : (k : Holdings) (f : Fact) → IsSound k → IsQuiet f → k.blocks ≡ blocks_of ((log_of k).facts ++ f ∷ [])
 blocks_same k f sound quiet = sound.its_own.its_blocks ∙ sym (blocks_aside k.run (log_of k).facts f quiet.begins (λ r there. held_same (log_of k).facts f r (quiet.gets r.id)))
 
 -- the data of a landing without bytes is of its kind
@@ -114,17 +114,17 @@ follows_landed run facts id how started ordered is =
     (still.its.began, ap (λ (n : ℕ). list_any (lands_id n) facts) still.its.own ∙ still.unlanded, got_without (request_of facts id) how (q.whole (request_of facts id) (stands_begun facts (request_of facts id) still.its.began)))
 
 -- one fact more is shown and kept
-pub record Adds (log : Log) (new : Kept) (f : Fact) : Type 0 where
+pub record Adds (log : Log) (new : Holdings) (f : Fact) : Type 0 where
   pub sound : IsSound new
   pub shown : log_of new ≡ record log { facts = log.facts ++ f ∷ [] }
 
 -- a row is added where there is room for it, and nothing else changes
-pub record AddsRow (k new : Kept) (r : Row) : Type 0 where
+pub record AddsRow (k new : Holdings) (r : Row) : Type 0 where
   pub its_rows : new.rows ≡ k.rows ++ r ∷ []
   pub rest : new ≡ record k { rows = new.rows; rows_room = new.rows_room }
   pub more : k.rows_room ≤ new.rows_room
 
-landed_enters : (k new : Kept) (id : ℕ) (how : Outcome) (started : Bool) → IsSound k → is_open (log_of k).facts id ≡ true → AddsRow k new (row.Landed id how started)
+landed_enters : (k new : Holdings) (id : ℕ) (how : Outcome) (started : Bool) → IsSound k → is_open (log_of k).facts id ≡ true → AddsRow k new (row.Landed id how started)
     → Enters k new (Landed (request_of (log_of k).facts id) how started (got_without_bytes (request_of (log_of k).facts id) how))
 landed_enters k new id how started sound still adds =
     let facts : List Fact = (log_of k).facts in
@@ -132,34 +132,34 @@ landed_enters k new id how started sound still adds =
     let f : Fact = Landed r how started (got_without_bytes r how) in
     let its = open_of facts id still in
     let q = numbered k.run facts sound.its_own.ordered in
-    let need_is : new.need_now ≡ k.need_now = ap (λ (x : Kept). x.need_now) adds.rest in
-    let uncut_is : new.uncut ≡ k.uncut = ap (λ (x : Kept). x.uncut) adds.rest in
-    let room_is : new.room ≡ k.room = ap (λ (x : Kept). x.room) adds.rest in
+    let need_is : new.need_now ≡ k.need_now = ap (λ (x : Holdings). x.need_now) adds.rest in
+    let uncut_is : new.uncut ≡ k.uncut = ap (λ (x : Holdings). x.uncut) adds.rest in
+    let room_is : new.room ≡ k.room = ap (λ (x : Holdings). x.room) adds.rest in
     let fits = sound.roomy.fits in
     enters k new f sound (follows_landed k.run facts id how started sound.its_own.ordered still)
-    (ap (λ (x : Kept). x.run) adds.rest) room_is (ap (λ (x : Kept). x.bytes) adds.rest)
+    (ap (λ (x : Holdings). x.run) adds.rest) room_is (ap (λ (x : Holdings). x.bytes) adds.rest)
     (adds.its_rows ∙ ap (λ (n : ℕ). k.rows ++ row.Landed n how started ∷ []) (sym its.its.own))
-    (ap (λ (x : Kept). x.asks) adds.rest ∙ asks_same k f sound refl)
-    (ap (λ (x : Kept). x.blocks) adds.rest ∙ sound.its_own.its_blocks ∙ sym (blocks-landed k.run facts r how started q its.its.began (ap (λ (n : ℕ). list_any (lands_id n) facts) its.its.own ∙ its.unlanded)))
+    (ap (λ (x : Holdings). x.asks) adds.rest ∙ asks_same k f sound refl)
+    (ap (λ (x : Holdings). x.blocks) adds.rest ∙ sound.its_own.its_blocks ∙ sym (blocks-landed k.run facts r how started q its.its.began (ap (λ (n : ℕ). list_any (lands_id n) facts) its.its.own ∙ its.unlanded)))
     (need_is ∙ (let e : k.need_now ≡ k.need_now + 0 = omega arith in e))
     uncut_is
     (subst (λ (b : Bool). new.need_now + if_uncut b ≤ new.room) (sym uncut_is) (omega (arith, need_is, room_is, fits)))
-    (subst (λ (x : Kept). 512 * length x.blocks ≤ x.bytes) (sym adds.rest) sound.bytes_fit)
+    (subst (λ (x : Holdings). 512 * length x.blocks ≤ x.bytes) (sym adds.rest) sound.bytes_fit)
     adds.more
-    (let e : new.asks_room ≡ k.asks_room = ap (λ (x : Kept). x.asks_room) adds.rest in omega (arith, e))
-    (let e : new.blocks_room ≡ k.blocks_room = ap (λ (x : Kept). x.blocks_room) adds.rest in omega (arith, e))
+    (let e : new.asks_room ≡ k.asks_room = ap (λ (x : Holdings). x.asks_room) adds.rest in omega (arith, e))
+    (let e : new.blocks_room ≡ k.blocks_room = ap (λ (x : Holdings). x.blocks_room) adds.rest in omega (arith, e))
 
-adds_of : (k new : Kept) (log : Log) (f : Fact) → log_of k ≡ log → Enters k new f → Adds log new f
+adds_of : (k new : Holdings) (log : Log) (f : Fact) → log_of k ≡ log → Enters k new f → Adds log new f
 adds_of k new log f shows enters = record { sound = enters.sound; shown = enters.log ∙ ap (λ (x : Log). record x { facts = x.facts ++ f ∷ [] }) shows }
 
-pub landed_adds : (k new : Kept) (log : Log) (id : ℕ) (how : Outcome) (started : Bool) → IsSound k → log_of k ≡ log → is_open log.facts id ≡ true → AddsRow k new (row.Landed id how started)
+pub landed_adds : (k new : Holdings) (log : Log) (id : ℕ) (how : Outcome) (started : Bool) → IsSound k → log_of k ≡ log → is_open log.facts id ≡ true → AddsRow k new (row.Landed id how started)
     → Adds log new (Landed (request_of log.facts id) how started (got_without_bytes (request_of log.facts id) how))
 landed_adds k new log id how started sound shows still adds =
     subst (λ (x : Log). is_open x.facts id ≡ true → Adds x new (Landed (request_of x.facts id) how started (got_without_bytes (request_of x.facts id) how))) shows
     (λ still. adds_of k new (log_of k) _ refl (landed_enters k new id how started sound still adds)) still
 
 -- there is room for a row that the count has room for
-pub row_room : (k : Kept) (f : Fact) → IsSound k → Follows k.run (log_of k).facts f → k.need_now + need f ≤ k.room → length k.rows < k.rows_room
+pub row_room : (k : Holdings) (f : Fact) → IsSound k → Follows k.run (log_of k).facts f → k.need_now + need f ≤ k.room → length k.rows < k.rows_room
 row_room k f sound follows fits =
     let facts : List Fact = (log_of k).facts in
     let all = counted k.run (facts ++ f ∷ []) (ordered-push k.run [] facts f sound.its_own.ordered follows) in
@@ -196,22 +196,22 @@ answered_landed run facts id how started got ordered still =
     or_true true = refl
     or_true false = refl
 
-pub landed_answered : (k new : Kept) (log : Log) (id : ℕ) (how : Outcome) (started : Bool) (got : List (List ℕ)) → IsSound k → log_of k ≡ log → is_open log.facts id ≡ true
+pub landed_answered : (k new : Holdings) (log : Log) (id : ℕ) (how : Outcome) (started : Bool) (got : List (List ℕ)) → IsSound k → log_of k ≡ log → is_open log.facts id ≡ true
     → Adds log new (Landed (request_of log.facts id) how started got) → is_answered (log_of new).facts (request_of log.facts id).client id ≡ true
 landed_answered k new log id how started got sound shows still adds =
     ap (λ (x : Log). is_answered x.facts (request_of log.facts id).client id) adds.shown
     ∙ answered_landed log.run log.facts id how started got (subst (λ (x : Log). Ordered x.run [] x.facts) shows sound.its_own.ordered) still
 
-pub landed_room : (k : Kept) (log : Log) (id : ℕ) (how : Outcome) (started : Bool) → IsSound k → log_of k ≡ log → is_open log.facts id ≡ true → length k.rows < k.rows_room
+pub landed_room : (k : Holdings) (log : Log) (id : ℕ) (how : Outcome) (started : Bool) → IsSound k → log_of k ≡ log → is_open log.facts id ≡ true → length k.rows < k.rows_room
 landed_room k log id how started sound shows still =
     let fits = sound.roomy.fits in
     let here : is_open (log_of k).facts id ≡ true = subst (λ (x : Log). is_open x.facts id ≡ true) (sym shows) still in
     row_room k (Landed (request_of (log_of k).facts id) how started (got_without_bytes (request_of (log_of k).facts id) how)) sound (follows_landed k.run (log_of k).facts id how started sound.its_own.ordered here) (omega (arith, fits))
 
-pub length_rows : (k : Kept) (log : Log) → IsSound k → log_of k ≡ log → length k.rows ≡ length log.facts
+pub length_rows : (k : Holdings) (log : Log) → IsSound k → log_of k ≡ log → length k.rows ≡ length log.facts
 length_rows k log sound shows = ap length sound.its_own.its_rows ∙ length-map (log_of k).facts row_of ∙ ap (λ (x : Log). length x.facts) shows
 
-pub rows_few : (k : Kept) → IsSound k → length k.rows < 2 ^ 32
+pub rows_few : (k : Holdings) → IsSound k → length k.rows < 2 ^ 32
 rows_few k sound =
     let all = counted k.run (log_of k).facts sound.its_own.ordered in
     let total = all.total in
@@ -220,23 +220,23 @@ rows_few k sound =
     omega (arith, total, rows, is, fits, few)
 
 -- a row that is neither about a beginning nor a Got is added
-quiet_enters : (k new : Kept) (f : Fact) → IsSound k → Follows k.run (log_of k).facts f → IsQuiet f → new.rows ≡ k.rows ++ row_of f ∷ []
+quiet_enters : (k new : Holdings) (f : Fact) → IsSound k → Follows k.run (log_of k).facts f → IsQuiet f → new.rows ≡ k.rows ++ row_of f ∷ []
     → new ≡ record k { rows = new.rows; rows_room = new.rows_room; need_now = new.need_now; uncut = new.uncut } → k.rows_room ≤ new.rows_room
     → new.need_now ≡ k.need_now + need f → new.uncut ≡ is_uncut_after k.uncut f → new.need_now + if_uncut new.uncut ≤ k.room → Enters k new f
 quiet_enters k new f sound follows quiet rows rest more needs uncut fits =
-    let room_is : new.room ≡ k.room = ap (λ (x : Kept). x.room) rest in
+    let room_is : new.room ≡ k.room = ap (λ (x : Holdings). x.room) rest in
     enters k new f sound follows
-    (ap (λ (x : Kept). x.run) rest) room_is (ap (λ (x : Kept). x.bytes) rest) rows
-    (ap (λ (x : Kept). x.asks) rest ∙ asks_same k f sound quiet.begins)
-    (ap (λ (x : Kept). x.blocks) rest ∙ blocks_same k f sound quiet)
+    (ap (λ (x : Holdings). x.run) rest) room_is (ap (λ (x : Holdings). x.bytes) rest) rows
+    (ap (λ (x : Holdings). x.asks) rest ∙ asks_same k f sound quiet.begins)
+    (ap (λ (x : Holdings). x.blocks) rest ∙ blocks_same k f sound quiet)
     needs uncut
     (subst (λ (n : ℕ). new.need_now + if_uncut new.uncut ≤ n) (sym room_is) fits)
-    (subst (λ (x : Kept). 512 * length x.blocks ≤ x.bytes) (sym rest) sound.bytes_fit)
+    (subst (λ (x : Holdings). 512 * length x.blocks ≤ x.bytes) (sym rest) sound.bytes_fit)
     more
-    (let e : new.asks_room ≡ k.asks_room = ap (λ (x : Kept). x.asks_room) rest in omega (arith, e))
-    (let e : new.blocks_room ≡ k.blocks_room = ap (λ (x : Kept). x.blocks_room) rest in omega (arith, e))
+    (let e : new.asks_room ≡ k.asks_room = ap (λ (x : Holdings). x.asks_room) rest in omega (arith, e))
+    (let e : new.blocks_room ≡ k.blocks_room = ap (λ (x : Holdings). x.blocks_room) rest in omega (arith, e))
 
-pub taken_adds : (k new : Kept) (log : Log) (client id : ℕ) → IsSound k → log_of k ≡ log → is_answered log.facts client id ≡ true → AddsRow k new (row.Taken client id) → Adds log new (Taken (request_of log.facts id))
+pub taken_adds : (k new : Holdings) (log : Log) (client id : ℕ) → IsSound k → log_of k ≡ log → is_answered log.facts client id ≡ true → AddsRow k new (row.Taken client id) → Adds log new (Taken (request_of log.facts id))
 taken_adds k new log client id sound shows answered adds =
     subst (λ (x : Log). is_answered x.facts client id ≡ true → Adds x new (Taken (request_of x.facts id))) shows
     (λ now. adds_of k new (log_of k) _ refl (by_row now)) answered
@@ -245,8 +245,8 @@ taken_adds k new log client id sound shows answered adds =
     by_row now =
         let its = follows_taken (log_of k).facts k.run client id now in
         let r : Request = request_of (log_of k).facts id in
-        let need_is : new.need_now ≡ k.need_now = ap (λ (x : Kept). x.need_now) adds.rest in
-        let uncut_is : new.uncut ≡ k.uncut = ap (λ (x : Kept). x.uncut) adds.rest in
+        let need_is : new.need_now ≡ k.need_now = ap (λ (x : Holdings). x.need_now) adds.rest in
+        let uncut_is : new.uncut ≡ k.uncut = ap (λ (x : Holdings). x.uncut) adds.rest in
         let fits = sound.roomy.fits in
         quiet_enters k new (Taken r) sound its.0 (record { begins = refl; gets = λ n. refl })
         (adds.its_rows ∙ ap (λ (n : ℕ). k.rows ++ row.Taken n id ∷ []) (sym its.1) ∙ ap (λ (n : ℕ). k.rows ++ row.Taken r.client n ∷ []) (sym its.2))
@@ -255,7 +255,7 @@ taken_adds k new log client id sound shows answered adds =
         (need_is ∙ (let e : k.need_now ≡ k.need_now + 0 = omega arith in e)) uncut_is
         (subst (λ (b : Bool). new.need_now + if_uncut b ≤ k.room) (sym uncut_is) (omega (arith, need_is, fits)))
 
-pub taken_room : (k : Kept) (log : Log) (client id : ℕ) → IsSound k → log_of k ≡ log → is_answered log.facts client id ≡ true → length k.rows < k.rows_room
+pub taken_room : (k : Holdings) (log : Log) (client id : ℕ) → IsSound k → log_of k ≡ log → is_answered log.facts client id ≡ true → length k.rows < k.rows_room
 taken_room k log client id sound shows answered =
     let fits = sound.roomy.fits in
     let its = follows_taken (log_of k).facts k.run client id (subst (λ (x : Log). is_answered x.facts client id ≡ true) (sym shows) answered) in
@@ -278,37 +278,37 @@ if_uncut_le : (b : Bool) → if_uncut b ≤ 1
 if_uncut_le true = omega arith
 if_uncut_le false = omega arith
 
-pub record PushesRow (k new : Kept) (r : Row) : Type 0 where
+pub record PushesRow (k new : Holdings) (r : Row) : Type 0 where
   pub its_rows : new.rows ≡ k.rows ++ r ∷ []
   pub rest : new ≡ record k { rows = new.rows; rows_room = new.rows_room; need_now = k.need_now + 1; uncut = new.uncut }
   pub more : k.rows_room ≤ new.rows_room
 
-pub pushed_adds : (k new : Kept) (log : Log) (e : Entry) → IsSound k → log_of k ≡ log → 1 ≤ spare_entries log → PushesRow k new (row_of (plain_fact e)) → new.uncut ≡ is_uncut_after k.uncut (plain_fact e) → Adds log new (plain_fact e)
+pub pushed_adds : (k new : Holdings) (log : Log) (e : Entry) → IsSound k → log_of k ≡ log → 1 ≤ spare_entries log → PushesRow k new (row_of (plain_fact e)) → new.uncut ≡ is_uncut_after k.uncut (plain_fact e) → Adds log new (plain_fact e)
 pushed_adds k new log e sound shows spare pushes uncut =
     let is = sound.roomy.counted in
     let here : 1 ≤ spare_entries (log_of k) = subst (λ (x : Log). 1 ≤ spare_entries x) (sym shows) spare in
-    let need_is : new.need_now ≡ k.need_now + 1 = ap (λ (x : Kept). x.need_now) pushes.rest in
+    let need_is : new.need_now ≡ k.need_now + 1 = ap (λ (x : Holdings). x.need_now) pushes.rest in
     let last = if_uncut_le new.uncut in
     adds_of k new log (plain_fact e) shows
     (quiet_enters k new (plain_fact e) sound (plain_follows e k.run (log_of k).facts) (plain_quiet e) pushes.its_rows
     (pushes.rest ∙ ap (λ (n : ℕ). record k { rows = new.rows; rows_room = new.rows_room; need_now = n; uncut = new.uncut }) (sym need_is))
     pushes.more (need_is ∙ ap (λ (n : ℕ). k.need_now + n) (sym (plain_need e))) uncut (omega (arith, need_is, here, is, last)))
 
-pub pushed_room : (k : Kept) (log : Log) (e : Entry) → IsSound k → log_of k ≡ log → 1 ≤ spare_entries log → length k.rows < k.rows_room
+pub pushed_room : (k : Holdings) (log : Log) (e : Entry) → IsSound k → log_of k ≡ log → 1 ≤ spare_entries log → length k.rows < k.rows_room
 pushed_room k log e sound shows spare =
     let is = sound.roomy.counted in
     let here : 1 ≤ spare_entries (log_of k) = subst (λ (x : Log). 1 ≤ spare_entries x) (sym shows) spare in
     row_room k (plain_fact e) sound (plain_follows e k.run (log_of k).facts) (let one = plain_need e in omega (arith, here, is, one))
 
-pub needed_few : (k : Kept) (log : Log) → IsSound k → log_of k ≡ log → 1 ≤ spare_entries log → k.need_now + 1 < 2 ^ 32
+pub needed_few : (k : Holdings) (log : Log) → IsSound k → log_of k ≡ log → 1 ≤ spare_entries log → k.need_now + 1 < 2 ^ 32
 needed_few k log sound shows spare =
     let is = sound.roomy.counted in let few = sound.few in
     let here : 1 ≤ spare_entries (log_of k) = subst (λ (x : Log). 1 ≤ spare_entries x) (sym shows) spare in
     omega (arith, here, is, few)
 
-pub cut_adds : (k new : Kept) (log : Log) → IsSound k → log_of k ≡ log → k.uncut ≡ true → PushesRow k new row.Cut → new.uncut ≡ false → IsSound new × (log_of new ≡ cut_log log)
+pub cut_adds : (k new : Holdings) (log : Log) → IsSound k → log_of k ≡ log → k.uncut ≡ true → PushesRow k new row.Cut → new.uncut ≡ false → IsSound new × (log_of new ≡ cut_log log)
 cut_adds k new log sound shows opened pushes uncut =
-    let need_is : new.need_now ≡ k.need_now + 1 = ap (λ (x : Kept). x.need_now) pushes.rest in
+    let need_is : new.need_now ≡ k.need_now + 1 = ap (λ (x : Holdings). x.need_now) pushes.rest in
     let fits : k.need_now + 1 ≤ k.room = subst (λ (b : Bool). k.need_now + if_uncut b ≤ k.room) opened sound.roomy.fits in
     let all = adds_of k new log Cut shows
     (quiet_enters k new Cut sound tt (record { begins = refl; gets = λ n. refl }) pushes.its_rows
@@ -317,12 +317,12 @@ cut_adds k new log sound shows opened pushes uncut =
     let was : is_uncut log.facts ≡ true = ap (λ (x : Log). is_uncut x.facts) (sym shows) ∙ sym sound.roomy.cuts ∙ opened in
     (all.sound, all.shown ∙ sym (ap (λ (b : Bool). cond b (record log { facts = log.facts ++ Cut ∷ [] }) log) was))
 
-pub cut_same : (k : Kept) (log : Log) → IsSound k → log_of k ≡ log → k.uncut ≡ false → log ≡ cut_log log
+pub cut_same : (k : Holdings) (log : Log) → IsSound k → log_of k ≡ log → k.uncut ≡ false → log ≡ cut_log log
 cut_same k log sound shows closed =
     let was : is_uncut log.facts ≡ false = ap (λ (x : Log). is_uncut x.facts) (sym shows) ∙ sym sound.roomy.cuts ∙ closed in
     sym (ap (λ (b : Bool). cond b (record log { facts = log.facts ++ Cut ∷ [] }) log) was)
 
-pub cut_room : (k : Kept) → IsSound k → k.uncut ≡ true → (length k.rows < k.rows_room) × (k.need_now + 1 < 2 ^ 32)
+pub cut_room : (k : Holdings) → IsSound k → k.uncut ≡ true → (length k.rows < k.rows_room) × (k.need_now + 1 < 2 ^ 32)
 cut_room k sound opened =
     let fits : k.need_now + 1 ≤ k.room = subst (λ (b : Bool). k.need_now + if_uncut b ≤ k.room) opened sound.roomy.fits in
     let few = sound.few in
@@ -334,20 +334,20 @@ length-first_chunks : (n k : ℕ) (xs : List ℕ) → length (first_chunks n k x
 length-first_chunks n zero xs = refl
 length-first_chunks n (suc k) xs = ap suc (length-first_chunks n k (drop n xs))
 
-pub next_is : (k : Kept) → IsSound k → next_id (log_of k) ≡ length (begun (log_of k).facts) + 1
+pub next_is : (k : Holdings) → IsSound k → next_id (log_of k) ≡ length (begun (log_of k).facts) + 1
 next_is k sound =
     let q = numbered k.run (log_of k).facts sound.its_own.ordered in
     ap (λ (n : ℕ). n + 1) (count_begun k.run (log_of k).facts q.runs)
 
-length_asks : (k : Kept) → IsSound k → length k.asks ≡ length (begun (log_of k).facts)
+length_asks : (k : Holdings) → IsSound k → length k.asks ≡ length (begun (log_of k).facts)
 length_asks k sound = ap length sound.its_own.its_asks ∙ length-asks 0 (begun (log_of k).facts)
 
-length_blocks : (k : Kept) → IsSound k → length k.blocks ≡ counts (begun (log_of k).facts)
+length_blocks : (k : Holdings) → IsSound k → length k.blocks ≡ counts (begun (log_of k).facts)
 length_blocks k sound =
     let q = numbered k.run (log_of k).facts sound.its_own.ordered in
     ap length sound.its_own.its_blocks ∙ length-flat (held (log_of k).facts) (begun (log_of k).facts) (length-held k.run (log_of k).facts q)
 
-module _ (k : Kept) (sound : IsSound k) (client : ℕ) (vol : Vol) (at count : ℕ) (given : Option (List ℕ)) where
+module _ (k : Holdings) (sound : IsSound k) (client : ℕ) (vol : Vol) (at count : ℕ) (given : Option (List ℕ)) where
   the_next : Request
   the_next = next_request (log_of k) client vol at count given
 
@@ -370,7 +370,7 @@ length_first count None = length-replicate count zero_sector
 length_first count (Some bytes) = length-first_chunks 512 count bytes
 
 -- a row, a request and its blocks are added where there is room for them
-pub record BeginsRow (k new : Kept) (a : Ask) (first : List (List ℕ)) : Type 0 where
+pub record BeginsRow (k new : Holdings) (a : Ask) (first : List (List ℕ)) : Type 0 where
   pub its_rows : new.rows ≡ k.rows ++ row.Begun (length k.asks + 1) ∷ []
   pub its_asks : new.asks ≡ k.asks ++ a ∷ []
   pub its_blocks : new.blocks ≡ k.blocks ++ first
@@ -379,7 +379,7 @@ pub record BeginsRow (k new : Kept) (a : Ask) (first : List (List ℕ)) : Type 0
   pub more_asks : k.asks_room ≤ new.asks_room
   pub more_blocks : k.blocks_room ≤ new.blocks_room
 
-begun_enters : (k new : Kept) (client : ℕ) (vol : Vol) (at count : ℕ) (given : Option (List ℕ)) → IsSound k → 3 ≤ spare_entries (log_of k) → 512 * count ≤ spare_bytes (log_of k) → 1 ≤ count → at + count < 2 ^ 64
+begun_enters : (k new : Holdings) (client : ℕ) (vol : Vol) (at count : ℕ) (given : Option (List ℕ)) → IsSound k → 3 ≤ spare_entries (log_of k) → 512 * count ≤ spare_bytes (log_of k) → 1 ≤ count → at + count < 2 ^ 64
     → BeginsRow k new (record { client = client; vol = vol; at = at; count = count; write = is_some given; place = length k.blocks }) (blocks_first count given)
     → Enters k new (Begun (next_request (log_of k) client vol at count given))
 begun_enters k new client vol at count given sound spare bytes some last begins =
@@ -388,15 +388,15 @@ begun_enters k new client vol at count given sound spare bytes some last begins 
     let q = numbered k.run facts sound.its_own.ordered in
     let follows = follows_begun k sound client vol at count given last in
     let is = sound.roomy.counted in
-    let room_is : new.room ≡ k.room = ap (λ (x : Kept). x.room) begins.rest in
-    let bytes_is : new.bytes ≡ k.bytes = ap (λ (x : Kept). x.bytes) begins.rest in
-    let need_is : new.need_now ≡ k.need_now + 3 = ap (λ (x : Kept). x.need_now) begins.rest in
-    let uncut_is : new.uncut ≡ true = ap (λ (x : Kept). x.uncut) begins.rest in
+    let room_is : new.room ≡ k.room = ap (λ (x : Holdings). x.room) begins.rest in
+    let bytes_is : new.bytes ≡ k.bytes = ap (λ (x : Holdings). x.bytes) begins.rest in
+    let need_is : new.need_now ≡ k.need_now + 3 = ap (λ (x : Holdings). x.need_now) begins.rest in
+    let uncut_is : new.uncut ≡ true = ap (λ (x : Holdings). x.uncut) begins.rest in
     let place : length k.blocks ≡ 0 + counts (begun facts) = length_blocks k sound ∙ sym (zero-add (counts (begun facts))) in
     let size : length new.blocks ≡ length k.blocks + count = ap length begins.its_blocks ∙ length-append k.blocks (blocks_first count given) ∙ ap (λ (n : ℕ). length k.blocks + n) (length_first count given) in
     let begun_size = length_blocks k sound in
     enters k new (Begun r) sound follows
-    (ap (λ (x : Kept). x.run) begins.rest) room_is bytes_is
+    (ap (λ (x : Holdings). x.run) begins.rest) room_is bytes_is
     (begins.its_rows ∙ ap (λ (n : ℕ). k.rows ++ row.Begun (n + 1) ∷ []) (length_asks k sound) ∙ ap (λ (n : ℕ). k.rows ++ row.Begun n ∷ []) (sym (next_is k sound)))
     (begins.its_asks ∙ ap (λ (l : List Ask). l ++ record { client = client; vol = vol; at = at; count = count; write = is_some given; place = length k.blocks } ∷ []) sound.its_own.its_asks
     ∙ ap (λ (n : ℕ). asks_from 0 (begun facts) ++ record { client = client; vol = vol; at = at; count = count; write = is_some given; place = n } ∷ []) place
@@ -409,7 +409,7 @@ begun_enters k new client vol at count given sound spare bytes some last begins 
     (omega (arith, size, bytes_is, bytes, begun_size, some))
     begins.more_rows begins.more_asks begins.more_blocks
 
-pub begun_adds : (k new : Kept) (log : Log) (client : ℕ) (vol : Vol) (at count : ℕ) (given : Option (List ℕ)) → IsSound k → log_of k ≡ log → 3 ≤ spare_entries log → 512 * count ≤ spare_bytes log → 1 ≤ count → at + count < 2 ^ 64
+pub begun_adds : (k new : Holdings) (log : Log) (client : ℕ) (vol : Vol) (at count : ℕ) (given : Option (List ℕ)) → IsSound k → log_of k ≡ log → 3 ≤ spare_entries log → 512 * count ≤ spare_bytes log → 1 ≤ count → at + count < 2 ^ 64
     → BeginsRow k new (record { client = client; vol = vol; at = at; count = count; write = is_some given; place = length k.blocks }) (blocks_first count given)
     → Adds log new (Begun (next_request log client vol at count given))
 begun_adds k new log client vol at count given sound shows spare bytes some last begins =
@@ -417,13 +417,13 @@ begun_adds k new log client vol at count given sound shows spare bytes some last
     (λ s b. adds_of k new (log_of k) _ refl (begun_enters k new client vol at count given sound s b some last begins)) spare bytes
 
 -- there is room for a request that fits
-pub record HasRoomToBegin (k : Kept) (count : ℕ) : Type 0 where
+pub record HasRoomToBegin (k : Holdings) (count : ℕ) : Type 0 where
   pub for_row : length k.rows < k.rows_room
   pub for_ask : length k.asks < k.asks_room
   pub for_blocks : length k.blocks + count ≤ k.blocks_room
   pub small : k.need_now + 3 < 2 ^ 32
 
-pub room_to_begin : (k : Kept) (log : Log) (count : ℕ) → IsSound k → log_of k ≡ log → 3 ≤ spare_entries log → 512 * count ≤ spare_bytes log → 1 ≤ count → HasRoomToBegin k count
+pub room_to_begin : (k : Holdings) (log : Log) (count : ℕ) → IsSound k → log_of k ≡ log → 3 ≤ spare_entries log → 512 * count ≤ spare_bytes log → 1 ≤ count → HasRoomToBegin k count
 room_to_begin k log count sound shows spare bytes some =
     let is = sound.roomy.counted in let few = sound.few in
     let here : 3 ≤ spare_entries (log_of k) = subst (λ (x : Log). 3 ≤ spare_entries x) (sym shows) spare in
@@ -439,7 +439,7 @@ room_to_begin k log count sound shows spare bytes some =
     }
 
 -- the request that began is open, by its number
-pub begun_found : (k new : Kept) (log : Log) (client : ℕ) (vol : Vol) (at count : ℕ) (given : Option (List ℕ)) → IsSound k → log_of k ≡ log → at + count < 2 ^ 64
+pub begun_found : (k new : Holdings) (log : Log) (client : ℕ) (vol : Vol) (at count : ℕ) (given : Option (List ℕ)) → IsSound k → log_of k ≡ log → at + count < 2 ^ 64
     → Adds log new (Begun (next_request log client vol at count given))
     → (is_open (log_of new).facts (next_id log) ≡ true) × (asked (log_of new).facts (next_id log) ≡ Some (next_request log client vol at count given))
 begun_found k new log client vol at count given sound shows last adds =
@@ -462,7 +462,7 @@ begun_found k new log client vol at count given sound shows last adds =
         )
 
 -- the next number is one more than the requests kept
-pub next_number : (k : Kept) (log : Log) → IsSound k → log_of k ≡ log → next_id log ≡ length k.asks + 1
+pub next_number : (k : Holdings) (log : Log) → IsSound k → log_of k ≡ log → next_id log ≡ length k.asks + 1
 next_number k log sound shows = ap next_id (sym shows) ∙ next_is k sound ∙ ap (λ (n : ℕ). n + 1) (sym (length_asks k sound))
 
 -- a read that lands with its bytes
@@ -491,14 +491,14 @@ awaited_of facts id some = by_tests (is_open facts id) (request_of facts id).wri
         absurd (cc)
 
 -- what is kept of a request that is open
-pub record IsKeptAsk (k : Kept) (facts : List Fact) (id : ℕ) : Type 0 where
+pub record IsKeptAsk (k : Holdings) (facts : List Fact) (id : ℕ) : Type 0 where
   pub low : 1 ≤ id
   pub high : id - 1 < length k.asks
   pub its_ask : ask_of k.asks id ≡ ask_at (ask_of k.asks id).place (request_of facts id)
   pub its_place : (ask_of k.asks id).place ≡ place_of k.run facts (request_of facts id)
   pub within : (ask_of k.asks id).place + (request_of facts id).count ≤ length k.blocks
 
-pub kept_ask : (k : Kept) (id : ℕ) → IsSound k → is_some (asked (log_of k).facts id) ≡ true → IsKeptAsk k (log_of k).facts id
+pub kept_ask : (k : Holdings) (id : ℕ) → IsSound k → is_some (asked (log_of k).facts id) ≡ true → IsKeptAsk k (log_of k).facts id
 kept_ask k id sound some =
     let facts : List Fact = (log_of k).facts in
     let r : Request = request_of facts id in
@@ -522,14 +522,14 @@ kept_ask k id sound some =
       within = omega (arith, place, part, here, size);
     }
 
-pub record ReadsRow (k new : Kept) (id : ℕ) (got : List (List ℕ)) : Type 0 where
+pub record ReadsRow (k new : Holdings) (id : ℕ) (got : List (List ℕ)) : Type 0 where
   pub its_rows : new.rows ≡ k.rows ++ row.Landed id outcome.Got true ∷ []
   pub its_blocks : new.blocks ≡ take (ask_of k.asks id).place k.blocks ++ got ++ drop ((ask_of k.asks id).place + length got) k.blocks
   pub rest : new ≡ record k { rows = new.rows; blocks = new.blocks; rows_room = new.rows_room; blocks_room = new.blocks_room }
   pub more_rows : k.rows_room ≤ new.rows_room
   pub more_blocks : k.blocks_room ≤ new.blocks_room
 
-read_enters : (k new : Kept) (id : ℕ) (got : List (List ℕ)) → IsSound k → IsSome (awaited (log_of k).facts id) → length got ≡ (request_of (log_of k).facts id).count → ReadsRow k new id got
+read_enters : (k new : Holdings) (id : ℕ) (got : List (List ℕ)) → IsSound k → IsSome (awaited (log_of k).facts id) → length got ≡ (request_of (log_of k).facts id).count → ReadsRow k new id got
     → Enters k new (Landed (request_of (log_of k).facts id) outcome.Got true got)
 read_enters k new id got sound some size reads =
     let facts : List Fact = (log_of k).facts in
@@ -540,10 +540,10 @@ read_enters k new id got sound some size reads =
     let its = open_of facts id waits.still in
     let unlanded : list_any (lands_id r.id) facts ≡ false = ap (λ (n : ℕ). list_any (lands_id n) facts) its.its.own ∙ its.unlanded in
     let kept = kept_ask k id sound (and_left (is_some (asked facts id)) (not (list_any (lands_id id) facts)) waits.still) in
-    let need_is : new.need_now ≡ k.need_now = ap (λ (x : Kept). x.need_now) reads.rest in
-    let uncut_is : new.uncut ≡ k.uncut = ap (λ (x : Kept). x.uncut) reads.rest in
-    let room_is : new.room ≡ k.room = ap (λ (x : Kept). x.room) reads.rest in
-    let bytes_is : new.bytes ≡ k.bytes = ap (λ (x : Kept). x.bytes) reads.rest in
+    let need_is : new.need_now ≡ k.need_now = ap (λ (x : Holdings). x.need_now) reads.rest in
+    let uncut_is : new.uncut ≡ k.uncut = ap (λ (x : Holdings). x.uncut) reads.rest in
+    let room_is : new.room ≡ k.room = ap (λ (x : Holdings). x.room) reads.rest in
+    let bytes_is : new.bytes ≡ k.bytes = ap (λ (x : Holdings). x.bytes) reads.rest in
     let fits = sound.roomy.fits in
     let within = kept.within in
     let bytes_fit = sound.bytes_fit in
@@ -553,9 +553,9 @@ read_enters k new id got sound some size reads =
     ∙ (let a = length-append (take (ask_of k.asks id).place k.blocks) got in let b = length-take (ask_of k.asks id).place k.blocks in let d = length-drop ((ask_of k.asks id).place + length got) k.blocks in omega (arith, a, b, d, within, size)) in
     enters k new f sound
     (its.its.began, unlanded, (size, λ w. absurd (let e : ◌≡◌ {A = Bool} true false = sym w ∙ waits.is_read in cc)))
-    (ap (λ (x : Kept). x.run) reads.rest) room_is bytes_is
+    (ap (λ (x : Holdings). x.run) reads.rest) room_is bytes_is
     (reads.its_rows ∙ ap (λ (n : ℕ). k.rows ++ row.Landed n outcome.Got true ∷ []) (sym its.its.own))
-    (ap (λ (x : Kept). x.asks) reads.rest ∙ asks_same k f sound refl)
+    (ap (λ (x : Holdings). x.asks) reads.rest ∙ asks_same k f sound refl)
     (reads.its_blocks
     ∙ ap (λ (n : ℕ). take n k.blocks ++ got ++ drop (n + length got) k.blocks) kept.its_place
     ∙ ap (λ (n : ℕ). take (place_of k.run facts r) k.blocks ++ got ++ drop (place_of k.run facts r + n) k.blocks) size
@@ -566,16 +566,16 @@ read_enters k new id got sound some size reads =
     (subst (λ (b : Bool). new.need_now + if_uncut b ≤ new.room) (sym uncut_is) (omega (arith, need_is, room_is, fits)))
     (omega (arith, new_size, bytes_is, bytes_fit))
     reads.more_rows
-    (let e : new.asks_room ≡ k.asks_room = ap (λ (x : Kept). x.asks_room) reads.rest in omega (arith, e))
+    (let e : new.asks_room ≡ k.asks_room = ap (λ (x : Holdings). x.asks_room) reads.rest in omega (arith, e))
     reads.more_blocks
 
-pub read_adds : (k new : Kept) (log : Log) (id : ℕ) (got : List (List ℕ)) → IsSound k → log_of k ≡ log → IsSome (awaited log.facts id) → length got ≡ (request_of log.facts id).count → ReadsRow k new id got
+pub read_adds : (k new : Holdings) (log : Log) (id : ℕ) (got : List (List ℕ)) → IsSound k → log_of k ≡ log → IsSome (awaited log.facts id) → length got ≡ (request_of log.facts id).count → ReadsRow k new id got
     → Adds log new (Landed (request_of log.facts id) outcome.Got true got)
 read_adds k new log id got sound shows some size reads =
     subst (λ (x : Log). IsSome (awaited x.facts id) → length got ≡ (request_of x.facts id).count → Adds x new (Landed (request_of x.facts id) outcome.Got true got)) shows
     (λ s n. adds_of k new (log_of k) _ refl (read_enters k new id got sound s n reads)) some size
 
-pub log_ask : (k : Kept) (log : Log) (id : ℕ) → IsSound k → log_of k ≡ log → is_some (asked log.facts id) ≡ true → IsKeptAsk k log.facts id
+pub log_ask : (k : Holdings) (log : Log) (id : ℕ) → IsSound k → log_of k ≡ log → is_some (asked log.facts id) ≡ true → IsKeptAsk k log.facts id
 log_ask k log id sound shows some = subst (λ (x : Log). is_some (asked x.facts id) ≡ true → IsKeptAsk k x.facts id) shows (λ s. kept_ask k id sound s) some
 
 -- what is looked up of a request
@@ -606,7 +606,7 @@ asks-slice_get p (r ∷ rs) (suc k) =
 the_place : List Fact → ℕ → ℕ
 the_place facts id = counts (take (id - 1) (begun facts))
 
-ask_found-asked : (k : Kept) (id : ℕ) → IsSound k → (p : ℕ) × (ask_found k.asks id ≡ option_map (λ r. ask_at p r) (asked (log_of k).facts id))
+ask_found-asked : (k : Holdings) (id : ℕ) → IsSound k → (p : ℕ) × (ask_found k.asks id ≡ option_map (λ r. ask_at p r) (asked (log_of k).facts id))
 ask_found-asked k id sound = (0 + counts (take (id - 1) (begun (log_of k).facts)), by_test (id == 0) refl)
   where
     by_test : (t : Bool) → (id == 0) ≡ t → ask_found k.asks id ≡ option_map (λ r. ask_at (0 + counts (take (id - 1) (begun (log_of k).facts))) r) (asked (log_of k).facts id)
@@ -641,30 +641,30 @@ row_taking id = rows_any (is_taking id) (takes_id id) one
     one (Taken r) = refl
     one _ = refl
 
-pub landing_kept : (k : Kept) (log : Log) (id : ℕ) → IsSound k → log_of k ≡ log → list_any (is_landing id) k.rows ≡ list_any (lands_id id) log.facts
+pub landing_kept : (k : Holdings) (log : Log) (id : ℕ) → IsSound k → log_of k ≡ log → list_any (is_landing id) k.rows ≡ list_any (lands_id id) log.facts
 landing_kept k log id sound shows = ap (λ (l : List Row). list_any (is_landing id) l) sound.its_own.its_rows ∙ row_landing id (log_of k).facts ∙ ap (λ (x : Log). list_any (lands_id id) x.facts) shows
 
-pub taking_kept : (k : Kept) (log : Log) (id : ℕ) → IsSound k → log_of k ≡ log → list_any (is_taking id) k.rows ≡ list_any (takes_id id) log.facts
+pub taking_kept : (k : Holdings) (log : Log) (id : ℕ) → IsSound k → log_of k ≡ log → list_any (is_taking id) k.rows ≡ list_any (takes_id id) log.facts
 taking_kept k log id sound shows = ap (λ (l : List Row). list_any (is_taking id) l) sound.its_own.its_rows ∙ row_taking id (log_of k).facts ∙ ap (λ (x : Log). list_any (takes_id id) x.facts) shows
 
-ask_of_log : (k : Kept) (log : Log) (id : ℕ) → IsSound k → log_of k ≡ log → (p : ℕ) × (ask_found k.asks id ≡ option_map (λ r. ask_at p r) (asked log.facts id))
+ask_of_log : (k : Holdings) (log : Log) (id : ℕ) → IsSound k → log_of k ≡ log → (p : ℕ) × (ask_found k.asks id ≡ option_map (λ r. ask_at p r) (asked log.facts id))
 ask_of_log k log id sound shows = let its = ask_found-asked k id sound in (its.0, its.1 ∙ ap (λ (x : Log). option_map (λ r. ask_at its.0 r) (asked x.facts id)) shows)
 
 -- what is told of a request by how it was asked, and by whether it has landed
-by_ask : {X : Type 0} (f : Option Ask → Bool → X) (k : Kept) (log : Log) (id : ℕ) → IsSound k → log_of k ≡ log
+by_ask : {X : Type 0} (f : Option Ask → Bool → X) (k : Holdings) (log : Log) (id : ℕ) → IsSound k → log_of k ≡ log
     → (p : ℕ) × (f (ask_found k.asks id) (list_any (is_landing id) k.rows) ≡ f (option_map (λ r. ask_at p r) (asked log.facts id)) (list_any (lands_id id) log.facts))
 by_ask f k log id sound shows =
     let its = ask_of_log k log id sound shows in
     (its.0, ap (λ (t : Bool). f (ask_found k.asks id) t) (landing_kept k log id sound shows) ∙ ap (λ (o : Option Ask). f o (list_any (lands_id id) log.facts)) its.1)
 
-pub is_open_kept : (k : Kept) (log : Log) (id : ℕ) → IsSound k → log_of k ≡ log → is_open_by (ask_found k.asks id) (list_any (is_landing id) k.rows) ≡ is_open log.facts id
+pub is_open_kept : (k : Holdings) (log : Log) (id : ℕ) → IsSound k → log_of k ≡ log → is_open_by (ask_found k.asks id) (list_any (is_landing id) k.rows) ≡ is_open log.facts id
 is_open_kept k log id sound shows = let at = by_ask is_open_by k log id sound shows in at.1 ∙ by_option at.0 (asked log.facts id)
   where
     by_option : (p : ℕ) (o : Option Request) → is_open_by (option_map (λ r. ask_at p r) o) (list_any (lands_id id) log.facts) ≡ (is_some o && not (list_any (lands_id id) log.facts))
     by_option p None = refl
     by_option p (Some r) = refl
 
-pub awaited_kept : (k : Kept) (log : Log) (id : ℕ) → IsSound k → log_of k ≡ log → awaited_by (ask_found k.asks id) (list_any (is_landing id) k.rows) ≡ awaited log.facts id
+pub awaited_kept : (k : Holdings) (log : Log) (id : ℕ) → IsSound k → log_of k ≡ log → awaited_by (ask_found k.asks id) (list_any (is_landing id) k.rows) ≡ awaited log.facts id
 awaited_kept k log id sound shows = let at = by_ask awaited_by k log id sound shows in at.1 ∙ by_option at.0 (asked log.facts id)
   where
     by_option : (p : ℕ) (o : Option Request) → awaited_by (option_map (λ r. ask_at p r) o) (list_any (lands_id id) log.facts)
@@ -682,7 +682,7 @@ pub facts_alike : (run : ℕ) {asks asks1 : List Ask} {blocks blocks1 : List (Li
 facts_alike run {asks} {asks1} {blocks} {blocks1} {rows} {rows1} same alike equal =
     ap (λ (l : List Row). facts_of run asks1 blocks1 l) equal ∙ ap (λ (l : List Ask). facts_of run l blocks1 rows) same ∙ ap (λ (l : List (List ℕ)). facts_of run asks l rows) alike
 
-pub is_answered_kept : (k : Kept) (log : Log) (client id : ℕ) → IsSound k → log_of k ≡ log
+pub is_answered_kept : (k : Holdings) (log : Log) (client id : ℕ) → IsSound k → log_of k ≡ log
     → is_answered_by (ask_found k.asks id) client (list_any (is_landing id) k.rows) (list_any (is_taking id) k.rows) ≡ is_answered log.facts client id
 is_answered_kept k log client id sound shows =
     let its = ask_of_log k log id sound shows in
@@ -696,10 +696,10 @@ is_answered_kept k log client id sound shows =
     by_option p None = refl
     by_option p (Some r) = refl
 
-pub blocks_kept : (k : Kept) (log : Log) → IsSound k → log_of k ≡ log → k.blocks ≡ blocks_of log.facts
+pub blocks_kept : (k : Holdings) (log : Log) → IsSound k → log_of k ≡ log → k.blocks ≡ blocks_of log.facts
 blocks_kept k log sound shows = sound.its_own.its_blocks ∙ ap (λ (x : Log). blocks_of x.facts) shows
 
-pub blocks_count : (k : Kept) (log : Log) → IsSound k → log_of k ≡ log → length k.blocks ≡ blocks_begun log.facts
+pub blocks_count : (k : Holdings) (log : Log) → IsSound k → log_of k ≡ log → length k.blocks ≡ blocks_begun log.facts
 blocks_count k log sound shows = length_blocks k sound ∙ ap (λ (x : Log). blocks_begun x.facts) shows
 
 -- the entries as they are listed
@@ -730,7 +730,7 @@ entries-kept asks n p (f ∷ rest) ids same = by_fact f ids same (λ m q more it
     by_fact Cut ids same later = ap (λ (l : List Entry). entry.Cut ∷ l) (later n p ids same)
     by_fact (On moment) ids same later = ap (λ (l : List Entry). entry.On moment ∷ l) (later n p ids same)
 
-pub entries_kept : (k : Kept) (log : Log) → IsSound k → log_of k ≡ log → map (entry_kept k.asks) k.rows ≡ entries_of log.facts
+pub entries_kept : (k : Holdings) (log : Log) → IsSound k → log_of k ≡ log → map (entry_kept k.asks) k.rows ≡ entries_of log.facts
 entries_kept k log sound shows =
     let facts : List Fact = (log_of k).facts in
     let q = numbered k.run facts sound.its_own.ordered in
@@ -740,7 +740,7 @@ entries_kept k log sound shows =
     ∙ ap (λ (x : Log). entries_of x.facts) shows
 
 -- each row that begins a request names one that is kept
-pub row_names : (k : Kept) (n : ℕ) (d : Row) → IsSound k → n < length k.rows → IsOneOfAsks (get_or k.rows n d) (length k.asks)
+pub row_names : (k : Holdings) (n : ℕ) (d : Row) → IsSound k → n < length k.rows → IsOneOfAsks (get_or k.rows n d) (length k.asks)
 row_names k n d sound less =
     let facts : List Fact = (log_of k).facts in
     let rows : length k.rows ≡ length facts = ap length sound.its_own.its_rows ∙ length-map facts row_of in
@@ -772,7 +772,7 @@ chunks_count n count is = omega (arith, is)
 pub length-first_chunks_of : (n k : ℕ) (xs : List ℕ) → length (first_chunks n k xs) ≡ k
 length-first_chunks_of n k xs = length-first_chunks n k xs
 
-pub needed_counted : (k : Kept) (log : Log) → IsSound k → log_of k ≡ log → (k.room ≡ log.room) × (k.need_now ≡ length log.facts + 2 * open_count log.facts + landed_count log.facts)
+pub needed_counted : (k : Holdings) (log : Log) → IsSound k → log_of k ≡ log → (k.room ≡ log.room) × (k.need_now ≡ length log.facts + 2 * open_count log.facts + landed_count log.facts)
 needed_counted k log sound shows =
     let all = counted k.run (log_of k).facts sound.its_own.ordered in
     (ap (λ (x : Log). x.room) shows, sound.roomy.counted ∙ all.total ∙ ap (λ (x : Log). length x.facts + 2 * open_count x.facts + landed_count x.facts) shows)
@@ -788,7 +788,7 @@ asks_bounded p (r ∷ rs) each =
     passes : (n : ℕ) → n < 2 ^ 64 → nat_lt n (2 ^ 64) ≡ true
     passes n less = grind (arith, nat_tests)
 
-pub all_bounded : (k : Kept) → IsSound k → list_all is_bounded k.asks ≡ true
+pub all_bounded : (k : Holdings) → IsSound k → list_all is_bounded k.asks ≡ true
 all_bounded k sound =
     let q = numbered k.run (log_of k).facts sound.its_own.ordered in
     ap (λ (l : List Ask). list_all is_bounded l) sound.its_own.its_asks ∙ asks_bounded 0 (begun (log_of k).facts) (λ r there. (q.whole r there).1)

@@ -47,7 +47,7 @@ pub record IsRoomy (facts : List Fact) (room : ℕ) (need_now : ℕ) (uncut : Bo
   pub fits : need_now + if_uncut uncut ≤ room
 
 -- all that a history keeps
-pub record Kept : Type 0 where
+pub record Holdings : Type 0 where
   pub run : ℕ
   pub room : ℕ
   pub bytes : ℕ
@@ -60,11 +60,11 @@ pub record Kept : Type 0 where
   pub asks_room : ℕ
   pub blocks_room : ℕ
 
-abbrev pub log_of : Kept → Log
+abbrev pub log_of : Holdings → Log
 log_of h = record { run = h.run; facts = facts_of h.run h.asks h.blocks h.rows; room = h.room; bytes = h.bytes }
 
 -- What holds of it: it is what is kept of its facts, and the memory that was made with it is enough.
-pub record IsSound (h : Kept) : Type 0 where
+pub record IsSound (h : Holdings) : Type 0 where
   pub its_own : IsKept h.run (log_of h).facts h.rows h.asks h.blocks
   pub roomy : IsRoomy (log_of h).facts h.room h.need_now h.uncut
   pub few : h.room < 2 ^ 32
