@@ -5,12 +5,7 @@ use Rattle.std.specs.List.{list_any}
 use Rattle.std.proofs.lemmas.Bool.Decides.{nat_tests}
 pub use Rattle.std.proofs.lemmas.Bool.{and_parts as both}
 pub use Rattle.std.proofs.lemmas.Bool.{not-true as is_false}
-
-pub not_so : {X : Type 0} → false ≡ true → X
-not_so e = absurd cc
-
-pub not_either : {X : Type 0} → true ≡ false → X
-not_either e = absurd cc
+pub use Rattle.lvm_session.proofs.Small.{not_either, not_so}
 
 -- a test that comes to fail makes no conjunction hold
 pub and_on : (a b c : Bool) → (b ≡ false → c ≡ false) → a && b ≡ false → a && c ≡ false
