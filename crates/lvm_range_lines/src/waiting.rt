@@ -24,11 +24,11 @@ ghost use Rattle.lvm_range_lines.specs.Taking.{AwaitsPost, AwaitsPosts, Enters, 
 
 use crate::answers::Answers;
 use lvm_disk::Shelf;
-use lvm_group_lines::below::Closed;
 use lvm_group_lines::below::driver::Driver;
 use lvm_group_lines::below::earlier::take_earlier;
 use lvm_group_lines::below::ranges::{Stuck, await_range, take_range};
 use lvm_group_lines::below::stage::{Answered, Holder, Refusal, Stage};
+use lvm_group_lines::below::{Closed, Driver as CoreDriver};
 use lvm_history::History;
 use lvm_posts::{Asked, Post, RangeFault, take_closed};
 use lvm_session::{Power, Session};
@@ -120,9 +120,9 @@ fn take_in(
 
 // Takes the answer of a post while a session is on at which nothing is under way.
 fn take_one_at_rest<S: Shelf>(
-    driver: lvm_group_lines::below::Driver<S>,
+    driver: CoreDriver<S>,
     post: &Post,
-) -> (lvm_group_lines::below::Driver<S>, Result<(), RangeFault>)
+) -> (CoreDriver<S>, Result<(), RangeFault>)
     requires on { driver.1.power ≡ power.On }
     requires none { driver.1.requests ≡ [] }
     requires sound { IsSound (state_of S.device driver) }
@@ -138,18 +138,15 @@ fn take_one_at_rest<S: Shelf>(
     let (have, total) = post.ended.unwrap_or((0, 0));
     let (shelf, session) = driver.into_parts();
     let (session, answer) = take_in(session, &post.asked, have, total);
-    (
-        lvm_group_lines::below::Driver::from_parts(shelf, session),
-        answer,
-    )
+    (CoreDriver::from_parts(shelf, session), answer)
 }
 
 // Takes them all.
 fn take_at_rest<S: Shelf>(
     alloc: Global,
-    driver: lvm_group_lines::below::Driver<S>,
+    driver: CoreDriver<S>,
     posts: &[Post],
-) -> (lvm_group_lines::below::Driver<S>, Answers)
+) -> (CoreDriver<S>, Answers)
     requires on { driver.1.power ≡ power.On }
     requires none { driver.1.requests ≡ [] }
     requires sound { IsSound (state_of S.device driver) }
@@ -292,7 +289,7 @@ fn wait_on<S: Shelf>(
 // Answers all posts of a group without volumes, each of which is of a session that is gone.
 fn wait_at_rest<S: Shelf>(
     alloc: Global,
-    driver: lvm_group_lines::below::Driver<S>,
+    driver: CoreDriver<S>,
     posts: Vec<Post>,
     bytes: Vec<u8>,
 ) -> Answered<S>
