@@ -24,6 +24,7 @@ use Rattle.lvm_top.specs.passed.Lines.{IsLine, asked_after, role_of}
 use Rattle.lvm_top.specs.passed.Running.{RunsOn}
 use Rattle.lvm_top.specs.passed.ReplyVariants as reply
 use Rattle.lvm_top.specs.passed.Stage.{IsAlone, IsClosed, OfRequests, Reply, ScriptState}
+use Rattle.lvm_top.specs.passed.Texts.{counted}
 use Rattle.lvm_top.specs.declared.run.Ended.{Ended}
 use Rattle.lvm_top.specs.declared.script.Stop.{Stop}
 use Rattle.lvm_top.specs.declared.status.ExitStatus.{ExitStatus}
@@ -104,17 +105,13 @@ pub record IsDrawn (blocks : ℕ) (load : Workload) (first : State) (exit : Mome
 
 -- ---- what is written
 
--- so many of a kind
-abbrev pub total_line : List ℕ → ℕ → List ℕ
-total_line kind n = kind ++ codes " " ++ decimal n ++ codes "\n"
-
 -- behind this, how many requests have begun, and how many ended well
 abbrev pub with_well : List ℕ → Totals → List ℕ
-with_well before t = before ++ total_line (codes "begun") t.begun ++ total_line (codes "done") t.done ++ total_line (codes "got") t.got
+with_well before t = before ++ counted (codes "begun") t.begun ++ counted (codes "done") t.done ++ counted (codes "got") t.got
 
 -- behind this, how many ended otherwise, and how many haven't begun
 abbrev pub with_ill : List ℕ → Totals → List ℕ
-with_ill before t = before ++ total_line (codes "lost") t.lost ++ total_line (codes "refused") t.refused ++ total_line (codes "unbegun") t.unbegun
+with_ill before t = before ++ counted (codes "lost") t.lost ++ counted (codes "refused") t.refused ++ counted (codes "unbegun") t.unbegun
 
 -- the refusal where nothing was heard of a transfer
 abbrev pub refusal_text : Woven → List ℕ

@@ -1,5 +1,5 @@
 //! A workload over a group of its own.
-ghost use Rattle.std.specs.Prelude.{◌≡◌, ◌↔◌, ◌≤◌, ◌-◌, ◌*◌, ◌++◌, None, IfOk, OnOk, IsSomeAnd, IsTrue, vec_capacity};
+ghost use Rattle.std.specs.Prelude.{◌≡◌, ◌↔◌, ◌≤◌, ◌-◌, ◌*◌, None, IfOk, OnOk, IsSomeAnd, IsTrue, vec_capacity};
 ghost use Rattle.std.specs.String.{string_bytes};
 ghost use Rattle.lvm_disk.specs.Device.{IsReady};
 ghost use Rattle.lvm_core.specs.Starting.{IsRoom};
@@ -10,7 +10,7 @@ ghost use Rattle.lvm_top.specs.passed.Running.{RunsOn};
 ghost use Rattle.lvm_top.specs.passed.Stage.{IsBetweenStage, IsFittingStage, IsStuck, history_in, moment_in, most_refusals, session_in, state_in, without_facts};
 ghost use Rattle.lvm_top.specs.Run.{ran};
 ghost use Rattle.lvm_top.specs.Script.{passage};
-ghost use Rattle.lvm_program.specs.Woven.{EndsWoven, HasAsked, IsDrawable, IsDrawn, IsMade, IsServed, IsSized, EndsRefused, HasServed, PromisesWoven, TellsWoven, TurnsBehind, asked_woven, copy_count, exit_of, is_whole, mkvg_line, mklv_line, refusal_text, refusals_told, status_woven, total_line, totals_text, untold, with_ill, with_well};
+ghost use Rattle.lvm_program.specs.Woven.{EndsWoven, HasAsked, IsDrawable, IsDrawn, IsMade, IsServed, IsSized, EndsRefused, HasServed, PromisesWoven, TellsWoven, TurnsBehind, asked_woven, copy_count, exit_of, is_whole, mkvg_line, mklv_line, refusal_text, refusals_told, status_woven, totals_text, untold, with_ill, with_well};
 
 use lvm_core::{Closed, Room};
 use lvm_disk::Shelf;
@@ -20,6 +20,7 @@ use lvm_load::{Totals, Workload, Woven, totals_since, weave};
 use lvm_posts::Post;
 use lvm_top::below::driver::Driver;
 use lvm_top::below::line::do_line;
+use lvm_top::below::push_counted;
 use lvm_top::below::stage::{Holder, Reply, Stage, take_rooms};
 use lvm_top::{Ended, ExitStatus, close_ended, conclude, run_on, status_of, unbegun, write_reply};
 use std::alloc::{AllocError, Global};
@@ -171,29 +172,22 @@ fn refusal_text(woven: &Woven) -> &'static str
     }
 }
 
-// Adds how many are of a kind.
-fn push_total(text: &mut String, kind: &str, n: u32) -> Result<(), AllocError>
-    ensures { OnOk result (string_bytes text.new ≡ string_bytes text.old ++ total_line kind.now n) }
-{
-    write!(text, "{kind} {n}\n")
-}
-
 // Adds how many requests have begun, and how many ended well.
 fn push_well(text: &mut String, totals: &Totals) -> Result<(), AllocError>
     ensures { OnOk result (string_bytes text.new ≡ with_well (string_bytes text.old) totals.now) }
 {
-    push_total(text, "begun", totals.begun)?;
-    push_total(text, "done", totals.done)?;
-    push_total(text, "got", totals.got)
+    push_counted(text, "begun", u64::from(totals.begun))?;
+    push_counted(text, "done", u64::from(totals.done))?;
+    push_counted(text, "got", u64::from(totals.got))
 }
 
 // Adds how many ended otherwise, and how many haven't begun.
 fn push_ill(text: &mut String, totals: &Totals) -> Result<(), AllocError>
     ensures { OnOk result (string_bytes text.new ≡ with_ill (string_bytes text.old) totals.now) }
 {
-    push_total(text, "lost", totals.lost)?;
-    push_total(text, "refused", totals.refused)?;
-    push_total(text, "unbegun", totals.unbegun)
+    push_counted(text, "lost", u64::from(totals.lost))?;
+    push_counted(text, "refused", u64::from(totals.refused))?;
+    push_counted(text, "unbegun", u64::from(totals.unbegun))
 }
 
 // The six lines.

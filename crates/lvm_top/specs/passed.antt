@@ -4,3 +4,4 @@ pub mod Recover
 pub mod ReplyVariants
 pub mod Running
 pub mod Stage
+pub mod Texts
