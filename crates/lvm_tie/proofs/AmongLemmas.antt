@@ -96,19 +96,19 @@ waits_todo target.Failed h = absurd cc
 -- the target at a partition is one of those listed, and where nothing has started it is to be done
 pub stage_of_one : (ts : List Target) (e : Pp) (stage : Stage) → is_begun ts ≡ false → stage_at ts e ≡ Some stage → IsOneOf (pps_of ts) e × (stage ≡ Todo)
 stage_of_one [] e stage none h = absurd cc
-stage_of_one (t ∷ ts) e stage none h = by (Rattle.lvm_invariant.specs.Updates.is_pp e t.pp) refl h (stage_of_one ts e stage (or_left (not (is_waiting t.state)) (is_begun ts) none).1)
+stage_of_one (t ∷ ts) e stage none h = by (is_pp e t.pp) refl h (stage_of_one ts e stage (or_left (not (is_waiting t.state)) (is_begun ts) none).1)
   where
-    by : (b : Bool) → Rattle.lvm_invariant.specs.Updates.is_pp e t.pp ≡ b → (if b then Some (stage_seen t.state) else stage_at ts e) ≡ Some stage → (stage_at ts e ≡ Some stage → IsOneOf (pps_of ts) e × (stage ≡ Todo)) → IsOneOf (pps_of (t ∷ ts)) e × (stage ≡ Todo)
+    by : (b : Bool) → is_pp e t.pp ≡ b → (if b then Some (stage_seen t.state) else stage_at ts e) ≡ Some stage → (stage_at ts e ≡ Some stage → IsOneOf (pps_of ts) e × (stage ≡ Todo)) → IsOneOf (pps_of (t ∷ ts)) e × (stage ≡ Todo)
     by true is here rest = (inl (pp_same e t.pp is), sym (same_Some (stage_seen t.state) stage here) ∙ waits_todo t.state (or_left (not (is_waiting t.state)) (is_begun ts) none).0)
     by false is there rest = let r = rest there in (inr r.0, r.1)
 
 pub one_todo : (ts : List Target) (e : Pp) → is_begun ts ≡ false → IsOneOf (pps_of ts) e → stage_at ts e ≡ Some Todo
 one_todo [] e none one = absurd one
-one_todo (t ∷ ts) e none one = by (Rattle.lvm_invariant.specs.Updates.is_pp e t.pp) refl one (one_todo ts e (or_left (not (is_waiting t.state)) (is_begun ts) none).1)
+one_todo (t ∷ ts) e none one = by (is_pp e t.pp) refl one (one_todo ts e (or_left (not (is_waiting t.state)) (is_begun ts) none).1)
   where
-    by : (b : Bool) → Rattle.lvm_invariant.specs.Updates.is_pp e t.pp ≡ b → IsOneOf (pps_of (t ∷ ts)) e → (IsOneOf (pps_of ts) e → stage_at ts e ≡ Some Todo) → (if b then Some (stage_seen t.state) else stage_at ts e) ≡ Some Todo
+    by : (b : Bool) → is_pp e t.pp ≡ b → IsOneOf (pps_of (t ∷ ts)) e → (IsOneOf (pps_of ts) e → stage_at ts e ≡ Some Todo) → (if b then Some (stage_seen t.state) else stage_at ts e) ≡ Some Todo
     by true is here rest = ap (λ (x : Stage). Some x) (waits_todo t.state (or_left (not (is_waiting t.state)) (is_begun ts) none).0)
-    by false is (inl here) rest = clash (Rattle.lvm_invariant.specs.Updates.is_pp e t.pp) (same_pp e t.pp here) is
+    by false is (inl here) rest = clash (is_pp e t.pp) (same_pp e t.pp here) is
     by false is (inr there) rest = rest there
 
 -- the partition of a target is one of those

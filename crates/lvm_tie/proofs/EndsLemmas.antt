@@ -278,7 +278,7 @@ module _ (past : List Fact) (old new : State) (index : ℕ) (ends : Ends old new
     where
       by : (c : Option OpenCopy) → Rattle.lvm_session.specs.Bringing.ends_if (Rattle.std.specs.Option.option_map_or (Rattle.lvm_session.specs.Marks.hits_copy core2 o2 ends.ok t.pp) c false) Rattle.lvm_session.specs.declared.bringing.CopyEnd.TheVariants.SyncFailed ≡ None
       by None = refl
-      by (Some c) = ap (λ w2. Rattle.lvm_session.specs.Bringing.ends_if (w2 && is_running c && (not ends.ok && Rattle.lvm_stale.specs.Table.is_pp t.pp c.pp || (are_over ts2 && not (is_kept core2 o2.request) && not o2.older && is_among (due_of core2 o2.request) c.pp))) Rattle.lvm_session.specs.declared.bringing.CopyEnd.TheVariants.SyncFailed) reads
+      by (Some c) = ap (λ w2. Rattle.lvm_session.specs.Bringing.ends_if (w2 && is_running c && (not ends.ok && is_pp t.pp c.pp || (are_over ts2 && not (is_kept core2 o2.request) && not o2.older && is_among (due_of core2 o2.request) c.pp))) Rattle.lvm_session.specs.declared.bringing.CopyEnd.TheVariants.SyncFailed) reads
 
   pub tied_after : IsTied past new
   tied_after =

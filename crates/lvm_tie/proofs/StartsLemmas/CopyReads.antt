@@ -121,11 +121,11 @@ module _ (past : List Fact) (old new : State) (tied : IsTied past old) (sound : 
   hand : (has_landed q.phase ≡ false) × (q.got ≡ None)
   hand = subst (λ (s : Step). SeesHand s q) at_rest sees.hand
 
-  found : IsOneOf (copies_in core.descriptor c.lv c.lp) source × ((not (Rattle.lvm_stale.specs.Table.is_pp source c.pp) && is_usable core source) ≡ true)
-  found = found_source _ (λ (p : Pp). not (Rattle.lvm_stale.specs.Table.is_pp p c.pp) && is_usable core p) (copies_in core.descriptor c.lv c.lp) source reads.source_is
+  found : IsOneOf (copies_in core.descriptor c.lv c.lp) source × ((not (is_pp source c.pp) && is_usable core source) ≡ true)
+  found = found_source _ (λ (p : Pp). not (is_pp p c.pp) && is_usable core p) (copies_in core.descriptor c.lv c.lp) source reads.source_is
 
   usable : is_usable core source ≡ true
-  usable = (and_both (not (Rattle.lvm_stale.specs.Table.is_pp source c.pp)) (is_usable core source) found.1).1
+  usable = (and_both (not (is_pp source c.pp)) (is_usable core source) found.1).1
 
   among : IsOneOf (Rattle.lvm_num.specs.Descriptor.copies_of its.row c.lp) source
   among = subst (λ (ps : List Pp). IsOneOf ps source) (ap (λ m. Rattle.std.specs.Option.option_map_or (λ (r : Rattle.lvm_num.specs.declared.descriptor.LvRow.LvRow). Rattle.lvm_num.specs.Descriptor.copies_of r c.lp) m []) its.volume) found.0

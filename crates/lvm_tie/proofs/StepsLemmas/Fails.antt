@@ -1,6 +1,7 @@
 -- The write by which a copy is brought up fails, and the copy with it.
 use Rattle.std.proofs.Common.{◌≡◌, inl, ℕ, false, ◌&&◌, List, Option, Some, refl, sym, ap, subst, ◌∙◌}
 use Rattle.std.specs.Prelude.{slice_set}
+use Rattle.lvm_num.specs.Descriptor.{is_pp}
 use Rattle.lvm_num.specs.declared.place.Pp.{Pp}
 use Rattle.lvm_vol.specs.Facts.{Fact}
 use Rattle.lvm_disk.specs.Device.{HasSectors}
@@ -34,7 +35,7 @@ module _ (past : List Fact) (old new : State) (at : ℕ) (tied : IsTied past old
 
   -- so nothing more is wanted stale
   none_due : (p : Pp) → marked_by_end old.core (Some ending.SyncFailed) p ≡ false
-  none_due p = ap (λ (m : Option OpenCopy). Rattle.std.specs.Option.option_map_or (λ (x : OpenCopy). is_whole old.core x && Rattle.lvm_stale.specs.Table.is_pp p x.pp) m false) event.is_open ∙ ap (λ b. b && Rattle.lvm_stale.specs.Table.is_pp p c.pp) part
+  none_due p = ap (λ (m : Option OpenCopy). Rattle.std.specs.Option.option_map_or (λ (x : OpenCopy). is_whole old.core x && is_pp p x.pp) m false) event.is_open ∙ ap (λ b. b && is_pp p c.pp) part
 
   same : new.core.status ≡ old.core.status
   same = event.fails.marks.same (λ p due. clash (marked_by_end old.core (Some ending.SyncFailed) p) due (none_due p))
