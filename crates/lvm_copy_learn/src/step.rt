@@ -15,7 +15,7 @@ use lvm_num::{Pbuf, Pp};
 use lvm_session::{OpenCopy, Session, Step};
 
 /// What a transfer of the copy was for.
-#[derive(Clone, Copy, PartialEq, Eq)]
+#[derive(Clone, Copy)]
 pub enum Carry {
     /// The copy had ended before.
     Nothing,

@@ -20,7 +20,7 @@ use std::alloc::Global;
 use std::marker::Model;
 
 /// How much a session and its run have room for.
-#[derive(Clone, Copy, PartialEq, Eq)]
+#[derive(Clone, Copy)]
 pub struct Room {
     /// Open requests, 1 to 1,024.
     pub table: u32,

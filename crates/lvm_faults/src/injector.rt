@@ -7,7 +7,7 @@ use std::alloc::Global;
 use std::marker::Model;
 
 /// What may be planned for a call.
-#[derive(Clone, Copy, PartialEq, Eq)]
+#[derive(Clone, Copy)]
 pub enum Act {
     /// Each transfer of this disk that ends from now on fails.
     Fail(u16),
@@ -24,7 +24,7 @@ pub enum Act {
 }
 
 /// An act, and the call before which it is done. Starts and reaps are counted, from 1.
-#[derive(Clone, Copy, PartialEq, Eq)]
+#[derive(Clone, Copy)]
 pub struct Planned {
     pub call: u64,
     pub act: Act,

@@ -23,7 +23,7 @@ pub struct Held {
 }
 
 /// One that is inside.
-#[derive(Clone, Copy, PartialEq, Eq)]
+#[derive(Clone, Copy)]
 pub struct Row {
     pub id: u64,
     pub ask: Held,

@@ -22,7 +22,7 @@ MayDiffer s lv b false = IsTrue (told s lv b).loose ⊎ DifferDirty s lv b
 abbrev pub Agree : ModelState → ℕ → ℕ → Type 0
 Agree s lv b = (value : List ℕ) × ((c : Pp) → Live s lv b c → s.media.block lv b c ≡ value)
 
--- no write that has started goes over the block
+-- no write that has started goes over the block: each live copy holds a value that the block may have, and all hold one, unless they may differ
 pub record Quiescent (s : ModelState) (lv b : ℕ) : Type 0 where
   pub calm : (i : ℕ) (r : Queued) → Started s i r → IsTrue (covers r lv b) → ⊥
   pub allowed : (c : Pp) → Live s lv b c → IsValue (told s lv b) (s.media.block lv b c)

@@ -21,7 +21,7 @@ use rand_pcg::Lcg64Xsh32;
 const STRIDE: u64 = 8;
 
 /// A client: the request that it has open, and how far the word of its next one is behind that of its first.
-#[derive(Clone, Copy, PartialEq, Eq)]
+#[derive(Clone, Copy)]
 pub struct Client {
     pub request: Option<u64>,
     pub offset: u64,

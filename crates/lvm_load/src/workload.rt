@@ -20,7 +20,7 @@ use rand_pcg::Lcg64Xsh32;
 const PATIENCE: u32 = 1_000_000;
 
 /// How a workload ended.
-#[derive(Clone, Copy, PartialEq, Eq)]
+#[derive(Clone, Copy)]
 pub struct Woven {
     pub totals: Totals,
     /// Whether a client still waits for an answer, since nothing was heard of a transfer a million times.
@@ -28,7 +28,7 @@ pub struct Woven {
 }
 
 /// So many requests of so many clients, 1 to 64, which are drawn from the seed.
-#[derive(Clone, Copy, PartialEq, Eq)]
+#[derive(Clone, Copy)]
 pub struct Workload {
     pub clients: u32,
     pub requests: u32,

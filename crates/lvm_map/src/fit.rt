@@ -10,7 +10,7 @@ use lvm_num::{Descriptor, DiskSet, Pp, Rows, volume_among};
 use std::alloc::Global;
 
 /// Why there is no map.
-#[derive(Clone, Copy, PartialEq, Eq)]
+#[derive(Clone, Copy)]
 pub enum MapFault {
     /// First fit finds no place for one of the copies. It carries how many partitions of the usable
     /// members that are no spares no volume uses.

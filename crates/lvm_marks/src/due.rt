@@ -19,7 +19,7 @@ use lvm_session::Session;
 use lvm_status::Updater;
 
 /// Which targets of a write are to be stale by the end of a transfer.
-#[derive(Clone, Copy, PartialEq, Eq)]
+#[derive(Clone, Copy)]
 pub enum Due {
     /// None: it is a read, or some transfer hasn't ended.
     Nothing,

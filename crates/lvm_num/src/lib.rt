@@ -36,7 +36,7 @@ pub use text::Text;
 pub use word::{fill, word_of};
 
 /// Want of memory: a growth was refused.
-#[derive(Clone, Copy, PartialEq, Eq)]
+#[derive(Clone, Copy, Debug, PartialEq, Eq)]
 pub struct Memory;
 
 impl From<AllocError> for Memory {

@@ -8,7 +8,7 @@ pub struct Pp {
 }
 
 /// A sector of 512 bytes: the number of its disk, and its own number on that disk from 0.
-#[derive(Clone, Copy, PartialEq, Eq)]
+#[derive(Clone, Copy)]
 pub struct Place {
     pub disk: u16,
     pub sector: u64,

@@ -24,7 +24,7 @@ impl Stamp {
 }
 
 /// The two kinds of framed record, each with two slots on a disk.
-#[derive(Clone, Copy, PartialEq, Eq)]
+#[derive(Clone, Copy)]
 pub enum Kind {
     /// The volume group descriptor area: the members, the volumes and their maps.
     Descriptor,
@@ -33,7 +33,7 @@ pub enum Kind {
 }
 
 /// A framed record: a content under its stamp.
-#[derive(Drop, PartialEq, Eq)]
+#[derive(Drop)]
 pub struct Framed {
     pub stamp: Stamp,
     /// At most 571,388 bytes of a descriptor, 31,740 of a status.

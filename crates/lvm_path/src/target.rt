@@ -10,7 +10,7 @@ use lvm_sched::TargetState;
 use lvm_sched::below::Pp;
 
 /// A copy to which a write goes, or which a read may try.
-#[derive(Clone, Copy, PartialEq, Eq)]
+#[derive(Clone, Copy)]
 pub struct Target {
     /// The sector of its disk at which the request's first block stands.
     pub sector: u64,

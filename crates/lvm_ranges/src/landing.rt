@@ -15,7 +15,7 @@ use lvm_session::Turned;
 use lvm_transfer::Patience;
 
 /// Nothing was heard of the transfers that are out until the patience had run out.
-#[derive(Clone, Copy, PartialEq, Eq)]
+#[derive(Clone, Copy, Debug, PartialEq, Eq)]
 pub struct Stuck;
 
 // Whether some piece of the range hasn't landed.

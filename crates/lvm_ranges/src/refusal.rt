@@ -1,7 +1,7 @@
 //! Why a range of a volume isn't asked for.
 
 /// Why a range isn't asked for, in this order.
-#[derive(Clone, Copy, PartialEq, Eq)]
+#[derive(Clone, Copy, Debug, PartialEq, Eq)]
 pub enum AskRangeFault {
     /// The group has no volume of this number.
     NoVolume,

@@ -2,7 +2,7 @@
 
 /// Why copies aren't brought up, in this order. The last three don't end a resync: it goes on, and answers the first of
 /// them at its end.
-#[derive(Clone, Copy, PartialEq, Eq)]
+#[derive(Clone, Copy, Debug, PartialEq, Eq)]
 pub enum SyncFault {
     /// The power is off, and the session is over.
     Dark,

@@ -1,7 +1,7 @@
 //! What a session answers.
 
 /// Why a request isn't taken, in this order.
-#[derive(Clone, Copy, PartialEq, Eq)]
+#[derive(Clone, Copy, Debug, PartialEq, Eq)]
 pub enum AskFault {
     /// The power was cut.
     Dark,

@@ -3,7 +3,7 @@
 use lvm_kept::below::Outcome;
 
 /// An event of a turn. A place is that of a request in the table, from 0.
-#[derive(Clone, Copy, PartialEq, Eq)]
+#[derive(Clone, Copy)]
 pub enum Event {
     /// The request lands with this outcome.
     Land { place: usize, outcome: Outcome },

@@ -19,7 +19,7 @@ pub struct Open {
 }
 
 /// Whether a session goes on.
-#[derive(Clone, Copy, PartialEq, Eq)]
+#[derive(Clone, Copy)]
 pub enum Power {
     /// It does.
     On,

@@ -19,7 +19,7 @@ use std::alloc::Global;
 const BLOCK_BYTES: usize = 131_072;
 
 /// How much a session has room for.
-#[derive(Clone, Copy, PartialEq, Eq)]
+#[derive(Clone, Copy)]
 pub struct Room {
     /// Open requests, 1 to 1,024.
     pub table: u32,

@@ -3,7 +3,7 @@
 use lvm_stale::below::Pp;
 
 /// A change of the wanted status.
-#[derive(Clone, Copy, PartialEq, Eq)]
+#[derive(Clone, Copy)]
 pub enum Change {
     /// The partition becomes stale.
     Stale(Pp),

@@ -4,7 +4,7 @@ ghost use Rattle.std.specs.Prelude.{◌≡◌};
 use lvm_stale::below::DiskSet;
 
 /// For each state that the write of an update to a disk may be in, the disks whose writes are in it.
-#[derive(Clone, Copy, PartialEq, Eq)]
+#[derive(Clone, Copy)]
 pub struct Writes {
     /// Its write isn't started.
     pub unstarted: DiskSet,
